@@ -1,0 +1,108 @@
+-- Worked examples: what the definitions compute to.
+use Rattle.std.proofs.Common.{ℕ, ◌≡◌, true, false, List, [], ◌∷◌, ◌++◌, Some, None, Err, refl}
+use Rattle.std.specs.Prelude.{codes, map}
+use Rattle.aide_attr.specs.declared.expression.ExprFault.TheVariants.{UnknownName}
+use Rattle.aide_attr.specs.declared.level.Level.TheVariants.{Minimal}
+use Rattle.aide_attr.specs.Attr.{row, row_of, attr_named}
+use Rattle.aide_attr.specs.Name.{is_group_name, is_word, is_word_byte, is_empty_name}
+use Rattle.aide_conf.specs.declared.task.Need.TheVariants.{Compare, Check}
+use Rattle.aide_conf.specs.declared.fault.ConfText.TheVariants.{File, After}
+use Rattle.aide_conf.specs.declared.fault.ConfFaultKind.TheVariants.{BadDirective, LeftOut, BadName, BadValue, BadUrl, BadLine, UnknownAttribute, NoOldDatabase, NoNewDatabase}
+use Rattle.aide_conf.specs.declared.setting.Switch.TheVariants.{Quiet}
+use Rattle.aide_conf.specs.Lines.{Place, is_blank, strip, lines_of, places}
+use Rattle.aide_conf.specs.Reading.{Reading, Faulty, Tells, Defines, reading, expanded_reading, value_reading, is_selection, is_directive, is_omitted, main_setting, is_accepted, is_older, setting_named, level_named, bool_named, is_left_out, path_after, path_of}
+use Rattle.aide_conf.specs.Marks.{Marked, says, last_given, fault_at, missing}
+use Rattle.aide_conf.specs.Settings.{counted, level_in, switch_in}
+
+-- ---- lines
+
+two_lines : lines_of (codes "a" ++ 10 ∷ 10 ∷ codes "b") ≡ codes "a" ∷ [] ∷ codes "b" ∷ []
+two_lines = refl
+
+-- a last newline begins no line, and each text has an end
+three_texts : map (λ (p : Place). p.number) (places (codes "a" ++ 10 ∷ []) [] (codes "b")) ≡ 1 ∷ 2 ∷ 1 ∷ 1 ∷ 2 ∷ []
+three_texts = refl
+
+stripped : strip (codes "  a b" ++ 9 ∷ []) ≡ codes "a b"
+unfolding strip is_blank
+stripped = refl
+
+-- ---- what a line says
+
+line : List ℕ → Reading
+line bytes = reading bytes bytes
+
+level : line (codes "report_level = minimal") ≡ Tells Minimal
+unfolding line reading expanded_reading value_reading is_selection is_directive setting_named main_setting strip is_blank level_named
+level = refl
+
+group_line : line (codes "my = p+s") ≡ Defines (codes "my") (codes "p+s")
+unfolding line reading expanded_reading is_selection is_directive setting_named main_setting is_accepted is_older strip is_blank is_group_name is_word is_word_byte attr_named row_of row is_empty_name
+group_line = refl
+
+taken_name : line (codes "p = s") ≡ Faulty BadName
+unfolding line reading expanded_reading is_selection is_directive setting_named main_setting is_accepted is_older strip is_blank is_group_name is_word is_word_byte attr_named row_of row is_empty_name
+taken_name = refl
+
+no_line : line (codes "hello") ≡ Faulty BadLine
+unfolding line reading expanded_reading is_selection is_directive
+no_line = refl
+
+omitted : line (codes "@@include /x") ≡ Faulty LeftOut
+unfolding line reading is_directive is_omitted is_blank
+omitted = refl
+
+unknown_word : line (codes "@@if defined A") ≡ Faulty BadDirective
+unfolding line reading is_directive is_omitted is_blank
+unknown_word = refl
+
+three_slashes : path_after (codes "///old") ≡ Some (codes "/old")
+unfolding path_after
+three_slashes = refl
+
+four_slashes : path_after (codes "////old") ≡ Some (codes "//old")
+unfolding path_after
+four_slashes = refl
+
+two_slashes : line (codes "database_in=file://host/old") ≡ Faulty BadUrl
+unfolding line reading expanded_reading value_reading is_selection is_directive setting_named main_setting strip is_blank is_left_out path_of path_after
+two_slashes = refl
+
+empty_older : line (codes "grouped=") ≡ Faulty BadValue
+unfolding line reading expanded_reading is_selection is_directive setting_named main_setting is_accepted is_older strip is_blank
+empty_older = refl
+
+-- ---- settings of places
+
+-- a used line, with no expression
+at : List ℕ → Marked
+at bytes = record { place = record { text = File; number = 1; line = Some bytes }; used = true; expanded = bytes; verdict = None }
+
+-- of three lines the last level before `report_url=stdout` counts
+last_level : last_given level_in (counted (at (codes "report_level=minimal") ∷ at (codes "report_url=stdout") ∷ at (codes "report_level=summary") ∷ [])) ≡ Some Minimal
+unfolding at last_given says reading expanded_reading value_reading is_selection is_directive setting_named main_setting strip is_blank level_named
+last_level = refl
+
+last_of_two : last_given (switch_in Quiet) (at (codes "report_quiet=yes") ∷ at (codes "report_quiet=no") ∷ []) ≡ Some false
+unfolding at last_given says reading expanded_reading value_reading is_selection is_directive setting_named main_setting strip is_blank bool_named
+last_of_two = refl
+
+-- ---- faults of places
+
+unknown_attribute : fault_at Check [] (record (at (codes "report_force_attrs=p+nope")) { verdict = Some (Err (UnknownName 2)) }) ≡ Some UnknownAttribute
+unfolding at fault_at says reading expanded_reading value_reading is_selection is_directive setting_named main_setting strip is_blank
+unknown_attribute = refl
+
+end_of_after : Marked
+end_of_after = record { place = record { text = After; number = 1; line = None }; used = true; expanded = []; verdict = None }
+
+no_old : fault_at Compare [] end_of_after ≡ Some NoOldDatabase
+unfolding end_of_after fault_at last_given says
+no_old = refl
+
+no_new : missing false true ≡ Some NoNewDatabase
+no_new = refl
+
+not_asked : fault_at Check [] end_of_after ≡ None
+unfolding end_of_after fault_at
+not_asked = refl

@@ -1,0 +1,71 @@
+-- The three texts, one after another.
+use Rattle.std.proofs.Common.{◌≡◌, List, [], ◌∷◌, ◌++◌, refl, sym, ap, subst, ◌∙◌, append_assoc, inl, inr, ◌⊎◌}
+use Rattle.std.specs.Prelude.{map}
+use Rattle.aide_conf.specs.declared.task.Need.{Need}
+use Rattle.aide_conf.specs.declared.fault.ConfFault.{ConfFault}
+use Rattle.aide_conf.specs.declared.pass.Pass.{Pass}
+use Rattle.aide_conf.specs.Lines.{Place}
+use Rattle.aide_conf.specs.Marks.{Marked, AreSound}
+use Rattle.aide_conf.specs.Answer.{IsRead, IsRefused, IsStarved}
+use Rattle.aide_conf.specs.Pass.{StandsFor, Takes, Stops, text_at}
+use Rattle.aide_conf.proofs.Cuts.{append_nothing}
+
+places_append : (xs ys : List Marked) → map (λ (x : Marked). x.place) (xs ++ ys) ≡ map (λ (x : Marked). x.place) xs ++ map (λ (x : Marked). x.place) ys
+places_append [] ys = refl
+places_append (x ∷ xs) ys = ap (λ z. x.place ∷ z) (places_append xs ys)
+
+sound_append : (need : Need) (earlier xs ys : List Marked) → AreSound need earlier xs → AreSound need (earlier ++ xs) ys → AreSound need earlier (xs ++ ys)
+sound_append need earlier [] ys h i = subst (λ z. AreSound need z ys) (append_nothing earlier) i
+sound_append need earlier (x ∷ xs) ys h i = (h.0, h.1, sound_append need (earlier ++ x ∷ []) xs ys h.2 (subst (λ z. AreSound need z ys) (sym (append_assoc earlier (x ∷ []) xs)) i))
+
+-- sound lines of one text after those of others
+pub then_more : {A : Type 0} (need : Need) (ps qs : List Place) (p q : Pass A) → Takes need [] ps p → ((earlier : List Marked) → StandsFor earlier p → Takes need earlier qs q) → Takes need [] (ps ++ qs) q
+then_more need ps qs p q t u =
+    let v = u t.0 t.3 in
+    (t.0 ++ v.0, places_append t.0 v.0 ∙ ap (λ z. z ++ map (λ (x : Marked). x.place) v.0) t.1 ∙ ap (λ z. ps ++ z) v.1, sound_append need [] t.0 v.0 t.2 v.2, v.3)
+
+pub then_stop : {A : Type 0} (need : Need) (ps qs : List Place) (p : Pass A) (e : ConfFault) → Takes need [] ps p → ((earlier : List Marked) → StandsFor earlier p → Stops need earlier qs e) → Stops need [] (ps ++ qs) e
+then_stop need ps qs p e t u =
+    let v = u t.0 t.3 in
+    record {
+      lines = t.0 ++ v.lines;
+      at = v.at;
+      rest = v.rest;
+      cut = ap (λ z. ps ++ z) v.cut ∙ ap (λ z. z ++ (map (λ (x : Marked). x.place) v.lines ++ v.at ∷ v.rest)) (sym t.1)
+          ∙ sym (append_assoc (map (λ (x : Marked). x.place) t.0) (map (λ (x : Marked). x.place) v.lines) (v.at ∷ v.rest)) ∙ ap (λ z. z ++ v.at ∷ v.rest) (sym (places_append t.0 v.lines));
+      sound = sound_append need [] t.0 v.lines t.2 v.sound;
+      text = v.text;
+      line = v.line;
+      kind = v.kind;
+    }
+
+pub more_behind : (need : Need) (ps qs : List Place) (e : ConfFault) → Stops need [] ps e → Stops need [] (ps ++ qs) e
+more_behind need ps qs e v = record {
+  lines = v.lines;
+  at = v.at;
+  rest = v.rest ++ qs;
+  cut = ap (λ z. z ++ qs) v.cut ∙ append_assoc (map (λ (x : Marked). x.place) v.lines) (v.at ∷ v.rest) qs;
+  sound = v.sound;
+  text = v.text;
+  line = v.line;
+  kind = v.kind;
+}
+
+pub refused : (need : Need) (ps : List Place) (e : ConfFault) → Stops need [] ps e → IsRefused need ps e ⊎ IsStarved need ps e
+refused need ps e v = elim v.kind [
+  | inl k ↦ inl (record {
+    lines = v.lines;
+    at = k.0;
+    rest = v.rest;
+    cut = v.cut ∙ ap (λ z. map (λ (x : Marked). x.place) v.lines ++ z ∷ v.rest) (sym k.1);
+    sound = v.sound;
+    marked = k.2;
+    fault = k.3;
+    text = v.text ∙ ap (λ (z : Place). z.text) (sym k.1);
+    line = v.line ∙ ap (λ (z : Place). z.number) (sym k.1);
+  })
+  | inr k ↦ inr (record { lines = v.lines; at = v.at; rest = v.rest; cut = v.cut; sound = v.sound; is_line = k.1; kind = k.0; text = v.text; line = v.line })
+]
+
+pub taken : {A : Type 0} (need : Need) (ps : List Place) (p : Pass A) → Takes need [] ps p → IsRead need ps (record { options = p.options; old_path = text_at p.old_path; new_path = text_at p.new_path })
+taken need ps p t = record { lines = t.0; all = t.1; sound = t.2; settings = record { options = t.3.options; old_path = t.3.old_path; new_path = t.3.new_path } }

@@ -1,0 +1,9 @@
+pub mod Fault
+pub mod Options
+pub mod Lines
+pub mod Reading
+pub mod Said
+pub mod Marks
+pub mod Settings
+pub mod Answer
+pub mod Pass

@@ -1,0 +1,203 @@
+-- What a line says, as a function of its bytes.
+use Rattle.std.specs.Prelude.{ℕ, Bool, true, false, not, ◌&&◌, ◌||◌, ◌==◌, nat_lt, nat_eq, List, [], ◌∷◌, length, drop, Option, Some, None, codes, if◌then◌else◌}
+use Rattle.std.specs.List.{starts_with}
+use Rattle.std.specs.Option.{option_or}
+use Rattle.std.specs.Str.{is_utf8}
+use Rattle.std.specs.Cmp.Lexicographic.{pointwise}
+use Rattle.aide_attr.specs.declared.level.Level.{Level}
+use Rattle.aide_attr.specs.declared.level.Level.TheVariants as level
+use Rattle.aide_attr.specs.Name.{is_group_name}
+use Rattle.aide_conf.specs.declared.fault.ConfFaultKind.{ConfFaultKind}
+use Rattle.aide_conf.specs.declared.fault.ConfFaultKind.TheVariants.{BadDirective, LeftOut, BadName, BadValue, BadUrl, LineTooLong, ValueTooLong, BadLine}
+use Rattle.aide_conf.specs.declared.setting.Database.{Database}
+use Rattle.aide_conf.specs.declared.setting.Database.TheVariants.{Old, New}
+use Rattle.aide_conf.specs.declared.setting.Switch.{Switch}
+use Rattle.aide_conf.specs.declared.setting.Switch.TheVariants.{Grouped, Summarize, Base16, Quiet}
+use Rattle.aide_conf.specs.declared.setting.AttrList.{AttrList}
+use Rattle.aide_conf.specs.declared.setting.AttrList.TheVariants.{IgnoreAdded, IgnoreRemoved, IgnoreChanged, Force}
+use Rattle.aide_conf.specs.declared.setting.Setting.{Setting}
+use Rattle.aide_conf.specs.declared.setting.Setting.TheVariants as setting
+use Rattle.aide_conf.specs.Lines.{is_blank, strip, bytes_before, bytes_after}
+
+abbrev pub same : List ℕ → List ℕ → Bool
+same xs ys = pointwise nat_eq xs ys
+
+abbrev pub begins : List ℕ → List ℕ → Bool
+begins bs text = starts_with nat_eq bs text
+
+-- What a line says: nothing that has an effect, or a fault that its bytes alone show, or what it sets.
+pub data Reading : Type 0 where
+  Nothing : Reading
+  Faulty : ConfFaultKind → Reading
+  -- the path of a database
+  Names : Database → List ℕ → Reading
+  Tells : Level → Reading
+  Turns : Switch → Bool → Reading
+  -- a set of attributes, by an expression
+  Lists : AttrList → List ℕ → Reading
+  -- `report_url=stdout`
+  Fixes : Reading
+  -- a group's name and its expression
+  Defines : List ℕ → List ℕ → Reading
+
+-- ---- options
+
+-- the option that a name sets, where it has an effect or a form
+unfoldable pub main_setting : List ℕ → Option Setting
+main_setting n =
+    if same n (codes "database_in") || same n (codes "database") then Some (setting.Url Old)
+    else if same n (codes "database_new") then Some (setting.Url New)
+    else if same n (codes "report_level") then Some setting.Level
+    else if same n (codes "report_grouped") then Some (setting.Flag Grouped)
+    else if same n (codes "report_summarize_changes") then Some (setting.Flag Summarize)
+    else if same n (codes "report_base16") then Some (setting.Flag Base16)
+    else if same n (codes "report_quiet") then Some (setting.Flag Quiet)
+    else if same n (codes "report_ignore_added_attrs") then Some (setting.Attributes IgnoreAdded)
+    else if same n (codes "report_ignore_removed_attrs") then Some (setting.Attributes IgnoreRemoved)
+    else if same n (codes "report_ignore_changed_attrs") then Some (setting.Attributes IgnoreChanged)
+    else if same n (codes "report_force_attrs") then Some (setting.Attributes Force)
+    else if same n (codes "report_url") then Some setting.ReportUrl
+    else if same n (codes "report_format") then Some setting.ReportFormat
+    else None
+
+-- names that are accepted and have no effect
+unfoldable pub is_accepted : List ℕ → Bool
+is_accepted n =
+    same n (codes "database_out") || same n (codes "database_gzip") || same n (codes "gzip_dbout") || same n (codes "database_attrs")
+    || same n (codes "database_add_metadata") || same n (codes "log_level") || same n (codes "verbose") || same n (codes "config_version")
+    || same n (codes "config_check_warn_unrestricted_rules") || same n (codes "root_prefix") || same n (codes "num_workers")
+    || same n (codes "acl_no_symlink_follow") || same n (codes "warn_dead_symlinks") || same n (codes "report_append")
+    || same n (codes "report_detailed_init") || same n (codes "report_ignore_e2fsattrs") || same n (codes "syslog_format")
+
+-- older names, which are left out
+unfoldable pub is_older : List ℕ → Bool
+is_older n = same n (codes "ignore_list") || same n (codes "report_attributes") || same n (codes "grouped") || same n (codes "summarize_changes")
+
+-- the option of a name; any other name is that of a group
+unfoldable pub setting_named : List ℕ → Option Setting
+setting_named n = option_or (main_setting n) (if is_accepted n then Some setting.Accepted else if is_older n then Some setting.Older else None)
+
+-- ---- the values of options
+
+unfoldable pub level_named : List ℕ → Option Level
+level_named v =
+    if same v (codes "minimal") then Some level.Minimal
+    else if same v (codes "summary") then Some level.Summary
+    else if same v (codes "database_attributes") then Some level.DatabaseAttributes
+    else if same v (codes "list_entries") then Some level.ListEntries
+    else if same v (codes "changed_attributes") then Some level.ChangedAttributes
+    else if same v (codes "added_removed_attributes") then Some level.AddedRemovedAttributes
+    else if same v (codes "added_removed_entries") then Some level.AddedRemovedEntries
+    else None
+
+unfoldable pub bool_named : List ℕ → Option Bool
+bool_named v =
+    if same v (codes "yes") || same v (codes "true") then Some true
+    else if same v (codes "no") || same v (codes "false") then Some false
+    else None
+
+-- the URLs of databases that are left out
+unfoldable pub is_left_out : List ℕ → Bool
+is_left_out v = same v (codes "stdin") || begins v (codes "fd:") || begins v (codes "http:") || begins v (codes "https:") || begins v (codes "ftp:")
+
+-- an absolute path that stands after `file:`: `///p` is `/p`, and no other `//` begins one
+unfoldable pub path_after : List ℕ → Option (List ℕ)
+path_after v =
+    if begins v (codes "///") then Some (drop 2 v)
+    else if begins v (codes "//") then None
+    else if begins v (codes "/") then Some v
+    else None
+
+abbrev pub in_utf8 : Option (List ℕ) → Option (List ℕ)
+in_utf8 None = None
+in_utf8 (Some p) = if is_utf8 p then Some p else None
+
+-- the path of a database's URL
+unfoldable pub path_of : List ℕ → Option (List ℕ)
+path_of v = if begins v (codes "file:") then in_utf8 (path_after (drop 5 v)) else None
+
+abbrev pub path_reading : Database → Option (List ℕ) → Reading
+path_reading d None = Faulty BadUrl
+path_reading d (Some p) = if nat_lt 4096 (length p) then Faulty ValueTooLong else Names d p
+
+abbrev pub level_reading : Option Level → Reading
+level_reading None = Faulty BadValue
+level_reading (Some l) = Tells l
+
+abbrev pub switch_reading : Switch → Option Bool → Reading
+switch_reading s None = Faulty BadValue
+switch_reading s (Some b) = Turns s b
+
+abbrev pub url_reading : Database → List ℕ → Reading
+url_reading d v = if is_left_out v then Faulty LeftOut else path_reading d (path_of v)
+
+abbrev pub format_reading : List ℕ → Reading
+format_reading v = if same v (codes "json") then Faulty LeftOut else if same v (codes "plain") then Nothing else Faulty BadValue
+
+-- an option with a value that is not empty
+unfoldable pub value_reading : Setting → List ℕ → Reading
+value_reading (setting.Url d) v = url_reading d v
+value_reading setting.Level v = level_reading (level_named v)
+value_reading (setting.Flag s) v = switch_reading s (bool_named v)
+value_reading (setting.Attributes l) v = Lists l v
+value_reading setting.ReportUrl v = if same v (codes "stdout") then Fixes else Nothing
+value_reading setting.ReportFormat v = format_reading v
+value_reading setting.Accepted v = Nothing
+value_reading setting.Older v = Faulty LeftOut
+
+-- ---- lines, stripped
+
+-- an empty line or a comment
+abbrev pub is_skipped : List ℕ → Bool
+is_skipped [] = true
+is_skipped (b ∷ bs) = b == 35
+
+-- `@@`, and then no `{`
+unfoldable pub is_directive : List ℕ → Bool
+is_directive bs = begins bs (codes "@@") && not (begins bs (codes "@@{"))
+
+-- the words of the directives that are left out
+unfoldable pub is_omitted : List ℕ → Bool
+is_omitted w = same w (codes "include") || same w (codes "x_include") || same w (codes "ifhost") || same w (codes "ifnhost")
+
+-- what follows the `@@` of a directive
+abbrev pub directive_reading : List ℕ → Reading
+directive_reading bs = if is_omitted (bytes_before is_blank bs) then Faulty LeftOut else Faulty BadDirective
+
+-- `@@{` stands in the line
+abbrev pub holds_macro : List ℕ → Bool
+holds_macro [] = false
+holds_macro (b ∷ bs) = begins (b ∷ bs) (codes "@@{") || holds_macro bs
+
+-- the first bytes of selection lines
+unfoldable pub is_selection : List ℕ → Bool
+is_selection bs = begins bs (codes "/") || begins bs (codes "!") || begins bs (codes "=") || begins bs (codes "-")
+
+abbrev pub is_equals : ℕ → Bool
+is_equals b = b == 61
+
+-- a name and its value
+abbrev pub assigned : Option Setting → List ℕ → List ℕ → Reading
+assigned (Some o) name value = if length value == 0 then Faulty BadValue else value_reading o value
+assigned None name value = if is_group_name name then Defines name value else Faulty BadName
+
+abbrev pub cut_reading : Option (List ℕ) → List ℕ → Reading
+cut_reading None name = Faulty BadLine
+cut_reading (Some value) name = assigned (setting_named name) name (strip value)
+
+-- a line after expansion, stripped
+unfoldable pub expanded_reading : List ℕ → Reading
+expanded_reading bs =
+    if is_skipped bs then Nothing
+    else if nat_lt 65536 (length bs) then Faulty LineTooLong
+    else if is_selection bs then Nothing
+    else cut_reading (bytes_after is_equals bs) (strip (bytes_before is_equals bs))
+
+-- A line, stripped, and its expansion. A line that would be expanded is refused: there are no variables yet.
+unfoldable pub reading : List ℕ → List ℕ → Reading
+reading line expanded =
+    if is_skipped line then Nothing
+    else if nat_lt 65536 (length line) then Faulty LineTooLong
+    else if is_directive line then directive_reading (drop 2 line)
+    else if holds_macro line then Faulty BadDirective
+    else expanded_reading expanded

@@ -1,0 +1,184 @@
+//! What a line says.
+
+ghost use Rattle.std.specs.Prelude.{◌≡◌, IfOk};
+ghost use Rattle.aide_conf.specs.Reading.{reading, expanded_reading, assigned, value_reading, directive_reading};
+ghost use Rattle.aide_conf.specs.Said.{said, IsNamedWell};
+
+use crate::fault::ConfFaultKind;
+use crate::line::{at_equals, holds_macro, is_directive, is_selection, is_skipped, strip, word};
+use crate::setting::{AttrList, Database, Setting, Switch, setting_named};
+use crate::value::{bool_named, is_left_out, level_named, path_of};
+use aide_attr::{Level, is_group_name};
+
+/// What a line says.
+#[derive(Clone, Copy, Debug)]
+pub(crate) enum Said<'a> {
+    /// Nothing that has an effect.
+    Nothing,
+    /// The path of a database.
+    Names(Database, &'a str),
+    /// The level of the report.
+    Tells(Level),
+    /// A report option is on or off.
+    Turns(Switch, bool),
+    /// A report option is the set that an expression means.
+    Lists(AttrList, &'a [u8]),
+    /// The report options are fixed from here on.
+    Fixes,
+    /// A group's name and its expression.
+    Defines(&'a [u8], &'a [u8]),
+}
+
+/// What a line says, or the fault that its bytes alone show. The line is stripped.
+#[tactic(auto, unfolding(crate::specs::Reading::reading))]
+pub(crate) fn reading(line: &[u8]) -> Result<Said<'_>, ConfFaultKind>
+    ensures says { said result ≡ reading line.now line.now }
+    ensures named { IfOk result (λ said. IsNamedWell said) }
+{
+    if is_skipped(line) {
+        return Ok(Said::Nothing);
+    }
+    if line.len() > 65536 {
+        return Err(ConfFaultKind::LineTooLong);
+    }
+    if is_directive(line) {
+        return Err(directive_fault(&line[2..]));
+    }
+    if holds_macro(line) {
+        return Err(ConfFaultKind::BadDirective);
+    }
+    expanded_reading(line)
+}
+
+/// Why a directive is refused. It follows `@@`.
+fn directive_fault(rest: &[u8]) -> ConfFaultKind
+    ensures { Faulty result ≡ directive_reading rest.now }
+{
+    if is_omitted(word(rest)) {
+        ConfFaultKind::LeftOut
+    } else {
+        ConfFaultKind::BadDirective
+    }
+}
+
+ghost use Rattle.aide_conf.specs.Reading.{Faulty, is_omitted};
+
+/// Whether a directive's word is of one that is left out.
+#[tactic(auto, unfolding(crate::specs::Reading::is_omitted))]
+fn is_omitted(word: &[u8]) -> bool
+    ensures { result ≡ is_omitted word.now }
+{
+    word == b"include".as_slice()
+        || word == b"x_include".as_slice()
+        || word == b"ifhost".as_slice()
+        || word == b"ifnhost".as_slice()
+}
+
+/// What a line says after expansion.
+#[tactic(auto, unfolding(crate::specs::Reading::expanded_reading))]
+fn expanded_reading(line: &[u8]) -> Result<Said<'_>, ConfFaultKind>
+    ensures says { said result ≡ expanded_reading line.now }
+    ensures named { IfOk result (λ said. IsNamedWell said) }
+{
+    if is_skipped(line) {
+        return Ok(Said::Nothing);
+    }
+    if line.len() > 65536 {
+        return Err(ConfFaultKind::LineTooLong);
+    }
+    if is_selection(line) {
+        return Ok(Said::Nothing);
+    }
+    let Some((before, after)) = at_equals(line) else {
+        return Err(ConfFaultKind::BadLine);
+    };
+    assigned(strip(before), strip(after))
+}
+
+ghost use Rattle.aide_conf.specs.Reading.{setting_named};
+
+/// What a name and its value say.
+fn assigned<'a>(name: &'a [u8], value: &'a [u8]) -> Result<Said<'a>, ConfFaultKind>
+    ensures says { said result ≡ assigned (setting_named name.now) name.now value.now }
+    ensures named { IfOk result (λ said. IsNamedWell said) }
+{
+    match setting_named(name) {
+        Some(setting) => {
+            if value.is_empty() {
+                Err(ConfFaultKind::BadValue)
+            } else {
+                value_reading(setting, value)
+            }
+        }
+        None => {
+            if is_group_name(name) {
+                Ok(Said::Defines(name, value))
+            } else {
+                Err(ConfFaultKind::BadName)
+            }
+        }
+    }
+}
+
+/// What the value of an option says. It is not empty.
+#[tactic(auto, unfolding(crate::specs::Reading::value_reading))]
+fn value_reading(setting: Setting, value: &[u8]) -> Result<Said<'_>, ConfFaultKind>
+    ensures says { said result ≡ value_reading setting value.now }
+    ensures named { IfOk result (λ said. IsNamedWell said) }
+{
+    match setting {
+        Setting::Url(database) => url_reading(database, value),
+        Setting::Level => match level_named(value) {
+            Some(level) => Ok(Said::Tells(level)),
+            None => Err(ConfFaultKind::BadValue),
+        },
+        Setting::Flag(switch) => match bool_named(value) {
+            Some(on) => Ok(Said::Turns(switch, on)),
+            None => Err(ConfFaultKind::BadValue),
+        },
+        Setting::Attributes(list) => Ok(Said::Lists(list, value)),
+        Setting::ReportUrl => {
+            if value == b"stdout".as_slice() {
+                Ok(Said::Fixes)
+            } else {
+                Ok(Said::Nothing)
+            }
+        }
+        Setting::ReportFormat => format_reading(value),
+        Setting::Accepted => Ok(Said::Nothing),
+        Setting::Older => Err(ConfFaultKind::LeftOut),
+    }
+}
+
+/// What the value of `report_format` says.
+fn format_reading(value: &[u8]) -> Result<Said<'_>, ConfFaultKind>
+    ensures says { said result ≡ format_reading value.now }
+    ensures named { IfOk result (λ said. IsNamedWell said) }
+{
+    if value == b"json".as_slice() {
+        Err(ConfFaultKind::LeftOut)
+    } else if value == b"plain".as_slice() {
+        Ok(Said::Nothing)
+    } else {
+        Err(ConfFaultKind::BadValue)
+    }
+}
+
+ghost use Rattle.aide_conf.specs.Reading.{format_reading, url_reading};
+
+/// What the URL of a database says.
+fn url_reading(database: Database, value: &[u8]) -> Result<Said<'_>, ConfFaultKind>
+    ensures says { said result ≡ url_reading database value.now }
+    ensures named { IfOk result (λ said. IsNamedWell said) }
+{
+    if is_left_out(value) {
+        return Err(ConfFaultKind::LeftOut);
+    }
+    let Some(path) = path_of(value) else {
+        return Err(ConfFaultKind::BadUrl);
+    };
+    if path.len() > 4096 {
+        return Err(ConfFaultKind::ValueTooLong);
+    }
+    Ok(Said::Names(database, path))
+}
