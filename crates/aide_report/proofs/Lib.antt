@@ -1,0 +1,12 @@
+pub mod Sending
+pub mod MergeLemmas
+pub mod Laws
+pub mod Steps
+pub mod ReadingLemmas
+pub mod DifferenceLemmas
+pub mod SideLemmas
+pub mod CountLemmas
+pub mod FirstFaults
+pub mod RunLemmas
+pub mod FaultLemmas
+pub mod Examples

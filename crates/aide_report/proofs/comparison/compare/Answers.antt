@@ -1,0 +1,27 @@
+use Rattle.std.proofs.Common.{◌≡◌, ◌∙◌, ap}
+use Rattle.std.specs.Prelude.{Some}
+use Rattle.aide_db.specs.Database.{IsSound}
+use Rattle.aide_db.specs.declared.side.Side.TheVariants.{Old, New}
+use Rattle.aide_report.proofs.FaultLemmas.{right_later}
+use Rattle.aide_report.proofs.RunLemmas.{outcome_is}
+use Rattle.aide_report.proofs.SideLemmas.{of_sides}
+use Rattle.aide_report.proofs.comparison.compare.Goals as goal
+
+pub returns-in-Ok-count_pass-clause-outcome : goal.returns-in-Ok-count_pass-clause-outcome
+returns-in-Ok-count_pass-clause-outcome g c old new told_old told_new =
+    let same = c.read_whole.ensures.same in
+    let twice = c.read_whole-2.ensures.same ∙ same in
+    let first = c.in-Ok.ensures.sound old told_old in
+    let second = c.in-Ok-read_whole.ensures.sound new (ap (λ bytes. bytes New) same ∙ told_new) in
+    outcome_is c.args.limits c.args.options.now c.in-Ok-count_pass.counts c.in-Ok.skipped c.in-Ok-read_whole.skipped old new first.0 second.0 first.1 second.1
+    (c.in-Ok-count_pass.ensures.counts old new (ap (λ bytes. bytes Old) twice ∙ told_old) (ap (λ bytes. bytes New) twice ∙ told_new))
+
+pub returns-in-Err-count_pass-clause-right : goal.returns-in-Err-count_pass-clause-right
+returns-in-Err-count_pass-clause-right g c =
+    let same = c.read_whole.ensures.same in
+    let twice = c.read_whole-2.ensures.same ∙ same in
+    right_later c.args.limits (g.S.Sources.bytes_of c.args.sources.now) (g.S.Sources.bytes_of c.read_whole-2.new.sources) twice
+    (of_sides (λ side text. g.S.Sources.bytes_of c.args.sources.now side ≡ Some text) (λ side text. IsSound c.args.limits text)
+    (λ text told. (c.in-Ok.ensures.sound text told).0)
+    (λ text told. (c.in-Ok-read_whole.ensures.sound text (ap (λ bytes. bytes New) same ∙ told)).0))
+    c.in-Err-count_pass.fault c.in-Err-count_pass.ensures.later

@@ -1,0 +1,20 @@
+-- What has been counted and what the merge has still to give is the whole.
+use Rattle.std.proofs.Common.{◌≡◌, ◌^◌, ◌-◌, ℕ, List}
+use Rattle.aide_db.specs.declared.side.Side.{Side}
+use Rattle.aide_db.specs.declared.side.Side.TheVariants.{Old, New}
+use Rattle.aide_report.specs.Counts.{Completes, AreBelow}
+use Rattle.aide_report.specs.Walk.{remaining, IsReady, StandsAt, limits_at, total_work}
+use Rattle.aide_report.proofs.count.count.Given as goal
+
+abbrev pub invariant-walk : goal.invariant-walk
+invariant-walk g l = record {
+  ready : IsReady l.merge l.desk;
+  small : AreBelow l.counts (2 ^ 62 - total_work l.merge);
+  limits : (side : Side) → limits_at l.merge side ≡ limits_at l.fn.merge side;
+  stands : (side : Side) (text : List ℕ) → StandsAt g.R.Reel.to_come l.fn.merge l.fn.desk side text → StandsAt g.R.Reel.to_come l.merge l.desk side text;
+  counts : (old new : List ℕ) → StandsAt g.R.Reel.to_come l.fn.merge l.fn.desk Old old → StandsAt g.R.Reel.to_come l.fn.merge l.fn.desk New new
+      → Completes l.ignore l.counts (remaining l.merge l.desk old new) (remaining l.fn.merge l.fn.desk old new);
+}
+
+abbrev pub decreases-walk : goal.decreases-walk
+decreases-walk g l = total_work l.merge

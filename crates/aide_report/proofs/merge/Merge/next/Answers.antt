@@ -1,0 +1,56 @@
+use Rattle.std.proofs.Common.{◌∙◌, is_some, arith, ap, sym}
+use Rattle.aide_db.specs.Desk.{desk_entry}
+use Rattle.aide_db.specs.declared.side.Side.TheVariants.{Old, New}
+use Rattle.aide_report.specs.Reading.{rest_of, left_of}
+use Rattle.aide_report.proofs.ReadingLemmas.{kept_entry, stands_across}
+use Rattle.aide_report.proofs.Steps.{next_gives, all_done, step_falls}
+use Rattle.aide_report.proofs.merge.Merge.next.Goals as goal
+
+pub returns-clause-gives : goal.returns-clause-gives
+returns-clause-gives g c old new stands_old stands_new =
+    let one = rw c.requires.old_side at c.in_ok-self.ensures in
+    let two = rw c.requires.new_side at c.in_ok-self-2.ensures in
+    let same_new = kept_entry New c.args.desk.now c.advance.new.desk one.other in
+    let same_old = kept_entry Old c.advance.new.desk c.advance-2.new.desk two.other in
+    rw c.pass.ensures (next_gives c.next_place-place.result c.args.self.now.old_held c.in_ok-self.field-0 c.args.self.now.new_held c.in_ok-self-2.field-0
+    (desk_entry Old c.args.desk.now) (desk_entry Old c.advance.new.desk) (desk_entry Old c.advance-2.new.desk)
+    (desk_entry New c.args.desk.now) (desk_entry New c.advance.new.desk) (desk_entry New c.advance-2.new.desk)
+    (rest_of c.args.self.now.old_cursor old) (rest_of c.advance.new.cursor old)
+    (rest_of c.args.self.now.new_cursor new) (rest_of c.advance-2.new.cursor new)
+    one.not_due two.not_due
+    (λ h. ap is_some same_old ∙ one.here c.requires.old_here h)
+    (two.here (λ h. ap is_some same_new ∙ c.requires.new_here h))
+    (rw c.requires.old_side at (c.in_ok-self.ensures.ahead old stands_old))
+    (rw c.requires.new_side at (c.in_ok-self-2.ensures.ahead new
+    (stands_across g.R.Reel.to_come c.args.self.now.new_cursor New c.args.desk.now c.advance.new.desk new c.requires.new_side one.other stands_new)))
+    same_new same_old
+    (c.next_place-place.ensures _ _ c.held_view-old.ensures c.held_view-new.ensures))
+
+pub returns-clause-falls : goal.returns-clause-falls
+returns-clause-falls g c going =
+    let one = rw c.requires.old_side at c.in_ok-self.ensures in
+    let two = rw c.requires.new_side at c.in_ok-self-2.ensures in
+    let less = step_falls c.in_ok-self.field-0 c.in_ok-self-2.field-0 (desk_entry Old c.advance-2.new.desk) (desk_entry New c.advance-2.new.desk) c.next_place-place.result
+    (left_of c.advance.new.cursor) (left_of c.advance-2.new.cursor) one.not_due two.not_due
+    (c.next_place-place.ensures _ _ c.held_view-old.ensures c.held_view-new.ensures) going in
+    rw c.pass.ensures (omega (arith, less, one.falls, two.falls))
+
+pub returns-clause-end : goal.returns-clause-end
+returns-clause-end g c old new stands_old stands_new is =
+    let one = rw c.requires.old_side at c.in_ok-self.ensures in
+    let two = rw c.requires.new_side at c.in_ok-self-2.ensures in
+    let same_new = kept_entry New c.args.desk.now c.advance.new.desk one.other in
+    let same_old = kept_entry Old c.advance.new.desk c.advance-2.new.desk two.other in
+    all_done c.args.self.now.old_held c.in_ok-self.field-0 c.args.self.now.new_held c.in_ok-self-2.field-0
+    (desk_entry Old c.args.desk.now) (desk_entry Old c.advance.new.desk) (desk_entry Old c.advance-2.new.desk)
+    (desk_entry New c.args.desk.now) (desk_entry New c.advance.new.desk) (desk_entry New c.advance-2.new.desk)
+    (rest_of c.args.self.now.old_cursor old) (rest_of c.advance.new.cursor old)
+    (rest_of c.args.self.now.new_cursor new) (rest_of c.advance-2.new.cursor new)
+    one.not_due two.not_due
+    (λ h. ap is_some same_old ∙ one.here c.requires.old_here h)
+    (two.here (λ h. ap is_some same_new ∙ c.requires.new_here h))
+    (rw c.requires.old_side at (c.in_ok-self.ensures.ahead old stands_old))
+    (rw c.requires.new_side at (c.in_ok-self-2.ensures.ahead new
+    (stands_across g.R.Reel.to_come c.args.self.now.new_cursor New c.args.desk.now c.advance.new.desk new c.requires.new_side one.other stands_new)))
+    same_new same_old
+    (sym is ∙ c.next_place-place.ensures _ _ c.held_view-old.ensures c.held_view-new.ensures)

@@ -1,0 +1,48 @@
+-- What the faults of a run say.
+use Rattle.std.specs.Prelude.{◌≡◌, ℕ, Option, Some, List, true, ⊤}
+use Rattle.aide_db.specs.Database.{IsSound}
+use Rattle.aide_db.specs.Failures.{is_outside}
+use Rattle.aide_db.specs.declared.fault.DbFaultKind.TheVariants.{Read}
+use Rattle.aide_db.specs.declared.limits.Limits.{Limits}
+use Rattle.aide_db.specs.declared.side.Side.{Side}
+use Rattle.aide_report.specs.Reading.{IsFaultOf}
+use Rattle.aide_report.specs.Sent.{IsCounted}
+use Rattle.aide_report.specs.declared.run_fault.RunFault.{RunFault}
+use Rattle.aide_report.specs.declared.run_fault.RunFault.TheVariants.{Open, Database, Changed, Write}
+
+-- a write failed, and the number of bytes that went out is told
+abbrev pub TellsWritten : Option (List ℕ) → Option (List ℕ) → RunFault → Type 0
+TellsWritten old new (Write written) = IsCounted old new 0 written
+TellsWritten old new _ = ⊥
+
+-- the same, where a write failed
+abbrev pub TellsIfWritten : Option (List ℕ) → Option (List ℕ) → RunFault → Type 0
+TellsIfWritten old new (Write written) = IsCounted old new 0 written
+TellsIfWritten old new _ = ⊤
+
+-- A side is not opened or not read only where the sources have failed, and a write fails only where the sink has.
+abbrev pub IsCaused : Type 0 → Type 0 → RunFault → Type 0
+IsCaused sources sink (Open side) = sources
+IsCaused sources sink (Database fault) = fault.kind ≡ Read → sources
+IsCaused sources sink (Changed side) = ⊤
+IsCaused sources sink (Write written) = sink
+
+-- A side that tells its text is never called changed, and a fault of its text is the first one.
+abbrev pub IsRight : Limits → (Side → Option (List ℕ)) → RunFault → Type 0
+IsRight limits bytes_of (Open side) = ⊤
+IsRight limits bytes_of (Database fault) = (text : List ℕ) → bytes_of fault.side ≡ Some text → IsFaultOf limits text fault
+IsRight limits bytes_of (Changed side) = (text : List ℕ) → bytes_of side ≡ Some text → ⊥
+IsRight limits bytes_of (Write written) = ⊤
+
+-- A fault of a later pass: of memory or of a device, or a side that is not sound, or does not tell its text, is called changed.
+abbrev pub IsLater : Limits → (Side → Option (List ℕ)) → RunFault → Type 0
+IsLater limits bytes_of (Open side) = ⊤
+IsLater limits bytes_of (Database fault) = is_outside fault.kind ≡ true
+IsLater limits bytes_of (Changed side) = (text : List ℕ) → bytes_of side ≡ Some text → IsSound limits text → ⊥
+IsLater limits bytes_of (Write written) = ⊥
+
+-- a fault of the first reading of this side
+abbrev pub IsFirst : Limits → (Side → Option (List ℕ)) → Side → RunFault → Type 0
+IsFirst limits bytes_of side (Open opened) = opened ≡ side
+IsFirst limits bytes_of side (Database fault) = (fault.side ≡ side) × ((text : List ℕ) → bytes_of side ≡ Some text → IsFaultOf limits text fault)
+IsFirst limits bytes_of side _ = ⊥

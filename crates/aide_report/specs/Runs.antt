@@ -1,0 +1,71 @@
+-- What a run over two databases answers.
+use Rattle.std.specs.Prelude.{◌≡◌, ℕ, ◌⊎◌, Option, Some, Result, Ok, Err, List, [], ⊤, false}
+use Rattle.std.specs.Io.KnownBytes.{Appends}
+use Rattle.aide_conf.specs.declared.options.Options.{Options}
+use Rattle.aide_db.specs.Database.{IsSound, IsFirstFault}
+use Rattle.aide_db.specs.Failures.{is_outside}
+use Rattle.aide_db.specs.Giving.{columns_of_text}
+use Rattle.aide_db.specs.Map.{database_of}
+use Rattle.aide_db.specs.Skipped.{skipped_in}
+use Rattle.aide_db.specs.declared.fault.DbFault.{DbFault}
+use Rattle.aide_db.specs.declared.fault.DbFaultKind.{DbFaultKind}
+use Rattle.aide_db.specs.declared.fault.DbFaultKind.TheVariants.{Memory, Read}
+use Rattle.aide_db.specs.declared.limits.Limits.{Limits}
+use Rattle.aide_db.specs.declared.side.Side.{Side}
+use Rattle.aide_db.specs.declared.side.Side.TheVariants.{Old, New}
+use Rattle.aide_report.specs.Report.{report_of, outcome_of}
+use Rattle.aide_report.specs.Sent.{SendsPart}
+use Rattle.aide_report.specs.declared.outcome.Outcome.{Outcome}
+use Rattle.aide_report.specs.declared.run_fault.RunFault.{RunFault}
+use Rattle.aide_report.specs.declared.run_fault.RunFault.TheVariants.{Open, Database, Changed, Write}
+
+-- a report, and what a good run tells of it
+pub record Report : Type 0 where
+  pub text : List ℕ
+  pub outcome : Outcome
+
+-- the report over two sound texts
+unfoldable pub report_over : Options → List ℕ → List ℕ → Report
+report_over options old new = record {
+  text = report_of options (database_of old) (database_of new);
+  outcome = outcome_of options (database_of old) (database_of new) (skipped_in (columns_of_text old)) (skipped_in (columns_of_text new));
+}
+
+-- the first fault of the text of this side
+abbrev pub IsFirstFaultOf : Limits → Side → List ℕ → DbFault → Type 0
+IsFirstFaultOf limits side text fault = (fault.side ≡ side) × IsFirstFault limits text fault.line fault.kind
+
+-- The right answer over two texts: the report where both are sound, otherwise the first fault, the old one's before
+-- the new one's.
+abbrev pub Runs : Limits → Options → List ℕ → List ℕ → Result Report DbFault → Type 0
+Runs limits options old new (Ok report) = IsSound limits old × IsSound limits new × (report ≡ report_over options old new)
+Runs limits options old new (Err fault) = IsFirstFaultOf limits Old old fault ⊎ (IsSound limits old × IsFirstFaultOf limits New new fault)
+
+-- a fault of a text is the right answer
+abbrev pub IsAnswer : Limits → Options → (Side → Option (List ℕ)) → RunFault → Type 0
+IsAnswer limits options bytes_of (Database fault) = (old new : List ℕ) → bytes_of Old ≡ Some old → bytes_of New ≡ Some new
+    → is_outside fault.kind ≡ false → Runs limits options old new (Err fault)
+IsAnswer limits options bytes_of _ = ⊤
+
+-- the whole of an answer's report has gone out, and its outcome is told
+abbrev pub EndsWell : Result Report DbFault → Outcome → Option (List ℕ) → Option (List ℕ) → Type 0
+EndsWell (Ok report) outcome old new = (report.outcome ≡ outcome) × Appends old new report.text
+EndsWell (Err fault) outcome old new = ⊥
+
+-- a front of an answer's report has gone out
+abbrev pub EndsEarly : Result Report DbFault → Option (List ℕ) → Option (List ℕ) → Type 0
+EndsEarly (Ok report) old new = SendsPart report.text old new
+EndsEarly (Err fault) old new = Appends old new []
+
+-- why a database fault comes: a failure of the sources, want of memory, or that it is the answer
+abbrev pub StandsOn : DbFaultKind → Type 0 → Type 0 → Type 0
+StandsOn Read rose first = rose
+StandsOn Memory rose first = ⊤
+StandsOn _ rose first = first
+
+-- why a fault of a run comes
+abbrev pub HasCause : RunFault → Type 0 → Type 0 → (DbFault → Type 0) → (Side → Type 0) → Type 0
+HasCause (Open side) sources sink first silent = sources
+HasCause (Database fault) sources sink first silent = StandsOn fault.kind sources (first fault)
+HasCause (Changed side) sources sink first silent = silent side
+HasCause (Write written) sources sink first silent = sink

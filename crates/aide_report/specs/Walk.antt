@@ -1,0 +1,48 @@
+-- A merge of two cursors: what it stands for, and what it has still to give.
+use Rattle.std.specs.Prelude.{◌≡◌, ℕ, ◌+◌, Option, List, IsSome}
+use Rattle.aide_db.specs.Attributes.{Attributes}
+use Rattle.aide_db.specs.CursorView.{CursorView}
+use Rattle.aide_db.specs.Desk.{desk_entry}
+use Rattle.aide_db.specs.DeskView.{DeskView}
+use Rattle.aide_db.specs.Path.{path_cmp}
+use Rattle.aide_db.specs.declared.limits.Limits.{Limits}
+use Rattle.aide_db.specs.declared.side.Side.{Side}
+use Rattle.aide_db.specs.declared.side.Side.TheVariants.{Old, New}
+use Rattle.aide_report.specs.Compare.{Change}
+use Rattle.aide_report.specs.Held.{ahead, work}
+use Rattle.aide_report.specs.Merged.{merged}
+use Rattle.aide_report.specs.Reading.{Stands, rest_of, left_of, IsUnfailed}
+use Rattle.aide_report.specs.declared.merge.Held.TheVariants.{Here}
+use Rattle.aide_report.specs.declared.merge.Merge.{Merge}
+
+-- the changes that a merge has still to give, of databases of these texts
+abbrev pub remaining : {R : Type 0} → Merge R → DeskView → List ℕ → List ℕ → List (Change (List ℕ) Attributes)
+remaining m desk old new = merged path_cmp (ahead m.old_held (desk_entry Old desk) (rest_of m.old_cursor old)) (ahead m.new_held (desk_entry New desk) (rest_of m.new_cursor new))
+
+-- the cursors are of their sides and have not failed, and what is held stands on the desk
+pub record IsReady {R : Type 0} (m : Merge R) (desk : DeskView) : Type 0 where
+  pub old_side : m.old_cursor.side ≡ Old
+  pub new_side : m.new_cursor.side ≡ New
+  pub old_unfailed : IsUnfailed m.old_cursor.place
+  pub new_unfailed : IsUnfailed m.new_cursor.place
+  pub old_here : m.old_held ≡ Here → IsSome (desk_entry Old desk)
+  pub new_here : m.new_held ≡ Here → IsSome (desk_entry New desk)
+
+abbrev pub cursor_at : {R : Type 0} → Merge R → Side → CursorView R
+cursor_at m Old = m.old_cursor
+cursor_at m New = m.new_cursor
+
+abbrev pub limits_at : {R : Type 0} → Merge R → Side → Limits
+limits_at m side = (cursor_at m side).limits
+
+-- the cursor of a side stands for a database of this text
+abbrev pub StandsAt : {R : Type 0} → (R → Option (List ℕ)) → Merge R → DeskView → Side → List ℕ → Type 0
+StandsAt to_come m desk side text = Stands to_come (cursor_at m side) desk text
+
+-- how often the reels of both sides have failed
+abbrev pub reels_failed : {R : Type 0} → (R → ℕ) → Merge R → ℕ
+reels_failed failures m = failures m.old_cursor.reel + failures m.new_cursor.reel
+
+-- a bound on the changes that a merge can still pass on
+abbrev pub total_work : {R : Type 0} → Merge R → ℕ
+total_work m = work m.old_held (left_of m.old_cursor) + work m.new_held (left_of m.new_cursor)

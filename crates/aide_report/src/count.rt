@@ -1,0 +1,110 @@
+//! How many entries were added, removed and changed.
+ghost use Rattle.std.specs.Prelude.{◌≡◌, ◌+◌, ◌^◌, ◌<◌, [], ◌∷◌, ℕ, List, IfOk, IfErr, count_by};
+ghost use Rattle.aide_db.specs.Desk.{desk_entry};
+ghost use Rattle.aide_report.specs.Changed.{differ_by};
+ghost use Rattle.aide_report.specs.Changes.{is_added, is_removed, is_changed, is_of_new};
+ghost use Rattle.aide_report.specs.ChangeView.{change_of, ShowsChange};
+ghost use Rattle.aide_report.specs.Counts.{Completes, AreBelow};
+ghost use Rattle.aide_report.specs.Place.{change_at};
+ghost use Rattle.aide_report.specs.Reading.{IsFaultOf};
+ghost use Rattle.aide_report.specs.Walk.{remaining, IsReady, StandsAt, limits_at, total_work, reels_failed};
+
+use crate::difference::differ;
+use crate::merge::{Merge, Place};
+use aide_attr::Ignore;
+use aide_db::{DbFault, DbFaultKind, Desk, Reel, Side, View};
+use std::alloc::Allocator;
+
+/// What the databases have at one path.
+#[derive(Clone, Copy)]
+pub(crate) enum Change<'a> {
+    Added(View<'a>),
+    Removed(View<'a>),
+    Common(View<'a>, View<'a>),
+}
+
+/// The change at this place, as the desk shows it.
+pub(crate) fn change_on<A: Allocator + Copy>(desk: &Desk<A>, place: Place) -> Option<Change<'_>>
+    ensures { ShowsChange result (change_at place (desk_entry Side.Old desk.now) (desk_entry Side.New desk.now)) }
+{
+    match (place, desk.view(Side::Old), desk.view(Side::New)) {
+        (Place::Added, _, Some(new)) => Some(Change::Added(new)),
+        (Place::Removed, Some(old), _) => Some(Change::Removed(old)),
+        (Place::Both, Some(old), Some(new)) => Some(Change::Common(old, new)),
+        _ => None,
+    }
+}
+
+/// The entries counted so far.
+#[derive(Clone, Copy, Debug, PartialEq, Eq)]
+pub(crate) struct Counts {
+    pub(crate) added: u64,
+    pub(crate) removed: u64,
+    pub(crate) changed: u64,
+    pub(crate) total: u64,
+}
+
+impl Counts {
+    fn new() -> Counts
+        ensures { result ≡ record { added = 0; removed = 0; changed = 0; total = 0 } }
+    {
+        Counts {
+            added: 0,
+            removed: 0,
+            changed: 0,
+            total: 0,
+        }
+    }
+
+    fn add(&mut self, change: Change<'_>, ignore: &Ignore)
+        requires { AreBelow self.old (2 ^ 63) }
+        ensures added { self.new.added ≡ self.old.added + count_by is_added (change_of change.entry ∷ []) }
+        ensures removed { self.new.removed ≡ self.old.removed + count_by is_removed (change_of change.entry ∷ []) }
+        ensures changed { self.new.changed ≡ self.old.changed + count_by (is_changed (differ_by ignore.now)) (change_of change.entry ∷ []) }
+        ensures total { self.new.total ≡ self.old.total + count_by is_of_new (change_of change.entry ∷ []) }
+    {
+        match change {
+            Change::Added(_) => {
+                self.added += 1;
+                self.total += 1;
+            }
+            Change::Removed(_) => self.removed += 1,
+            Change::Common(old, new) => {
+                if differ(&old, &new, ignore) {
+                    self.changed += 1;
+                }
+                self.total += 1;
+            }
+        }
+    }
+}
+
+/// The counting pass: a walk over both databases, to their ends.
+pub(crate) fn count<R: Reel, A: Allocator + Copy>(
+    merge: &mut Merge<R>,
+    desk: &mut Desk<A>,
+    ignore: &Ignore,
+) -> Result<Counts, DbFault>
+    requires ready { IsReady merge.old desk.old }
+    requires short { total_work merge.old < 2 ^ 62 }
+    ensures counts { IfOk result (λ counts. (old new : List ℕ)
+        → StandsAt R.to_come merge.old desk.old Side.Old old → StandsAt R.to_come merge.old desk.old Side.New new
+        → Completes ignore.now counts [] (remaining merge.old desk.old old new)) }
+    ensures fault { IfErr result (λ fault. (text : List ℕ) → StandsAt R.to_come merge.old desk.old fault.side text
+        → IsFaultOf (limits_at merge.old fault.side) text fault) }
+    ensures read { IfErr result (λ fault. fault.kind ≡ DbFaultKind.Read → 0 < reels_failed R.failures merge.new) }
+{
+    let mut counts = Counts::new();
+    'walk: loop {
+        let place = match merge.next(desk) {
+            Ok(place) => place,
+            Err(fault) => return Err(fault),
+        };
+        if let Place::End = place {
+            return Ok(counts);
+        }
+        if let Some(change) = change_on(desk, place) {
+            counts.add(change, ignore);
+        }
+    }
+}

@@ -1,0 +1,205 @@
+//! Readings of databases: each whole, or both in lock step.
+ghost use Rattle.std.specs.Prelude.{◌≡◌, ◌<◌, ◌≤◌, ◌+◌, ◌^◌, [], ℕ, List, Option, Some, IfOk, IfErr, OnOk, OnErr};
+ghost use Rattle.aide_db.specs.Count.{one_more};
+ghost use Rattle.aide_db.specs.Database.{IsSound};
+ghost use Rattle.aide_db.specs.Desk.{list_of};
+ghost use Rattle.aide_db.specs.Failures.{is_outside};
+ghost use Rattle.aide_db.specs.Giving.{columns_of_text};
+ghost use Rattle.aide_db.specs.Kept.{IsKept};
+ghost use Rattle.aide_db.specs.Map.{entries_of};
+ghost use Rattle.aide_db.specs.Path.{path_cmp};
+ghost use Rattle.aide_db.specs.Side.{other_side};
+ghost use Rattle.aide_db.specs.Skipped.{skipped_in};
+ghost use Rattle.aide_report.specs.Counts.{Completes};
+ghost use Rattle.aide_report.specs.Failures.{CountsFault, Rose};
+ghost use Rattle.aide_report.specs.LaterFault.{later_of};
+ghost use Rattle.aide_report.specs.Merged.{merged};
+ghost use Rattle.aide_report.specs.Openings.{OpensExactly, OpensAtMost};
+ghost use Rattle.aide_report.specs.Reading.{Stands, rest_of, IsUnfailed, IsFaultOf};
+ghost use Rattle.aide_report.specs.RunFaults.{IsCaused, IsLater, IsFirst};
+ghost use Rattle.aide_report.specs.Walk.{remaining, IsReady, StandsAt, limits_at, total_work, reels_failed};
+
+use crate::count::{Counts, count};
+use crate::merge::Merge;
+use crate::run_fault::RunFault;
+use aide_attr::Ignore;
+use aide_db::{Cursor, DbFault, DbFaultKind, Desk, Limits, OpenFault, Reel, Side, Sources, Step};
+use std::alloc::Allocator;
+
+/// Lets go what a desk still holds of an earlier run.
+pub(crate) fn clear<A: Allocator + Copy>(limits: Limits, desk: &mut Desk<A>)
+    requires line { 14 ≤ limits.line }
+    requires bytes { limits.bytes ≤ 2 ^ 60 }
+    ensures old { list_of Side.Old desk.new ≡ [] }
+    ensures new { list_of Side.New desk.new ≡ [] }
+    ensures peak { desk.new.peak ≡ desk.old.peak }
+{
+    let nothing: &[u8] = &[];
+    let _ = Cursor::start(Side::Old, nothing, limits, desk).into_reel();
+    let _ = Cursor::start(Side::New, nothing, limits, desk).into_reel();
+}
+
+/// Opens a side, and begins to read it.
+fn open_cursor<S: Sources, A: Allocator + Copy>(
+    sources: &mut S,
+    side: Side,
+    limits: Limits,
+    desk: &mut Desk<A>,
+) -> Result<Cursor<S::R>, OpenFault>
+    requires line { 14 ≤ limits.line }
+    requires bytes { limits.bytes ≤ 2 ^ 60 }
+    ensures same { S.bytes_of sources.new ≡ S.bytes_of sources.old }
+    ensures opens { S.openings sources.new side ≡ one_more (S.openings sources.old side) }
+    ensures others { S.openings sources.new (other_side side) ≡ S.openings sources.old (other_side side) }
+    ensures fault { CountsFault (S.failures sources.old) (S.failures sources.new) result }
+    ensures side { IfOk result (λ cursor. cursor.side ≡ side) }
+    ensures limits { IfOk result (λ cursor. cursor.limits ≡ limits) }
+    ensures unfailed { IfOk result (λ cursor. IsUnfailed cursor.place) }
+    ensures stands { IfOk result (λ cursor. (text : List ℕ) → S.bytes_of sources.old side ≡ Some text → Stands S.R.to_come cursor desk.new text) }
+    ensures rest { IfOk result (λ cursor. (text : List ℕ) → rest_of cursor text ≡ entries_of text) }
+    ensures other { IsKept (other_side side) desk.old desk.new }
+{
+    match sources.open(side) {
+        Ok(reel) => Ok(Cursor::start(side, reel, limits, desk)),
+        Err(fault) => Err(fault),
+    }
+}
+
+/// Opens both sides, old then new.
+fn open_both<S: Sources, A: Allocator + Copy>(
+    sources: &mut S,
+    limits: Limits,
+    desk: &mut Desk<A>,
+) -> Result<Merge<S::R>, RunFault>
+    requires line { 14 ≤ limits.line }
+    requires bytes { limits.bytes ≤ 2 ^ 60 }
+    ensures same { S.bytes_of sources.new ≡ S.bytes_of sources.old }
+    ensures opens { OnOk result (OpensExactly (S.openings sources.old) (S.openings sources.new) 1) }
+    ensures opens_some { OpensAtMost (S.openings sources.old) (S.openings sources.new) 1 }
+    ensures ready { IfOk result (λ merge. IsReady merge desk.new) }
+    ensures limits { IfOk result (λ merge. (side : Side) → limits_at merge side ≡ limits) }
+    ensures short { IfOk result (λ merge. total_work merge < 2 ^ 62) }
+    ensures stands_old { IfOk result (λ merge. (text : List ℕ) → S.bytes_of sources.old Side.Old ≡ Some text → StandsAt S.R.to_come merge desk.new Side.Old text) }
+    ensures stands_new { IfOk result (λ merge. (text : List ℕ) → S.bytes_of sources.old Side.New ≡ Some text → StandsAt S.R.to_come merge desk.new Side.New text) }
+    ensures rest { IfOk result (λ merge. (old new : List ℕ) → remaining merge desk.new old new ≡ merged path_cmp (entries_of old) (entries_of new)) }
+    ensures caused { IfErr result (IsCaused (Rose (S.failures sources.old) (S.failures sources.new)) ⊥) }
+    ensures later { IfErr result (IsLater limits (S.bytes_of sources.old)) }
+    ensures never_falls { S.failures sources.old ≤ S.failures sources.new }
+{
+    let old_cursor = match open_cursor(sources, Side::Old, limits, desk) {
+        Ok(cursor) => cursor,
+        Err(OpenFault) => return Err(RunFault::Open(Side::Old)),
+    };
+    let new_cursor = match open_cursor(sources, Side::New, limits, desk) {
+        Ok(cursor) => cursor,
+        Err(OpenFault) => {
+            sources.close(old_cursor.into_reel());
+            return Err(RunFault::Open(Side::New));
+        }
+    };
+    Ok(Merge::start(old_cursor, new_cursor))
+}
+
+fn close_both<S: Sources>(sources: &mut S, merge: Merge<S::R>)
+    ensures same { S.bytes_of sources.new ≡ S.bytes_of sources.old }
+    ensures openings { S.openings sources.new ≡ S.openings sources.old }
+    ensures rose { 0 < reels_failed S.R.failures merge → Rose (S.failures sources.old) (S.failures sources.new) }
+    ensures never_falls { S.failures sources.old ≤ S.failures sources.new }
+{
+    let (old_reel, new_reel) = merge.into_reels();
+    sources.close(old_reel);
+    sources.close(new_reel);
+}
+
+/// How a fault after the first readings is answered: one of the text shows that the side changed.
+fn later_fault(fault: DbFault) -> RunFault
+    ensures { result ≡ later_of fault }
+{
+    match fault.kind {
+        DbFaultKind::Memory => RunFault::Database(fault),
+        DbFaultKind::Read => RunFault::Database(fault),
+        _ => RunFault::Changed(fault.side),
+    }
+}
+
+/// Reads to the end of a database.
+fn read_to_end<R: Reel, A: Allocator + Copy>(
+    cursor: &mut Cursor<R>,
+    desk: &mut Desk<A>,
+) -> Result<(), DbFault>
+    requires { IsUnfailed cursor.old.place }
+    ensures sound { OnOk result ((text : List ℕ) → Stands R.to_come cursor.old desk.old text
+        → IsSound cursor.old.limits text × (cursor.new.columns ≡ columns_of_text text)) }
+    ensures fault { IfErr result (λ fault. (text : List ℕ) → Stands R.to_come cursor.old desk.old text → IsFaultOf cursor.old.limits text fault) }
+    ensures fault_side { IfErr result (λ fault. fault.side ≡ cursor.old.side) }
+    ensures read { IfErr result (λ fault. fault.kind ≡ DbFaultKind.Read → 0 < R.failures cursor.new.reel) }
+{
+    'read: loop {
+        match cursor.next(desk) {
+            Ok(Step::Record) => {}
+            Ok(Step::End) => return Ok(()),
+            Err(fault) => return Err(fault),
+        }
+    }
+}
+
+/// Reads the database of a side whole, and answers which columns were passed over.
+pub(crate) fn read_whole<S: Sources, A: Allocator + Copy>(
+    sources: &mut S,
+    side: Side,
+    limits: Limits,
+    desk: &mut Desk<A>,
+) -> Result<u64, RunFault>
+    requires line { 14 ≤ limits.line }
+    requires bytes { limits.bytes ≤ 2 ^ 60 }
+    ensures same { S.bytes_of sources.new ≡ S.bytes_of sources.old }
+    ensures opens { S.openings sources.new side ≡ one_more (S.openings sources.old side) }
+    ensures others { S.openings sources.new (other_side side) ≡ S.openings sources.old (other_side side) }
+    ensures sound { IfOk result (λ skipped. (text : List ℕ) → S.bytes_of sources.old side ≡ Some text
+        → IsSound limits text × (skipped ≡ skipped_in (columns_of_text text))) }
+    ensures first { IfErr result (IsFirst limits (S.bytes_of sources.old) side) }
+    ensures caused { IfErr result (IsCaused (Rose (S.failures sources.old) (S.failures sources.new)) ⊥) }
+    ensures never_falls { S.failures sources.old ≤ S.failures sources.new }
+{
+    let mut cursor = match open_cursor(sources, side, limits, desk) {
+        Ok(cursor) => cursor,
+        Err(OpenFault) => return Err(RunFault::Open(side)),
+    };
+    let result = read_to_end(&mut cursor, desk);
+    let skipped = cursor.skipped();
+    sources.close(cursor.into_reel());
+    match result {
+        Ok(()) => Ok(skipped),
+        Err(fault) => Err(RunFault::Database(fault)),
+    }
+}
+
+/// The counting pass.
+pub(crate) fn count_pass<S: Sources, A: Allocator + Copy>(
+    sources: &mut S,
+    limits: Limits,
+    desk: &mut Desk<A>,
+    ignore: &Ignore,
+) -> Result<Counts, RunFault>
+    requires line { 14 ≤ limits.line }
+    requires bytes { limits.bytes ≤ 2 ^ 60 }
+    ensures same { S.bytes_of sources.new ≡ S.bytes_of sources.old }
+    ensures opens { OnOk result (OpensExactly (S.openings sources.old) (S.openings sources.new) 1) }
+    ensures opens_some { OpensAtMost (S.openings sources.old) (S.openings sources.new) 1 }
+    ensures counts { IfOk result (λ counts. (old new : List ℕ) → S.bytes_of sources.old Side.Old ≡ Some old → S.bytes_of sources.old Side.New ≡ Some new
+        → Completes ignore.now counts [] (merged path_cmp (entries_of old) (entries_of new))) }
+    ensures later { IfErr result (IsLater limits (S.bytes_of sources.old)) }
+    ensures caused { IfErr result (IsCaused (Rose (S.failures sources.old) (S.failures sources.new)) ⊥) }
+    ensures never_falls { S.failures sources.old ≤ S.failures sources.new }
+{
+    let mut merge = match open_both(sources, limits, desk) {
+        Ok(merge) => merge,
+        Err(fault) => return Err(fault),
+    };
+    let result = count(&mut merge, desk, ignore);
+    close_both(sources, merge);
+    match result {
+        Ok(counts) => Ok(counts),
+        Err(fault) => Err(later_fault(fault)),
+    }
+}
