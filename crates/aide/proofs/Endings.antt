@@ -1,0 +1,171 @@
+-- How a session ends.
+use Rattle.std.proofs.Common.{◌≡◌, ◌∙◌, ℕ, ◌≤◌, ◌<◌, ◌-◌, ◌^◌, List, [], ◌++◌, Option, Some, None, refl, sym, ap, arith, Ok, Err, inl, inr, ◌⊎◌}
+use Rattle.std.specs.Prelude.{Result, unwrap_or}
+use Rattle.std.proofs.Math.Path.{subst}
+use Rattle.std.specs.Io.KnownBytes.{Appends}
+use Rattle.aide_db.specs.declared.fault.DbFault.{DbFault}
+use Rattle.aide_db.specs.declared.fault.DbFaultKind.{DbFaultKind}
+use Rattle.aide_db.specs.declared.fault.DbFaultKind.TheVariants as db
+use Rattle.aide_db.specs.declared.side.Side.{Side}
+use Rattle.aide_db.specs.declared.side.Side.TheVariants.{Old, New}
+use Rattle.aide_db.specs.Side.{by_side}
+use Rattle.aide_report.specs.Failures.{Rose}
+use Rattle.aide_report.specs.Runs.{EndsWell, EndsEarly, HasCause, StandsOn}
+use Rattle.aide_report.specs.Runs.{Report}
+use Rattle.aide_report.specs.Sent.{SendsPart}
+use Rattle.aide_report.specs.FaultStatus.{fault_status, kind_status}
+use Rattle.aide_report.specs.Report.{status_of}
+use Rattle.aide_report.specs.declared.outcome.Outcome.{Outcome}
+use Rattle.aide_report.specs.declared.run_fault.RunFault.{RunFault}
+use Rattle.aide_report.specs.declared.run_fault.RunFault.TheVariants.{Open, Database, Changed, Write}
+use Rattle.aide.specs.Answer.{Answer, Named, refused, answer_of_run}
+use Rattle.aide.specs.Ends.{Sinks, Failure, failure_line, FailureCause, Ends, Whole, Starved, Broken, config_unread, unopened, unread, unwritten}
+use Rattle.aide.specs.Lines.{memory_line, database_line, kind_line, outcome_lines, run_fault_line}
+use Rattle.aide.specs.Told.{IsQuiet, Told}
+use Rattle.aide.proofs.Tellings.{appends_none}
+
+abbrev pub sinks : (c d e f : Option (List ℕ)) → (m n : ℕ) → Sinks
+sinks c d e f m n = record { out_old = c; out_new = d; err_old = e; err_new = f; err_before = m; err_after = n }
+
+abbrev pub none_sent : (text : List ℕ) (d : Option (List ℕ)) → SendsPart text d d
+none_sent text d = record { front = []; rest = text; whole = refl; bytes = appends_none d }
+
+-- an answer that is a line and a status
+pub ends_refused : (a : Answer) (named : Named) (line : List ℕ) (status : ℕ) (d e f : Option (List ℕ)) (m n : ℕ) (site out : Type 0) → a ≡ refused line status → Told line e f m n
+    → Ends a named status (sinks d d e f m n) site out
+ends_refused a named line status d e f m n site out is told =
+    subst (λ (x : Answer). Ends x named status (sinks d d e f m n) site out) (sym is) (inl (record { status_is = refl; output = appends_none d; told = told }))
+
+-- want of memory before anything went out
+pub ends_starved : (a : Answer) (named : Named) (d e f : Option (List ℕ)) (m n : ℕ) (site out : Type 0) → Told memory_line e f m n
+    → Ends a named 22 (sinks d d e f m n) site out
+ends_starved a named d e f m n site out told = inr (inl (record { status_is = refl; output = none_sent a.output d; told = told }))
+
+-- a failure before anything went out
+pub ends_broken : (a : Answer) (named : Named) (failure : Failure) (d e f : Option (List ℕ)) (m n : ℕ) (site out : Type 0) → FailureCause failure site out
+    → Told (failure_line named failure) e f m n → Ends a named 18 (sinks d d e f m n) site out
+ends_broken a named failure d e f m n site out cause told =
+    inr (inr (record { status_is = refl; output = none_sent a.output d; failure = failure; cause = cause; told = told }))
+
+cause_by : (failure : Failure) (site more out : Type 0) → (site → more) → FailureCause failure site out → FailureCause failure more out
+cause_by config_unread site more out then cause = then cause
+cause_by (unopened side) site more out then cause = then cause
+cause_by (unread fault) site more out then cause = (cause.0, then cause.1)
+cause_by unwritten site more out then cause = cause
+
+-- the same ending for a cause that follows
+pub ends_by : (a : Answer) (named : Named) (status : ℕ) (s : Sinks) (site more out : Type 0) → (site → more) → Ends a named status s site out → Ends a named status s more out
+ends_by a named status s site more out then ends = elim ends [
+  | inl whole ↦ inl whole
+  | inr rest ↦ elim rest [
+    | inl starved ↦ inr (inl starved)
+    | inr broken ↦ inr (inr (record {
+      status_is = broken.status_is;
+      output = broken.output;
+      failure = broken.failure;
+      cause = cause_by broken.failure site more out then broken.cause;
+      told = broken.told;
+    }))
+  ]
+]
+
+no_cause : (failure : Failure) (site out : Type 0) → (site → ⊥) → (out → ⊥) → FailureCause failure site out → ⊥
+no_cause config_unread site out quiet_site quiet_out cause = quiet_site cause
+no_cause (unopened side) site out quiet_site quiet_out cause = quiet_site cause
+no_cause (unread fault) site out quiet_site quiet_out cause = quiet_site cause.1
+no_cause unwritten site out quiet_site quiet_out cause = quiet_out cause
+
+-- an ending without a failure
+pub ends_quietly : (a : Answer) (named : Named) (status : ℕ) (s : Sinks) (site out : Type 0) → (site → ⊥) → (out → ⊥) → Ends a named status s site out
+    → Whole a status s ⊎ Starved a status s
+ends_quietly a named status s site out quiet_site quiet_out ends = elim ends [
+  | inl whole ↦ inl whole
+  | inr rest ↦ elim rest [
+    | inl starved ↦ inr starved
+    | inr broken ↦ absurd (no_cause broken.failure site out quiet_site quiet_out broken.cause)
+  ]
+]
+
+pub quiet_never_rose : (m n : ℕ) → IsQuiet m n → Rose m n → ⊥
+quiet_never_rose m n quiet rose = let h = rose quiet.1 in omega (arith, h, quiet.0)
+
+pub rose_later : (m k n : ℕ) → m ≤ k → Rose k n → Rose m n
+rose_later m k n h rose = λ below. let later = rose below in omega (arith, h, later)
+
+-- a good run
+pub ends_well : (r : Result Report DbFault) (o : Outcome) (named : Named) (c d e f : Option (List ℕ)) (m n : ℕ) (site out : Type 0) → EndsWell r o c d → Told (outcome_lines o) e f m n
+    → Ends (answer_of_run r) named (status_of o.added o.removed o.changed) (sinks c d e f m n) site out
+ends_well (Ok report) o named c d e f m n site out well told = inl (record {
+  status_is = sym (ap (λ (x : Outcome). status_of x.added x.removed x.changed) well.0);
+  output = well.1;
+  told = subst (λ (x : Outcome). Told (outcome_lines x) e f m n) (sym well.0) told;
+})
+ends_well (Err fault) o named c d e f m n site out well told = absurd well
+
+early_part : (r : Result Report DbFault) (c d : Option (List ℕ)) → EndsEarly r c d → SendsPart (answer_of_run r).output c d
+early_part (Ok report) c d early = early
+early_part (Err fault) c d early = record { front = []; rest = []; whole = refl; bytes = early }
+
+run_broken : (r : Result Report DbFault) (named : Named) (failure : Failure) (c d e f : Option (List ℕ)) (m n : ℕ) (site out : Type 0) → EndsEarly r c d → FailureCause failure site out
+    → Told (failure_line named failure) e f m n → Ends (answer_of_run r) named 18 (sinks c d e f m n) site out
+run_broken r named failure c d e f m n site out early cause told =
+    inr (inr (record { status_is = refl; output = early_part r c d early; failure = failure; cause = cause; told = told }))
+
+first_fault : (r : Result Report DbFault) (fault : DbFault) (named : Named) (c d e f : Option (List ℕ)) (m n : ℕ) (site out : Type 0) → r ≡ Err fault → EndsEarly r c d
+    → Told (database_line fault) e f m n → Ends (answer_of_run r) named 24 (sinks c d e f m n) site out
+first_fault r fault named c d e f m n site out is early told =
+    subst (λ (x : Result Report DbFault). Ends (answer_of_run x) named 24 (sinks c d e f m n) site out) (sym is)
+    (inl (record { status_is = refl; output = subst (λ (x : Result Report DbFault). EndsEarly x c d) is early; told = told }))
+
+abbrev fault_at : Side → ℕ → DbFaultKind → DbFault
+fault_at side line kind = record { side = side; line = line; kind = kind }
+
+run_database : (side : Side) (line : ℕ) (kind : DbFaultKind) (r : Result Report DbFault) (named : Named) (c d e f : Option (List ℕ)) (m n : ℕ) (site out : Type 0) → EndsEarly r c d
+    → StandsOn kind site (r ≡ Err (fault_at side line kind)) → Told (kind_line (fault_at side line kind) kind) e f m n
+    → Ends (answer_of_run r) named (kind_status kind) (sinks c d e f m n) site out
+run_database side line db.Read r named c d e f m n site out early cause told = run_broken r named (unread (fault_at side line db.Read)) c d e f m n site out early (refl, cause) told
+run_database side line db.Memory r named c d e f m n site out early cause told = inr (inl (record { status_is = refl; output = early_part r c d early; told = told }))
+run_database side line kind r named c d e f m n site out early cause told = first_fault r (fault_at side line kind) named c d e f m n site out cause early told
+
+-- a run that was given up
+pub ends_fault : (fault : RunFault) (r : Result Report DbFault) (named : Named) (c d e f : Option (List ℕ)) (m n : ℕ) (site out : Type 0) → EndsEarly r c d
+    → HasCause fault site out (λ first. r ≡ Err first) (λ side. ⊥) → Told (run_fault_line named.old_path named.new_path fault) e f m n
+    → Ends (answer_of_run r) named (fault_status fault) (sinks c d e f m n) site out
+ends_fault (Open side) r named c d e f m n site out early cause told = run_broken r named (unopened side) c d e f m n site out early cause told
+ends_fault (Database fault) r named c d e f m n site out early cause told = run_database fault.side fault.line fault.kind r named c d e f m n site out early cause told
+ends_fault (Changed side) r named c d e f m n site out early cause told = absurd cause
+ends_fault (Write written) r named c d e f m n site out early cause told = run_broken r named unwritten c d e f m n site out early cause told
+
+stands_by : (kind : DbFaultKind) (site first second : Type 0) → (first → second) → StandsOn kind site first → StandsOn kind site second
+stands_by db.Read site first second then stands = stands
+stands_by db.Memory site first second then stands = stands
+stands_by kind site first second then stands = then stands
+
+-- the same cause, where each side tells its bytes and these have an answer
+pub cause_told : (fault : RunFault) (site out : Type 0) (first second : DbFault → Type 0) (silent : Side → Type 0) → ((x : DbFault) → first x → second x) → ((s : Side) → silent s → ⊥)
+    → HasCause fault site out first silent → HasCause fault site out second (λ side. ⊥)
+cause_told (Open side) site out first second silent then never cause = cause
+cause_told (Database fault) site out first second silent then never cause = stands_by fault.kind site (first fault) (second fault) (then fault) cause
+cause_told (Changed side) site out first second silent then never cause = never side cause
+cause_told (Write written) site out first second silent then never cause = cause
+
+pub same_some : (o : Option (List ℕ)) (x y : List ℕ) → o ≡ Some x → o ≡ Some y → x ≡ y
+same_some o x y p q = sym (ap (λ (k : Option (List ℕ)). unwrap_or k []) p) ∙ ap (λ (k : Option (List ℕ)). unwrap_or k []) q
+
+-- a side that tells its bytes is never silent
+pub never_silent : (bytes_of : Side → Option (List ℕ)) (side : Side) (old_bytes new_bytes : List ℕ) → bytes_of Old ≡ Some old_bytes → bytes_of New ≡ Some new_bytes
+    → ((bytes : List ℕ) → bytes_of side ≡ Some bytes → ⊥) → ⊥
+never_silent bytes_of Old old_bytes new_bytes p q silent = silent old_bytes p
+never_silent bytes_of New old_bytes new_bytes p q silent = silent new_bytes q
+
+-- the line of a fault that is not want of memory
+pub other_line : (fault : DbFault) (kind : DbFaultKind) → (kind ≡ db.Memory → ⊥) → kind_line fault kind ≡ database_line fault
+other_line fault db.Memory other = absurd (other refl)
+other_line fault kind other = refl
+
+-- the line of a run's fault over the paths that are named
+pub told_paths : (fault : RunFault) (named : Named) (old_path new_path : List ℕ) (e f : Option (List ℕ)) (m n : ℕ) → named.old_path ≡ old_path → named.new_path ≡ new_path
+    → Told (run_fault_line old_path new_path fault) e f m n → Told (run_fault_line named.old_path named.new_path fault) e f m n
+told_paths fault named old_path new_path e f m n is_old is_new told =
+    subst (λ (x : List ℕ). Told (run_fault_line x named.new_path fault) e f m n) (sym is_old)
+    (subst (λ (x : List ℕ). Told (run_fault_line old_path x fault) e f m n) (sym is_new) told)

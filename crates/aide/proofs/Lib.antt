@@ -1,0 +1,6 @@
+mod Endings
+mod HeldLemmas
+mod JobLemmas
+mod Readings
+mod Stages
+mod Tellings

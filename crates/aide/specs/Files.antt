@@ -1,0 +1,20 @@
+-- What is known of files by their paths.
+use Rattle.std.specs.Prelude.{◌≡◌, ℕ, List, Option, Some, None, true, Bool, nat_lt, length}
+
+-- what is known of the file at each path: nothing, or that there is none, or its bytes
+abbrev pub Files : Type 0
+Files = List ℕ → Option (Option (List ℕ))
+
+-- a reel over a file that is there gives its bytes
+abbrev pub GivesFile : Option (List ℕ) → Option (List ℕ) → Type 0
+GivesFile None to_come = ⊥
+GivesFile (Some bytes) to_come = to_come ≡ Some bytes
+
+-- a text that is longer than a configuration may be
+abbrev pub is_too_large : List ℕ → Bool
+is_too_large text = nat_lt 4194304 (length text)
+
+-- a file that is there and longer than a configuration may be
+abbrev pub IsLarge : Option (List ℕ) → Type 0
+IsLarge None = ⊥
+IsLarge (Some bytes) = is_too_large bytes ≡ true

@@ -1,0 +1,12 @@
+-- What was told on standard error.
+use Rattle.std.specs.Prelude.{◌≡◌, ℕ, ◌≤◌, ◌<◌, ◌-◌, ◌^◌, List, Option}
+use Rattle.std.specs.Io.KnownBytes.{Appends}
+
+-- the count has not risen, and it can still rise
+abbrev pub IsQuiet : ℕ → ℕ → Type 0
+IsQuiet before after = (after ≡ before) × (after < 2 ^ 64 - 1)
+
+-- where the sink counts no failure, this text and nothing else was told
+pub record Told (text : List ℕ) (old new : Option (List ℕ)) (before after : ℕ) : Type 0 where
+  pub never_falls : before ≤ after
+  pub exact : IsQuiet before after → Appends old new text

@@ -1,0 +1,107 @@
+//! The machine's files.
+ghost use Rattle.std.specs.Prelude.{◌≡◌, ℕ, List, Option, None, IfSome};
+ghost use Rattle.aide_db.specs.Side.{by_side};
+
+use crate::pointed::Pointed;
+use crate::site::Site;
+use crate::words::Memory;
+use aide_db::{OpenFault, ReadReel, Reel, Side, Sources};
+use std::alloc::Global;
+use std::fs;
+use std::io::BufReader;
+use std::marker::Model;
+use std::rt::Files;
+
+/// The machine's files, of whose bytes nothing is told. Each is read through a buffer, whose
+/// memory is part of its opening.
+#[derive(Drop)]
+pub struct FileSite<F> {
+    files: F,
+    alloc: Global,
+    sides: Pointed,
+    failures: u64,
+}
+
+impl<F> Model for FileSite<F> {
+    ghost use Rattle.aide.specs.Held.{Machine};
+
+    ghost Value = { Machine F };
+
+    ghost view = { λ s. record {
+      files = s.files;
+      old_path = s.sides.old_path;
+      new_path = s.sides.new_path;
+      old_openings = s.sides.old_openings;
+      new_openings = s.sides.new_openings;
+      failures = s.failures;
+    } };
+}
+
+/// A reel over the file of a path.
+fn open_file<F: Files>(files: &F, alloc: Global, path: &str) -> Option<ReadReel<BufReader<F::File>>>
+    ensures { IfSome result (λ r. r.failures ≡ 0) }
+{
+    let Ok(file) = fs::open(files, path) else {
+        return None;
+    };
+    let Ok(reader) = BufReader::new(alloc, file) else {
+        return None;
+    };
+    Some(ReadReel::new(reader))
+}
+
+impl<F: Files> FileSite<F> {
+    /// The files of a machine, at which no side is pointed yet. Takes no memory.
+    pub fn new(files: F, alloc: Global) -> FileSite<F>
+        ensures { result ≡ record { files = files; old_path = None; new_path = None; old_openings = 0; new_openings = 0; failures = 0 } }
+    {
+        FileSite {
+            files,
+            alloc,
+            sides: Pointed::new(),
+            failures: 0,
+        }
+    }
+}
+
+impl<F: Files> Sources for FileSite<F> {
+    type R = ReadReel<BufReader<F::File>>;
+
+    ghost bytes_of = { λ _ _. None };
+
+    ghost openings = { λ s side. by_side s.old_openings s.new_openings side };
+
+    ghost failures = { λ s. s.failures };
+
+    fn open(&mut self, side: Side) -> Result<ReadReel<BufReader<F::File>>, OpenFault> {
+        self.sides.count(side);
+        if let Some(path) = self.sides.path(side) {
+            if let Some(reel) = open_file(&self.files, self.alloc, path.as_str()) {
+                return Ok(reel);
+            }
+        }
+        self.failures = self.failures.saturating_add(1);
+        Err(OpenFault)
+    }
+
+    fn close(&mut self, reel: ReadReel<BufReader<F::File>>) {
+        self.failures = self.failures.saturating_add(reel.failures());
+        let _ = reel.into_reader();
+    }
+}
+
+impl<F: Files> Site for FileSite<F> {
+    fn config(&mut self, path: &str) -> Result<ReadReel<BufReader<F::File>>, OpenFault> {
+        match open_file(&self.files, self.alloc, path) {
+            Some(reel) => Ok(reel),
+            None => {
+                self.failures = self.failures.saturating_add(1);
+                Err(OpenFault)
+            }
+        }
+    }
+
+    fn point(&mut self, alloc: Global, side: Side, path: &str) -> Result<(), Memory> {
+        self.sides.point(alloc, side, path)
+    }
+}

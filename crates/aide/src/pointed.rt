@@ -1,0 +1,72 @@
+//! Two sides that are pointed at paths.
+ghost use Rattle.std.specs.Prelude.{◌≡◌, ◌≢◌, Some, None, OnOk, OnErr};
+ghost use Rattle.aide_db.specs.Count.{one_more};
+ghost use Rattle.aide_db.specs.Side.{by_side, other_side};
+
+use crate::words::{Memory, Word};
+use aide_db::Side;
+use std::alloc::Global;
+
+/// The path that each side is pointed at, if any, and how often each was opened.
+#[derive(Drop)]
+pub(crate) struct Pointed {
+    old_path: Option<Word>,
+    new_path: Option<Word>,
+    old_openings: u64,
+    new_openings: u64,
+}
+
+impl Pointed {
+    pub(crate) fn new() -> Pointed
+        ensures { result ≡ record { old_path = None; new_path = None; old_openings = 0; new_openings = 0 } }
+    {
+        Pointed {
+            old_path: None,
+            new_path: None,
+            old_openings: 0,
+            new_openings: 0,
+        }
+    }
+
+    /// The path of a side.
+    pub(crate) fn path(&self, side: Side) -> &Option<Word>
+        ensures { result.now ≡ by_side self.now.old_path self.now.new_path side }
+    {
+        match side {
+            Side::Old => &self.old_path,
+            Side::New => &self.new_path,
+        }
+    }
+
+    /// Points a side at a copy of a path.
+    pub(crate) fn point(&mut self, alloc: Global, side: Side, path: &str) -> Result<(), Memory>
+        ensures ok { OnOk result (by_side self.new.old_path self.new.new_path side ≡ Some path.now) }
+        ensures other { by_side self.new.old_path self.new.new_path (other_side side)
+            ≡ by_side self.old.old_path self.old.new_path (other_side side) }
+        ensures old_openings { self.new.old_openings ≡ self.old.old_openings }
+        ensures new_openings { self.new.new_openings ≡ self.old.new_openings }
+        ensures err { OnErr result (self.new ≡ self.old) }
+    {
+        let path = Word::new(alloc, path)?;
+        match side {
+            Side::Old => self.old_path = Some(path),
+            Side::New => self.new_path = Some(path),
+        }
+        Ok(())
+    }
+
+    /// Counts an opening of a side.
+    pub(crate) fn count(&mut self, side: Side)
+        ensures old_path { self.new.old_path ≡ self.old.old_path }
+        ensures new_path { self.new.new_path ≡ self.old.new_path }
+        ensures counted { by_side self.new.old_openings self.new.new_openings side
+            ≡ one_more (by_side self.old.old_openings self.old.new_openings side) }
+        ensures other { by_side self.new.old_openings self.new.new_openings (other_side side)
+            ≡ by_side self.old.old_openings self.old.new_openings (other_side side) }
+    {
+        match side {
+            Side::Old => self.old_openings = self.old_openings.saturating_add(1),
+            Side::New => self.new_openings = self.new_openings.saturating_add(1),
+        }
+    }
+}

@@ -1,0 +1,269 @@
+//! The whole program over any site.
+ghost use Rattle.std.specs.Prelude.{◌≡◌, ◌≤◌, ◌⊎◌, ℕ, List, Option, Some, None, IsSome, Ok, Err, Result, true, false};
+ghost use Rattle.aide_db.specs.Side.{by_side};
+ghost use Rattle.aide_db.specs.declared.fault.DbFault.{DbFault};
+ghost use Rattle.aide_report.specs.Failures.{Rose};
+ghost use Rattle.aide_report.specs.Runs.{Report, Runs};
+ghost use Rattle.aide.specs.Answer.{Answer, Named, IsAnswer, IsJobAnswer, IsTextAnswer, Compares, answer_of_run, limits, need_of};
+ghost use Rattle.aide.specs.Ends.{Ends, Whole, Starved};
+ghost use Rattle.aide.specs.Job.{text_of_job};
+ghost use Rattle.aide.specs.Lines.{run_fault_line};
+ghost use Rattle.aide.specs.Told.{IsQuiet, Told};
+
+use crate::config_file::{ConfigFault, read_config};
+use crate::job::{Job, WordsFault, read_words};
+use crate::lines::{
+    tell_changed_line, tell_conf_line, tell_database_line, tell_memory_line, tell_open_line,
+    tell_outcome_lines, tell_too_large_line, tell_unread_line, tell_usage_line, tell_write_line,
+};
+use crate::site::Site;
+use crate::words::{Memory, Words};
+use aide_conf::{ConfFaultKind, Need, Settings, Task};
+use aide_db::{DbFault, DbFaultKind, Desk, Limits, Side, Sources};
+use aide_report::{RunFault, Sink, run};
+use std::alloc::Global;
+
+/// The limits of a database: 65,536 bytes a line, and 2^40 bytes in all.
+const LIMITS: Limits = Limits {
+    line: 65_536,
+    bytes: 1_099_511_627_776,
+};
+
+/// The configured path of a side.
+fn path_of<'a>(task: &Task<'a>, side: Side) -> &'a str
+    ensures { result.now ≡ by_side task.now.old_path.now task.now.new_path.now side }
+{
+    match side {
+        Side::Old => task.old_path,
+        Side::New => task.new_path,
+    }
+}
+
+/// Why a run was given up.
+fn tell_run_fault<E: Sink>(err: &mut E, task: &Task<'_>, fault: RunFault)
+    ensures { Told (run_fault_line task.now.old_path.now task.now.new_path.now fault)
+        (E.delivered err.old) (E.delivered err.new) (E.failures err.old) (E.failures err.new) }
+{
+    match fault {
+        RunFault::Open(side) => tell_open_line(err, side, path_of(task, side)),
+        RunFault::Database(fault) => match fault.kind {
+            DbFaultKind::Memory => tell_memory_line(err),
+            _ => tell_database_line(err, fault),
+        },
+        RunFault::Changed(side) => tell_changed_line(err, side),
+        RunFault::Write { written: _ } => tell_write_line(err),
+    }
+}
+
+/// Compares the databases that the sides of a site are pointed at.
+fn compare_sides<S: Site, W: Sink, E: Sink>(
+    alloc: Global,
+    task: &Task<'_>,
+    site: &mut S,
+    out: &mut W,
+    err: &mut E,
+) -> u8
+    ensures ends { (named : Named) → named.old_path ≡ task.now.old_path.now → named.new_path ≡ task.now.new_path.now
+        → (old_bytes new_bytes : List ℕ) → S.bytes_of site.old Side.Old ≡ Some old_bytes → S.bytes_of site.old Side.New ≡ Some new_bytes
+        → (r : Result Report DbFault) → Runs limits task.now.options old_bytes new_bytes r
+        → Ends (answer_of_run r) named result (record {
+          out_old = W.delivered out.old;
+          out_new = W.delivered out.new;
+          err_old = E.delivered err.old;
+          err_new = E.delivered err.new;
+          err_before = E.failures err.old;
+          err_after = E.failures err.new;
+        })
+        (Rose (S.failures site.old) (S.failures site.new)) (Rose (W.failures out.old) (W.failures out.new)) }
+    ensures site_never_falls { S.failures site.old ≤ S.failures site.new }
+{
+    let mut desk = Desk::new(alloc);
+    match run(task, LIMITS, &mut desk, site, out) {
+        Ok(outcome) => {
+            tell_outcome_lines(err, &outcome);
+            outcome.status()
+        }
+        Err(fault) => {
+            tell_run_fault(err, task, fault);
+            fault.status()
+        }
+    }
+}
+
+/// Points a site at the databases that the settings name, and compares them.
+fn compare<S: Site, W: Sink, E: Sink>(
+    alloc: Global,
+    settings: &Settings,
+    site: &mut S,
+    out: &mut W,
+    err: &mut E,
+) -> u8
+    requires { IsSome settings.now.old_path × IsSome settings.now.new_path }
+    ensures ends { (named : Named) (a : Answer) → Compares (S.file_at site.old) settings.now named a
+        → Ends a named result (record {
+          out_old = W.delivered out.old;
+          out_new = W.delivered out.new;
+          err_old = E.delivered err.old;
+          err_new = E.delivered err.new;
+          err_before = E.failures err.old;
+          err_after = E.failures err.new;
+        })
+        (Rose (S.failures site.old) (S.failures site.new)) (Rose (W.failures out.old) (W.failures out.new)) }
+    ensures site_never_falls { S.failures site.old ≤ S.failures site.new }
+{
+    let Some(task) = settings.task() else {
+        unreachable!()
+    };
+    if let Err(Memory) = site.point(alloc, Side::Old, task.old_path) {
+        tell_memory_line(err);
+        return 22;
+    }
+    if let Err(Memory) = site.point(alloc, Side::New, task.new_path) {
+        tell_memory_line(err);
+        return 22;
+    }
+    compare_sides(alloc, &task, site, out, err)
+}
+
+fn need(compare: bool) -> Need
+    ensures { result ≡ need_of compare }
+{
+    if compare { Need::Compare } else { Need::Check }
+}
+
+/// The session of a job whose configuration has this text.
+fn after_reading<S: Site, W: Sink, E: Sink>(
+    alloc: Global,
+    job: &Job,
+    text: &[u8],
+    site: &mut S,
+    out: &mut W,
+    err: &mut E,
+) -> u8
+    ensures ends { (named : Named) (a : Answer) → IsTextAnswer (S.file_at site.old) (text_of_job job.now) text.now named a
+        → Ends a named result (record {
+          out_old = W.delivered out.old;
+          out_new = W.delivered out.new;
+          err_old = E.delivered err.old;
+          err_new = E.delivered err.new;
+          err_before = E.failures err.old;
+          err_after = E.failures err.new;
+        })
+        (Rose (S.failures site.old) (S.failures site.new)) (Rose (W.failures out.old) (W.failures out.new)) }
+    ensures site_never_falls { S.failures site.old ≤ S.failures site.new }
+{
+    let before = job.before.as_str().as_bytes();
+    let after = job.after.as_str().as_bytes();
+    match Settings::read(alloc, before, text, after, need(job.compare)) {
+        Ok(settings) => {
+            if job.compare {
+                compare(alloc, &settings, site, out, err)
+            } else {
+                0
+            }
+        }
+        Err(fault) => match fault.kind {
+            ConfFaultKind::Memory => {
+                tell_memory_line(err);
+                22
+            }
+            _ => {
+                tell_conf_line(err, fault);
+                17
+            }
+        },
+    }
+}
+
+/// The session of a job.
+fn run_job<S: Site, W: Sink, E: Sink>(
+    alloc: Global,
+    job: &Job,
+    site: &mut S,
+    out: &mut W,
+    err: &mut E,
+) -> u8
+    ensures ends { (named : Named) (a : Answer) → IsJobAnswer (S.file_at site.old) (text_of_job job.now) named a
+        → Ends a named result (record {
+          out_old = W.delivered out.old;
+          out_new = W.delivered out.new;
+          err_old = E.delivered err.old;
+          err_new = E.delivered err.new;
+          err_before = E.failures err.old;
+          err_after = E.failures err.new;
+        })
+        (Rose (S.failures site.old) (S.failures site.new)) (Rose (W.failures out.old) (W.failures out.new)) }
+{
+    let path = job.config.as_str();
+    match read_config(alloc, site, path) {
+        Ok(text) => after_reading(alloc, job, text.as_slice(), site, out, err),
+        Err(ConfigFault::TooLarge) => {
+            tell_too_large_line(err);
+            17
+        }
+        Err(ConfigFault::Unread) => {
+            tell_unread_line(err, path);
+            18
+        }
+        Err(ConfigFault::Memory) => {
+            tell_memory_line(err);
+            22
+        }
+    }
+}
+
+/// The whole program over any site: reads the words, reads the configuration, and compares the two
+/// databases where it is asked to. The report goes to `out`, one line for a fault to `err`, or
+/// after a good comparison one line for each column that was skipped. Answers the exit status.
+///
+/// A failure of `err` changes nothing.
+pub fn session<S: Site, W: Sink, E: Sink>(
+    alloc: Global,
+    words: &Words,
+    site: &mut S,
+    out: &mut W,
+    err: &mut E,
+) -> u8
+    // The answer to the words, or want of memory or a failure that was counted, with a front of its output.
+    ensures ends { (named : Named) (a : Answer) → IsAnswer (S.file_at site.old) words.now named a
+        → Ends a named result (record {
+          out_old = W.delivered out.old;
+          out_new = W.delivered out.new;
+          err_old = E.delivered err.old;
+          err_new = E.delivered err.new;
+          err_before = E.failures err.old;
+          err_after = E.failures err.new;
+        })
+        (Rose (S.failures site.old) (S.failures site.new)) (Rose (W.failures out.old) (W.failures out.new)) }
+    // Where no failure was counted: the answer to the words, or want of memory.
+    ensures exact { (named : Named) (a : Answer) → IsAnswer (S.file_at site.old) words.now named a
+        → IsQuiet (S.failures site.old) (S.failures site.new) → IsQuiet (W.failures out.old) (W.failures out.new)
+        → Whole a result (record {
+          out_old = W.delivered out.old;
+          out_new = W.delivered out.new;
+          err_old = E.delivered err.old;
+          err_new = E.delivered err.new;
+          err_before = E.failures err.old;
+          err_after = E.failures err.new;
+        })
+        ⊎ Starved a result (record {
+          out_old = W.delivered out.old;
+          out_new = W.delivered out.new;
+          err_old = E.delivered err.old;
+          err_new = E.delivered err.new;
+          err_before = E.failures err.old;
+          err_after = E.failures err.new;
+        }) }
+{
+    match read_words(alloc, words) {
+        Ok(job) => run_job(alloc, &job, site, out, err),
+        Err(WordsFault::Usage) => {
+            tell_usage_line(err);
+            15
+        }
+        Err(WordsFault::Memory) => {
+            tell_memory_line(err);
+            22
+        }
+    }
+}
