@@ -1,0 +1,93 @@
+//! Groups that are refused memory, and as many groups as there may be.
+use crate::Refusing;
+use aide_attr::{Attr, AttrSet, GroupFault, Groups};
+use std::alloc::Allocator;
+use std::process::Abort;
+use std::test::Fail;
+
+/// A name for each number below 10,000.
+fn name_of(number: u32) -> [u8; 5] {
+    let digit = |power: u32| b'0' + (number / power % 10) as u8;
+    [b'g', digit(1000), digit(100), digit(10), digit(1)]
+}
+
+/// The set that the definition with this number gives.
+fn set_of(definition: u32) -> AttrSet {
+    if definition % 3 == 0 {
+        AttrSet::of(Attr::Size)
+    } else if definition % 3 == 1 {
+        AttrSet::of(Attr::Perm)
+    } else {
+        AttrSet::of(Attr::Size).union(AttrSet::of(Attr::Perm))
+    }
+}
+
+/// What a name stands for after so many definitions of 40 names in turn.
+fn wanted(name: u32, definitions: u32) -> Option<AttrSet> {
+    let mut set = None;
+    for definition in 0..definitions {
+        if definition % 40 == name {
+            set = Some(set_of(definition));
+        }
+    }
+    set
+}
+
+/// Whether each of the 40 names stands for what it should after so many definitions.
+fn are_as_wanted<A: Allocator + Copy>(groups: &Groups<A>, definitions: u32) -> bool {
+    (0..40).all(|name| groups.look(&name_of(name)) == wanted(name, definitions))
+}
+
+/// 100 definitions of 40 names, each of which is tried again where it is refused memory. How often that was.
+fn define_all<A: Allocator + Copy>(rt: &impl Abort, groups: &mut Groups<A>) -> u64 {
+    let mut refused = 0u64;
+    for definition in 0..100 {
+        let name = name_of(definition % 40);
+        match groups.define(&name, set_of(definition)) {
+            Ok(()) => {}
+            Err(fault) => {
+                assert_eq!(rt; fault, GroupFault::Memory);
+                assert!(rt; are_as_wanted(groups, definition), "before {definition}");
+                assert_eq!(rt; groups.define(&name, set_of(definition)), Ok(()));
+                refused = refused.saturating_add(1);
+            }
+        }
+    }
+    assert!(rt; are_as_wanted(groups, 100));
+    refused
+}
+
+#[test]
+fn each_growth_refused_in_turn(rt: HostRuntime) -> Result<(), Fail> {
+    let mut growths = 0u64;
+    for growth in 0..1000 {
+        let alloc = Refusing::new(rt.alloc(), growth);
+        let mut groups = Groups::new(&alloc);
+        let refused = define_all(&rt, &mut groups);
+        if !alloc.has_refused() {
+            assert_eq!(rt; refused, 0);
+            break;
+        }
+        assert_eq!(rt; refused, 1, "growth {growth}");
+        growths = growths.saturating_add(1);
+    }
+    assert!(rt; growths > 100 && growths < 1000);
+    Ok(())
+}
+
+#[test]
+fn a_full_table(rt: HostRuntime) -> Result<(), Fail> {
+    let mut groups = Groups::new(rt.alloc());
+    for number in 0..1024 {
+        assert_eq!(rt; groups.define(&name_of(number), set_of(number)), Ok(()));
+    }
+    assert_eq!(rt;
+        groups.define(&name_of(1024), AttrSet::empty()),
+        Err(GroupFault::Full)
+    );
+    assert_eq!(rt; groups.look(&name_of(1024)), None);
+    assert_eq!(rt; groups.define(&name_of(7), AttrSet::empty()), Ok(()));
+    assert_eq!(rt; groups.look(&name_of(7)), Some(AttrSet::empty()));
+    assert_eq!(rt; groups.look(&name_of(8)), Some(set_of(8)));
+    Ok(())
+}

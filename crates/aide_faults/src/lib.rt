@@ -1,0 +1,22 @@
+//! Allocators and devices that fail by a plan, and the tests of the crates below that use them.
+#![tactic(auto)]
+
+#[cfg(test)]
+mod cursor_tests;
+#[cfg(test)]
+mod group_tests;
+mod pace;
+mod reels;
+mod refusing;
+#[cfg(test)]
+mod run_tests;
+#[cfg(test)]
+mod settings_tests;
+mod sinks;
+mod sources;
+
+pub use pace::Pace;
+pub use reels::{EndlessReel, PlannedReel};
+pub use refusing::Refusing;
+pub use sinks::PlannedSink;
+pub use sources::{Broken, Change, PlannedSources, SidePlan};

@@ -1,0 +1,97 @@
+//! An allocator that refuses one growth, chosen by its number.
+ghost use Rattle.std.specs.Prelude.{◌≡◌};
+
+use std::alloc::{AllocError, Allocator};
+use std::cell::Cell;
+
+/// Which growth is refused, and how many were asked for so far.
+struct Plan {
+    refused: u64,
+    asked: Cell<u64>,
+}
+
+impl Plan {
+    fn new(refused: u64) -> Plan
+        ensures { result.refused ≡ refused }
+    {
+        Plan {
+            refused,
+            asked: Cell::new(0),
+        }
+    }
+
+    fn asked(&self) -> u64 {
+        self.asked.get()
+    }
+
+    /// Counts one more growth, and answers whether it is the one to refuse.
+    fn refuses(&self) -> bool {
+        let number = self.asked.get();
+        self.asked.set(number.saturating_add(1));
+        number == self.refused
+    }
+}
+
+impl Drop for Plan {
+    fn drop(self) {
+        let Self {
+            refused: _,
+            asked: _,
+        } = self;
+    }
+}
+
+/// Hands each call on to another allocator, but for one growth, which it refuses. `&Refusing<Global>` is
+/// `Allocator + Copy`.
+///
+/// Growths are counted from 0, so that a loop over 0, 1, 2 and so on refuses each in turn, and ends where
+/// [`Refusing::has_refused`] answers that the chosen growth was never asked for. The growths after the refused one
+/// succeed as those before it. The count is no part of a contract, since it changes behind a shared reference.
+pub struct Refusing<B: Allocator> {
+    inner: B,
+    plan: Plan,
+}
+
+impl<B: Allocator> Refusing<B> {
+    /// Refuses the growth with this number. It takes no memory.
+    pub fn new(inner: B, refused: u64) -> Refusing<B>
+        ensures inner { result.inner ≡ inner }
+        ensures refused { result.plan.refused ≡ refused }
+    {
+        Refusing {
+            inner,
+            plan: Plan::new(refused),
+        }
+    }
+
+    /// How many growths were asked for so far, the refused one among them.
+    pub fn asked(&self) -> u64 {
+        self.plan.asked()
+    }
+
+    /// Whether the growth to refuse was asked for.
+    pub fn has_refused(&self) -> bool {
+        self.plan.refused < self.plan.asked()
+    }
+}
+
+impl<B: Allocator> Drop for Refusing<B> {
+    fn drop(self) {
+        let Self { inner: _, plan: _ } = self;
+    }
+}
+
+unsafe impl<B: Allocator> Allocator for Refusing<B> {
+    ghost dealloc_token = { λ heap ty ptr. B.dealloc_token heap.inner ty ptr };
+
+    fn allocate(&self, size: usize, align: usize) -> Result<*mut u8, AllocError> {
+        if self.plan.refuses() {
+            return Err(AllocError);
+        }
+        self.inner.allocate(size, align)
+    }
+
+    unsafe fn deallocate(&self, ptr: *mut u8, size: usize, align: usize) {
+        self.inner.deallocate(ptr, size, align);
+    }
+}

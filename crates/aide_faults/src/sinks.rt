@@ -1,0 +1,85 @@
+//! Sinks that take few bytes at a time, or fail at a chosen place.
+ghost use Rattle.std.specs.Prelude.{◌≡◌};
+ghost use Rattle.aide_report.specs.Failures.{counted};
+
+use crate::pace::Pace;
+use aide_db::DeviceFault;
+use aide_report::Sink;
+
+/// Hands bytes on to another sink, few at a time, and fails for good where a chosen number of them has been taken.
+#[derive(Drop)]
+pub struct PlannedSink<W> {
+    inner: W,
+    pace: Pace,
+    sound: u64,
+    flushes: bool,
+    failures: u64,
+}
+
+impl<W> PlannedSink<W> {
+    /// A sink that takes bytes at this pace, fails after `sound` of them, and fails to flush unless `flushes`. It takes
+    /// no memory.
+    pub fn new(inner: W, pace: Pace, sound: u64, flushes: bool) -> PlannedSink<W>
+        ensures inner { result.inner ≡ inner }
+        ensures pace { result.pace ≡ pace }
+        ensures sound { result.sound ≡ sound }
+        ensures flushes { result.flushes ≡ flushes }
+        ensures failures { result.failures ≡ 0 }
+    {
+        PlannedSink {
+            inner,
+            pace,
+            sound,
+            flushes,
+            failures: 0,
+        }
+    }
+
+    /// The sink that took the bytes.
+    pub fn inner(&self) -> &W
+        ensures { result.now ≡ self.now.inner }
+    {
+        &self.inner
+    }
+
+    /// How often a write or a flush has failed. The count stops at its last value.
+    pub fn failures(&self) -> u64
+        ensures { result ≡ self.now.failures }
+    {
+        self.failures
+    }
+
+    /// Counts a failure.
+    fn fail(&mut self) -> DeviceFault
+        ensures failures { self.new.failures ≡ counted self.old.failures }
+        ensures inner { self.new.inner ≡ self.old.inner }
+    {
+        self.failures = self.failures.saturating_add(1);
+        DeviceFault
+    }
+}
+
+impl<W: Sink> Sink for PlannedSink<W> {
+    ghost delivered = { λ sink. W.delivered sink.inner };
+
+    ghost failures = { λ sink. sink.failures };
+
+    fn write(&mut self, bytes: &[u8]) -> Result<usize, DeviceFault> {
+        let count = self.pace.before(self.sound).min(bytes.len());
+        if count > 0 {
+            if let Ok(taken) = self.inner.write(&bytes[..count]) {
+                self.sound = self.sound.saturating_sub(taken as u64);
+                return Ok(taken);
+            }
+        }
+        Err(self.fail())
+    }
+
+    fn flush(&mut self) -> Result<(), DeviceFault> {
+        let flushed = self.inner.flush();
+        if self.flushes && flushed.is_ok() {
+            return Ok(());
+        }
+        Err(self.fail())
+    }
+}
