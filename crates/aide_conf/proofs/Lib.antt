@@ -6,3 +6,7 @@ pub mod Passes
 pub mod Whole
 pub mod Only
 pub mod Examples
+pub mod BlockLemmas
+pub mod StackLemmas
+pub mod MacroExamples
+pub mod ExpansionLemmas

@@ -1,6 +1,8 @@
 //! The configuration of a comparison: three texts, read as settings or as their first fault.
 #![tactic(auto)]
 
+mod blocks;
+mod directive;
 mod fault;
 mod line;
 mod options;
