@@ -6,7 +6,3 @@ pub mod Passes
 pub mod Whole
 pub mod Only
 pub mod Examples
-pub mod BlockLemmas
-pub mod StackLemmas
-pub mod MacroExamples
-pub mod ExpansionLemmas

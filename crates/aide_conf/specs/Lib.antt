@@ -7,7 +7,3 @@ pub mod Marks
 pub mod Settings
 pub mod Answer
 pub mod Pass
-pub mod Blocks
-pub mod Stack
-pub mod Expansion
-pub mod Directive

@@ -1,8 +1,6 @@
 //! The configuration of a comparison: three texts, read as settings or as their first fault.
 #![tactic(auto)]
 
-mod blocks;
-mod directive;
 mod fault;
 mod line;
 mod options;

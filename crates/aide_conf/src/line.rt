@@ -52,16 +52,6 @@ pub(crate) fn word(bytes: &[u8]) -> &[u8]
     }
 }
 
-/// The bytes after the first blank.
-pub(crate) fn after_word(bytes: &[u8]) -> &[u8]
-    ensures { result.now ≡ unwrap_or (bytes_after is_blank bytes.now) [] }
-{
-    match bytes.find_byteset(b" \t") {
-        Some(end) => &bytes[end + 1..],
-        None => &bytes[bytes.len()..],
-    }
-}
-
 /// Whether the line is empty or a comment.
 pub(crate) fn is_skipped(line: &[u8]) -> bool
     ensures { result ≡ is_skipped line.now }
