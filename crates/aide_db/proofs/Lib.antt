@@ -18,4 +18,5 @@ pub mod MapLaws
 pub mod SkippedLemmas
 pub mod TakesLemmas
 pub mod FirstFault
+pub mod FaultLaws
 pub mod ValueLaws
