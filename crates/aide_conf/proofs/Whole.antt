@@ -1,11 +1,12 @@
 -- The three texts, one after another.
-use Rattle.std.proofs.Common.{◌≡◌, List, [], ◌∷◌, ◌++◌, refl, sym, ap, subst, ◌∙◌, append_assoc, inl, inr, ◌⊎◌}
-use Rattle.std.specs.Prelude.{map}
+use Rattle.std.proofs.Common.{ℕ, ◌≡◌, ◌+◌, false, List, [], ◌∷◌, ◌++◌, refl, sym, ap, subst, ◌∙◌, append_assoc, inl, inr, ◌⊎◌}
+use Rattle.std.specs.Prelude.{map, if◌then◌else◌}
 use Rattle.aide_conf.specs.declared.task.Need.{Need}
 use Rattle.aide_conf.specs.declared.fault.ConfFault.{ConfFault}
 use Rattle.aide_conf.specs.declared.pass.Pass.{Pass}
-use Rattle.aide_conf.specs.Lines.{Place}
-use Rattle.aide_conf.specs.Marks.{Marked, AreSound}
+use Rattle.aide_conf.specs.declared.fault.ConfText.{ConfText}
+use Rattle.aide_conf.specs.Lines.{Place, places_from}
+use Rattle.aide_conf.specs.Marks.{Marked, AreSound, is_text, seen, seen_in}
 use Rattle.aide_conf.specs.Answer.{IsRead, IsRefused, IsStarved}
 use Rattle.aide_conf.specs.Pass.{StandsFor, Takes, Stops, text_at}
 use Rattle.aide_conf.proofs.Cuts.{append_nothing}
@@ -18,15 +19,39 @@ sound_append : (need : Need) (earlier xs ys : List Marked) → AreSound need ear
 sound_append need earlier [] ys h i = subst (λ z. AreSound need z ys) (append_nothing earlier) i
 sound_append need earlier (x ∷ xs) ys h i = (h.0, h.1, sound_append need (earlier ++ x ∷ []) xs ys h.2 (subst (λ z. AreSound need z ys) (sym (append_assoc earlier (x ∷ []) xs)) i))
 
+-- ---- lines of other texts
+
+abbrev pub Elsewhere : ConfText → List Place → Type 0
+Elsewhere text [] = Unit {0}
+Elsewhere text (p ∷ ps) = (is_text text p.text ≡ false) × Elsewhere text ps
+
+pub elsewhere : (text other : ConfText) (n : ℕ) (ls : List (List ℕ)) → is_text text other ≡ false → Elsewhere text (places_from other n ls)
+elsewhere text other n [] e = (e, tt)
+elsewhere text other n (l ∷ ls) e = (e, elsewhere text other (n + 1) ls e)
+
+pub elsewhere_both : (text : ConfText) (ps qs : List Place) → Elsewhere text ps → Elsewhere text qs → Elsewhere text (ps ++ qs)
+elsewhere_both text [] qs h i = i
+elsewhere_both text (p ∷ ps) qs h i = (h.0, elsewhere_both text ps qs h.1 i)
+
+-- none of them is seen in a text
+unseen : (text : ConfText) (xs : List Marked) → Elsewhere text (map (λ (x : Marked). x.place) xs) → seen_in text xs ≡ []
+unseen text [] h = refl
+unseen text (x ∷ xs) h = ap (λ z. if z then seen x ∷ seen_in text xs else seen_in text xs) h.0 ∙ unseen text xs h.1
+
+pub unseen_at : (text : ConfText) (ps : List Place) (xs : List Marked) → map (λ (x : Marked). x.place) xs ≡ ps → Elsewhere text ps → seen_in text xs ≡ []
+unseen_at text ps xs e h = unseen text xs (subst (Elsewhere text) (sym e) h)
+
+-- ---- one text after others
+
 -- sound lines of one text after those of others
-pub then_more : {A : Type 0} (need : Need) (ps qs : List Place) (p q : Pass A) → Takes need [] ps p → ((earlier : List Marked) → StandsFor earlier p → Takes need earlier qs q) → Takes need [] (ps ++ qs) q
+pub then_more : {A : Type 0} (need : Need) (ps qs : List Place) (p q : Pass A) → Takes need [] ps p → ((earlier : List Marked) → map (λ (x : Marked). x.place) earlier ≡ ps → StandsFor earlier p → Takes need earlier qs q) → Takes need [] (ps ++ qs) q
 then_more need ps qs p q t u =
-    let v = u t.0 t.3 in
+    let v = u t.0 t.1 t.3 in
     (t.0 ++ v.0, places_append t.0 v.0 ∙ ap (λ z. z ++ map (λ (x : Marked). x.place) v.0) t.1 ∙ ap (λ z. ps ++ z) v.1, sound_append need [] t.0 v.0 t.2 v.2, v.3)
 
-pub then_stop : {A : Type 0} (need : Need) (ps qs : List Place) (p : Pass A) (e : ConfFault) → Takes need [] ps p → ((earlier : List Marked) → StandsFor earlier p → Stops need earlier qs e) → Stops need [] (ps ++ qs) e
+pub then_stop : {A : Type 0} (need : Need) (ps qs : List Place) (p : Pass A) (e : ConfFault) → Takes need [] ps p → ((earlier : List Marked) → map (λ (x : Marked). x.place) earlier ≡ ps → StandsFor earlier p → Stops need earlier qs e) → Stops need [] (ps ++ qs) e
 then_stop need ps qs p e t u =
-    let v = u t.0 t.3 in
+    let v = u t.0 t.1 t.3 in
     record {
       lines = t.0 ++ v.lines;
       at = v.at;

@@ -3,7 +3,14 @@ pub mod Options
 pub mod Lines
 pub mod Reading
 pub mod Said
+pub mod Directive
+pub mod Blocks
+pub mod Expansion
 pub mod Marks
 pub mod Settings
 pub mod Answer
+pub mod Variables
+pub mod Bounded
+pub mod Expanded
+pub mod Stack
 pub mod Pass

@@ -1,5 +1,5 @@
 -- What the code keeps after some places.
-use Rattle.std.specs.Prelude.{ℕ, ◌≡◌, Bool, List, [], ◌∷◌, ◌++◌, length, Option, Some, None, IsSome, map, option_map, Result, Ok, Err, ◌<◌, String, string_bytes, ◌⊎◌, if◌then◌else◌}
+use Rattle.std.specs.Prelude.{ℕ, ◌≡◌, Bool, true, List, [], ◌∷◌, ◌++◌, length, Option, Some, None, IsSome, map, option_map, Result, Ok, Err, ◌<◌, String, string_bytes, ◌⊎◌, if◌then◌else◌}
 use Rattle.std.specs.List.{list_any}
 use Rattle.std.specs.FinMap as finmap
 use Rattle.aide_attr.specs.declared.set.AttrSet.{AttrSet}
@@ -21,9 +21,12 @@ use Rattle.aide_conf.specs.declared.setting.Switch.TheVariants.{Grouped, Summari
 use Rattle.aide_conf.specs.declared.setting.AttrList.{AttrList}
 use Rattle.aide_conf.specs.declared.setting.AttrList.TheVariants.{IgnoreAdded, IgnoreRemoved, IgnoreChanged, Force}
 use Rattle.aide_conf.specs.declared.pass.Pass.{Pass}
+use Rattle.aide_conf.specs.declared.blocks.Frame.{Frame}
 use Rattle.aide_conf.specs.Lines.{Place}
-use Rattle.aide_conf.specs.Reading.{same}
-use Rattle.aide_conf.specs.Marks.{Marked, AreSound, IsMarkedWell, fault_at, group, group_names, path_set, verdict_fault}
+use Rattle.aide_conf.specs.Reading.{Reading, same}
+use Rattle.aide_conf.specs.Marks.{Marked, AreSound, IsMarkedWell, IsJudgedWell, says, names, expression_in, line_fault, fault_at, group, group_names, variable, is_defined, variable_names, defined_names, seen_in, path_set, verdict_fault}
+use Rattle.aide_conf.specs.Stack.{IsOpen}
+use Rattle.aide_conf.specs.Variables.{Values, values_of}
 use Rattle.aide_conf.specs.Settings.{AreOptions, counted, fixes}
 
 abbrev pub text_at : {A : Type 0} → Option (String A) → Option (List ℕ)
@@ -35,9 +38,16 @@ pub record HasGroups (xs : List Marked) (table : Table) : Type 0 where
   pub known : (n : List ℕ) → list_any (same n) (group_names xs) ≡ finmap.contains_key table n
   pub size : finmap.len table ≡ length (group_names xs)
 
+-- the table has the variables that are defined after these places
+pub record HasVariables (xs : List Marked) (table : Values) : Type 0 where
+  pub values : (n : List ℕ) → finmap.get table n ≡ variable xs n
+  pub known : (n : List ℕ) → is_defined xs n ≡ true → list_any (same n) (variable_names xs) ≡ true
+  pub size : finmap.len table ≡ length (defined_names xs)
+
 -- the pass has what these places set
 pub record StandsFor {A : Type 0} (xs : List Marked) (p : Pass A) : Type 0 where
   pub groups : HasGroups xs (names_of p.groups)
+  pub variables : HasVariables xs (values_of p.variables)
   pub options : AreOptions (counted xs) p.options
   pub fixed : p.fixed ≡ list_any fixes xs
   pub old_path : text_at p.old_path ≡ path_set Old xs
@@ -82,12 +92,24 @@ abbrev pub fault_of : {E : Type 0} → Result E ConfFaultKind → Option ConfFau
 fault_of (Ok u) = None
 fault_of (Err kind) = Some kind
 
+-- no fault, or this one, or want of memory
+abbrev pub IsTold : {E : Type 0} → Option ConfFaultKind → Result E ConfFaultKind → Type 0
+IsTold fault (Ok u) = fault ≡ None
+IsTold fault (Err kind) = (fault ≡ Some kind) ⊎ (kind ≡ Memory)
+
+-- What is taken where this is what a line says, so deep in blocks, and in the second part of the innermost or not.
+abbrev pub TakesReading : {A E : Type 0} → List Marked → ℕ → Bool → Reading → Pass A → Result E ConfFaultKind → Type 0
+TakesReading earlier depth divided r p (Ok u) = (v : Option (Result AttrSet ExprFault)) × IsJudgedWell (names earlier) (expression_in r) v × (line_fault earlier depth divided r v ≡ None)
+    × ((x : Marked) → says x ≡ r → x.verdict ≡ v → StandsFor (earlier ++ x ∷ []) p)
+TakesReading earlier depth divided r p (Err kind) = ((v : Option (Result AttrSet ExprFault)) × IsJudgedWell (names earlier) (expression_in r) v × (line_fault earlier depth divided r v ≡ Some kind)) ⊎ (kind ≡ Memory)
+
 -- ---- places
 
--- what is taken at one place
-abbrev pub TakesOne : {A E : Type 0} → Need → List Marked → Place → Pass A → Result E ConfFaultKind → Type 0
-TakesOne need earlier at p (Ok u) = (x : Marked) × (x.place ≡ at) × IsMarkedWell earlier x × (fault_at need earlier x ≡ None) × StandsFor (earlier ++ x ∷ []) p
-TakesOne need earlier at p (Err kind) = ((x : Marked) × (x.place ≡ at) × IsMarkedWell earlier x × (fault_at need earlier x ≡ Some kind)) ⊎ ((kind ≡ Memory) × IsSome at.line)
+-- what is taken at one place, after which these blocks are open
+abbrev pub TakesOne : {A E : Type 0} → Need → List Marked → Place → Pass A → List Frame → Result E ConfFaultKind → Type 0
+TakesOne need earlier at p fs (Ok u) =
+    (x : Marked) × (x.place ≡ at) × IsMarkedWell earlier x × (fault_at need earlier x ≡ None) × StandsFor (earlier ++ x ∷ []) p × IsOpen (seen_in at.text (earlier ++ x ∷ [])) fs
+TakesOne need earlier at p fs (Err kind) = ((x : Marked) × (x.place ≡ at) × IsMarkedWell earlier x × (fault_at need earlier x ≡ Some kind)) ⊎ ((kind ≡ Memory) × IsSome at.line)
 
 -- some more places
 abbrev pub Takes : {A : Type 0} → Need → List Marked → List Place → Pass A → Type 0

@@ -8,7 +8,7 @@ use Rattle.aide_attr.specs.declared.level.Level.{Level}
 use Rattle.aide_attr.specs.declared.level.Level.TheVariants as level
 use Rattle.aide_attr.specs.Name.{is_group_name}
 use Rattle.aide_conf.specs.declared.fault.ConfFaultKind.{ConfFaultKind}
-use Rattle.aide_conf.specs.declared.fault.ConfFaultKind.TheVariants.{BadDirective, LeftOut, BadName, BadValue, BadUrl, LineTooLong, ValueTooLong, BadLine}
+use Rattle.aide_conf.specs.declared.fault.ConfFaultKind.TheVariants.{LeftOut, BadName, BadValue, BadUrl, LineTooLong, ValueTooLong, BadLine}
 use Rattle.aide_conf.specs.declared.setting.Database.{Database}
 use Rattle.aide_conf.specs.declared.setting.Database.TheVariants.{Old, New}
 use Rattle.aide_conf.specs.declared.setting.Switch.{Switch}
@@ -17,7 +17,7 @@ use Rattle.aide_conf.specs.declared.setting.AttrList.{AttrList}
 use Rattle.aide_conf.specs.declared.setting.AttrList.TheVariants.{IgnoreAdded, IgnoreRemoved, IgnoreChanged, Force}
 use Rattle.aide_conf.specs.declared.setting.Setting.{Setting}
 use Rattle.aide_conf.specs.declared.setting.Setting.TheVariants as setting
-use Rattle.aide_conf.specs.Lines.{is_blank, strip, bytes_before, bytes_after}
+use Rattle.aide_conf.specs.Lines.{strip, bytes_before, bytes_after}
 
 abbrev pub same : List ℕ → List ℕ → Bool
 same xs ys = pointwise nat_eq xs ys
@@ -25,7 +25,7 @@ same xs ys = pointwise nat_eq xs ys
 abbrev pub begins : List ℕ → List ℕ → Bool
 begins bs text = starts_with nat_eq bs text
 
--- What a line says: nothing that has an effect, or a fault that its bytes alone show, or what it sets.
+-- What a line says: nothing that has an effect, or a fault that its bytes alone show, or what it sets, or what it does to blocks.
 pub data Reading : Type 0 where
   Nothing : Reading
   Faulty : ConfFaultKind → Reading
@@ -39,6 +39,14 @@ pub data Reading : Type 0 where
   Fixes : Reading
   -- a group's name and its expression
   Defines : List ℕ → List ℕ → Reading
+  -- a variable's name and its value
+  Sets : List ℕ → List ℕ → Reading
+  -- the name of a variable that is no longer defined
+  Unsets : List ℕ → Reading
+  -- a block begins; false where its name is read and out of form
+  OpensBlock : Bool → Reading
+  DividesBlock : Reading
+  ClosesBlock : Reading
 
 -- ---- options
 
@@ -160,15 +168,6 @@ is_directive bs = begins bs (codes "@@") && not (begins bs (codes "@@{"))
 unfoldable pub is_omitted : List ℕ → Bool
 is_omitted w = same w (codes "include") || same w (codes "x_include") || same w (codes "ifhost") || same w (codes "ifnhost")
 
--- what follows the `@@` of a directive
-abbrev pub directive_reading : List ℕ → Reading
-directive_reading bs = if is_omitted (bytes_before is_blank bs) then Faulty LeftOut else Faulty BadDirective
-
--- `@@{` stands in the line
-abbrev pub holds_macro : List ℕ → Bool
-holds_macro [] = false
-holds_macro (b ∷ bs) = begins (b ∷ bs) (codes "@@{") || holds_macro bs
-
 -- the first bytes of selection lines
 unfoldable pub is_selection : List ℕ → Bool
 is_selection bs = begins bs (codes "/") || begins bs (codes "!") || begins bs (codes "=") || begins bs (codes "-")
@@ -185,19 +184,13 @@ abbrev pub cut_reading : Option (List ℕ) → List ℕ → Reading
 cut_reading None name = Faulty BadLine
 cut_reading (Some value) name = assigned (setting_named name) name (strip value)
 
+-- a line after expansion, stripped, that is neither skipped nor too long
+unfoldable pub kept_reading : List ℕ → Reading
+kept_reading bs = if is_selection bs then Nothing else cut_reading (bytes_after is_equals bs) (strip (bytes_before is_equals bs))
+
 -- a line after expansion, stripped
-unfoldable pub expanded_reading : List ℕ → Reading
+abbrev pub expanded_reading : List ℕ → Reading
 expanded_reading bs =
     if is_skipped bs then Nothing
     else if nat_lt 65536 (length bs) then Faulty LineTooLong
-    else if is_selection bs then Nothing
-    else cut_reading (bytes_after is_equals bs) (strip (bytes_before is_equals bs))
-
--- A line, stripped, and its expansion. A line that would be expanded is refused: there are no variables yet.
-unfoldable pub reading : List ℕ → List ℕ → Reading
-reading line expanded =
-    if is_skipped line then Nothing
-    else if nat_lt 65536 (length line) then Faulty LineTooLong
-    else if is_directive line then directive_reading (drop 2 line)
-    else if holds_macro line then Faulty BadDirective
-    else expanded_reading expanded
+    else kept_reading bs

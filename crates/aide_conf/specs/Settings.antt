@@ -12,7 +12,7 @@ use Rattle.aide_conf.specs.declared.setting.Switch.{Switch}
 use Rattle.aide_conf.specs.declared.setting.Switch.TheVariants.{Grouped, Summarize, Base16, Quiet}
 use Rattle.aide_conf.specs.declared.setting.AttrList.{AttrList}
 use Rattle.aide_conf.specs.declared.setting.AttrList.TheVariants.{IgnoreAdded, IgnoreRemoved, IgnoreChanged, Force}
-use Rattle.aide_conf.specs.Reading.{Reading, Nothing, Faulty, Names, Tells, Turns, Lists, Fixes, Defines}
+use Rattle.aide_conf.specs.Reading.{Reading, Nothing, Faulty, Names, Tells, Turns, Lists, Fixes, Defines, Sets, Unsets, OpensBlock, DividesBlock, ClosesBlock}
 use Rattle.aide_conf.specs.Marks.{Marked, says, last_given, good, path_set}
 
 -- Settings, as contracts see them: the options of the report, and the paths of the two databases, each missing or its bytes.
@@ -30,6 +30,11 @@ fixes_by (Turns s b) = false
 fixes_by (Lists l e) = false
 fixes_by Fixes = true
 fixes_by (Defines n e) = false
+fixes_by (Sets n v) = false
+fixes_by (Unsets n) = false
+fixes_by (OpensBlock b) = false
+fixes_by DividesBlock = false
+fixes_by ClosesBlock = false
 
 -- `report_url=stdout` stands here
 abbrev pub fixes : Marked → Bool
@@ -51,6 +56,11 @@ level_by (Turns s b) = None
 level_by (Lists l e) = None
 level_by Fixes = None
 level_by (Defines n e) = None
+level_by (Sets n v) = None
+level_by (Unsets n) = None
+level_by (OpensBlock b) = None
+level_by DividesBlock = None
+level_by ClosesBlock = None
 
 abbrev pub level_in : Marked → Option Level
 level_in x = level_by (says x)
@@ -84,6 +94,11 @@ switch_by s (Turns t b) = if is_switch s t then Some b else None
 switch_by s (Lists l e) = None
 switch_by s Fixes = None
 switch_by s (Defines n e) = None
+switch_by s (Sets n v) = None
+switch_by s (Unsets n) = None
+switch_by s (OpensBlock b) = None
+switch_by s DividesBlock = None
+switch_by s ClosesBlock = None
 
 abbrev pub switch_in : Switch → Marked → Option Bool
 switch_in s x = switch_by s (says x)
@@ -129,6 +144,11 @@ attrs_by l (Turns s b) verdict = None
 attrs_by l (Lists m e) verdict = if is_list l m then good verdict else None
 attrs_by l Fixes verdict = None
 attrs_by l (Defines n e) verdict = None
+attrs_by l (Sets n v) verdict = None
+attrs_by l (Unsets n) verdict = None
+attrs_by l (OpensBlock b) verdict = None
+attrs_by l DividesBlock verdict = None
+attrs_by l ClosesBlock verdict = None
 
 abbrev pub attrs_in : AttrList → Marked → Option AttrSet
 attrs_in l x = attrs_by l (says x) x.verdict

@@ -1,11 +1,11 @@
 //! What a line says.
 
 ghost use Rattle.std.specs.Prelude.{◌≡◌, IfOk};
-ghost use Rattle.aide_conf.specs.Reading.{reading, expanded_reading, assigned, value_reading, directive_reading};
+ghost use Rattle.aide_conf.specs.Reading.{kept_reading, assigned, value_reading};
 ghost use Rattle.aide_conf.specs.Said.{said, IsNamedWell};
 
 use crate::fault::ConfFaultKind;
-use crate::line::{at_equals, holds_macro, is_directive, is_selection, is_skipped, strip, word};
+use crate::line::{at_equals, is_selection, strip};
 use crate::setting::{AttrList, Database, Setting, Switch, setting_named};
 use crate::value::{bool_named, is_left_out, level_named, path_of};
 use aide_attr::{Level, is_group_name};
@@ -29,63 +29,12 @@ pub(crate) enum Said<'a> {
     Defines(&'a [u8], &'a [u8]),
 }
 
-/// What a line says, or the fault that its bytes alone show. The line is stripped.
-#[tactic(auto, unfolding(crate::specs::Reading::reading))]
-pub(crate) fn reading(line: &[u8]) -> Result<Said<'_>, ConfFaultKind>
-    ensures says { said result ≡ reading line.now line.now }
+/// What a line says after expansion, or the fault that its bytes alone show. It is stripped, no comment, and not too long.
+#[tactic(auto, unfolding(crate::specs::Reading::kept_reading))]
+pub(crate) fn kept_reading(line: &[u8]) -> Result<Said<'_>, ConfFaultKind>
+    ensures says { said result ≡ kept_reading line.now }
     ensures named { IfOk result (λ said. IsNamedWell said) }
 {
-    if is_skipped(line) {
-        return Ok(Said::Nothing);
-    }
-    if line.len() > 65536 {
-        return Err(ConfFaultKind::LineTooLong);
-    }
-    if is_directive(line) {
-        return Err(directive_fault(&line[2..]));
-    }
-    if holds_macro(line) {
-        return Err(ConfFaultKind::BadDirective);
-    }
-    expanded_reading(line)
-}
-
-/// Why a directive is refused. It follows `@@`.
-fn directive_fault(rest: &[u8]) -> ConfFaultKind
-    ensures { Faulty result ≡ directive_reading rest.now }
-{
-    if is_omitted(word(rest)) {
-        ConfFaultKind::LeftOut
-    } else {
-        ConfFaultKind::BadDirective
-    }
-}
-
-ghost use Rattle.aide_conf.specs.Reading.{Faulty, is_omitted};
-
-/// Whether a directive's word is of one that is left out.
-#[tactic(auto, unfolding(crate::specs::Reading::is_omitted))]
-fn is_omitted(word: &[u8]) -> bool
-    ensures { result ≡ is_omitted word.now }
-{
-    word == b"include".as_slice()
-        || word == b"x_include".as_slice()
-        || word == b"ifhost".as_slice()
-        || word == b"ifnhost".as_slice()
-}
-
-/// What a line says after expansion.
-#[tactic(auto, unfolding(crate::specs::Reading::expanded_reading))]
-fn expanded_reading(line: &[u8]) -> Result<Said<'_>, ConfFaultKind>
-    ensures says { said result ≡ expanded_reading line.now }
-    ensures named { IfOk result (λ said. IsNamedWell said) }
-{
-    if is_skipped(line) {
-        return Ok(Said::Nothing);
-    }
-    if line.len() > 65536 {
-        return Err(ConfFaultKind::LineTooLong);
-    }
     if is_selection(line) {
         return Ok(Said::Nothing);
     }

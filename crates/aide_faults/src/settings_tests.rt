@@ -1,10 +1,11 @@
-//! Configurations that are refused: for what a line says, for their size, or for want of memory.
-use crate::Refusing;
-use aide_attr::{Attr, AttrSet};
+//! Configurations that are refused: for what a line says, for their size, or for want of memory; and with blocks and variables.
 use aide_conf::{ConfFault, ConfFaultKind, ConfText, Need, Settings};
 use std::alloc::Allocator;
-use std::process::Abort;
 use std::test::Fail;
+
+mod compared;
+mod growths;
+mod plain;
 
 /// The fault of one text alone, read to be checked.
 fn fault_of_file<A: Allocator + Copy>(alloc: A, file: &[u8]) -> Option<ConfFault> {
@@ -236,67 +237,4 @@ fn a_long_text(rt: HostRuntime) -> Result<(), Fail> {
     };
     assert!(rt; settings.options().quiet);
     Ok(())
-}
-
-const BEFORE: &[u8] = b"first = p\n";
-
-const FILE: &[u8] =
-    b"database_in=file:/old\nmy = p+s\nreport_force_attrs = my-s\nyour = my+u\nmy = s\n\
-database_new=file:/new\ndatabase=file:/older\n";
-
-const AFTER: &[u8] = b"last = first+my\nreport_ignore_added_attrs=last\n";
-
-/// The lines at which reading these three texts takes memory, in order.
-const GROWING: [(ConfText, u64); 8] = [
-    (ConfText::Before, 1),
-    (ConfText::File, 1),
-    (ConfText::File, 2),
-    (ConfText::File, 4),
-    (ConfText::File, 5),
-    (ConfText::File, 6),
-    (ConfText::File, 7),
-    (ConfText::After, 1),
-];
-
-/// Whether the three texts are read in full.
-fn is_read<A: Allocator + Copy>(alloc: A) -> bool {
-    let Ok(settings) = Settings::read(alloc, BEFORE, FILE, AFTER, Need::Compare) else {
-        return false;
-    };
-    let ignore = settings.options().ignore;
-    let Some(task) = settings.task() else {
-        return false;
-    };
-    task.old_path == "/older"
-        && task.new_path == "/new"
-        && ignore.force == AttrSet::of(Attr::Perm)
-        && ignore.added == AttrSet::of(Attr::Perm).union(AttrSet::of(Attr::Size))
-}
-
-#[test]
-fn each_growth_refused_in_turn(rt: HostRuntime) {
-    let mut at = 0;
-    for growth in 0..1000 {
-        let alloc = Refusing::new(rt.alloc(), growth);
-        let answer = Settings::read(&alloc, BEFORE, FILE, AFTER, Need::Compare);
-        if !alloc.has_refused() {
-            assert!(rt; answer.is_ok());
-            break;
-        }
-        let Some(fault) = answer.err() else {
-            assert!(rt; false, "growth {growth} was refused");
-            return;
-        };
-        assert_eq!(rt; fault.kind, ConfFaultKind::Memory);
-        if GROWING.get(at) != Some(&(fault.text, fault.line)) {
-            at = at.saturating_add(1);
-        }
-        assert_eq!(rt;
-            GROWING.get(at),
-            Some(&(fault.text, fault.line)),
-            "growth {growth}"
-        );
-        assert!(rt; is_read(&alloc), "after growth {growth}");
-    }
-    assert_eq!(rt; at, 7);
 }

@@ -1,0 +1,286 @@
+-- What is taken at one place, by what its line says and by the blocks that are open before it.
+use Rattle.std.proofs.Common.{ℕ, suc, ◌≡◌, ◌<◌, Bool, true, false, List, [], ◌∷◌, ◌++◌, length, refl, sym, ap, subst, ◌∙◌, arith, Option, Some, None, Result, Ok, Err, inl, inr}
+use Rattle.std.specs.Prelude.{if◌then◌else◌, OnOk, ◌||◌, ◌&&◌, not, nat_lt, ◌==◌, nat_eq, is_none, String, drop}
+use Rattle.std.specs.Option.{option_or}
+use Rattle.std.proofs.lemmas.Bool.Decides.{nat_tests}
+use Rattle.std.proofs.lemmas.Bool.{eqb-true}
+use Rattle.aide_attr.specs.declared.set.AttrSet.{AttrSet}
+use Rattle.aide_attr.specs.declared.expression.ExprFault.{ExprFault}
+use Rattle.aide_conf.specs.declared.task.Need.{Need}
+use Rattle.aide_conf.specs.declared.task.Need.TheVariants.{Compare}
+use Rattle.aide_conf.specs.declared.fault.ConfText.{ConfText}
+use Rattle.aide_conf.specs.declared.fault.ConfText.TheVariants.{Before, File, After}
+use Rattle.aide_conf.specs.declared.fault.ConfFaultKind.{ConfFaultKind}
+use Rattle.aide_conf.specs.declared.fault.ConfFaultKind.TheVariants.{StrayElse, StrayEndif, MissingEndif, LineTooLong}
+use Rattle.aide_conf.specs.declared.setting.Database.TheVariants.{Old, New}
+use Rattle.aide_conf.specs.declared.pass.Pass.{Pass}
+use Rattle.aide_conf.specs.declared.blocks.Frame.{Frame}
+use Rattle.aide_conf.specs.declared.directive.Directive.{Directive}
+use Rattle.aide_conf.specs.declared.directive.Directive.TheVariants as code
+use Rattle.aide_conf.specs.Lines.{strip}
+use Rattle.aide_conf.specs.Reading.{Reading, Nothing, Faulty, is_skipped, is_directive, expanded_reading}
+use Rattle.aide_conf.specs.Directive.{Item, Define, Undef, IfDef, IfNotDef, Else, EndIf, Omitted, Unknown, Plain, item, item_of, directive_item, item_text, item_chooses, item_reading, shape_of, reading}
+use Rattle.aide_conf.specs.Blocks.{Opens, Divides, Closes, Seen, is_single, opens, divides, closes}
+use Rattle.aide_conf.specs.Stack.{IsOpen, top_used, top_divided, opened, divided_at, closed_at, frames_after}
+use Rattle.aide_conf.specs.Expansion.{plain, expansion_after}
+use Rattle.aide_conf.specs.Marks.{Marked, says, names, value, is_defined, seen, seen_in, is_text, line_fault, fault_at, end_fault, end_block_fault, path_set, missing, IsMarkedWell, IsJudgedWell, expression_in}
+use Rattle.aide_conf.specs.Pass.{StandsFor, TakesOne, TakesReading, fault_of, place, text_at}
+use Rattle.aide_conf.proofs.StackLemmas.{used_right, depth_right, divided_right, single_next, opens_next, divides_next, closes_next}
+use Rattle.aide_conf.proofs.ExpansionLemmas.{is_expansion}
+use Rattle.aide_conf.proofs.Stands.{stands_silent}
+
+-- ---- lines of one text
+
+same_text : (text : ConfText) → is_text text text ≡ true
+same_text Before = refl
+same_text File = refl
+same_text After = refl
+
+pub seen_in-more : (text : ConfText) (xs : List Marked) (x : Marked) → x.place.text ≡ text → seen_in text (xs ++ x ∷ []) ≡ seen_in text xs ++ seen x ∷ []
+seen_in-more text [] x e = ap (λ z. if z then seen x ∷ [] else []) (ap (is_text text) e ∙ same_text text)
+seen_in-more text (y ∷ ys) x e = by (is_text text y.place.text) (seen_in-more text ys x e)
+  where
+    by : (b : Bool) → seen_in text (ys ++ x ∷ []) ≡ seen_in text ys ++ seen x ∷ []
+        → (if b then seen y ∷ seen_in text (ys ++ x ∷ []) else seen_in text (ys ++ x ∷ [])) ≡ (if b then seen y ∷ seen_in text ys else seen_in text ys) ++ seen x ∷ []
+    by true h = ap (λ z. seen y ∷ z) h
+    by false h = h
+
+-- ---- the blocks after one more line
+
+not_zero : (n : ℕ) → (suc n == 0) ≡ false
+not_zero n = grind (arith, nat_tests)
+
+abbrev else_fault : Bool → Option ConfFaultKind
+else_fault b = if b then Some StrayElse else None
+
+module _ (here : List Seen) (fs : List Frame) (o : IsOpen here fs) (earlier : List Marked) (defined : List ℕ → Bool) (out : List ℕ) (v : Option (Result AttrSet ExprFault)) where
+  divides_well : (x : Seen) → x.shape ≡ Divides → (gs : List Frame) → IsOpen here gs → (if length gs == 0 || top_divided gs then Some StrayElse else None) ≡ None → IsOpen (here ++ x ∷ []) (divided_at gs)
+  divides_well x e [] h f = let bad : Some StrayElse ≡ None = f in cc
+  divides_well x e (g ∷ gs) h f = divides_next here g gs x h (ap divides e) (by g.second (sym (ap (λ z. else_fault (z || g.second)) (not_zero (length gs))) ∙ f))
+    where
+      by : (b : Bool) → (if b then Some StrayElse else None) ≡ None → b ≡ false
+      by true k = let bad : Some StrayElse ≡ None = k in cc
+      by false k = refl
+
+  closes_well : (x : Seen) → x.shape ≡ Closes → (gs : List Frame) → IsOpen here gs → (if length gs == 0 then Some StrayEndif else None) ≡ None → IsOpen (here ++ x ∷ []) (closed_at gs)
+  closes_well x e [] h f = let bad : Some StrayEndif ≡ None = f in cc
+  closes_well x e (g ∷ gs) h f = closes_next here g gs x h (ap closes e)
+
+  opens_well : (x : Seen) (first : Bool) → x.shape ≡ Opens → x.used ≡ top_used fs → x.first ≡ first → IsOpen (here ++ x ∷ []) (opened (top_used fs) first fs)
+  opens_well x first e u f = subst (λ z. IsOpen (here ++ x ∷ []) (opened (top_used fs) z fs)) f
+      (subst (λ z. IsOpen (here ++ x ∷ []) (opened z x.first fs)) u (opens_next here fs x o (ap opens e) u))
+
+  pub blocks_after : (i : Item) (x : Seen) → x.shape ≡ shape_of i → x.used ≡ top_used fs → x.first ≡ item_chooses defined i → line_fault earlier (length fs) (top_divided fs) (item_reading (top_used fs) i out) v ≡ None
+      → IsOpen (here ++ x ∷ []) (frames_after (shape_of i) (top_used fs) (item_chooses defined i) fs)
+  blocks_after (Define n t) x e u f h = single_next here fs x o (ap is_single e)
+  blocks_after (Undef n) x e u f h = single_next here fs x o (ap is_single e)
+  blocks_after (IfDef n) x e u f h = opens_well x (defined n) e u f
+  blocks_after (IfNotDef n) x e u f h = opens_well x (not (defined n)) e u f
+  blocks_after Else x e u f h = divides_well x e fs o h
+  blocks_after EndIf x e u f h = closes_well x e fs o h
+  blocks_after (Omitted c) x e u f h = single_next here fs x o (ap is_single e)
+  blocks_after (Unknown c) x e u f h = single_next here fs x o (ap is_single e)
+  blocks_after Plain x e u f h = single_next here fs x o (ap is_single e)
+
+-- ---- one line
+
+-- a line that is skipped is no directive
+not_directive : (bytes : List ℕ) → is_skipped bytes ≡ true → is_directive bytes ≡ false
+unfolding is_directive
+not_directive [] h = refl
+not_directive (b ∷ bs) h =
+    let hash : b ≡ 35 = eqb-true b 35 h in
+    let no_at : nat_eq 64 b ≡ false = ap (nat_eq 64) hash in
+    rw no_at refl
+
+module _ (need : Need) (earlier : List Marked) (text : ConfText) (n : ℕ) (line : List ℕ) (fs : List Frame) (o : IsOpen (seen_in text earlier) fs) where
+  abbrev out : List ℕ
+  out = expansion_after (value earlier) 0 (item_text line (item_of line))
+
+  abbrev said_here : Reading
+  said_here = reading (top_used fs) line out
+
+  abbrev marked : Option (Result AttrSet ExprFault) → Marked
+  marked v = record {
+    place = place text n (Some line);
+    used = top_used fs;
+    depth = length fs;
+    divided = top_divided fs;
+    first = item_chooses (is_defined earlier) (item_of line);
+    expanded = out;
+    verdict = v;
+  }
+
+  says-marked : (v : Option (Result AttrSet ExprFault)) → says (marked v) ≡ said_here
+  unfolding says
+  says-marked v = refl
+
+  fault-marked : (v : Option (Result AttrSet ExprFault)) → fault_at need earlier (marked v) ≡ line_fault earlier (length fs) (top_divided fs) said_here v
+  unfolding fault_at says
+  fault-marked v = refl
+
+  well : (v : Option (Result AttrSet ExprFault)) → IsJudgedWell (names earlier) (expression_in said_here) v → IsMarkedWell earlier (marked v)
+  well v j = record {
+    is_used = used_right (seen_in text earlier) fs (seen (marked v)) o refl;
+    is_enclosed = depth_right (seen_in text earlier) fs o;
+    is_divided = divided_right (seen_in text earlier) fs o;
+    is_first = refl;
+    is_expanded = is_expansion (value earlier) (item_text line (item_of line));
+    is_judged = subst (λ z. IsJudgedWell (names earlier) (expression_in z) v) (sym (says-marked v)) j;
+  }
+
+  -- what is taken where the blocks are right afterwards
+  takes_place : {A : Type 0} (gs : List Frame) (q : Pass A) (result : Result (Unit {0}) ConfFaultKind)
+      → ((v : Option (Result AttrSet ExprFault)) → line_fault earlier (length fs) (top_divided fs) said_here v ≡ None → OnOk result (IsOpen (seen_in text earlier ++ seen (marked v) ∷ []) gs))
+      → TakesReading {E = Unit {0}} earlier (length fs) (top_divided fs) said_here q result → TakesOne {E = Unit {0}} need earlier (place text n (Some line)) q gs result
+  takes_place gs q (Ok u) b t = (
+    marked t.0,
+    refl,
+    well t.0 t.1,
+    fault-marked t.0 ∙ t.2,
+    t.3 (marked t.0) (says-marked t.0) refl,
+    subst (λ z. IsOpen z gs) (sym (seen_in-more text earlier (marked t.0) refl)) (b t.0 t.2),
+  )
+  takes_place gs q (Err kind) b (inl t) = inl (marked t.0, refl, well t.0 t.1, fault-marked t.0 ∙ t.2)
+  takes_place gs q (Err kind) b (inr t) = inr (t, refl)
+
+  skipped_item : is_skipped line ≡ true → item_of line ≡ Plain
+  unfolding item_of
+  skipped_item h = ap (λ z. if z then directive_item (drop 2 line) else Plain) (not_directive line h)
+
+  skipped_says : is_skipped line ≡ true → said_here ≡ Nothing
+  unfolding reading
+  skipped_says h = rw h refl
+
+  plain_after : item_of line ≡ Plain → (v : Option (Result AttrSet ExprFault)) → IsOpen (seen_in text earlier ++ seen (marked v) ∷ []) fs
+  plain_after e v = single_next (seen_in text earlier) fs (seen (marked v)) o (ap (λ i. is_single (shape_of i)) e)
+
+  -- an empty line or a comment
+  pub skipped_line : {A : Type 0} (q : Pass A) (u : Unit {0}) → is_skipped line ≡ true → TakesReading {E = Unit {0}} earlier (length fs) (top_divided fs) Nothing q (Ok u) → TakesOne {E = Unit {0}} need earlier (place text n (Some line)) q fs (Ok u)
+  skipped_line {A} q u h t = takes_place fs q (Ok u) (λ v f. plain_after (skipped_item h) v)
+      (subst (λ r. TakesReading {E = Unit {0}} earlier (length fs) (top_divided fs) r q (Ok u)) (sym (skipped_says h)) t)
+
+  -- a used line that is too long
+  pub long_line : {A : Type 0} (gs : List Frame) (q : Pass A) → is_skipped line ≡ false → (top_used fs && nat_lt 65536 (length line)) ≡ true → TakesOne {E = Unit {0}} need earlier (place text n (Some line)) q gs (Err LineTooLong)
+  unfolding reading
+  long_line {A} gs q h l =
+      let r : said_here ≡ Faulty LineTooLong = rw (h, l) refl in
+      takes_place gs q (Err LineTooLong) (λ v f. tt) (inl (None, subst (λ z. IsJudgedWell (names earlier) (expression_in z) None) (sym r) refl, ap (λ z. line_fault earlier (length fs) (top_divided fs) z None) r))
+
+  -- any other line
+  module _ (h : is_skipped line ≡ false) (l : (top_used fs && nat_lt 65536 (length line)) ≡ false) where
+    says_item : said_here ≡ item_reading (top_used fs) (item_of line) out
+    unfolding reading
+    says_item = rw (h, l) refl
+
+    item_after : (gs : List Frame) → gs ≡ frames_after (shape_of (item_of line)) (top_used fs) (item_chooses (is_defined earlier) (item_of line)) fs
+        → (v : Option (Result AttrSet ExprFault)) → line_fault earlier (length fs) (top_divided fs) said_here v ≡ None → IsOpen (seen_in text earlier ++ seen (marked v) ∷ []) gs
+    item_after gs e v f = subst (IsOpen (seen_in text earlier ++ seen (marked v) ∷ [])) (sym e)
+        (blocks_after (seen_in text earlier) fs o earlier (is_defined earlier) out v (item_of line) (seen (marked v)) refl refl refl
+        (sym (ap (λ r. line_fault earlier (length fs) (top_divided fs) r v) says_item) ∙ f))
+
+    item_taken : {A : Type 0} (gs : List Frame) (q : Pass A) (result : Result (Unit {0}) ConfFaultKind)
+        → OnOk result (gs ≡ frames_after (shape_of (item_of line)) (top_used fs) (item_chooses (is_defined earlier) (item_of line)) fs)
+        → TakesReading {E = Unit {0}} earlier (length fs) (top_divided fs) (item_reading (top_used fs) (item_of line) out) q result → TakesOne {E = Unit {0}} need earlier (place text n (Some line)) q gs result
+    item_taken gs q (Ok u) b t = takes_place gs q (Ok u) (item_after gs b) (subst (λ r. TakesReading {E = Unit {0}} earlier (length fs) (top_divided fs) r q (Ok u)) (sym says_item) t)
+    item_taken gs q (Err kind) b t = takes_place gs q (Err kind) (λ v f. tt) (subst (λ r. TakesReading {E = Unit {0}} earlier (length fs) (top_divided fs) r q (Err kind)) (sym says_item) t)
+
+    -- a directive
+    pub directive_line : {A : Type 0} (i : Item) (gs : List Frame) (q : Pass A) (result : Result (Unit {0}) ConfFaultKind) → item_of line ≡ i → item_text line i ≡ item_text [] i
+        → OnOk result (gs ≡ frames_after (shape_of i) (top_used fs) (item_chooses (is_defined earlier) i) fs)
+        → TakesReading {E = Unit {0}} earlier (length fs) (top_divided fs) (item_reading (top_used fs) i (expansion_after (value earlier) 0 (item_text [] i))) q result → TakesOne {E = Unit {0}} need earlier (place text n (Some line)) q gs result
+    directive_line {A} i gs q result e f b t = item_taken gs q result
+        (subst (λ z. OnOk result (gs ≡ frames_after (shape_of z) (top_used fs) (item_chooses (is_defined earlier) z) fs)) (sym e) b)
+        (subst (λ z. TakesReading {E = Unit {0}} earlier (length fs) (top_divided fs) (item_reading (top_used fs) z (expansion_after (value earlier) 0 (item_text line z))) q result) (sym e)
+        (subst (λ z. TakesReading {E = Unit {0}} earlier (length fs) (top_divided fs) (item_reading (top_used fs) i (expansion_after (value earlier) 0 z)) q result) (sym f) t))
+
+    -- a line that is no directive
+    pub plain_line : {A : Type 0} (q : Pass A) (result : Result (Unit {0}) ConfFaultKind) → is_directive line ≡ false
+        → TakesReading {E = Unit {0}} earlier (length fs) (top_divided fs) (if top_used fs then expanded_reading (strip (expansion_after (value earlier) 0 line)) else Nothing) q result → TakesOne {E = Unit {0}} need earlier (place text n (Some line)) q fs result
+    unfolding item_of
+    plain_line q result d t =
+        let e : item_of line ≡ Plain = ap (λ z. if z then directive_item (drop 2 line) else Plain) d in
+        item_taken fs q result (kept result e)
+        (subst (λ z. TakesReading {E = Unit {0}} earlier (length fs) (top_divided fs) (item_reading (top_used fs) z (expansion_after (value earlier) 0 (item_text line z))) q result) (sym e) t)
+      where
+        kept : (r : Result (Unit {0}) ConfFaultKind) → item_of line ≡ Plain → OnOk r (fs ≡ frames_after (shape_of (item_of line)) (top_used fs) (item_chooses (is_defined earlier) (item_of line)) fs)
+        kept (Ok u) e = ap (λ z. frames_after (shape_of z) (top_used fs) (item_chooses (is_defined earlier) z) fs) (sym e)
+        kept (Err k) e = tt
+
+-- the item of a directive is what stands behind its `@@`
+pub item_is : (line : List ℕ) (i : Item) → is_directive line ≡ true → i ≡ directive_item (drop 2 line) → item_of line ≡ i
+unfolding item_of
+item_is line i d e = ap (λ z. if z then directive_item (drop 2 line) else Plain) d ∙ sym e
+
+-- the code's directives are never plain lines
+pub text_of_directive : (line : List ℕ) (d : Directive) → item_text line (item d) ≡ item_text [] (item d)
+text_of_directive line (code.Define n v) = refl
+text_of_directive line (code.Undef n) = refl
+text_of_directive line (code.IfDef n) = refl
+text_of_directive line (code.IfNotDef n) = refl
+text_of_directive line code.Else = refl
+text_of_directive line code.EndIf = refl
+text_of_directive line (code.Omitted c) = refl
+text_of_directive line (code.Unknown c) = refl
+
+-- ---- the end of a text
+
+is_none-text_at : {A : Type 0} (t : Option (String A)) (q : Option (List ℕ)) → text_at t ≡ q → is_none t ≡ is_none q
+is_none-text_at None q h = ap is_none h
+is_none-text_at (Some t) q h = ap is_none h
+
+pub missing_is : {A : Type 0} (earlier : List Marked) (p : Pass A) → StandsFor earlier p → missing (is_none p.old_path) (is_none p.new_path) ≡ end_fault Compare After earlier
+missing_is earlier p s = ap (λ z. missing z (is_none p.new_path)) (is_none-text_at p.old_path (path_set Old earlier) s.old_path)
+    ∙ ap (missing (is_none (path_set Old earlier))) (is_none-text_at p.new_path (path_set New earlier) s.new_path)
+
+module _ (need : Need) (earlier : List Marked) (text : ConfText) (n : ℕ) (fs : List Frame) (o : IsOpen (seen_in text earlier) fs) where
+  abbrev end_marked : Marked
+  end_marked = record { place = place text n None; used = top_used fs; depth = length fs; divided = top_divided fs; first = false; expanded = []; verdict = None }
+
+  says-end : says end_marked ≡ Nothing
+  unfolding says
+  says-end = refl
+
+  fault-end : fault_at need earlier end_marked ≡ option_or (end_block_fault (length fs)) (end_fault need text earlier)
+  unfolding fault_at
+  fault-end = refl
+
+  well_end : IsMarkedWell earlier end_marked
+  well_end = record {
+    is_used = used_right (seen_in text earlier) fs (seen end_marked) o refl;
+    is_enclosed = depth_right (seen_in text earlier) fs o;
+    is_divided = divided_right (seen_in text earlier) fs o;
+    is_first = refl;
+    is_expanded = plain [] tt;
+    is_judged = subst (λ z. IsJudgedWell (names earlier) (expression_in z) None) (sym says-end) refl;
+  }
+
+  pub block_open : {A : Type 0} (p : Pass A) → 0 < length fs → TakesOne {E = Unit {0}} need earlier (place text n None) p fs (Err MissingEndif)
+  block_open p h =
+      let e : (length fs == 0) ≡ false = grind (arith, nat_tests) in
+      inl (end_marked, refl, well_end, fault-end ∙ ap (λ z. option_or (if z then None else Some MissingEndif) (end_fault need text earlier)) e)
+
+  no_block : length fs ≡ 0 → option_or (end_block_fault (length fs)) (end_fault need text earlier) ≡ end_fault need text earlier
+  no_block h =
+      let e : (length fs == 0) ≡ true = grind (arith, nat_tests) in
+      ap (λ z. option_or (if z then None else Some MissingEndif) (end_fault need text earlier)) e
+
+  pub ended : {A : Type 0} (p : Pass A) → StandsFor earlier p → (u : Unit {0}) → length fs ≡ 0 → end_fault need text earlier ≡ None → TakesOne {E = Unit {0}} need earlier (place text n None) p fs (Ok u)
+  ended p s u h e = (
+    end_marked,
+    refl,
+    well_end,
+    fault-end ∙ no_block h ∙ e,
+    stands_silent earlier end_marked p s Nothing says-end
+        (record { group = refl; fixing = refl; level = refl; switch = λ t. refl; attrs = λ l v. refl; path = λ d. refl }) (record { value = λ m. refl; name = refl }),
+    subst (λ z. IsOpen z fs) (sym (seen_in-more text earlier end_marked refl)) (single_next (seen_in text earlier) fs (seen end_marked) o refl),
+  )
+
+  pub end_refused : {A : Type 0} (p : Pass A) (kind : ConfFaultKind) → length fs ≡ 0 → end_fault need text earlier ≡ Some kind → TakesOne {E = Unit {0}} need earlier (place text n None) p fs (Err kind)
+  end_refused p kind h e = inl (end_marked, refl, well_end, fault-end ∙ no_block h ∙ e)
+
+  -- the end of the last text, where databases may be missing
+  pub lacking : {A : Type 0} (p : Pass A) → StandsFor earlier p → length fs ≡ 0 → end_fault need text earlier ≡ end_fault Compare After earlier
+      → (result : Result (Unit {0}) ConfFaultKind) → fault_of result ≡ missing (is_none p.old_path) (is_none p.new_path) → TakesOne {E = Unit {0}} need earlier (place text n None) p fs result
+  lacking p s h e (Ok u) k = ended p s u h (e ∙ sym (missing_is earlier p s) ∙ sym k)
+  lacking p s h e (Err kind) k = end_refused p kind h (e ∙ sym (missing_is earlier p s) ∙ sym k)

@@ -1,0 +1,90 @@
+use Rattle.std.proofs.Common.{sym, ap, refl, ◌≡◌, length, rules, true, false, Ok}
+use Rattle.std.specs.Prelude.{if◌then◌else◌, not, ◌||◌}
+use Rattle.aide_attr.specs.Name.{is_word}
+use Rattle.aide_conf.specs.declared.directive.Directive.TheVariants as code
+use Rattle.aide_conf.specs.declared.fault.ConfFaultKind.TheVariants.{LeftOut, BadDirective}
+use Rattle.aide_conf.specs.Directive.{set_reading, unset_reading}
+use Rattle.aide_conf.specs.Expansion.{expansion_after}
+use Rattle.aide_conf.specs.Marks.{value}
+use Rattle.aide_conf.specs.Reading.{Faulty, Nothing, OpensBlock, DividesBlock, ClosesBlock}
+use Rattle.aide_conf.specs.Stack.{frames_of, top_used, top_divided}
+use Rattle.aide_conf.proofs.Takes.{by_item, nothing, told_open, told_divide, told_close, refused_if}
+use Rattle.aide_conf.proofs.pass.Pass.take_directive.Goals as goal
+
+pub returns-then-used-clause-taken : goal.returns-then-used-clause-taken
+returns-then-used-clause-taken g c =
+    let fs = frames_of c.args.blocks.now in
+    let u : top_used fs ≡ true = search rules in
+    λ earlier s.
+    let r = set_reading c.in-Define.name.now (expansion_after (value earlier) 0 c.in-Define.text.now) in
+    by_item earlier fs c.args.directive (code.Define c.in-Define.name c.in-Define.text) r c.set.new.self c.set.result c.in-Define.is
+    (sym (ap (λ z. if z then r else Nothing) u)) (c.set.ensures earlier (length fs) (top_divided fs) s)
+
+pub returns-else-used-clause-taken : goal.returns-else-used-clause-taken
+returns-else-used-clause-taken g c =
+    let fs = frames_of c.args.blocks.now in
+    let u : top_used fs ≡ false = search rules in
+    λ earlier s.
+    let r = set_reading c.in-Define.name.now (expansion_after (value earlier) 0 c.in-Define.text.now) in
+    by_item earlier fs c.args.directive (code.Define c.in-Define.name c.in-Define.text) Nothing c.args.self.now (Ok tt) c.in-Define.is
+    (sym (ap (λ z. if z then r else Nothing) u)) (nothing (Unit {0}) earlier (length fs) (top_divided fs) _ s tt)
+
+pub returns-then-used-2-clause-taken : goal.returns-then-used-2-clause-taken
+returns-then-used-2-clause-taken g c =
+    let fs = frames_of c.args.blocks.now in
+    let u : top_used fs ≡ true = search rules in
+    λ earlier s.
+    let r = unset_reading c.in-Undef.name.now in
+    by_item earlier fs c.args.directive (code.Undef c.in-Undef.name) r c.unset.new.self c.unset.result c.in-Undef.is
+    (sym (ap (λ z. if z then r else Nothing) u)) (c.unset.ensures earlier (length fs) (top_divided fs) s)
+
+pub returns-else-used-2-clause-taken : goal.returns-else-used-2-clause-taken
+returns-else-used-2-clause-taken g c =
+    let fs = frames_of c.args.blocks.now in
+    let u : top_used fs ≡ false = search rules in
+    λ earlier s.
+    let r = unset_reading c.in-Undef.name.now in
+    by_item earlier fs c.args.directive (code.Undef c.in-Undef.name) Nothing c.args.self.now (Ok tt) c.in-Undef.is
+    (sym (ap (λ z. if z then r else Nothing) u)) (nothing (Unit {0}) earlier (length fs) (top_divided fs) _ s tt)
+
+pub returns-in-IfDef-clause-taken : goal.returns-in-IfDef-clause-taken
+returns-in-IfDef-clause-taken g c =
+    let fs = frames_of c.args.blocks.now in
+    let good = not (top_used fs) || is_word c.in-IfDef.name.now in
+    λ earlier s. by_item earlier fs c.args.directive (code.IfDef c.in-IfDef.name) (OpensBlock good) c.args.self.now c.open_block.result c.in-IfDef.is refl
+    (told_open (Unit {0}) earlier (length fs) (top_divided fs) _ s good c.open_block.result c.open_block.ensures.told)
+
+pub returns-in-IfNotDef-clause-taken : goal.returns-in-IfNotDef-clause-taken
+returns-in-IfNotDef-clause-taken g c =
+    let fs = frames_of c.args.blocks.now in
+    let good = not (top_used fs) || is_word c.in-IfNotDef.name.now in
+    λ earlier s. by_item earlier fs c.args.directive (code.IfNotDef c.in-IfNotDef.name) (OpensBlock good) c.args.self.now c.open_block-in-IfNotDef.result c.in-IfNotDef.is refl
+    (told_open (Unit {0}) earlier (length fs) (top_divided fs) _ s good c.open_block-in-IfNotDef.result c.open_block-in-IfNotDef.ensures.told)
+
+pub returns-in-Else-clause-taken : goal.returns-in-Else-clause-taken
+returns-in-Else-clause-taken g c =
+    let fs = frames_of c.args.blocks.now in
+    λ earlier s. by_item earlier fs c.args.directive code.Else DividesBlock c.args.self.now c.divide_block.result c.in-Else.is refl
+    (told_divide (Unit {0}) earlier (length fs) (top_divided fs) _ s c.divide_block.result c.divide_block.ensures.told)
+
+pub returns-in-EndIf-clause-taken : goal.returns-in-EndIf-clause-taken
+returns-in-EndIf-clause-taken g c =
+    let fs = frames_of c.args.blocks.now in
+    λ earlier s. by_item earlier fs c.args.directive code.EndIf ClosesBlock c.args.self.now c.close_block.result c.in-EndIf.is refl
+    (told_close (Unit {0}) earlier (length fs) (top_divided fs) _ s c.close_block.result c.close_block.ensures.told)
+
+pub returns-in-Omitted-clause-taken : goal.returns-in-Omitted-clause-taken
+returns-in-Omitted-clause-taken g c =
+    let fs = frames_of c.args.blocks.now in
+    let b = c.is_used-used.result || c.in-Omitted.begins_with_if in
+    λ earlier s. by_item earlier fs c.args.directive (code.Omitted c.in-Omitted.begins_with_if) (if b then Faulty LeftOut else Nothing) c.args.self.now c.refuse.result c.in-Omitted.is
+    (ap (λ z. if z || c.in-Omitted.begins_with_if then Faulty LeftOut else Nothing) c.is_used-used.ensures)
+    (refused_if (Unit {0}) earlier (length fs) (top_divided fs) _ s b LeftOut c.refuse.result c.refuse.ensures)
+
+pub returns-in-Unknown-clause-taken : goal.returns-in-Unknown-clause-taken
+returns-in-Unknown-clause-taken g c =
+    let fs = frames_of c.args.blocks.now in
+    let b = c.is_used-used.result || c.in-Unknown.begins_with_if in
+    λ earlier s. by_item earlier fs c.args.directive (code.Unknown c.in-Unknown.begins_with_if) (if b then Faulty BadDirective else Nothing) c.args.self.now c.refuse-in-Unknown.result c.in-Unknown.is
+    (ap (λ z. if z || c.in-Unknown.begins_with_if then Faulty BadDirective else Nothing) c.is_used-used.ensures)
+    (refused_if (Unit {0}) earlier (length fs) (top_divided fs) _ s b BadDirective c.refuse-in-Unknown.result c.refuse-in-Unknown.ensures)

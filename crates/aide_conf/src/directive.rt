@@ -1,0 +1,66 @@
+//! Directives: what stands behind `@@`.
+
+ghost use Rattle.std.specs.Prelude.{◌≡◌, [], unwrap_or};
+ghost use Rattle.aide_conf.specs.Lines.{is_blank, bytes_before, bytes_after};
+ghost use Rattle.aide_conf.specs.Directive.{item, item_by, directive_item};
+ghost use Rattle.aide_conf.specs.Reading.{is_omitted};
+
+use crate::line::{after_word, strip, word};
+
+/// What a directive says.
+#[derive(Clone, Copy, Debug)]
+pub(crate) enum Directive<'a> {
+    /// A variable's name, and its value before expansion.
+    Define(&'a [u8], &'a [u8]),
+    Undef(&'a [u8]),
+    IfDef(&'a [u8]),
+    IfNotDef(&'a [u8]),
+    Else,
+    EndIf,
+    /// One that is left out, and whether its word begins with `if`.
+    Omitted(bool),
+    /// Any other, and whether its word begins with `if`.
+    Unknown(bool),
+}
+
+/// The directive that stands behind `@@`.
+pub(crate) fn read_directive(bytes: &[u8]) -> Directive<'_>
+    ensures { item result ≡ directive_item bytes.now }
+{
+    directive_by(word(bytes), strip(after_word(bytes)))
+}
+
+/// The directive of a word and the rest of its line.
+#[tactic(auto, unfolding(crate::specs::Directive::item_by))]
+fn directive_by<'a>(word_bytes: &'a [u8], rest: &'a [u8]) -> Directive<'a>
+    ensures { item result ≡ item_by word_bytes.now rest.now }
+{
+    if word_bytes == b"define".as_slice() {
+        Directive::Define(word(rest), strip(after_word(rest)))
+    } else if word_bytes == b"undef".as_slice() {
+        Directive::Undef(rest)
+    } else if word_bytes == b"ifdef".as_slice() {
+        Directive::IfDef(rest)
+    } else if word_bytes == b"ifndef".as_slice() {
+        Directive::IfNotDef(rest)
+    } else if word_bytes == b"else".as_slice() {
+        Directive::Else
+    } else if word_bytes == b"endif".as_slice() {
+        Directive::EndIf
+    } else if is_omitted(word_bytes) {
+        Directive::Omitted(word_bytes.starts_with(b"if".as_slice()))
+    } else {
+        Directive::Unknown(word_bytes.starts_with(b"if".as_slice()))
+    }
+}
+
+/// Whether a directive's word is of one that is left out.
+#[tactic(auto, unfolding(crate::specs::Reading::is_omitted))]
+fn is_omitted(word: &[u8]) -> bool
+    ensures { result ≡ is_omitted word.now }
+{
+    word == b"include".as_slice()
+        || word == b"x_include".as_slice()
+        || word == b"ifhost".as_slice()
+        || word == b"ifnhost".as_slice()
+}

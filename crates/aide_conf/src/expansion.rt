@@ -1,0 +1,128 @@
+//! The expansion of a text by the variables. However long the values are, no more is kept than may stand.
+
+ghost use Rattle.std.specs.Prelude.{◌≡◌, ◌++◌, OnOk, IfOk, IfSome, IfNone};
+ghost use Rattle.aide_conf.specs.Variables.{values_of, value_by};
+ghost use Rattle.aide_conf.specs.Expansion.{IsFirstName, IsPlain};
+ghost use Rattle.aide_conf.specs.Bounded.{HasTaken};
+ghost use Rattle.aide_conf.specs.Expanded.{expanded_by, IsExpandedLine, IsExpandedValue};
+
+use crate::bounded::{Bounded, without_last_blanks};
+use crate::line::is_skipped;
+use crate::variables::Variables;
+use bstr::ByteSlice;
+use std::alloc::{AllocError, Allocator};
+
+/// How many bytes a line may have, without the blanks round it.
+pub(crate) const LONGEST_LINE: usize = 65_536;
+
+/// How many bytes a variable's value may have.
+const LONGEST_VALUE: usize = 4_096;
+
+/// What a line is after expansion, without the blanks round it.
+#[derive(Drop)]
+pub(crate) enum Expanded<A: Allocator> {
+    /// It is empty or a comment.
+    Skipped,
+    /// It has more than 65,536 bytes.
+    TooLong,
+    Line(Vec<u8, A>),
+}
+
+/// The first name between `@@{` and `}`, and what stands round them.
+#[derive(Clone, Copy, Debug)]
+struct Found<'a> {
+    before: &'a [u8],
+    name: &'a [u8],
+    after: &'a [u8],
+}
+
+/// The first name of a text.
+fn next_name(text: &[u8]) -> Option<Found<'_>>
+    ensures some { IfSome result (λ f. IsFirstName text.now f.before.now f.name.now f.after.now) }
+    ensures none { IfNone result (IsPlain text.now) }
+{
+    let Some(open) = text.find(b"@@{") else {
+        return None;
+    };
+    let rest = &text[open + 3..];
+    match rest.find_byte(b'}') {
+        Some(end) => Some(Found {
+            before: &text[..open],
+            name: &rest[..end],
+            after: &rest[end + 1..],
+        }),
+        None => None,
+    }
+}
+
+/// Takes what stands before a name, and the name's value.
+fn take_value<A: Allocator + Copy>(
+    kept: &mut Bounded<A>,
+    found: Found<'_>,
+    variables: &Variables<A>,
+) -> Result<(), AllocError>
+    ensures { OnOk result (HasTaken kept.old (found.entry.before.now ++ value_by (values_of variables.now) found.entry.name.now) kept.new) }
+{
+    kept.extend(found.before)?;
+    if let Some(value) = variables.get(found.name) {
+        kept.extend(value)?;
+    }
+    Ok(())
+}
+
+/// Takes the expansion of a text.
+fn take_expansion<A: Allocator + Copy>(
+    kept: &mut Bounded<A>,
+    text: &[u8],
+    variables: &Variables<A>,
+) -> Result<(), AllocError>
+    ensures { OnOk result (HasTaken kept.old (expanded_by variables.now text.now) kept.new) }
+{
+    let mut rest = text;
+    'names: while !kept.over {
+        let Some(found) = next_name(rest) else {
+            kept.extend(rest)?;
+            return Ok(());
+        };
+        take_value(kept, found, variables)?;
+        rest = found.after;
+    }
+    Ok(())
+}
+
+/// The expansion of a line, without the blanks round it.
+pub(crate) fn expand_line<A: Allocator + Copy>(
+    alloc: A,
+    line: &[u8],
+    variables: &Variables<A>,
+) -> Result<Expanded<A>, AllocError>
+    ensures { IfOk result (λ e. IsExpandedLine (expanded_by variables.now line.now) e) }
+{
+    let mut kept = Bounded::new(alloc, LONGEST_LINE, true);
+    take_expansion(&mut kept, line, variables)?;
+    if is_skipped(kept.bytes.as_slice()) {
+        return Ok(Expanded::Skipped);
+    }
+    if kept.over {
+        return Ok(Expanded::TooLong);
+    }
+    let Bounded { bytes, .. } = kept;
+    Ok(Expanded::Line(without_last_blanks(bytes)))
+}
+
+/// The expansion of a variable's value; nothing where it has more than 4,096 bytes.
+pub(crate) fn expand_value<A: Allocator + Copy>(
+    alloc: A,
+    text: &[u8],
+    variables: &Variables<A>,
+) -> Result<Option<Vec<u8, A>>, AllocError>
+    ensures { IfOk result (λ v. IsExpandedValue (expanded_by variables.now text.now) v) }
+{
+    let mut kept = Bounded::new(alloc, LONGEST_VALUE, false);
+    take_expansion(&mut kept, text, variables)?;
+    if kept.over {
+        return Ok(None);
+    }
+    let Bounded { bytes, .. } = kept;
+    Ok(Some(bytes))
+}

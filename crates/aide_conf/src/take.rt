@@ -1,0 +1,257 @@
+//! The lines of a configuration, taken one after another.
+
+ghost use Rattle.std.specs.Prelude.{◌≡◌, ℕ, List, Bool, [], Some, None, true, not, ◌||◌, length, OnOk, IsSome, is_none, if◌then◌else◌};
+ghost use Rattle.aide_attr.specs.Name.{is_word};
+ghost use Rattle.aide_conf.specs.declared.task.Need.{Need};
+ghost use Rattle.aide_conf.specs.declared.task.Need.TheVariants.{Compare};
+ghost use Rattle.aide_conf.specs.declared.fault.ConfText.{ConfText};
+ghost use Rattle.aide_conf.specs.declared.fault.ConfText.TheVariants.{After};
+ghost use Rattle.aide_conf.specs.Lines.{places_of};
+ghost use Rattle.aide_conf.specs.Reading.{OpensBlock, DividesBlock, ClosesBlock, expanded_reading};
+ghost use Rattle.aide_conf.specs.Lines.{strip};
+ghost use Rattle.aide_conf.specs.Directive.{item, item_chooses, item_reading, item_text, set_reading, shape_of, unset_reading};
+ghost use Rattle.aide_conf.specs.Expansion.{expansion_after};
+ghost use Rattle.aide_conf.specs.Marks.{Marked, is_defined, line_fault, missing, seen_in, value};
+ghost use Rattle.aide_conf.specs.Stack.{IsOpen, closed_at, divided_at, frames_after, frames_of, opened, top_divided, top_used};
+ghost use Rattle.aide_conf.specs.Pass.{StandsFor, IsTold, TakesAll, TakesOne, TakesReading, fault_of, place};
+
+use crate::blocks::Blocks;
+use crate::directive::{Directive, read_directive};
+use crate::expansion::{Expanded, LONGEST_LINE, expand_line, expand_value};
+use crate::fault::{ConfFault, ConfFaultKind, ConfText};
+use crate::line::{cut_line, is_directive, is_skipped, strip};
+use crate::pass::Pass;
+use crate::reading::kept_reading;
+use crate::task::Need;
+use crate::variables::VariableFault;
+use aide_attr::is_word;
+use std::alloc::Allocator;
+
+/// How many blocks may be open.
+const MOST_BLOCKS: usize = 32;
+
+impl<A: Allocator + Copy> Pass<A> {
+    /// Takes a line that is no directive, after expansion.
+    fn take_plain(&mut self, line: &[u8]) -> Result<(), ConfFaultKind>
+        ensures { (earlier : List Marked) (depth : ℕ) (divided : Bool) → StandsFor earlier self.old → TakesReading earlier depth divided (expanded_reading (strip (expansion_after (value earlier) 0 line.now))) self.new result }
+    {
+        match expand_line(self.alloc, line, &self.variables) {
+            Err(_) => Err(ConfFaultKind::Memory),
+            Ok(Expanded::Skipped) => Ok(()),
+            Ok(Expanded::TooLong) => Err(ConfFaultKind::LineTooLong),
+            Ok(Expanded::Line(bytes)) => match kept_reading(bytes.as_slice()) {
+                Ok(said) => self.take_said(said),
+                Err(kind) => Err(kind),
+            },
+        }
+    }
+
+    /// Gives a variable the expansion of a text.
+    fn set(&mut self, name: &[u8], text: &[u8]) -> Result<(), ConfFaultKind>
+        ensures { (earlier : List Marked) (depth : ℕ) (divided : Bool) → StandsFor earlier self.old → TakesReading earlier depth divided (set_reading name.now (expansion_after (value earlier) 0 text.now)) self.new result }
+    {
+        if !is_word(name) {
+            return Err(ConfFaultKind::BadName);
+        }
+        match expand_value(self.alloc, text, &self.variables) {
+            Err(_) => Err(ConfFaultKind::Memory),
+            Ok(None) => Err(ConfFaultKind::ValueTooLong),
+            Ok(Some(value)) => match self.variables.define(name, value) {
+                Ok(()) => Ok(()),
+                Err(VariableFault::Full) => Err(ConfFaultKind::TooMany),
+                Err(VariableFault::Memory) => Err(ConfFaultKind::Memory),
+            },
+        }
+    }
+
+    /// Takes a variable away.
+    fn unset(&mut self, name: &[u8]) -> Result<(), ConfFaultKind>
+        ensures { (earlier : List Marked) (depth : ℕ) (divided : Bool) → StandsFor earlier self.old → TakesReading earlier depth divided (unset_reading name.now) self.new result }
+    {
+        if !is_word(name) {
+            return Err(ConfFaultKind::BadName);
+        }
+        self.variables.undefine(name);
+        Ok(())
+    }
+
+    /// Whether a variable is defined.
+    fn is_defined(&self, name: &[u8]) -> bool
+        ensures { (earlier : List Marked) → StandsFor earlier self.now → result ≡ is_defined earlier name.now }
+    {
+        self.variables.get(name).is_some()
+    }
+
+    /// Takes a directive.
+    fn take_directive(
+        &mut self,
+        blocks: &mut Blocks<A>,
+        directive: Directive<'_>,
+    ) -> Result<(), ConfFaultKind>
+        ensures taken { (earlier : List Marked) → StandsFor earlier self.old → TakesReading earlier (length (frames_of blocks.old)) (top_divided (frames_of blocks.old)) (item_reading (top_used (frames_of blocks.old)) (item directive.entry) (expansion_after (value earlier) 0 (item_text [] (item directive.entry)))) self.new result }
+        ensures blocks { (earlier : List Marked) → StandsFor earlier self.old → OnOk result (frames_of blocks.new ≡ frames_after (shape_of (item directive.entry)) (top_used (frames_of blocks.old)) (item_chooses (is_defined earlier) (item directive.entry)) (frames_of blocks.old)) }
+    {
+        let used = blocks.is_used();
+        match directive {
+            Directive::Define(name, text) => { if used { self.set(name, text) } else { Ok(()) } }
+            Directive::Undef(name) => { if used { self.unset(name) } else { Ok(()) } }
+            Directive::IfDef(name) => {
+                let first = self.is_defined(name);
+                open_block(blocks, name, first)
+            }
+            Directive::IfNotDef(name) => {
+                let first = !self.is_defined(name);
+                open_block(blocks, name, first)
+            }
+            Directive::Else => divide_block(blocks),
+            Directive::EndIf => close_block(blocks),
+            Directive::Omitted(begins_with_if) => refuse(
+                used,
+                begins_with_if,
+                ConfFaultKind::LeftOut,
+            ),
+            Directive::Unknown(begins_with_if) => refuse(
+                used,
+                begins_with_if,
+                ConfFaultKind::BadDirective,
+            ),
+        }
+    }
+
+    /// Takes a line, stripped.
+    fn take_line(&mut self, blocks: &mut Blocks<A>, line: &[u8]) -> Result<(), ConfFaultKind>
+        ensures { (need : Need) (earlier : List Marked) (text : ConfText) (n : ℕ) → StandsFor earlier self.old → IsOpen (seen_in text earlier) (frames_of blocks.old) → TakesOne need earlier (place text n (Some line.now)) self.new (frames_of blocks.new) result }
+    {
+        if is_skipped(line) {
+            return Ok(());
+        }
+        let used = blocks.is_used();
+        if used && line.len() > LONGEST_LINE {
+            return Err(ConfFaultKind::LineTooLong);
+        }
+        if is_directive(line) {
+            return self.take_directive(blocks, read_directive(&line[2..]));
+        }
+        if !used {
+            return Ok(());
+        }
+        self.take_plain(line)
+    }
+
+    /// Takes the end of a text.
+    fn take_end(&self, blocks: &Blocks<A>, text: ConfText, need: Need) -> Result<(), ConfFaultKind>
+        ensures taken { (earlier : List Marked) (n : ℕ) → StandsFor earlier self.now → IsOpen (seen_in text earlier) (frames_of blocks.now) → TakesOne need earlier (place text n None) self.now (frames_of blocks.now) result }
+        ensures named { need ≡ Compare → text ≡ After → OnOk result (IsSome self.now.old_path × IsSome self.now.new_path) }
+    {
+        if blocks.depth() > 0 {
+            return Err(ConfFaultKind::MissingEndif);
+        }
+        match need {
+            Need::Check => Ok(()),
+            Need::Compare => match text {
+                ConfText::Before => Ok(()),
+                ConfText::File => Ok(()),
+                ConfText::After => self.need_databases(),
+            },
+        }
+    }
+
+    /// Asks for both databases.
+    fn need_databases(&self) -> Result<(), ConfFaultKind>
+        ensures lacks { fault_of result ≡ missing (is_none self.now.old_path) (is_none self.now.new_path) }
+        ensures named { OnOk result (IsSome self.now.old_path × IsSome self.now.new_path) }
+    {
+        if self.old_path.is_none() {
+            return Err(ConfFaultKind::NoOldDatabase);
+        }
+        if self.new_path.is_none() {
+            return Err(ConfFaultKind::NoNewDatabase);
+        }
+        Ok(())
+    }
+
+    /// Takes the lines of a text, and its end. A block ends in the text in which it began.
+    pub(crate) fn take_text(
+        &mut self,
+        text: ConfText,
+        bytes: &[u8],
+        need: Need,
+    ) -> Result<(), ConfFault>
+        ensures taken { (earlier : List Marked) → seen_in text earlier ≡ [] → StandsFor earlier self.old → TakesAll need earlier (places_of text bytes.now) self.new result }
+        ensures named { need ≡ Compare → text ≡ After → OnOk result (IsSome self.new.old_path × IsSome self.new.new_path) }
+    {
+        let mut blocks = Blocks::new(self.alloc);
+        let mut rest = bytes;
+        let mut line: u64 = 1;
+        'lines: while !rest.is_empty() {
+            let (front, more) = cut_line(rest);
+            if let Err(kind) = self.take_line(&mut blocks, strip(front)) {
+                return Err(ConfFault { text, line, kind });
+            }
+            rest = more;
+            line += 1;
+        }
+        if let Err(kind) = self.take_end(&blocks, text, need) {
+            return Err(ConfFault { text, line, kind });
+        }
+        Ok(())
+    }
+}
+
+/// Refuses a directive that is used, or whose word begins with `if`.
+fn refuse(used: bool, begins_with_if: bool, kind: ConfFaultKind) -> Result<(), ConfFaultKind>
+    ensures { IsTold (if used || begins_with_if then Some kind else None) result }
+{
+    if used || begins_with_if {
+        return Err(kind);
+    }
+    Ok(())
+}
+
+/// Opens a block that chooses its first part or not. In an unused part its name is not judged.
+fn open_block<A: Allocator + Copy>(
+    blocks: &mut Blocks<A>,
+    name: &[u8],
+    first: bool,
+) -> Result<(), ConfFaultKind>
+    ensures told { IsTold (line_fault [] (length (frames_of blocks.old)) (top_divided (frames_of blocks.old)) (OpensBlock (not (top_used (frames_of blocks.old)) || is_word name.now)) None) result }
+    ensures opened { OnOk result (frames_of blocks.new ≡ opened (top_used (frames_of blocks.old)) first (frames_of blocks.old)) }
+{
+    if blocks.depth() >= MOST_BLOCKS {
+        return Err(ConfFaultKind::TooDeep);
+    }
+    let used = blocks.is_used();
+    if used && !is_word(name) {
+        return Err(ConfFaultKind::BadName);
+    }
+    match blocks.open(used, first) {
+        Ok(()) => Ok(()),
+        Err(_) => Err(ConfFaultKind::Memory),
+    }
+}
+
+/// Begins the second part of the innermost block.
+fn divide_block<A: Allocator + Copy>(blocks: &mut Blocks<A>) -> Result<(), ConfFaultKind>
+    ensures told { IsTold (line_fault [] (length (frames_of blocks.old)) (top_divided (frames_of blocks.old)) DividesBlock None) result }
+    ensures divided { OnOk result (frames_of blocks.new ≡ divided_at (frames_of blocks.old)) }
+{
+    if blocks.depth() == 0 || blocks.is_divided() {
+        return Err(ConfFaultKind::StrayElse);
+    }
+    match blocks.divide() {
+        Ok(()) => Ok(()),
+        Err(_) => Err(ConfFaultKind::Memory),
+    }
+}
+
+/// Closes the innermost block.
+fn close_block<A: Allocator + Copy>(blocks: &mut Blocks<A>) -> Result<(), ConfFaultKind>
+    ensures told { IsTold (line_fault [] (length (frames_of blocks.old)) (top_divided (frames_of blocks.old)) ClosesBlock None) result }
+    ensures closed { OnOk result (frames_of blocks.new ≡ closed_at (frames_of blocks.old)) }
+{
+    if blocks.depth() == 0 {
+        return Err(ConfFaultKind::StrayEndif);
+    }
+    blocks.close();
+    Ok(())
+}

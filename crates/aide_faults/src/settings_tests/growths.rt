@@ -1,0 +1,132 @@
+//! Each growth refused in turn while a configuration is read.
+use crate::Refusing;
+use aide_attr::{Attr, AttrSet};
+use aide_conf::{ConfFaultKind, ConfText, Need, Settings};
+use std::alloc::Allocator;
+use std::process::Abort;
+
+/// Three texts, and what they say.
+#[derive(Clone, Copy)]
+struct Reading<'a> {
+    texts: [&'a [u8]; 3],
+    old_path: &'a str,
+    new_path: &'a str,
+    quiet: bool,
+    force: AttrSet,
+    added: AttrSet,
+}
+
+/// Where a fault is: the number of its text, and its line.
+type Place = (u8, u64);
+
+fn number_of(text: ConfText) -> u8 {
+    match text {
+        ConfText::Before => 0,
+        ConfText::File => 1,
+        ConfText::After => 2,
+    }
+}
+
+/// Whether the three texts are read in full.
+fn is_read<A: Allocator + Copy>(alloc: A, reading: &Reading<'_>) -> bool {
+    let [before, file, after] = reading.texts;
+    let Ok(settings) = Settings::read(alloc, before, file, after, Need::Compare) else {
+        return false;
+    };
+    let options = settings.options();
+    let Some(task) = settings.task() else {
+        return false;
+    };
+    task.old_path == reading.old_path
+        && task.new_path == reading.new_path
+        && options.quiet == reading.quiet
+        && options.ignore.force == reading.force
+        && options.ignore.added == reading.added
+}
+
+/// The place at which a growth is refused, and told as want of memory; none where there is no such growth. After it the
+/// texts are read in full.
+fn refused_at<A: Allocator + Copy>(
+    rt: &impl Abort,
+    alloc: A,
+    reading: &Reading<'_>,
+    growth: u64,
+) -> Option<Place> {
+    let alloc = Refusing::new(alloc, growth);
+    let [before, file, after] = reading.texts;
+    match Settings::read(&alloc, before, file, after, Need::Compare) {
+        Ok(_) => {
+            assert!(rt; !alloc.has_refused(), "growth {growth} was refused");
+            None
+        }
+        Err(fault) => {
+            assert!(rt; alloc.has_refused());
+            assert_eq!(rt; fault.kind, ConfFaultKind::Memory);
+            assert!(rt; is_read(&alloc, reading), "after growth {growth}");
+            Some((number_of(fault.text), fault.line))
+        }
+    }
+}
+
+/// Refuses each growth in turn. The places never go back, and these are among them.
+fn refuse_each<A: Allocator + Copy>(
+    rt: &impl Abort,
+    alloc: A,
+    reading: &Reading<'_>,
+    growing: &[Place],
+) {
+    let mut last = (0, 0);
+    let mut met = 0;
+    for growth in 0..1000 {
+        let Some(place) = refused_at(rt, alloc, reading, growth) else {
+            break;
+        };
+        assert!(rt; last <= place, "{last:?} before {place:?}");
+        last = place;
+        if growing.get(met) == Some(&place) {
+            met = met.saturating_add(1);
+        }
+    }
+    assert_eq!(rt; growing.get(met), None, "after growths at {last:?}");
+}
+
+#[test]
+fn groups_and_paths(rt: HostRuntime) {
+    let reading = Reading {
+        texts: [
+            b"first = p\n",
+            b"database_in=file:/old\nmy = p+s\nreport_force_attrs = my-s\nyour = my+u\nmy = s\n\
+database_new=file:/new\ndatabase=file:/older\n",
+            b"last = first+my\nreport_ignore_added_attrs=last\n",
+        ],
+        old_path: "/older",
+        new_path: "/new",
+        quiet: false,
+        force: AttrSet::of(Attr::Perm),
+        added: AttrSet::of(Attr::Perm).union(AttrSet::of(Attr::Size)),
+    };
+    // New groups and paths cannot but take memory.
+    let growing = [(0, 1), (1, 1), (1, 2), (1, 4), (1, 6), (1, 7), (2, 1)];
+    refuse_each(&rt, rt.alloc(), &reading, &growing);
+}
+
+#[test]
+fn blocks_and_variables(rt: HostRuntime) {
+    let reading = Reading {
+        texts: [
+            b"@@define DIR /var/lib\n@@define EMPTY\n",
+            b"@@ifdef DIR\ndatabase_in=file:@@{DIR}/old\n@@else\nnonsense\n@@endif\n\
+@@define DIR @@{DIR}/aide@@{EMPTY}\n@@ifndef NOPE\n@@ifdef NOPE\n@@define NOPE x\n@@else\n\
+@@{EMPTY}my = p+s\n@@endif\n@@undef EMPTY\n@@endif\n@@{EMPTY}report_force_attrs = my-s\n",
+            b"database_new=file:@@{DIR}/new\nreport_quiet=yes@@{EMPTY}\n",
+        ],
+        old_path: "/var/lib/old",
+        new_path: "/var/lib/aide/new",
+        quiet: true,
+        force: AttrSet::of(Attr::Perm),
+        added: AttrSet::empty(),
+    };
+    // The first variable, the first path, the first group and the second path cannot but take memory.
+    let growing = [(0, 1), (1, 2), (1, 11), (2, 1)];
+    refuse_each(&rt, rt.alloc(), &reading, &growing);
+}

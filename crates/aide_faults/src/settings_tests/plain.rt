@@ -1,0 +1,473 @@
+//! What a configuration with blocks and variables says, found slowly from its whole texts.
+//!
+//! A block is found by counting over the lines behind its opening line, and a variable by looking back for the last line
+//! that defines it or takes it away. There is no stack and no table of variables. It knows the options that the texts to
+//! compare have, and no limit on how many variables or groups there are.
+
+use aide_attr::{AttrSet, ExprFault, Groups, Level, is_group_name};
+use aide_conf::{ConfFault, ConfFaultKind as Kind, ConfText, Need};
+use std::alloc::{AllocError, Global};
+use std::test::Fail;
+
+/// What a line is by its first bytes.
+#[derive(Clone, Copy)]
+enum Form<'a> {
+    /// An empty line or a comment.
+    Nothing,
+    /// The first line of a block, its variable, and whether its first part is for where this is defined.
+    Opens(&'a [u8], bool),
+    Divides,
+    Closes,
+    /// A definition: a variable and its value as it stands in the line.
+    Defines(&'a [u8], &'a [u8]),
+    /// A variable that is taken away.
+    Removes(&'a [u8]),
+    /// A directive that is refused, and whether it is so in an unused part too.
+    Refused(Kind, bool),
+    /// No directive.
+    Other,
+}
+
+/// A line, and what the lines before it make of it.
+#[derive(Drop)]
+struct Mark<'a> {
+    /// The line without the blanks around it.
+    bytes: &'a [u8],
+    form: Form<'a>,
+    used: bool,
+    /// Of a used line the value that it defines, or what it expands to.
+    expanded: Vec<u8>,
+}
+
+/// Where a line stands in a block that began before it.
+#[derive(Clone, Copy)]
+enum Part {
+    Outside,
+    First,
+    Second,
+}
+
+/// What an expanded line sets.
+#[derive(Clone, Copy)]
+enum Effect<'a> {
+    Nothing,
+    Level(Level),
+    Quiet(bool),
+    /// The report options are fixed.
+    Fixes,
+    OldPath,
+    NewPath,
+    Group(&'a [u8], AttrSet),
+}
+
+/// What a configuration without a fault says.
+#[derive(Clone, Copy, PartialEq, Eq, Debug)]
+pub(super) struct Told {
+    pub(super) level: Level,
+    pub(super) quiet: bool,
+}
+
+/// The bytes without the spaces and tabs around them.
+fn stripped(bytes: &[u8]) -> &[u8] {
+    let first = bytes
+        .iter()
+        .position(|byte| *byte != b' ' && *byte != b'\t');
+    let last = bytes
+        .iter()
+        .rposition(|byte| *byte != b' ' && *byte != b'\t');
+    match (first, last) {
+        (Some(first), Some(last)) => bytes.get(first..=last).unwrap_or(b""),
+        _ => b"",
+    }
+}
+
+/// The bytes before the first space or tab, and those from it on.
+fn cut_at_blank(bytes: &[u8]) -> (&[u8], &[u8]) {
+    let blank = bytes
+        .iter()
+        .position(|byte| *byte == b' ' || *byte == b'\t');
+    match bytes.split_at_checked(blank.unwrap_or(bytes.len())) {
+        Some(parts) => parts,
+        None => (bytes, b""),
+    }
+}
+
+/// Whether a variable may have this name.
+fn is_variable(name: &[u8]) -> bool {
+    let is_word = name
+        .iter()
+        .all(|byte| byte.is_ascii_alphanumeric() || *byte == b'_');
+    is_word && !name.is_empty() && name.len() <= 64
+}
+
+/// The form of a line without blanks around it.
+fn form_of(line: &[u8]) -> Form<'_> {
+    if line.is_empty() || line.starts_with(b"#") {
+        return Form::Nothing;
+    }
+    match line.strip_prefix(b"@@") {
+        Some(rest) if !rest.starts_with(b"{") => {
+            let (word, rest) = cut_at_blank(rest);
+            directive(word, stripped(rest))
+        }
+        _ => Form::Other,
+    }
+}
+
+/// The form of a directive, by its word and what follows it.
+fn directive<'a>(word: &[u8], rest: &'a [u8]) -> Form<'a> {
+    match word {
+        b"define" => {
+            let (name, value) = cut_at_blank(rest);
+            Form::Defines(name, stripped(value))
+        }
+        b"undef" => Form::Removes(rest),
+        b"ifdef" => Form::Opens(rest, true),
+        b"ifndef" => Form::Opens(rest, false),
+        b"else" => Form::Divides,
+        b"endif" => Form::Closes,
+        b"include" | b"x_include" => Form::Refused(Kind::LeftOut, false),
+        b"ifhost" | b"ifnhost" => Form::Refused(Kind::LeftOut, true),
+        _ => Form::Refused(Kind::BadDirective, word.starts_with(b"if")),
+    }
+}
+
+/// The value that a variable has behind these lines, where it is defined.
+fn value_of<'a>(earlier: &'a [Mark<'_>], name: &[u8]) -> Option<&'a [u8]> {
+    for mark in earlier.iter().rev() {
+        match mark.form {
+            Form::Defines(other, _) if mark.used && other == name => return Some(&mark.expanded),
+            Form::Removes(other) if mark.used && other == name => return None,
+            _ => {}
+        }
+    }
+    None
+}
+
+/// The name in `@@{NAME}`, where the bytes begin with that.
+fn name_at(bytes: &[u8]) -> Option<&[u8]> {
+    let rest = bytes.strip_prefix(b"@@{")?;
+    let end = rest.iter().position(|byte| *byte == b'}')?;
+    rest.get(..end)
+}
+
+/// What the bytes expand to behind these lines.
+fn expand(alloc: Global, earlier: &[Mark<'_>], bytes: &[u8]) -> Result<Vec<u8>, AllocError> {
+    let mut all = Vec::new(alloc);
+    let mut of_the_name = 0usize;
+    for (place, byte) in bytes.iter().enumerate() {
+        if of_the_name > 0 {
+            of_the_name -= 1;
+            continue;
+        }
+        match name_at(bytes.get(place..).unwrap_or(b"")) {
+            Some(name) => {
+                all.extend_from_slice(value_of(earlier, name).unwrap_or(b""))?;
+                of_the_name = name.len().saturating_add(3);
+            }
+            None => all.push(*byte)?,
+        }
+    }
+    Ok(all)
+}
+
+/// Where the line behind these stands in the block that begins with the first of them.
+fn part_behind(lines: &[Mark<'_>]) -> Part {
+    let mut open = 0u64;
+    let mut part = Part::Outside;
+    for mark in lines {
+        match mark.form {
+            Form::Opens(_, _) => open = open.saturating_add(1),
+            Form::Closes => open = open.saturating_sub(1),
+            Form::Divides if open == 1 => part = Part::Second,
+            _ => {}
+        }
+        if open == 0 {
+            return Part::Outside;
+        }
+        if let Part::Outside = part {
+            part = Part::First;
+        }
+    }
+    part
+}
+
+/// Whether the first of these lines lets the line behind them be used.
+fn chooses(before: &[Mark<'_>], lines: &[Mark<'_>]) -> bool {
+    let Some(opening) = lines.first() else {
+        return true;
+    };
+    let Form::Opens(name, wanted) = opening.form else {
+        return true;
+    };
+    let is_first = value_of(before, name).is_some() == wanted;
+    match part_behind(lines) {
+        Part::Outside => true,
+        Part::First => opening.used && is_first,
+        Part::Second => opening.used && !is_first,
+    }
+}
+
+/// Whether the line behind these is used. Its text begins with the line at `start`.
+fn is_used(earlier: &[Mark<'_>], start: usize) -> bool {
+    for place in start..earlier.len() {
+        if let Some((before, lines)) = earlier.split_at_checked(place) {
+            if !chooses(before, lines) {
+                return false;
+            }
+        }
+    }
+    true
+}
+
+/// How many blocks enclose the line behind these lines of its text, and its part of the innermost one.
+fn around(lines: &[Mark<'_>]) -> (u64, Part) {
+    let mut depth = 0u64;
+    let mut innermost = Part::Outside;
+    for place in 0..lines.len() {
+        match part_behind(lines.get(place..).unwrap_or(&[])) {
+            Part::Outside => {}
+            part => {
+                depth = depth.saturating_add(1);
+                innermost = part;
+            }
+        }
+    }
+    (depth, innermost)
+}
+
+/// The path of a database URL that is in form, but for its length.
+fn path_of(url: &[u8]) -> Result<&[u8], Kind> {
+    if url == b"stdin".as_slice() {
+        return Err(Kind::LeftOut);
+    }
+    match url.strip_prefix(b"file:") {
+        Some([b'/', b'/', rest @ ..]) if rest.starts_with(b"/") => Ok(rest),
+        Some([b'/', b'/', ..]) => Err(Kind::BadUrl),
+        Some(path) if path.starts_with(b"/") => Ok(path),
+        _ => Err(Kind::BadUrl),
+    }
+}
+
+/// The level of a name.
+fn level_of(name: &[u8]) -> Result<Level, Kind> {
+    match name {
+        b"minimal" => Ok(Level::Minimal),
+        b"summary" => Ok(Level::Summary),
+        b"changed_attributes" => Ok(Level::ChangedAttributes),
+        _ => Err(Kind::BadValue),
+    }
+}
+
+/// What the value of an option sets, or of any other name as that of a group.
+fn effect_of_value<'a>(
+    name: &'a [u8],
+    value: &'a [u8],
+    groups: &Groups<Global>,
+) -> Result<Effect<'a>, Kind> {
+    match name {
+        b"report_level" => Ok(Effect::Level(level_of(value)?)),
+        b"report_quiet" => match value {
+            b"yes" | b"true" => Ok(Effect::Quiet(true)),
+            b"no" | b"false" => Ok(Effect::Quiet(false)),
+            _ => Err(Kind::BadValue),
+        },
+        b"report_url" | b"grouped" | b"database_in" | b"database_new" if value.is_empty() => Err(
+            Kind::BadValue,
+        ),
+        b"report_url" if value == b"stdout".as_slice() => Ok(Effect::Fixes),
+        b"report_url" => Ok(Effect::Nothing),
+        b"grouped" => Err(Kind::LeftOut),
+        b"database_in" | b"database_new" => match path_of(value)? {
+            path if path.len() > 4096 => Err(Kind::ValueTooLong),
+            _ if name == b"database_in".as_slice() => Ok(Effect::OldPath),
+            _ => Ok(Effect::NewPath),
+        },
+        _ if !is_group_name(name) => Err(Kind::BadName),
+        _ => match groups.eval(value) {
+            Ok(set) => Ok(Effect::Group(name, set)),
+            Err(ExprFault::UnknownName { at: _ }) => Err(Kind::UnknownAttribute),
+            Err(ExprFault::BadExpression { at: _ }) => Err(Kind::BadExpression),
+        },
+    }
+}
+
+/// What a line sets once it is expanded, or why it is refused.
+fn effect_of<'a>(mark: &'a Mark<'_>, groups: &Groups<Global>) -> Result<Effect<'a>, Kind> {
+    let Form::Other = mark.form else {
+        return Ok(Effect::Nothing);
+    };
+    let line = stripped(&mark.expanded);
+    if line.is_empty() || line.starts_with(b"#") {
+        return Ok(Effect::Nothing);
+    }
+    if line.len() > 65_536 {
+        return Err(Kind::LineTooLong);
+    }
+    if let Some(b'/' | b'!' | b'=' | b'-') = line.first() {
+        return Ok(Effect::Nothing);
+    }
+    let equals = line
+        .iter()
+        .position(|byte| *byte == b'=')
+        .ok_or(Kind::BadLine)?;
+    let (name, value) = line.split_at_checked(equals).ok_or(Kind::BadLine)?;
+    effect_of_value(
+        stripped(name),
+        stripped(value.get(1..).unwrap_or(b"")),
+        groups,
+    )
+}
+
+/// The groups behind these lines.
+fn groups_behind(alloc: Global, earlier: &[Mark<'_>]) -> Result<Groups<Global>, Fail> {
+    let mut groups = Groups::new(alloc);
+    for mark in earlier {
+        if let Ok(Effect::Group(name, set)) = effect_of(mark, &groups) {
+            groups.define(name, set)?;
+        }
+    }
+    Ok(groups)
+}
+
+/// Why a directive is refused, where it is. It stands behind these lines of its text.
+fn fault_of_directive(lines: &[Mark<'_>], mark: &Mark<'_>) -> Option<Kind> {
+    let (depth, part) = around(lines);
+    match (mark.form, part) {
+        (Form::Refused(kind, always), _) if mark.used || always => Some(kind),
+        (Form::Opens(_, _), _) if depth >= 32 => Some(Kind::TooDeep),
+        (Form::Divides, Part::Outside | Part::Second) => Some(Kind::StrayElse),
+        (Form::Closes, Part::Outside) => Some(Kind::StrayEndif),
+        (Form::Opens(name, _) | Form::Removes(name) | Form::Defines(name, _), _) if mark.used => {
+            if !is_variable(name) {
+                Some(Kind::BadName)
+            } else if mark.expanded.len() > 4096 {
+                Some(Kind::ValueTooLong)
+            } else {
+                None
+            }
+        }
+        _ => None,
+    }
+}
+
+/// Why a line is refused, where it is. It stands behind these, and its text begins with the line at `start`.
+fn fault_of(
+    alloc: Global,
+    earlier: &[Mark<'_>],
+    start: usize,
+    mark: &Mark<'_>,
+) -> Result<Option<Kind>, Fail> {
+    match mark.form {
+        Form::Nothing => Ok(None),
+        _ if mark.used && mark.bytes.len() > 65_536 => Ok(Some(Kind::LineTooLong)),
+        Form::Other => {
+            let groups = groups_behind(alloc, earlier)?;
+            Ok(effect_of(mark, &groups).err())
+        }
+        _ => Ok(fault_of_directive(earlier.get(start..).unwrap_or(&[]), mark)),
+    }
+}
+
+/// A line behind these, as they make it.
+fn mark_of<'a>(
+    alloc: Global,
+    earlier: &[Mark<'_>],
+    start: usize,
+    line: &'a [u8],
+) -> Result<Mark<'a>, AllocError> {
+    let bytes = stripped(line);
+    let form = form_of(bytes);
+    let used = is_used(earlier, start);
+    let expanded = match form {
+        Form::Defines(_, value) if used => expand(alloc, earlier, value)?,
+        Form::Other if used => expand(alloc, earlier, bytes)?,
+        _ => Vec::new(alloc),
+    };
+    Ok(Mark {
+        bytes,
+        form,
+        used,
+        expanded,
+    })
+}
+
+/// Marks the lines of a text behind those of the texts before it. The answer is the number of its first line with a
+/// fault, and the kind; without one, its number of lines plus one.
+fn mark_text<'a>(
+    alloc: Global,
+    marks: &mut Vec<Mark<'a>>,
+    bytes: &'a [u8],
+) -> Result<(u64, Option<Kind>), Fail> {
+    let start = marks.len();
+    let mut number = 1u64;
+    if bytes.is_empty() {
+        return Ok((number, None));
+    }
+    for line in bytes
+        .strip_suffix(b"\n")
+        .unwrap_or(bytes)
+        .split(|byte| *byte == b'\n')
+    {
+        let mark = mark_of(alloc, marks, start, line)?;
+        if let Some(kind) = fault_of(alloc, marks, start, &mark)? {
+            return Ok((number, Some(kind)));
+        }
+        marks.push(mark)?;
+        number = number.saturating_add(1);
+    }
+    let (depth, _) = around(marks.get(start..).unwrap_or(&[]));
+    Ok((number, (depth > 0).then_some(Kind::MissingEndif)))
+}
+
+/// Which database these lines do not name.
+fn missing(marks: &[Mark<'_>], none: &Groups<Global>) -> Option<Kind> {
+    let is_old = |mark: &Mark<'_>| matches!(effect_of(mark, none), Ok(Effect::OldPath));
+    let is_new = |mark: &Mark<'_>| matches!(effect_of(mark, none), Ok(Effect::NewPath));
+    if !marks.iter().any(is_old) {
+        Some(Kind::NoOldDatabase)
+    } else if !marks.iter().any(is_new) {
+        Some(Kind::NoNewDatabase)
+    } else {
+        None
+    }
+}
+
+/// What these lines say: the last level and the last switch before the options are fixed.
+fn told_by(marks: &[Mark<'_>], none: &Groups<Global>) -> Told {
+    let fixes = |mark: &Mark<'_>| matches!(effect_of(mark, none), Ok(Effect::Fixes));
+    let end = marks.iter().position(fixes).unwrap_or(marks.len());
+    let mut told = Told {
+        level: Level::ChangedAttributes,
+        quiet: false,
+    };
+    for mark in marks.iter().take(end) {
+        match effect_of(mark, none) {
+            Ok(Effect::Level(level)) => told.level = level,
+            Ok(Effect::Quiet(quiet)) => told.quiet = quiet,
+            _ => {}
+        }
+    }
+    told
+}
+
+/// What three texts say, or their first fault.
+pub(super) fn answer(
+    alloc: Global,
+    texts: [&[u8]; 3],
+    need: Need,
+) -> Result<Result<Told, ConfFault>, Fail> {
+    let mut marks = Vec::new(alloc);
+    let none = Groups::new(alloc);
+    let names = [ConfText::Before, ConfText::File, ConfText::After];
+    for (text, bytes) in names.into_iter().zip(texts) {
+        let (line, mut fault) = mark_text(alloc, &mut marks, bytes)?;
+        if fault.is_none() && need == Need::Compare && text == ConfText::After {
+            fault = missing(&marks, &none);
+        }
+        if let Some(kind) = fault {
+            return Ok(Err(ConfFault { text, line, kind }));
+        }
+    }
+    Ok(Ok(told_by(&marks, &none)))
+}
