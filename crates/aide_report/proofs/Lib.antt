@@ -5,6 +5,7 @@ pub mod Steps
 pub mod ReadingLemmas
 pub mod DifferenceLemmas
 pub mod SideLemmas
+pub mod BoundLemmas
 pub mod CountLemmas
 pub mod FirstFaults
 pub mod RunLemmas

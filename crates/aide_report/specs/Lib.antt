@@ -6,6 +6,7 @@ pub mod Compare
 pub mod Changes
 pub mod Merged
 pub mod Reading
+pub mod Bound
 pub mod Held
 pub mod Place
 pub mod Walk

@@ -1,9 +1,11 @@
 //! A whole run.
-ghost use Rattle.std.specs.Prelude.{◌≡◌, ◌≤◌, ◌^◌, [], ℕ, List, Option, Some, Result, Ok, Err, IfOk, IfErr, OnOk, OnErr, false};
+ghost use Rattle.std.specs.Prelude.{◌≡◌, ◌≤◌, ◌*◌, ◌^◌, [], ℕ, List, Option, Some, Result, Ok, Err, IfOk, IfErr, OnOk, OnErr, false, max};
 ghost use Rattle.std.specs.Io.KnownBytes.{Appends};
 ghost use Rattle.aide_db.specs.Database.{IsSound};
 ghost use Rattle.aide_db.specs.Failures.{is_outside};
+ghost use Rattle.aide_db.specs.Longest.{longest_line};
 ghost use Rattle.aide_db.specs.declared.fault.DbFault.{DbFault};
+ghost use Rattle.aide_report.specs.Bound.{Fits, OpensWithin, three_lines};
 ghost use Rattle.aide_report.specs.Failures.{CountsFault, Rose};
 ghost use Rattle.aide_report.specs.Openings.{OpensExactly, OpensAtMost, OpensFirst};
 ghost use Rattle.aide_report.specs.RunFaults.{IsCaused, IsRight, TellsIfWritten};
@@ -37,6 +39,9 @@ fn compare<S: Sources, A: Allocator + Copy>(
     ensures opens_some { OpensAtMost (S.openings sources.old) (S.openings sources.new) 2 }
     ensures opens_first { IfErr result (OpensFirst (S.openings sources.old) (S.openings sources.new)) }
     ensures never_falls { S.failures sources.old ≤ S.failures sources.new }
+    ensures fits { (old_line new_line : ℕ)
+        → OpensWithin (S.bytes_of sources.old) limits Side.Old old_line → OpensWithin (S.bytes_of sources.old) limits Side.New new_line
+        → Fits old_line new_line desk.old.peak desk.new }
 {
     clear(limits, desk);
     let skipped_old = match read_whole(sources, Side::Old, limits, desk) {
@@ -65,6 +70,9 @@ fn compare<S: Sources, A: Allocator + Copy>(
 /// The old database is opened and read whole, then the new one; then both are walked together and their differences
 /// counted; then the report is written, and flushed once, also where it is empty. Every reel that was opened is
 /// closed. A fault of a database's text after its first reading is answered as [`RunFault::Changed`].
+///
+/// What an earlier run left on the desk is let go before anything is read. From then on the desk holds at most the entry line of
+/// each side and the line that is read, also where the answer is a fault; its peak tells the most that it ever held.
 pub fn run<S: Sources, W: Sink, A: Allocator + Copy>(
     task: &Task<'_>,
     limits: Limits,
@@ -100,6 +108,13 @@ pub fn run<S: Sources, W: Sink, A: Allocator + Copy>(
     ensures opens { OnOk result (OpensExactly (S.openings sources.old) (S.openings sources.new) 2) }
     ensures opens_some { OpensAtMost (S.openings sources.old) (S.openings sources.new) 2 }
     ensures opens_first { IfErr result (OpensFirst (S.openings sources.old) (S.openings sources.new)) }
+
+    // The greatest number of bytes ever held on the desk does not fall, and rises at most to three lines as long as the limit. Where
+    // each opening gives the same bytes, it rises at most to the longest line of each text and one further line no longer than these.
+    ensures peak { desk.old.peak ≤ desk.new.peak }
+    ensures below { desk.new.peak ≤ max desk.old.peak (3 * limits.line) }
+    ensures bound { (old new : List ℕ) → S.bytes_of sources.old Side.Old ≡ Some old → S.bytes_of sources.old Side.New ≡ Some new
+        → desk.new.peak ≤ max desk.old.peak (three_lines (longest_line limits old) (longest_line limits new)) }
 {
     let outcome = match compare(&task.options, limits, desk, sources) {
         Ok(outcome) => outcome,

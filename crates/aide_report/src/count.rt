@@ -1,6 +1,7 @@
 //! How many entries were added, removed and changed.
 ghost use Rattle.std.specs.Prelude.{◌≡◌, ◌+◌, ◌^◌, ◌<◌, [], ◌∷◌, ℕ, List, IfOk, IfErr, count_by};
 ghost use Rattle.aide_db.specs.Desk.{desk_entry};
+ghost use Rattle.aide_report.specs.Bound.{FitsAfterBoth};
 ghost use Rattle.aide_report.specs.Changed.{differ_by};
 ghost use Rattle.aide_report.specs.Changes.{is_added, is_removed, is_changed, is_of_new};
 ghost use Rattle.aide_report.specs.ChangeView.{change_of, ShowsChange};
@@ -93,6 +94,7 @@ pub(crate) fn count<R: Reel, A: Allocator + Copy>(
     ensures fault { IfErr result (λ fault. (text : List ℕ) → StandsAt R.to_come merge.old desk.old fault.side text
         → IsFaultOf (limits_at merge.old fault.side) text fault) }
     ensures read { IfErr result (λ fault. fault.kind ≡ DbFaultKind.Read → 0 < reels_failed R.failures merge.new) }
+    ensures fits { FitsAfterBoth R.to_come merge.old desk.old desk.new }
 {
     let mut counts = Counts::new();
     'walk: loop {

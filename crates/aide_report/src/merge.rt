@@ -4,6 +4,7 @@ ghost use Rattle.aide_db.specs.Attributes.{Entry};
 ghost use Rattle.aide_db.specs.Desk.{desk_entry, Shows};
 ghost use Rattle.aide_db.specs.Kept.{IsKept};
 ghost use Rattle.aide_db.specs.Side.{other_side};
+ghost use Rattle.aide_report.specs.Bound.{FitsAfter, FitsAfterBoth};
 ghost use Rattle.aide_report.specs.Held.{ahead, front, work};
 ghost use Rattle.aide_report.specs.Place.{place_of, change_at, old_after, new_after};
 ghost use Rattle.aide_report.specs.Reading.{Stands, rest_of, left_of, IsUnfailed, IsFaultOf};
@@ -89,6 +90,7 @@ fn advance<R: Reel, A: Allocator + Copy>(
         ≡ ahead held (desk_entry cursor.old.side desk.old) (rest_of cursor.old text)) }
     ensures fault { IfErr result (λ fault. (text : List ℕ) → Stands R.to_come cursor.old desk.old text
         → IsFaultOf cursor.old.limits text fault) }
+    ensures fits { FitsAfter R.to_come cursor.old desk.old desk.new }
 {
     match held {
         Held::Due => match cursor.next(desk) {
@@ -146,6 +148,7 @@ impl<R: Reel> Merge<R> {
         ensures fault { IfErr result (λ fault. (text : List ℕ) → StandsAt R.to_come self.old desk.old fault.side text
             → IsFaultOf (limits_at self.old fault.side) text fault) }
         ensures read { IfErr result (λ fault. fault.kind ≡ DbFaultKind.Read → 0 < reels_failed R.failures self.new) }
+        ensures fits { FitsAfterBoth R.to_come self.old desk.old desk.new }
     {
         self.old_held = advance(&mut self.old_cursor, self.old_held, desk)?;
         self.new_held = advance(&mut self.new_cursor, self.new_held, desk)?;

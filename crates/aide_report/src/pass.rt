@@ -8,8 +8,9 @@ ghost use Rattle.aide_db.specs.Giving.{columns_of_text};
 ghost use Rattle.aide_db.specs.Kept.{IsKept};
 ghost use Rattle.aide_db.specs.Map.{entries_of};
 ghost use Rattle.aide_db.specs.Path.{path_cmp};
-ghost use Rattle.aide_db.specs.Side.{other_side};
+ghost use Rattle.aide_db.specs.Side.{by_side, other_side};
 ghost use Rattle.aide_db.specs.Skipped.{skipped_in};
+ghost use Rattle.aide_report.specs.Bound.{Fits, FitsAfter, TakesWithin, OpensWithin};
 ghost use Rattle.aide_report.specs.Counts.{Completes};
 ghost use Rattle.aide_report.specs.Failures.{CountsFault, Rose};
 ghost use Rattle.aide_report.specs.LaterFault.{later_of};
@@ -58,6 +59,9 @@ fn open_cursor<S: Sources, A: Allocator + Copy>(
     ensures stands { IfOk result (λ cursor. (text : List ℕ) → S.bytes_of sources.old side ≡ Some text → Stands S.R.to_come cursor desk.new text) }
     ensures rest { IfOk result (λ cursor. (text : List ℕ) → rest_of cursor text ≡ entries_of text) }
     ensures other { IsKept (other_side side) desk.old desk.new }
+    ensures fits { (old_line new_line before : ℕ) → Fits old_line new_line before desk.old → Fits old_line new_line before desk.new }
+    ensures within { IfOk result (λ cursor. (longest : ℕ) → OpensWithin (S.bytes_of sources.old) limits side longest
+        → TakesWithin S.R.to_come cursor desk.new longest) }
 {
     match sources.open(side) {
         Ok(reel) => Ok(Cursor::start(side, reel, limits, desk)),
@@ -85,6 +89,11 @@ fn open_both<S: Sources, A: Allocator + Copy>(
     ensures caused { IfErr result (IsCaused (Rose (S.failures sources.old) (S.failures sources.new)) ⊥) }
     ensures later { IfErr result (IsLater limits (S.bytes_of sources.old)) }
     ensures never_falls { S.failures sources.old ≤ S.failures sources.new }
+    ensures fits { (old_line new_line before : ℕ) → Fits old_line new_line before desk.old → Fits old_line new_line before desk.new }
+    ensures within_old { IfOk result (λ merge. (longest : ℕ) → OpensWithin (S.bytes_of sources.old) limits Side.Old longest
+        → TakesWithin S.R.to_come merge.old_cursor desk.new longest) }
+    ensures within_new { IfOk result (λ merge. (longest : ℕ) → OpensWithin (S.bytes_of sources.old) limits Side.New longest
+        → TakesWithin S.R.to_come merge.new_cursor desk.new longest) }
 {
     let old_cursor = match open_cursor(sources, Side::Old, limits, desk) {
         Ok(cursor) => cursor,
@@ -133,6 +142,7 @@ fn read_to_end<R: Reel, A: Allocator + Copy>(
     ensures fault { IfErr result (λ fault. (text : List ℕ) → Stands R.to_come cursor.old desk.old text → IsFaultOf cursor.old.limits text fault) }
     ensures fault_side { IfErr result (λ fault. fault.side ≡ cursor.old.side) }
     ensures read { IfErr result (λ fault. fault.kind ≡ DbFaultKind.Read → 0 < R.failures cursor.new.reel) }
+    ensures fits { FitsAfter R.to_come cursor.old desk.old desk.new }
 {
     'read: loop {
         match cursor.next(desk) {
@@ -160,6 +170,8 @@ pub(crate) fn read_whole<S: Sources, A: Allocator + Copy>(
     ensures first { IfErr result (IsFirst limits (S.bytes_of sources.old) side) }
     ensures caused { IfErr result (IsCaused (Rose (S.failures sources.old) (S.failures sources.new)) ⊥) }
     ensures never_falls { S.failures sources.old ≤ S.failures sources.new }
+    ensures fits { (old_line new_line before : ℕ) → OpensWithin (S.bytes_of sources.old) limits side (by_side old_line new_line side)
+        → Fits old_line new_line before desk.old → Fits old_line new_line before desk.new }
 {
     let mut cursor = match open_cursor(sources, side, limits, desk) {
         Ok(cursor) => cursor,
@@ -191,6 +203,9 @@ pub(crate) fn count_pass<S: Sources, A: Allocator + Copy>(
     ensures later { IfErr result (IsLater limits (S.bytes_of sources.old)) }
     ensures caused { IfErr result (IsCaused (Rose (S.failures sources.old) (S.failures sources.new)) ⊥) }
     ensures never_falls { S.failures sources.old ≤ S.failures sources.new }
+    ensures fits { (old_line new_line before : ℕ)
+        → OpensWithin (S.bytes_of sources.old) limits Side.Old old_line → OpensWithin (S.bytes_of sources.old) limits Side.New new_line
+        → Fits old_line new_line before desk.old → Fits old_line new_line before desk.new }
 {
     let mut merge = match open_both(sources, limits, desk) {
         Ok(merge) => merge,

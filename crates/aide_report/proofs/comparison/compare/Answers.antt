@@ -1,7 +1,9 @@
-use Rattle.std.proofs.Common.{◌≡◌, ◌∙◌, ap}
+use Rattle.std.proofs.Common.{◌≡◌, ◌∙◌, ap, sym, subst}
 use Rattle.std.specs.Prelude.{Some}
 use Rattle.aide_db.specs.Database.{IsSound}
 use Rattle.aide_db.specs.declared.side.Side.TheVariants.{Old, New}
+use Rattle.aide_report.specs.Bound.{OpensWithin}
+use Rattle.aide_report.proofs.BoundLemmas.{fits_cleared}
 use Rattle.aide_report.proofs.FaultLemmas.{right_later}
 use Rattle.aide_report.proofs.RunLemmas.{outcome_is}
 use Rattle.aide_report.proofs.SideLemmas.{of_sides}
@@ -25,3 +27,39 @@ returns-in-Err-count_pass-clause-right g c =
     (λ text told. (c.in-Ok.ensures.sound text told).0)
     (λ text told. (c.in-Ok-read_whole.ensures.sound text (ap (λ bytes. bytes New) same ∙ told)).0))
     c.in-Err-count_pass.fault c.in-Err-count_pass.ensures.later
+
+pub returns-in-Err-clause-fits : goal.returns-in-Err-clause-fits
+returns-in-Err-clause-fits g c old_line new_line within_old within_new =
+    let before = c.args.desk.now.peak in
+    let cleared = fits_cleared c.args.desk.now c.clear.new.desk c.clear.ensures.old c.clear.ensures.new c.clear.ensures.peak old_line new_line in
+    c.read_whole.ensures.fits old_line new_line before within_old cleared
+
+pub returns-in-Err-read_whole-clause-fits : goal.returns-in-Err-read_whole-clause-fits
+returns-in-Err-read_whole-clause-fits g c old_line new_line within_old within_new =
+    let before = c.args.desk.now.peak in
+    let cleared = fits_cleared c.args.desk.now c.clear.new.desk c.clear.ensures.old c.clear.ensures.new c.clear.ensures.peak old_line new_line in
+    c.read_whole-2.ensures.fits old_line new_line before
+    (subst (λ bytes. OpensWithin bytes c.args.limits New new_line) (sym c.read_whole.ensures.same) within_new)
+    (c.read_whole.ensures.fits old_line new_line before within_old cleared)
+
+pub returns-in-Ok-count_pass-clause-fits : goal.returns-in-Ok-count_pass-clause-fits
+returns-in-Ok-count_pass-clause-fits g c old_line new_line within_old within_new =
+    let before = c.args.desk.now.peak in
+    let cleared = fits_cleared c.args.desk.now c.clear.new.desk c.clear.ensures.old c.clear.ensures.new c.clear.ensures.peak old_line new_line in
+    let same = c.read_whole.ensures.same in
+    let twice = sym (c.read_whole-2.ensures.same ∙ same) in
+    c.count_pass.ensures.fits old_line new_line before (subst (λ bytes. OpensWithin bytes c.args.limits Old old_line) twice within_old)
+    (subst (λ bytes. OpensWithin bytes c.args.limits New new_line) twice within_new)
+    (c.read_whole-2.ensures.fits old_line new_line before (subst (λ bytes. OpensWithin bytes c.args.limits New new_line) (sym same) within_new)
+    (c.read_whole.ensures.fits old_line new_line before within_old cleared))
+
+pub returns-in-Err-count_pass-clause-fits : goal.returns-in-Err-count_pass-clause-fits
+returns-in-Err-count_pass-clause-fits g c old_line new_line within_old within_new =
+    let before = c.args.desk.now.peak in
+    let cleared = fits_cleared c.args.desk.now c.clear.new.desk c.clear.ensures.old c.clear.ensures.new c.clear.ensures.peak old_line new_line in
+    let same = c.read_whole.ensures.same in
+    let twice = sym (c.read_whole-2.ensures.same ∙ same) in
+    c.count_pass.ensures.fits old_line new_line before (subst (λ bytes. OpensWithin bytes c.args.limits Old old_line) twice within_old)
+    (subst (λ bytes. OpensWithin bytes c.args.limits New new_line) twice within_new)
+    (c.read_whole-2.ensures.fits old_line new_line before (subst (λ bytes. OpensWithin bytes c.args.limits New new_line) (sym same) within_new)
+    (c.read_whole.ensures.fits old_line new_line before within_old cleared))

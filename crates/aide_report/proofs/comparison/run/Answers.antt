@@ -1,5 +1,6 @@
 use Rattle.aide_db.specs.declared.side.Side.TheVariants.{Old, New}
 use Rattle.aide_report.specs.Failures.{Rose}
+use Rattle.aide_report.proofs.BoundLemmas.{fits_limit}
 use Rattle.aide_report.proofs.FaultLemmas.{has_cause}
 use Rattle.aide_report.proofs.RunLemmas.{ends_well, ends_early}
 use Rattle.aide_report.proofs.comparison.run.Goals as goal
@@ -27,3 +28,27 @@ returns-in-Err-write_report-clause-part g c old new told_old told_new r runs =
 
 pub returns-in-Err-write_report-clause-nothing : goal.returns-in-Err-write_report-clause-nothing
 returns-in-Err-write_report-clause-nothing g c side text told unsound = absurd (unsound (c.in-Ok.ensures.sound side text told))
+
+pub returns-in-Err-clause-peak : goal.returns-in-Err-clause-peak
+returns-in-Err-clause-peak g c =
+    (fits_limit (g.S.Sources.bytes_of c.args.sources.now) c.args.limits c.args.desk.now c.compare.new.desk c.compare.ensures.fits).0
+
+pub returns-in-Err-clause-below : goal.returns-in-Err-clause-below
+returns-in-Err-clause-below g c =
+    (fits_limit (g.S.Sources.bytes_of c.args.sources.now) c.args.limits c.args.desk.now c.compare.new.desk c.compare.ensures.fits).1
+
+pub returns-in-Ok-write_report-clause-peak : goal.returns-in-Ok-write_report-clause-peak
+returns-in-Ok-write_report-clause-peak g c =
+    (fits_limit (g.S.Sources.bytes_of c.args.sources.now) c.args.limits c.args.desk.now c.compare.new.desk c.compare.ensures.fits).0
+
+pub returns-in-Ok-write_report-clause-below : goal.returns-in-Ok-write_report-clause-below
+returns-in-Ok-write_report-clause-below g c =
+    (fits_limit (g.S.Sources.bytes_of c.args.sources.now) c.args.limits c.args.desk.now c.compare.new.desk c.compare.ensures.fits).1
+
+pub returns-in-Err-write_report-clause-peak : goal.returns-in-Err-write_report-clause-peak
+returns-in-Err-write_report-clause-peak g c =
+    (fits_limit (g.S.Sources.bytes_of c.args.sources.now) c.args.limits c.args.desk.now c.compare.new.desk c.compare.ensures.fits).0
+
+pub returns-in-Err-write_report-clause-below : goal.returns-in-Err-write_report-clause-below
+returns-in-Err-write_report-clause-below g c =
+    (fits_limit (g.S.Sources.bytes_of c.args.sources.now) c.args.limits c.args.desk.now c.compare.new.desk c.compare.ensures.fits).1

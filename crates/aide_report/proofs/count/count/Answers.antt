@@ -4,6 +4,7 @@ use Rattle.aide_report.specs.ChangeView.{change_of}
 use Rattle.aide_report.specs.Counts.{Completes}
 use Rattle.aide_report.specs.Reading.{IsFaultOf}
 use Rattle.aide_report.specs.Walk.{remaining, StandsAt, total_work}
+use Rattle.aide_report.proofs.BoundLemmas.{fits_further}
 use Rattle.aide_report.proofs.CountLemmas.{counts_more, counts_same, small_more, small_same}
 use Rattle.aide_report.proofs.SideLemmas.{of_sides}
 use Rattle.aide_report.proofs.count.count.Goals as goal
@@ -32,6 +33,8 @@ walk-preserved-in-Some g c =
       counts = λ old new s t. counts_more c.args.ignore.now c.walk.counts c.add.new.self (change_of c.in-Some.change) _ _ _ _
           (c.in-Ok.ensures.gives old new (c.walk.invariant.stands Old old s) (c.walk.invariant.stands New new t)) c.in-Some.ensures
           c.add.ensures.added c.add.ensures.removed c.add.ensures.changed c.add.ensures.total (c.walk.invariant.counts old new s t);
+      fits = fits_further g.R.Reel.to_come c.args.merge.now c.walk.merge c.args.desk.now c.walk.desk c.next.new.desk c.walk.invariant.limits c.walk.invariant.stands
+          c.walk.invariant.fits c.next.ensures.fits;
     }
 
 pub walk-preserved : goal.walk-preserved
@@ -45,4 +48,16 @@ walk-preserved g c =
           c.in-Ok.ensures.stands_old c.in-Ok.ensures.stands_new side text (c.walk.invariant.stands side text s);
       counts = λ old new s t. counts_same c.args.ignore.now c.walk.counts _ _ _ _
           (c.in-Ok.ensures.gives old new (c.walk.invariant.stands Old old s) (c.walk.invariant.stands New new t)) c.in_default-change_on.ensures (c.walk.invariant.counts old new s t);
+      fits = fits_further g.R.Reel.to_come c.args.merge.now c.walk.merge c.args.desk.now c.walk.desk c.next.new.desk c.walk.invariant.limits c.walk.invariant.stands
+          c.walk.invariant.fits c.next.ensures.fits;
     }
+
+pub returns-in-Err-clause-fits : goal.returns-in-Err-clause-fits
+returns-in-Err-clause-fits g c =
+    fits_further g.R.Reel.to_come c.args.merge.now c.walk.merge c.args.desk.now c.walk.desk c.next.new.desk c.walk.invariant.limits c.walk.invariant.stands
+    c.walk.invariant.fits c.next.ensures.fits
+
+pub returns-in-End-clause-fits : goal.returns-in-End-clause-fits
+returns-in-End-clause-fits g c =
+    fits_further g.R.Reel.to_come c.args.merge.now c.walk.merge c.args.desk.now c.walk.desk c.next.new.desk c.walk.invariant.limits c.walk.invariant.stands
+    c.walk.invariant.fits c.next.ensures.fits

@@ -2,6 +2,7 @@
 use Rattle.std.proofs.Common.{◌≡◌, ◌^◌, ◌-◌, ℕ, List}
 use Rattle.aide_db.specs.declared.side.Side.{Side}
 use Rattle.aide_db.specs.declared.side.Side.TheVariants.{Old, New}
+use Rattle.aide_report.specs.Bound.{FitsAfterBoth}
 use Rattle.aide_report.specs.Counts.{Completes, AreBelow}
 use Rattle.aide_report.specs.Walk.{remaining, IsReady, StandsAt, limits_at, total_work}
 use Rattle.aide_report.proofs.count.count.Given as goal
@@ -14,6 +15,7 @@ invariant-walk g l = record {
   stands : (side : Side) (text : List ℕ) → StandsAt g.R.Reel.to_come l.fn.merge l.fn.desk side text → StandsAt g.R.Reel.to_come l.merge l.desk side text;
   counts : (old new : List ℕ) → StandsAt g.R.Reel.to_come l.fn.merge l.fn.desk Old old → StandsAt g.R.Reel.to_come l.fn.merge l.fn.desk New new
       → Completes l.ignore l.counts (remaining l.merge l.desk old new) (remaining l.fn.merge l.fn.desk old new);
+  fits : FitsAfterBoth g.R.Reel.to_come l.fn.merge l.fn.desk l.desk;
 }
 
 abbrev pub decreases-walk : goal.decreases-walk

@@ -20,3 +20,13 @@ returns-in-Err-result-clause-later g c =
     (c.in-Err-result.ensures.fault text
     (of_sides (λ side bytes. g.S.Sources.bytes_of c.args.sources.now side ≡ Some bytes) (StandsAt g.S.R.Reel.to_come c.in-Ok.merge c.open_both.new.desk)
     c.in-Ok.ensures.stands_old c.in-Ok.ensures.stands_new c.in-Err-result.fault.side text told))))
+
+pub returns-in-Ok-result-clause-fits : goal.returns-in-Ok-result-clause-fits
+returns-in-Ok-result-clause-fits g c old_line new_line before within_old within_new fits =
+    c.count-result.ensures.fits old_line new_line before (c.in-Ok.ensures.within_old old_line within_old) (c.in-Ok.ensures.within_new new_line within_new)
+    (c.open_both.ensures.fits old_line new_line before fits)
+
+pub returns-in-Err-result-clause-fits : goal.returns-in-Err-result-clause-fits
+returns-in-Err-result-clause-fits g c old_line new_line before within_old within_new fits =
+    c.count-result.ensures.fits old_line new_line before (c.in-Ok.ensures.within_old old_line within_old) (c.in-Ok.ensures.within_new new_line within_new)
+    (c.open_both.ensures.fits old_line new_line before fits)

@@ -2,6 +2,7 @@ use Rattle.std.proofs.Common.{◌∙◌, is_some, arith, ap, sym}
 use Rattle.aide_db.specs.Desk.{desk_entry}
 use Rattle.aide_db.specs.declared.side.Side.TheVariants.{Old, New}
 use Rattle.aide_report.specs.Reading.{rest_of, left_of}
+use Rattle.aide_report.proofs.BoundLemmas.{fits_both}
 use Rattle.aide_report.proofs.ReadingLemmas.{kept_entry, stands_across}
 use Rattle.aide_report.proofs.Steps.{next_gives, all_done, step_falls}
 use Rattle.aide_report.proofs.merge.Merge.next.Goals as goal
@@ -54,3 +55,13 @@ returns-clause-end g c old new stands_old stands_new is =
     (stands_across g.R.Reel.to_come c.args.self.now.new_cursor New c.args.desk.now c.advance.new.desk new c.requires.new_side one.other stands_new)))
     same_new same_old
     (sym is ∙ c.next_place-place.ensures _ _ c.held_view-old.ensures c.held_view-new.ensures)
+
+pub returns-in_err-self-2-clause-fits : goal.returns-in_err-self-2-clause-fits
+returns-in_err-self-2-clause-fits g c =
+    fits_both g.R.Reel.to_come c.args.self.now c.args.desk.now c.advance.new.desk c.advance-2.new.desk
+    c.requires.old_side c.requires.new_side (rw c.requires.old_side at c.advance.ensures.other) c.advance.ensures.fits c.advance-2.ensures.fits
+
+pub returns-clause-fits : goal.returns-clause-fits
+returns-clause-fits g c =
+    fits_both g.R.Reel.to_come c.args.self.now c.args.desk.now c.advance.new.desk c.advance-2.new.desk
+    c.requires.old_side c.requires.new_side (rw c.requires.old_side at c.advance.ensures.other) c.advance.ensures.fits c.advance-2.ensures.fits
