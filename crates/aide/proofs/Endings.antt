@@ -1,14 +1,12 @@
 -- How a session ends.
-use Rattle.std.proofs.Common.{◌≡◌, ◌∙◌, ℕ, ◌≤◌, ◌<◌, ◌-◌, ◌^◌, List, [], ◌++◌, Option, Some, None, refl, sym, ap, arith, Ok, Err, inl, inr, ◌⊎◌}
+use Rattle.std.proofs.Common.{◌≡◌, ◌∙◌, ℕ, ◌≤◌, List, [], Option, Some, refl, sym, ap, arith, Ok, Err, inl, inr, ◌⊎◌}
 use Rattle.std.specs.Prelude.{Result, unwrap_or}
 use Rattle.std.proofs.Math.Path.{subst}
-use Rattle.std.specs.Io.KnownBytes.{Appends}
 use Rattle.aide_db.specs.declared.fault.DbFault.{DbFault}
 use Rattle.aide_db.specs.declared.fault.DbFaultKind.{DbFaultKind}
 use Rattle.aide_db.specs.declared.fault.DbFaultKind.TheVariants as db
 use Rattle.aide_db.specs.declared.side.Side.{Side}
 use Rattle.aide_db.specs.declared.side.Side.TheVariants.{Old, New}
-use Rattle.aide_db.specs.Side.{by_side}
 use Rattle.aide_report.specs.Failures.{Rose}
 use Rattle.aide_report.specs.Runs.{EndsWell, EndsEarly, HasCause, StandsOn}
 use Rattle.aide_report.specs.Runs.{Report}
@@ -19,7 +17,7 @@ use Rattle.aide_report.specs.declared.outcome.Outcome.{Outcome}
 use Rattle.aide_report.specs.declared.run_fault.RunFault.{RunFault}
 use Rattle.aide_report.specs.declared.run_fault.RunFault.TheVariants.{Open, Database, Changed, Write}
 use Rattle.aide.specs.Answer.{Answer, Named, refused, answer_of_run}
-use Rattle.aide.specs.Ends.{Sinks, Failure, failure_line, FailureCause, Ends, Whole, Starved, Broken, config_unread, unopened, unread, unwritten}
+use Rattle.aide.specs.Ends.{Sinks, Failure, failure_line, FailureCause, Ends, Whole, Starved, config_unread, unopened, unread, unwritten}
 use Rattle.aide.specs.Lines.{memory_line, database_line, kind_line, outcome_lines, run_fault_line}
 use Rattle.aide.specs.Told.{IsQuiet, Told}
 use Rattle.aide.proofs.Tellings.{appends_none}
@@ -169,3 +167,18 @@ pub told_paths : (fault : RunFault) (named : Named) (old_path new_path : List �
 told_paths fault named old_path new_path e f m n is_old is_new told =
     subst (λ (x : List ℕ). Told (run_fault_line x named.new_path fault) e f m n) (sym is_old)
     (subst (λ (x : List ℕ). Told (run_fault_line old_path x fault) e f m n) (sym is_new) told)
+
+-- a run over sides that were pointed, whose count of failures is the one before that
+pub ends_over : (a : Answer) (named : Named) (r : Result Report DbFault) (status : ℕ) (s : Sinks) (count later_count end : ℕ) (out : Type 0) → later_count ≡ count → a ≡ answer_of_run r
+    → Ends (answer_of_run r) named status s (Rose later_count end) out → Ends a named status s (Rose count end) out
+ends_over a named r status s count later_count end out same is ends =
+    subst (λ (n : ℕ). Ends a named status s (Rose n end) out) same (subst (λ (x : Answer). Ends x named status s (Rose later_count end) out) (sym is) ends)
+
+-- an ending where neither the site nor the output has counted a failure
+pub ends_exactly : (a : Answer) (named : Named) (status : ℕ) (s : Sinks) (m n k l : ℕ) → IsQuiet m n → IsQuiet k l → Ends a named status s (Rose m n) (Rose k l)
+    → Whole a status s ⊎ Starved a status s
+ends_exactly a named status s m n k l quiet_site quiet_out ends = ends_quietly a named status s (Rose m n) (Rose k l) (quiet_never_rose m n quiet_site) (quiet_never_rose k l quiet_out) ends
+
+-- the same ending by a status that is equal
+pub ends_status : (a : Answer) (named : Named) (status told : ℕ) (s : Sinks) (site out : Type 0) → status ≡ told → Ends a named told s site out → Ends a named status s site out
+ends_status a named status told s site out same ends = subst (λ (n : ℕ). Ends a named n s site out) (sym same) ends

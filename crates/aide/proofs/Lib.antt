@@ -4,3 +4,4 @@ mod JobLemmas
 mod Readings
 mod Stages
 mod Tellings
+mod Closings

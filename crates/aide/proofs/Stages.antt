@@ -1,5 +1,5 @@
 -- From one stage of the answer to the next.
-use Rattle.std.proofs.Common.{◌≡◌, ℕ, List, Option, Some, None, refl, sym, true, false, Bool, Ok, Err}
+use Rattle.std.proofs.Common.{◌≡◌, ℕ, List, Option, Some, None, sym, true, false, Bool, Ok, Err}
 use Rattle.std.specs.Prelude.{Result, ⊤}
 use Rattle.std.proofs.Math.Path.{subst}
 use Rattle.aide_conf.specs.Settings.{Configured}

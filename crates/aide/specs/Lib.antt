@@ -5,3 +5,4 @@ pub mod Files
 pub mod Held
 pub mod Answer
 pub mod Ends
+pub mod Closing

@@ -22,6 +22,7 @@ const LIMIT: usize = 4_194_304;
 fn read_all<R: Reel>(alloc: Global, reel: &mut R) -> Result<Vec<u8>, ConfigFault>
     ensures ok { IfOk result (λ text. (bytes : List ℕ) → R.to_come reel.old ≡ Some bytes
         → (bytes ≡ text.items) × (is_too_large bytes ≡ false)) }
+    ensures small { IfOk result (λ text. is_too_large text.items ≡ false) }
     ensures large { IsErrOf result ConfigFault.TooLarge → (bytes : List ℕ) → R.to_come reel.old ≡ Some bytes
         → is_too_large bytes ≡ true }
     ensures unread { IsErrOf result ConfigFault.Unread → Rose (R.failures reel.old) (R.failures reel.new) }
@@ -50,6 +51,7 @@ pub(crate) fn read_config<S: Site>(
 ) -> Result<Vec<u8>, ConfigFault>
     ensures ok { IfOk result (λ text. (file : Option (List ℕ)) → S.file_at site.old path.now ≡ Some file
         → (file ≡ Some text.items) × (is_too_large text.items ≡ false)) }
+    ensures small { IfOk result (λ text. is_too_large text.items ≡ false) }
     ensures large { IsErrOf result ConfigFault.TooLarge → (file : Option (List ℕ)) → S.file_at site.old path.now ≡ Some file
         → IsLarge file }
     ensures unread { IsErrOf result ConfigFault.Unread → Rose (S.failures site.old) (S.failures site.new) }

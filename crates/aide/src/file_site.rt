@@ -1,5 +1,6 @@
 //! The machine's files.
 ghost use Rattle.std.specs.Prelude.{◌≡◌, ℕ, List, Option, None, IfSome};
+ghost use Rattle.aide.specs.Held.{machine_path};
 ghost use Rattle.aide_db.specs.Side.{by_side};
 
 use crate::pointed::Pointed;
@@ -91,6 +92,8 @@ impl<F: Files> Sources for FileSite<F> {
 }
 
 impl<F: Files> Site for FileSite<F> {
+    ghost path_of = { machine_path };
+
     fn config(&mut self, path: &str) -> Result<ReadReel<BufReader<F::File>>, OpenFault> {
         match open_file(&self.files, self.alloc, path) {
             Some(reel) => Ok(reel),

@@ -1,8 +1,10 @@
 //! A site in memory.
-ghost use Rattle.std.specs.Prelude.{◌≡◌, ◌≢◌, ◌++◌, ◌∷◌, [], ℕ, List, Option, Some, None, OnOk, OnErr, option_and_then};
+ghost use Rattle.std.specs.Prelude.{◌≡◌, ◌≢◌, ◌++◌, ◌∷◌, [], ℕ, List, Option, Some, None, IfOk, IfSome, OnOk, OnErr, option_and_then};
 ghost use Rattle.std.specs.Option.{option_map};
-ghost use Rattle.aide.specs.Held.{bytes_at, either, of_file};
-ghost use Rattle.aide_db.specs.Side.{by_side};
+ghost use Rattle.aide.specs.Held.{bytes_at, either, files_at, of_file, side_bytes, side_openings, side_path};
+ghost use Rattle.aide.specs.Files.{GivesFile};
+ghost use Rattle.aide_db.specs.Count.{one_more, sum_of};
+ghost use Rattle.aide_db.specs.Side.{other_side};
 
 use crate::pointed::Pointed;
 use crate::site::Site;
@@ -108,15 +110,26 @@ impl<'a> MemorySite<'a> {
 impl<'a> Sources for MemorySite<'a> {
     type R = &'a [u8];
 
-    ghost bytes_of = { λ s side. option_and_then (λ path. bytes_at s.files path) (by_side s.old_path s.new_path side) };
+    ghost bytes_of = { side_bytes };
 
-    ghost openings = { λ s side. by_side s.old_openings s.new_openings side };
+    ghost openings = { side_openings };
 
     ghost failures = { λ s. s.failures };
 
-    ghost file_at = { λ s path. Some (bytes_at s.files path) };
+    ghost file_at = { files_at };
 
-    fn open(&mut self, side: Side) -> Result<&'a [u8], OpenFault> {
+    // A side is refused only where it is not pointed at a file that is there.
+    fn open(&mut self, side: Side) -> Result<&'a [u8], OpenFault>
+        ensures missing { OnErr result (side_bytes self.old side ≡ None) }
+        ensures fresh { IfOk result (λ reel. ⟦<&'a [u8] as Reel>⟧.failures reel ≡ 0) }
+        ensures gives { IfOk result (λ reel. IfSome (side_bytes self.old side) (λ bytes. ⟦<&'a [u8] as Reel>⟧.to_come reel ≡ Some bytes)) }
+        ensures same { side_bytes self.new ≡ side_bytes self.old }
+        ensures files { files_at self.new ≡ files_at self.old }
+        ensures counts { side_openings self.new side ≡ one_more (side_openings self.old side) }
+        ensures others { side_openings self.new (other_side side) ≡ side_openings self.old (other_side side) }
+        ensures ok { OnOk result (self.new.failures ≡ self.old.failures) }
+        ensures fault { OnErr result (self.new.failures ≡ one_more self.old.failures) }
+    {
         self.sides.count(side);
         match look_side(self.files.as_slice(), self.sides.path(side)) {
             Some(bytes) => Ok(bytes),
@@ -127,13 +140,33 @@ impl<'a> Sources for MemorySite<'a> {
         }
     }
 
-    fn close(&mut self, reel: &'a [u8]) {
+    fn close(&mut self, reel: &'a [u8])
+        ensures quiet { self.new ≡ self.old }
+        ensures same { side_bytes self.new ≡ side_bytes self.old }
+        ensures files { files_at self.new ≡ files_at self.old }
+        ensures openings { side_openings self.new ≡ side_openings self.old }
+        ensures adds { self.new.failures ≡ sum_of self.old.failures (⟦<&'a [u8] as Reel>⟧.failures reel.entry) }
+    {
         let _ = reel;
     }
 }
 
 impl<'a> Site for MemorySite<'a> {
-    fn config(&mut self, path: &str) -> Result<&'a [u8], OpenFault> {
+    ghost path_of = { side_path };
+
+    // A path is refused only where there is no file.
+    fn config(&mut self, path: &str) -> Result<&'a [u8], OpenFault>
+        ensures missing { OnErr result (bytes_at self.old.files path.now ≡ None) }
+        ensures fresh { IfOk result (λ reel. ⟦<&'a [u8] as Reel>⟧.failures reel ≡ 0) }
+        ensures gives { IfOk result (λ reel. (file : Option (List ℕ)) → files_at self.old path.now ≡ Some file
+            → GivesFile file (⟦<&'a [u8] as Reel>⟧.to_come reel)) }
+        ensures sides { side_bytes self.new ≡ side_bytes self.old }
+        ensures paths { side_path self.new ≡ side_path self.old }
+        ensures files { files_at self.new ≡ files_at self.old }
+        ensures openings { side_openings self.new ≡ side_openings self.old }
+        ensures ok { OnOk result (self.new.failures ≡ self.old.failures) }
+        ensures fault { OnErr result (self.new.failures ≡ one_more self.old.failures) }
+    {
         match look(self.files.as_slice(), path) {
             Some(bytes) => Ok(bytes),
             None => {

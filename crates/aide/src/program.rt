@@ -2,11 +2,14 @@
 ghost use Rattle.std.specs.Prelude.{◌≡◌, ◌≤◌, ◌⊎◌, ℕ, List, Option, Some, None, IsSome, Ok, Err, Result, true, false};
 ghost use Rattle.aide_db.specs.Side.{by_side};
 ghost use Rattle.aide_db.specs.declared.fault.DbFault.{DbFault};
+ghost use Rattle.aide_db.specs.declared.side.Side.{Side};
 ghost use Rattle.aide_report.specs.Failures.{Rose};
 ghost use Rattle.aide_report.specs.Runs.{Report, Runs};
 ghost use Rattle.aide.specs.Answer.{Answer, Named, IsAnswer, IsJobAnswer, IsTextAnswer, Compares, answer_of_run, limits, need_of};
+ghost use Rattle.aide.specs.Closing.{AsksAndReads, AsksToCompare, Closes, HasText};
 ghost use Rattle.aide.specs.Ends.{Ends, Whole, Starved};
-ghost use Rattle.aide.specs.Job.{text_of_job};
+ghost use Rattle.aide.specs.Files.{is_too_large};
+ghost use Rattle.aide.specs.Job.{job_of, text_of_job};
 ghost use Rattle.aide.specs.Lines.{run_fault_line};
 ghost use Rattle.aide.specs.Told.{IsQuiet, Told};
 
@@ -75,6 +78,18 @@ fn compare_sides<S: Site, W: Sink, E: Sink>(
           err_after = E.failures err.new;
         })
         (Rose (S.failures site.old) (S.failures site.new)) (Rose (W.failures out.old) (W.failures out.new)) }
+    ensures closes { (words : List (List ℕ)) (named : Named) → named.old_path ≡ task.now.old_path.now → named.new_path ≡ task.now.new_path.now
+        → AsksToCompare (S.file_at site.old) words named
+        → ((side : Side) (text : List ℕ) → HasText (S.file_at site.old) named side text → S.bytes_of site.old side ≡ Some text)
+        → Closes (S.file_at site.old) words result (record {
+          out_old = W.delivered out.old;
+          out_new = W.delivered out.new;
+          err_old = E.delivered err.old;
+          err_new = E.delivered err.new;
+          err_before = E.failures err.old;
+          err_after = E.failures err.new;
+        })
+        (Rose (S.failures site.old) (S.failures site.new)) (Rose (W.failures out.old) (W.failures out.new)) }
     ensures site_never_falls { S.failures site.old ≤ S.failures site.new }
 {
     let mut desk = Desk::new(alloc);
@@ -101,6 +116,16 @@ fn compare<S: Site, W: Sink, E: Sink>(
     requires { IsSome settings.now.old_path × IsSome settings.now.new_path }
     ensures ends { (named : Named) (a : Answer) → Compares (S.file_at site.old) settings.now named a
         → Ends a named result (record {
+          out_old = W.delivered out.old;
+          out_new = W.delivered out.new;
+          err_old = E.delivered err.old;
+          err_new = E.delivered err.new;
+          err_before = E.failures err.old;
+          err_after = E.failures err.new;
+        })
+        (Rose (S.failures site.old) (S.failures site.new)) (Rose (W.failures out.old) (W.failures out.new)) }
+    ensures closes { (words : List (List ℕ)) (config : List ℕ) → AsksAndReads (S.file_at site.old) words config true (Ok settings.now)
+        → Closes (S.file_at site.old) words result (record {
           out_old = W.delivered out.old;
           out_new = W.delivered out.new;
           err_old = E.delivered err.old;
@@ -150,6 +175,17 @@ fn after_reading<S: Site, W: Sink, E: Sink>(
           err_after = E.failures err.new;
         })
         (Rose (S.failures site.old) (S.failures site.new)) (Rose (W.failures out.old) (W.failures out.new)) }
+    ensures closes { (words : List (List ℕ)) → job_of words ≡ Some (text_of_job job.now) → is_too_large text.now ≡ false
+        → ((file : Option (List ℕ)) → S.file_at site.old job.now.config ≡ Some file → file ≡ Some text.now)
+        → Closes (S.file_at site.old) words result (record {
+          out_old = W.delivered out.old;
+          out_new = W.delivered out.new;
+          err_old = E.delivered err.old;
+          err_new = E.delivered err.new;
+          err_before = E.failures err.old;
+          err_after = E.failures err.new;
+        })
+        (Rose (S.failures site.old) (S.failures site.new)) (Rose (W.failures out.old) (W.failures out.new)) }
     ensures site_never_falls { S.failures site.old ≤ S.failures site.new }
 {
     let before = job.before.as_str().as_bytes();
@@ -185,6 +221,16 @@ fn run_job<S: Site, W: Sink, E: Sink>(
 ) -> u8
     ensures ends { (named : Named) (a : Answer) → IsJobAnswer (S.file_at site.old) (text_of_job job.now) named a
         → Ends a named result (record {
+          out_old = W.delivered out.old;
+          out_new = W.delivered out.new;
+          err_old = E.delivered err.old;
+          err_new = E.delivered err.new;
+          err_before = E.failures err.old;
+          err_after = E.failures err.new;
+        })
+        (Rose (S.failures site.old) (S.failures site.new)) (Rose (W.failures out.old) (W.failures out.new)) }
+    ensures closes { (words : List (List ℕ)) → job_of words ≡ Some (text_of_job job.now)
+        → Closes (S.file_at site.old) words result (record {
           out_old = W.delivered out.old;
           out_new = W.delivered out.new;
           err_old = E.delivered err.old;
@@ -254,6 +300,16 @@ pub fn session<S: Site, W: Sink, E: Sink>(
           err_before = E.failures err.old;
           err_after = E.failures err.new;
         }) }
+    // Whatever the site: the lines and the status, by what they stand on.
+    ensures closes { Closes (S.file_at site.old) words.now result (record {
+      out_old = W.delivered out.old;
+      out_new = W.delivered out.new;
+      err_old = E.delivered err.old;
+      err_new = E.delivered err.new;
+      err_before = E.failures err.old;
+      err_after = E.failures err.new;
+    })
+        (Rose (S.failures site.old) (S.failures site.new)) (Rose (W.failures out.old) (W.failures out.new)) }
 {
     match read_words(alloc, words) {
         Ok(job) => run_job(alloc, &job, site, out, err),

@@ -1,4 +1,4 @@
-use Rattle.std.proofs.Common.{rules, ◌∙◌, ap, Err}
+use Rattle.std.proofs.Common.{◌∙◌}
 use Rattle.aide.proofs.Readings.{given_file, large_file}
 use Rattle.aide.proofs.config_file.read_config.Goals as goal
 

@@ -1,6 +1,5 @@
-use Rattle.std.proofs.Common.{rules, ◌≡◌, ◌∙◌, sym}
+use Rattle.std.proofs.Common.{rules}
 use Rattle.clap.proofs.WalkLemmas.{first_value-rows}
-use Rattle.aide.specs.Job.{flag_of}
 use Rattle.aide.proofs.job.is_set.Goals as goal
 
 pub returns-in-Some : goal.returns-in-Some

@@ -1,8 +1,8 @@
-use Rattle.std.proofs.Common.{rules, ◌≡◌, ◌∙◌, List, ℕ, [], ap, ap₂, refl, true, sym, inl, inr, map}
+use Rattle.std.proofs.Common.{◌≡◌, ◌∙◌, List, [], ap, ap₂, refl, true, sym, inl, inr}
 use Rattle.std.proofs.Math.Path.{subst}
 use Rattle.std.proofs.lemmas.List.{map-id}
 use Rattle.aide.specs.Job.{aide_command}
-use Rattle.clap.specs.Words.{app_of, fault_of, found_of, matches_of, rows_of, kind_of, HasKind, HasMatchesOf}
+use Rattle.clap.specs.Words.{fault_of, found_of, matches_of, rows_of, kind_of, HasKind, HasMatchesOf}
 use Rattle.clap.specs.Simple.{App, is_simple}
 use Rattle.clap.specs.Walk.{Text}
 use Rattle.clap.specs.Kinds.{Kinds}

@@ -1,10 +1,9 @@
-use Rattle.std.proofs.Common.{rules, ◌≡◌, ◌∙◌, ap, ap₂, sym, refl, Bool, true, false, Some, None, codes, List}
-use Rattle.std.specs.Prelude.{option_map}
+use Rattle.std.proofs.Common.{◌≡◌, ◌∙◌, ap₂, sym, refl, Bool, true, false, codes}
 use Rattle.std.proofs.Math.Bool.{beq}
-use Rattle.clap.specs.Walk.{Row, Text, first_of}
+use Rattle.clap.specs.Walk.{first_of}
 use Rattle.clap.specs.Words.{rows_of, found_of}
 use Rattle.clap.proofs.WalkLemmas.{first_value-rows}
-use Rattle.aide.specs.Job.{JobText, exactly_one, flag_of, text_of}
+use Rattle.aide.specs.Job.{exactly_one}
 use Rattle.aide.proofs.JobLemmas.{choose_none, job-none, job-made, job-rows, job-some}
 use Rattle.aide.proofs.job.read_words.Goals as goal
 

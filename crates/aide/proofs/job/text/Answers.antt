@@ -1,6 +1,5 @@
-use Rattle.std.proofs.Common.{rules, ◌≡◌, ◌∙◌, sym}
+use Rattle.std.proofs.Common.{rules}
 use Rattle.clap.proofs.WalkLemmas.{first_value-rows}
-use Rattle.aide.specs.Job.{text_of}
 use Rattle.aide.proofs.job.text.Goals as goal
 
 pub returns : goal.returns

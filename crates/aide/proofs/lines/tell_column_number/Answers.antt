@@ -1,6 +1,5 @@
-use Rattle.std.proofs.Common.{rules, ◌∙◌, sym, ap}
 use Rattle.aide.specs.Lines.{column_number}
-use Rattle.aide.proofs.Tellings.{told_more, told_as}
+use Rattle.aide.proofs.Tellings.{told_more}
 use Rattle.aide.proofs.lines.tell_column_number.Goals as goal
 
 pub returns : goal.returns

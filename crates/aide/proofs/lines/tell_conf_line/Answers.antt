@@ -1,4 +1,4 @@
-use Rattle.std.proofs.Common.{rules, ◌∙◌, sym, ap}
+use Rattle.std.proofs.Common.{◌∙◌}
 use Rattle.aide.specs.Lines.{conf_line}
 use Rattle.aide.proofs.Tellings.{told_more, told_as}
 use Rattle.aide.proofs.lines.tell_conf_line.Goals as goal

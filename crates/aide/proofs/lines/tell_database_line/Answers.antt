@@ -1,4 +1,3 @@
-use Rattle.std.proofs.Common.{rules, ◌∙◌, sym, ap}
 use Rattle.aide.specs.Lines.{database_line}
 use Rattle.aide.proofs.Tellings.{told_more, told_as}
 use Rattle.aide.proofs.lines.tell_database_line.Goals as goal

@@ -1,4 +1,4 @@
-use Rattle.std.proofs.Common.{rules, ◌∙◌, sym, ap}
+use Rattle.std.proofs.Common.{◌∙◌}
 use Rattle.aide.specs.Lines.{database_place}
 use Rattle.aide.proofs.Tellings.{told_more, told_as}
 use Rattle.aide.proofs.lines.tell_database_place.Goals as goal

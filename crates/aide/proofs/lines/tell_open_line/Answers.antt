@@ -1,4 +1,4 @@
-use Rattle.std.proofs.Common.{rules, ◌∙◌, sym, ap}
+use Rattle.std.proofs.Common.{◌∙◌, ap}
 use Rattle.aide_report.specs.Printed.{printed}
 use Rattle.aide.specs.Lines.{open_line}
 use Rattle.aide.proofs.Tellings.{told_more, told_as}

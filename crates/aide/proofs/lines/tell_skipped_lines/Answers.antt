@@ -1,8 +1,5 @@
-use Rattle.std.proofs.Common.{rules, arith, ◌≡◌}
-use Rattle.std.proofs.Math.Path.{subst}
-use Rattle.std.specs.List.{flat_map}
-use Rattle.aide.specs.Lines.{below, place_line, skipped_lines}
-use Rattle.aide.specs.Told.{Told}
+use Rattle.std.proofs.Common.{rules}
+use Rattle.aide.specs.Lines.{skipped_lines}
 use Rattle.aide.proofs.Tellings.{no_places, told_place, told_to}
 use Rattle.aide.proofs.lines.tell_skipped_lines.Goals as goal
 

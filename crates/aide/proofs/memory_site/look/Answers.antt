@@ -1,4 +1,4 @@
-use Rattle.std.proofs.Common.{rules, ◌∙◌, sym, ap, List, ℕ, Option, get_or}
+use Rattle.std.proofs.Common.{◌∙◌, sym, ap, List, ℕ, Option, get_or}
 use Rattle.std.specs.Option.{option_map}
 use Rattle.aide.specs.Held.{either, of_file}
 use Rattle.aide.proofs.HeldLemmas.{bytes_none, bytes_more}

@@ -1,11 +1,26 @@
-use Rattle.std.proofs.Common.{rules, ◌≡◌, sym, ℕ, Err}
-use Rattle.std.proofs.Math.Path.{subst}
+use Rattle.std.proofs.Common.{◌≡◌, Err}
 use Rattle.aide_db.specs.declared.side.Side.{Side}
 use Rattle.aide_report.specs.Failures.{Rose}
 use Rattle.aide.specs.Answer.{answer_of_run}
-use Rattle.aide.specs.Ends.{Ends}
-use Rattle.aide.proofs.Endings.{cause_told, ends_fault, never_silent, sinks, told_paths}
+use Rattle.aide.specs.Closing.{bad_run, good_run}
+use Rattle.aide.proofs.Closings.{run_cause}
+use Rattle.aide.proofs.Endings.{cause_told, ends_fault, ends_status, ends_well, never_silent, told_paths}
 use Rattle.aide.proofs.program.compare_sides.Goals as goal
+
+pub returns-in-Ok-clause-ends : goal.returns-in-Ok-clause-ends
+returns-in-Ok-clause-ends g c = λ named is_old is_new old_bytes new_bytes old_told new_told r runs.
+    ends_status (answer_of_run r) named _ _ _ _ _ c.status.ensures
+    (ends_well r c.in-Ok.outcome named _ _ _ _ _ _ _ _ (c.in-Ok.ensures.ok old_bytes new_bytes old_told new_told r runs) c.tell_outcome_lines.ensures)
+
+pub returns-in-Ok-clause-closes : goal.returns-in-Ok-clause-closes
+returns-in-Ok-clause-closes g c = λ words named is_old is_new asks tells. record {
+  closing = good_run c.in-Ok.outcome;
+  named = named;
+  cause = (asks, λ side text has. c.in-Ok.ensures.sound side text (tells side text has));
+  status_is = c.status.ensures;
+  output = tt;
+  told = c.tell_outcome_lines.ensures;
+}
 
 pub returns-clause-ends : goal.returns-clause-ends
 returns-clause-ends g c = λ named is_old is_new old_bytes new_bytes old_told new_told r runs.
@@ -14,9 +29,20 @@ returns-clause-ends g c = λ named is_old is_new old_bytes new_bytes old_told ne
     let out = Rose (g.W.Sink.failures c.args.out.now) (g.W.Sink.failures c.run.new.out) in
     let cause = cause_told fault site out _ (λ first. r ≡ Err first) _ (λ first is. is old_bytes new_bytes old_told new_told r runs)
     (λ side silent. never_silent (λ (s : Side). g.S.Sources.bytes_of c.args.site.now s) side old_bytes new_bytes old_told new_told silent) c.in-Err.ensures.cause in
-    subst (λ (status : ℕ). Ends (answer_of_run r) named status
-    (sinks (g.W.Sink.delivered c.args.out.now) (g.W.Sink.delivered c.run.new.out) (g.E.Sink.delivered c.args.err.now) (g.E.Sink.delivered c.tell_run_fault.new.err)
-    (g.E.Sink.failures c.args.err.now) (g.E.Sink.failures c.tell_run_fault.new.err)) site out)
-    (sym c.status-in-Err.ensures)
+    ends_status (answer_of_run r) named _ _ _ site out c.status-in-Err.ensures
     (ends_fault fault r named _ _ _ _ _ _ site out (c.in-Err.ensures.part old_bytes new_bytes old_told new_told r runs) cause
     (told_paths fault named c.args.task.now.old_path.now c.args.task.now.new_path.now _ _ _ _ is_old is_new c.tell_run_fault.ensures))
+
+pub returns-clause-closes : goal.returns-clause-closes
+returns-clause-closes g c = λ words named is_old is_new asks tells.
+    let fault = c.in-Err.fault in
+    let files = g.S.Sources.file_at c.args.site.now in
+    let bytes_of = g.S.Sources.bytes_of c.args.site.now in
+    record {
+      closing = bad_run fault;
+      named = named;
+      cause = (asks, run_cause files named bytes_of fault _ _ _ _ tells c.in-Err.ensures.cause c.in-Err.ensures.right);
+      status_is = c.status-in-Err.ensures;
+      output = tt;
+      told = told_paths fault named c.args.task.now.old_path.now c.args.task.now.new_path.now _ _ _ _ is_old is_new c.tell_run_fault.ensures;
+    }
