@@ -4,6 +4,7 @@ use crate::{ConfFault, ConfFaultKind as Kind, ConfText, Need, Settings};
 use aide_attr::{Attr, AttrSet, Level};
 use bstr::BStr;
 use std::alloc::Global;
+use std::test::Fail;
 
 mod limits;
 mod texts;
@@ -123,7 +124,7 @@ fn expanded_lines(rt: HostRuntime) {
 }
 
 #[test]
-fn lines_that_are_passed_over(rt: HostRuntime) {
+fn lines_that_are_passed_over(rt: HostRuntime) -> Result<(), Fail> {
     let table: [&[u8]; 22] = [
         b"nonsense",
         b"p = s",
@@ -160,13 +161,12 @@ fn lines_that_are_passed_over(rt: HostRuntime) {
                 b"\n@@endif\n@@endif\nreport_quiet=yes",
             ),
         ] {
-            let Ok(file) = [open, line, close].concat(rt.alloc()) else {
-                return;
-            };
+            let file = [open, line, close].concat(rt.alloc())?;
             let wanted = Ok((Level::ChangedAttributes, true));
             assert_eq!(rt; told(rt.alloc(), &file), wanted, "{}", BStr::new(&file));
         }
     }
+    Ok(())
 }
 
 #[test]
