@@ -1,16 +1,16 @@
 -- Sets of attributes by lists of them.
 use Rattle.std.proofs.Common.{ℕ, ◌<◌, ◌≡◌, Bool, true, false, List, [], ◌∷◌, suc, zero, length, refl, sym, ap, ◌∙◌, arith, get_or, inl, inr}
-use Rattle.std.specs.Prelude.{◌||◌}
+use Rattle.std.specs.Prelude.{◌||◌, ◌&&◌, map, filter, if◌then◌else◌}
+use Rattle.std.proofs.lemmas.Bool.{eqb-true}
 use Rattle.std.specs.List.{list_any}
 use Rattle.aide_attr.specs.declared.attr.Attr.{Attr}
-use Rattle.aide_attr.specs.declared.attr.Attr.TheVariants.{Ftype, Lname, Size, Bcount, Perm, Uid, Gid, Atime, Mtime, Ctime, Inode, Linkcount, Md5, Sha1, Sha256, Sha512, Rmd160, Tiger, Crc32, Crc32b, Haval, Gost, Whirlpool, Acl, Xattrs, Selinux, E2fsattrs, Caps}
 use Rattle.aide_attr.specs.declared.set.AttrSet.{AttrSet}
 use Rattle.aide_attr.specs.declared.delta.Ignore.{Ignore}
-use Rattle.aide_attr.specs.Attr.{number, row, row_of, all_attrs}
-use Rattle.aide_attr.specs.Set.{has}
+use Rattle.aide_attr.specs.Attr.{number, all_attrs, count}
+use Rattle.aide_attr.specs.Set.{has, is_attr}
 use Rattle.aide_attr.specs.Difference.{Sides, is_reported, any_reported}
-use Rattle.aide_attr.proofs.AttrLemmas.{number_small}
-use Rattle.aide_attr.proofs.ReadingLemmas.{bool_cases}
+use Rattle.aide_attr.proofs.AttrLemmas.{at_number, number_small}
+use Rattle.aide_attr.proofs.WalkLemmas.{bool_cases}
 
 -- a set and a test that agree
 pub any_has : (s : AttrSet) (p : Attr → Bool) (xs : List Attr) → ((a : Attr) → has s a ≡ p a) → list_any (has s) xs ≡ list_any p xs
@@ -30,45 +30,39 @@ none_any p (x ∷ xs) (suc k) d h l = none_any p xs k d (second (p x) (list_any 
     second false b h = h
     second true b h = cc
 
-at_number : (a d : Attr) → get_or all_attrs (number a) d ≡ a
-unfolding row_of row
-at_number Ftype d = refl
-at_number Lname d = refl
-at_number Size d = refl
-at_number Bcount d = refl
-at_number Perm d = refl
-at_number Uid d = refl
-at_number Gid d = refl
-at_number Atime d = refl
-at_number Mtime d = refl
-at_number Ctime d = refl
-at_number Inode d = refl
-at_number Linkcount d = refl
-at_number Md5 d = refl
-at_number Sha1 d = refl
-at_number Sha256 d = refl
-at_number Sha512 d = refl
-at_number Rmd160 d = refl
-at_number Tiger d = refl
-at_number Crc32 d = refl
-at_number Crc32b d = refl
-at_number Haval d = refl
-at_number Gost d = refl
-at_number Whirlpool d = refl
-at_number Acl d = refl
-at_number Xattrs d = refl
-at_number Selinux d = refl
-at_number E2fsattrs d = refl
-at_number Caps d = refl
+-- those of a list that pass a test
+pub any_filtered : (p q : Attr → Bool) (xs : List Attr) → list_any (λ a. p a && q a) xs ≡ list_any q (filter p xs)
+any_filtered p q [] = refl
+any_filtered p q (x ∷ xs) = one (p x) (any_filtered p q xs)
+  where
+    one : (b : Bool) → list_any (λ a. p a && q a) xs ≡ list_any q (filter p xs)
+        → ((b && q x) || list_any (λ a. p a && q a) xs) ≡ list_any q (if b then x ∷ filter p xs else filter p xs)
+    one true e = ap (λ o. q x || o) e
+    one false e = e
+
+-- a list whose elements are those of another under a function
+pub filled : (f : ℕ → ℕ) (places letters : List ℕ) → length letters ≡ length places
+    → ((k : ℕ) → k < length places → get_or letters k 0 ≡ f (get_or places k 0)) → letters ≡ map f places
+filled f [] [] e h = refl
+filled f [] (l ∷ letters) e h = absurd (omega arith)
+filled f (p ∷ places) [] e h = absurd (omega arith)
+filled f (p ∷ places) (l ∷ letters) e h = rw (h 0 (omega arith), filled f places letters (omega arith) (λ k below. h (suc k) (omega arith))) refl
+
+-- attributes with one number are one
+pub attr_is : (a b : Attr) → is_attr a b ≡ true → a ≡ b
+attr_is a b e = sym (at_number a a) ∙ ap (λ n. get_or all_attrs n a) (eqb-true (number a) (number b) e) ∙ at_number b a
 
 -- what no listed attribute has, none has
-pub any_from : (s : Sides) (i : Ignore) (r : AttrSet) → ((a : Attr) → has r a ≡ is_reported s i a) → (((a : Attr) → has r a ≡ false) → ⊥) → any_reported s i ≡ true
+pub any_from : (s : Sides) (i : Ignore) (r : AttrSet) → ((a : Attr) → has r a ≡ is_reported s i a) → (((a : Attr) → has r a ≡ false) → ⊥)
+    → any_reported s i ≡ true
+unfolding count
 any_from s i r h k = elim (bool_cases (any_reported s i)) [
   | inl e ↦ e
   | inr e ↦ absurd (k (λ a. h a ∙ ap (is_reported s i) (sym (at_number a a)) ∙ none_any (is_reported s i) all_attrs (number a) a e (number_small a)))
 ]
 
-pub none_from : (s : Sides) (i : Ignore) (r : AttrSet) → ((a : Attr) → has r a ≡ is_reported s i a) → ((a : Attr) → has r a ≡ false) → any_reported s i ≡ false
+pub none_from : (s : Sides) (i : Ignore) (r : AttrSet) → ((a : Attr) → has r a ≡ is_reported s i a) → ((a : Attr) → has r a ≡ false)
+    → any_reported s i ≡ false
 none_from s i r h k = none all_attrs
   where
     none : (xs : List Attr) → list_any (is_reported s i) xs ≡ false

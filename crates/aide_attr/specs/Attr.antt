@@ -1,11 +1,15 @@
 -- The table of attributes: everything that depends on it in the definitions stands here.
-use Rattle.std.specs.Prelude.{ℕ, List, [], ◌∷◌, ◌==◌, codes, find, filter, nat_eq, Option, Some, None}
+use Rattle.std.specs.Prelude.{ℕ, List, length, ◌==◌, if◌then◌else◌, codes, find, filter, nat_eq, Option, Some, None}
 use Rattle.std.specs.Cmp.Lexicographic.{pointwise}
+use Rattle.aide_attr.specs.Byte.{letter}
 use Rattle.aide_attr.specs.declared.attr.Attr.{Attr}
-use Rattle.aide_attr.specs.declared.attr.Attr.TheVariants.{Ftype, Lname, Size, Bcount, Perm, Uid, Gid, Atime, Mtime, Ctime, Inode, Linkcount, Md5, Sha1, Sha256, Sha512, Rmd160, Tiger, Crc32, Crc32b, Haval, Gost, Whirlpool, Acl, Xattrs, Selinux, E2fsattrs, Caps}
+use Rattle.aide_attr.specs.declared.attr.Attr.TheVariants as attr
+use Rattle.aide_attr.specs.declared.attr.TheConstants.Attr.{ALL}
+use Rattle.aide_attr.specs.declared.form.Form.{Form}
+use Rattle.aide_attr.specs.declared.form.Form.TheVariants.{Kind, Mode, Number, Time, Link, Digest, Opaque}
 
--- a line of the table: the place in the order from 0, the names in configurations, in details and of the column,
--- the bit of the column `attr` where there is one, and the letter of the place in a summary string
+-- a line of the table: the number in the order from 0, the names in configurations, in details and of the column, the bit of the
+-- column `attr` where there is one, the letter of the place in a summary string, and how the column writes the value
 pub record Row : Type 0 where
   pub number : ℕ
   pub name : List ℕ
@@ -13,70 +17,125 @@ pub record Row : Type 0 where
   pub column : List ℕ
   pub bit : Option ℕ
   pub place : ℕ
+  pub form : Form
 
-unfoldable pub row : ℕ → List ℕ → List ℕ → List ℕ → Option ℕ → ℕ → Row
-row n name detail_name column bit place = record { number = n; name = name; detail_name = detail_name; column = column; bit = bit; place = place }
+-- a line by its parts
+unfoldable pub row : ℕ → List ℕ → List ℕ → List ℕ → Option ℕ → List ℕ → Form → Row
+row n name detail_name column bit place form = record {
+  number = n;
+  name = name;
+  detail_name = detail_name;
+  column = column;
+  bit = bit;
+  place = letter place;
+  form = form;
+}
 
+-- the line of a digest: its column has its name, and its place is `H`
+abbrev pub digest : ℕ → List ℕ → List ℕ → ℕ → ℕ → Row
+digest n name detail_name least most = row n name detail_name name None (codes "H") (Digest least most)
+
+-- the table
 unfoldable pub row_of : Attr → Row
-row_of Ftype = row 0 (codes "ftype") (codes "Type") (codes "perm") None 89
-row_of Lname = row 1 (codes "l") (codes "Lname") (codes "lname") (Some 1) 108
-row_of Size = row 2 (codes "s") (codes "Size") (codes "size") (Some 5) 90
-row_of Bcount = row 3 (codes "b") (codes "Bcount") (codes "bcount") (Some 10) 98
-row_of Perm = row 4 (codes "p") (codes "Perm") (codes "perm") (Some 2) 112
-row_of Uid = row 5 (codes "u") (codes "UID") (codes "uid") (Some 3) 117
-row_of Gid = row 6 (codes "g") (codes "GID") (codes "gid") (Some 4) 103
-row_of Atime = row 7 (codes "a") (codes "Atime") (codes "atime") (Some 6) 97
-row_of Mtime = row 8 (codes "m") (codes "Mtime") (codes "mtime") (Some 8) 109
-row_of Ctime = row 9 (codes "c") (codes "Ctime") (codes "ctime") (Some 7) 99
-row_of Inode = row 10 (codes "i") (codes "Inode") (codes "inode") (Some 9) 105
-row_of Linkcount = row 11 (codes "n") (codes "Linkcount") (codes "lcount") (Some 11) 110
-row_of Md5 = row 12 (codes "md5") (codes "MD5") (codes "md5") None 72
-row_of Sha1 = row 13 (codes "sha1") (codes "SHA1") (codes "sha1") None 72
-row_of Sha256 = row 14 (codes "sha256") (codes "SHA256") (codes "sha256") None 72
-row_of Sha512 = row 15 (codes "sha512") (codes "SHA512") (codes "sha512") None 72
-row_of Rmd160 = row 16 (codes "rmd160") (codes "RMD160") (codes "rmd160") None 72
-row_of Tiger = row 17 (codes "tiger") (codes "TIGER") (codes "tiger") None 72
-row_of Crc32 = row 18 (codes "crc32") (codes "CRC32") (codes "crc32") None 72
-row_of Crc32b = row 19 (codes "crc32b") (codes "CRC32B") (codes "crc32b") None 72
-row_of Haval = row 20 (codes "haval") (codes "HAVAL") (codes "haval") None 72
-row_of Gost = row 21 (codes "gost") (codes "GOST") (codes "gost") None 72
-row_of Whirlpool = row 22 (codes "whirlpool") (codes "WHIRLPOOL") (codes "whirlpool") None 72
-row_of Acl = row 23 (codes "acl") (codes "ACL") (codes "acl") None 65
-row_of Xattrs = row 24 (codes "xattrs") (codes "XAttrs") (codes "xattrs") None 88
-row_of Selinux = row 25 (codes "selinux") (codes "SELinux") (codes "selinux") None 83
-row_of E2fsattrs = row 26 (codes "e2fsattrs") (codes "E2FSAttrs") (codes "e2fsattrs") None 69
-row_of Caps = row 27 (codes "caps") (codes "Caps") (codes "capabilities") None 67
+row_of attr.Ftype = row 0 (codes "ftype") (codes "Type") (codes "perm") None (codes "Y") Kind
+row_of attr.Lname = row 1 (codes "l") (codes "Lname") (codes "lname") (Some 1) (codes "l") Link
+row_of attr.Size = row 2 (codes "s") (codes "Size") (codes "size") (Some 5) (codes "Z") Number
+row_of attr.Bcount = row 3 (codes "b") (codes "Bcount") (codes "bcount") (Some 10) (codes "b") Number
+row_of attr.Perm = row 4 (codes "p") (codes "Perm") (codes "perm") (Some 2) (codes "p") Mode
+row_of attr.Uid = row 5 (codes "u") (codes "UID") (codes "uid") (Some 3) (codes "u") Number
+row_of attr.Gid = row 6 (codes "g") (codes "GID") (codes "gid") (Some 4) (codes "g") Number
+row_of attr.Atime = row 7 (codes "a") (codes "Atime") (codes "atime") (Some 6) (codes "a") Time
+row_of attr.Mtime = row 8 (codes "m") (codes "Mtime") (codes "mtime") (Some 8) (codes "m") Time
+row_of attr.Ctime = row 9 (codes "c") (codes "Ctime") (codes "ctime") (Some 7) (codes "c") Time
+row_of attr.Inode = row 10 (codes "i") (codes "Inode") (codes "inode") (Some 9) (codes "i") Number
+row_of attr.Linkcount = row 11 (codes "n") (codes "Linkcount") (codes "lcount") (Some 11) (codes "n") Number
+row_of attr.Md5 = digest 12 (codes "md5") (codes "MD5") 16 16
+row_of attr.Sha1 = digest 13 (codes "sha1") (codes "SHA1") 20 20
+row_of attr.Sha256 = digest 14 (codes "sha256") (codes "SHA256") 32 32
+row_of attr.Sha512 = digest 15 (codes "sha512") (codes "SHA512") 64 64
+row_of attr.Rmd160 = digest 16 (codes "rmd160") (codes "RMD160") 20 20
+row_of attr.Tiger = digest 17 (codes "tiger") (codes "TIGER") 1 64
+row_of attr.Crc32 = digest 18 (codes "crc32") (codes "CRC32") 1 64
+row_of attr.Crc32b = digest 19 (codes "crc32b") (codes "CRC32B") 1 64
+row_of attr.Haval = digest 20 (codes "haval") (codes "HAVAL") 1 64
+row_of attr.Gost = digest 21 (codes "gost") (codes "GOST") 1 64
+row_of attr.Whirlpool = digest 22 (codes "whirlpool") (codes "WHIRLPOOL") 64 64
+row_of attr.Stribog256 = digest 23 (codes "stribog256") (codes "STRIBOG256") 32 32
+row_of attr.Stribog512 = digest 24 (codes "stribog512") (codes "STRIBOG512") 64 64
+row_of attr.Sha512Of256 = digest 25 (codes "sha512_256") (codes "SHA512/256") 32 32
+row_of attr.Sha3Of256 = digest 26 (codes "sha3_256") (codes "SHA3-256") 32 32
+row_of attr.Sha3Of512 = digest 27 (codes "sha3_512") (codes "SHA3-512") 64 64
+row_of attr.Acl = row 28 (codes "acl") (codes "ACL") (codes "acl") None (codes "A") Opaque
+row_of attr.Xattrs = row 29 (codes "xattrs") (codes "XAttrs") (codes "xattrs") None (codes "X") Opaque
+row_of attr.Selinux = row 30 (codes "selinux") (codes "SELinux") (codes "selinux") None (codes "S") Opaque
+row_of attr.E2fsattrs = row 31 (codes "e2fsattrs") (codes "E2FSAttrs") (codes "e2fsattrs") None (codes "E") Opaque
+row_of attr.Caps = row 32 (codes "caps") (codes "Caps") (codes "capabilities") None (codes "C") Opaque
 
+-- the columns of the table: the number in the order
 abbrev pub number : Attr → ℕ
 number a = (row_of a).number
 
+-- the name in configurations
 abbrev pub name_of : Attr → List ℕ
 name_of a = (row_of a).name
 
+-- the name in details
 abbrev pub detail_name_of : Attr → List ℕ
 detail_name_of a = (row_of a).detail_name
 
+-- the name of its column in a database
 abbrev pub column_of : Attr → List ℕ
 column_of a = (row_of a).column
 
+-- its bit in the column `attr`
 abbrev pub bit_of : Attr → Option ℕ
 bit_of a = (row_of a).bit
 
+-- the letter of its place in a summary string
+abbrev pub place_of : Attr → ℕ
+place_of a = (row_of a).place
+
+-- how its column writes the value
+abbrev pub form_of : Attr → Form
+form_of a = (row_of a).form
+
+-- how many bytes the digests of a form have at most
+abbrev pub most_bytes : Form → ℕ
+most_bytes (Digest least most) = most
+most_bytes _ = 0
+
+-- no digest has more bytes than this
+abbrev pub longest_digest : ℕ
+longest_digest = 64
+
+-- bits of the column `attr`
+abbrev pub most_bits : ℕ
+most_bits = 64
+
+-- the first attribute with the same column: the type and the permissions share one
+abbrev pub holder_of : Attr → Attr
+holder_of a = if number a == number attr.Perm then attr.Ftype else a
+
 -- every attribute, in the order
 abbrev pub all_attrs : List Attr
-all_attrs =
-    Ftype ∷ Lname ∷ Size ∷ Bcount ∷ Perm ∷ Uid ∷ Gid ∷ Atime ∷ Mtime ∷ Ctime ∷ Inode ∷ Linkcount ∷ Md5 ∷
-    Sha1 ∷ Sha256 ∷ Sha512 ∷ Rmd160 ∷ Tiger ∷ Crc32 ∷ Crc32b ∷ Haval ∷ Gost ∷ Whirlpool ∷ Acl ∷ Xattrs ∷
-    Selinux ∷ E2fsattrs ∷ Caps ∷ []
+all_attrs = ALL
+
+-- how many there are
+unfoldable pub count : ℕ
+count = length all_attrs
 
 -- the attributes of a place of the summary string, by its letter
 abbrev pub attrs_at : ℕ → List Attr
-attrs_at letter = filter (λ a. (row_of a).place == letter) all_attrs
+attrs_at place = filter (λ a. place_of a == place) all_attrs
 
 -- the digests, which share the place `H`
 abbrev pub digests : List Attr
-digests = attrs_at 72
+digests = attrs_at (letter (codes "H"))
 
 -- the attribute of a name
 unfoldable pub attr_named : List ℕ → Option Attr
 attr_named n = find (λ a. pointwise nat_eq (name_of a) n) all_attrs
+
+-- the first attribute of a column
+unfoldable pub attr_of_column : List ℕ → Option Attr
+attr_of_column n = find (λ a. pointwise nat_eq (column_of a) n) all_attrs

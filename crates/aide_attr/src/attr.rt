@@ -1,7 +1,10 @@
 //! The table of attributes: everything that depends on it in the code stands here.
 
-ghost use Rattle.std.specs.Prelude.{◌≡◌};
-ghost use Rattle.aide_attr.specs.Attr.{number, row_of, name_of, detail_name_of, column_of, bit_of, attr_named};
+ghost use Rattle.std.specs.Prelude.{◌≡◌, ◌<◌, ◌≤◌, IfSome, None};
+ghost use Rattle.aide_attr.specs.Attr.{number, row_of, name_of, detail_name_of, column_of, bit_of, place_of, form_of};
+ghost use Rattle.aide_attr.specs.Attr.{most_bytes, longest_digest, most_bits, attr_named, attr_of_column, holder_of};
+
+use crate::form::Form;
 
 /// An attribute of an entry, in the order in which sets and reports list them.
 #[derive(Clone, Copy, PartialEq, Eq, Debug)]
@@ -30,7 +33,7 @@ pub enum Attr {
     Inode,
     /// The number of hard links.
     Linkcount,
-    /// A digest of the content, as are those up to `Whirlpool`.
+    /// A digest of the content, as are those up to `Sha3Of512`.
     Md5,
     Sha1,
     Sha256,
@@ -42,6 +45,11 @@ pub enum Attr {
     Haval,
     Gost,
     Whirlpool,
+    Stribog256,
+    Stribog512,
+    Sha512Of256,
+    Sha3Of256,
+    Sha3Of512,
     /// The access control list.
     Acl,
     /// The extended attributes.
@@ -54,21 +62,6 @@ pub enum Attr {
     Caps,
 }
 
-/// The attributes that are digests, which share one place of a summary string.
-pub(crate) const DIGESTS: [Attr; 11] = [
-    Attr::Md5,
-    Attr::Sha1,
-    Attr::Sha256,
-    Attr::Sha512,
-    Attr::Rmd160,
-    Attr::Tiger,
-    Attr::Crc32,
-    Attr::Crc32b,
-    Attr::Haval,
-    Attr::Gost,
-    Attr::Whirlpool,
-];
-
 /// A line of the table.
 #[derive(Clone, Copy)]
 struct Row {
@@ -76,11 +69,58 @@ struct Row {
     detail_name: &'static [u8],
     column: &'static [u8],
     bit: Option<u32>,
+    place: u8,
+    form: Form,
+}
+
+/// A line by its parts.
+fn line(
+    name: &'static [u8],
+    detail_name: &'static [u8],
+    column: &'static [u8],
+    bit: Option<u32>,
+    place: u8,
+    form: Form,
+) -> Row
+    ensures name { result.name.now ≡ name.now }
+    ensures detail_name { result.detail_name.now ≡ detail_name.now }
+    ensures column { result.column.now ≡ column.now }
+    ensures bit { result.bit ≡ bit }
+    ensures place { result.place ≡ place }
+    ensures form { result.form ≡ form }
+{
+    Row {
+        name,
+        detail_name,
+        column,
+        bit,
+        place,
+        form,
+    }
+}
+
+/// The line of a digest of so many bytes: its column has its name.
+fn digest(name: &'static [u8], detail_name: &'static [u8], least: u8, most: u8) -> Row
+    ensures name { result.name.now ≡ name.now }
+    ensures detail_name { result.detail_name.now ≡ detail_name.now }
+    ensures column { result.column.now ≡ name.now }
+    ensures bit { result.bit ≡ None }
+    ensures place { result.place ≡ 72 }
+    ensures form { result.form ≡ Form.Digest least most }
+{
+    line(
+        name,
+        detail_name,
+        name,
+        None,
+        b'H',
+        Form::Digest(least, most),
+    )
 }
 
 impl Attr {
     /// Every attribute, in the order.
-    pub const ALL: [Attr; 28] = [
+    pub const ALL: [Attr; 33] = [
         Attr::Ftype,
         Attr::Lname,
         Attr::Size,
@@ -104,6 +144,11 @@ impl Attr {
         Attr::Haval,
         Attr::Gost,
         Attr::Whirlpool,
+        Attr::Stribog256,
+        Attr::Stribog512,
+        Attr::Sha512Of256,
+        Attr::Sha3Of256,
+        Attr::Sha3Of512,
         Attr::Acl,
         Attr::Xattrs,
         Attr::Selinux,
@@ -134,9 +179,44 @@ impl Attr {
 
     /// The bit of the column `attr` that tells whether an entry has it, where there is one.
     pub fn bit(self) -> Option<u32>
-        ensures { result ≡ bit_of self }
+        ensures same { result ≡ bit_of self }
+        ensures small { IfSome result (λ k. k < most_bits) }
     {
         self.row().bit
+    }
+
+    /// The letter of its place in a summary string.
+    pub(crate) fn place(self) -> u8
+        ensures { result ≡ place_of self }
+    {
+        self.row().place
+    }
+
+    /// How the column writes the value. No digest has more than 64 bytes.
+    pub fn form(self) -> Form
+        ensures same { result ≡ form_of self }
+        ensures short { most_bytes result ≤ longest_digest }
+    {
+        self.row().form
+    }
+
+    /// The first attribute with the same column: the type and the permissions share one.
+    pub fn holder(self) -> Attr
+        ensures { result ≡ holder_of self }
+    {
+        if self.number() == Attr::Perm.number() {
+            Attr::Ftype
+        } else {
+            self
+        }
+    }
+
+    /// The first attribute of a column by its name, if there is one.
+    #[tactic(auto, unfolding(crate::specs::Attr::attr_of_column))]
+    pub fn of_column(name: &[u8]) -> Option<Attr>
+        ensures { result ≡ attr_of_column name.now }
+    {
+        Attr::ALL.iter().copied().find(|a| a.column() == name)
     }
 
     /// The place in the order, from 0.
@@ -161,42 +241,52 @@ impl Attr {
         ensures detail_name { result.detail_name.now ≡ detail_name_of self }
         ensures column { result.column.now ≡ column_of self }
         ensures bit { result.bit ≡ bit_of self }
+        ensures small { IfSome result.bit (λ k. k < most_bits) }
+        ensures place { result.place ≡ place_of self }
+        ensures form { result.form ≡ form_of self }
+        ensures short { most_bytes result.form ≤ longest_digest }
     {
-        let (name, detail_name, column, bit): (&[u8], &[u8], &[u8], Option<u32>) = match self {
-            Attr::Ftype => (b"ftype", b"Type", b"perm", None),
-            Attr::Lname => (b"l", b"Lname", b"lname", Some(1)),
-            Attr::Size => (b"s", b"Size", b"size", Some(5)),
-            Attr::Bcount => (b"b", b"Bcount", b"bcount", Some(10)),
-            Attr::Perm => (b"p", b"Perm", b"perm", Some(2)),
-            Attr::Uid => (b"u", b"UID", b"uid", Some(3)),
-            Attr::Gid => (b"g", b"GID", b"gid", Some(4)),
-            Attr::Atime => (b"a", b"Atime", b"atime", Some(6)),
-            Attr::Mtime => (b"m", b"Mtime", b"mtime", Some(8)),
-            Attr::Ctime => (b"c", b"Ctime", b"ctime", Some(7)),
-            Attr::Inode => (b"i", b"Inode", b"inode", Some(9)),
-            Attr::Linkcount => (b"n", b"Linkcount", b"lcount", Some(11)),
-            Attr::Md5 => (b"md5", b"MD5", b"md5", None),
-            Attr::Sha1 => (b"sha1", b"SHA1", b"sha1", None),
-            Attr::Sha256 => (b"sha256", b"SHA256", b"sha256", None),
-            Attr::Sha512 => (b"sha512", b"SHA512", b"sha512", None),
-            Attr::Rmd160 => (b"rmd160", b"RMD160", b"rmd160", None),
-            Attr::Tiger => (b"tiger", b"TIGER", b"tiger", None),
-            Attr::Crc32 => (b"crc32", b"CRC32", b"crc32", None),
-            Attr::Crc32b => (b"crc32b", b"CRC32B", b"crc32b", None),
-            Attr::Haval => (b"haval", b"HAVAL", b"haval", None),
-            Attr::Gost => (b"gost", b"GOST", b"gost", None),
-            Attr::Whirlpool => (b"whirlpool", b"WHIRLPOOL", b"whirlpool", None),
-            Attr::Acl => (b"acl", b"ACL", b"acl", None),
-            Attr::Xattrs => (b"xattrs", b"XAttrs", b"xattrs", None),
-            Attr::Selinux => (b"selinux", b"SELinux", b"selinux", None),
-            Attr::E2fsattrs => (b"e2fsattrs", b"E2FSAttrs", b"e2fsattrs", None),
-            Attr::Caps => (b"caps", b"Caps", b"capabilities", None),
-        };
-        Row {
-            name,
-            detail_name,
-            column,
-            bit,
+        match self {
+            Attr::Ftype => line(b"ftype", b"Type", b"perm", None, b'Y', Form::Kind),
+            Attr::Lname => line(b"l", b"Lname", b"lname", Some(1), b'l', Form::Link),
+            Attr::Size => line(b"s", b"Size", b"size", Some(5), b'Z', Form::Number),
+            Attr::Bcount => line(b"b", b"Bcount", b"bcount", Some(10), b'b', Form::Number),
+            Attr::Perm => line(b"p", b"Perm", b"perm", Some(2), b'p', Form::Mode),
+            Attr::Uid => line(b"u", b"UID", b"uid", Some(3), b'u', Form::Number),
+            Attr::Gid => line(b"g", b"GID", b"gid", Some(4), b'g', Form::Number),
+            Attr::Atime => line(b"a", b"Atime", b"atime", Some(6), b'a', Form::Time),
+            Attr::Mtime => line(b"m", b"Mtime", b"mtime", Some(8), b'm', Form::Time),
+            Attr::Ctime => line(b"c", b"Ctime", b"ctime", Some(7), b'c', Form::Time),
+            Attr::Inode => line(b"i", b"Inode", b"inode", Some(9), b'i', Form::Number),
+            Attr::Linkcount => line(b"n", b"Linkcount", b"lcount", Some(11), b'n', Form::Number),
+            Attr::Md5 => digest(b"md5", b"MD5", 16, 16),
+            Attr::Sha1 => digest(b"sha1", b"SHA1", 20, 20),
+            Attr::Sha256 => digest(b"sha256", b"SHA256", 32, 32),
+            Attr::Sha512 => digest(b"sha512", b"SHA512", 64, 64),
+            Attr::Rmd160 => digest(b"rmd160", b"RMD160", 20, 20),
+            Attr::Tiger => digest(b"tiger", b"TIGER", 1, 64),
+            Attr::Crc32 => digest(b"crc32", b"CRC32", 1, 64),
+            Attr::Crc32b => digest(b"crc32b", b"CRC32B", 1, 64),
+            Attr::Haval => digest(b"haval", b"HAVAL", 1, 64),
+            Attr::Gost => digest(b"gost", b"GOST", 1, 64),
+            Attr::Whirlpool => digest(b"whirlpool", b"WHIRLPOOL", 64, 64),
+            Attr::Stribog256 => digest(b"stribog256", b"STRIBOG256", 32, 32),
+            Attr::Stribog512 => digest(b"stribog512", b"STRIBOG512", 64, 64),
+            Attr::Sha512Of256 => digest(b"sha512_256", b"SHA512/256", 32, 32),
+            Attr::Sha3Of256 => digest(b"sha3_256", b"SHA3-256", 32, 32),
+            Attr::Sha3Of512 => digest(b"sha3_512", b"SHA3-512", 64, 64),
+            Attr::Acl => line(b"acl", b"ACL", b"acl", None, b'A', Form::Opaque),
+            Attr::Xattrs => line(b"xattrs", b"XAttrs", b"xattrs", None, b'X', Form::Opaque),
+            Attr::Selinux => line(b"selinux", b"SELinux", b"selinux", None, b'S', Form::Opaque),
+            Attr::E2fsattrs => line(
+                b"e2fsattrs",
+                b"E2FSAttrs",
+                b"e2fsattrs",
+                None,
+                b'E',
+                Form::Opaque,
+            ),
+            Attr::Caps => line(b"caps", b"Caps", b"capabilities", None, b'C', Form::Opaque),
         }
     }
 }

@@ -2,9 +2,11 @@
 #![tactic(auto)]
 
 mod attr;
+mod byte;
 mod delta;
 mod expression;
 mod file_type;
+mod form;
 mod groups;
 mod known;
 mod level;
@@ -12,11 +14,14 @@ mod name;
 mod report;
 mod set;
 mod summary_string;
+mod table;
 
 pub use attr::Attr;
+pub use byte::is_blank;
 pub use delta::{Delta, Ignore};
 pub use expression::ExprFault;
 pub use file_type::FileType;
+pub use form::Form;
 pub use groups::{GroupFault, Groups};
 pub use known::Known;
 pub use level::Level;
@@ -24,6 +29,4 @@ pub use name::{is_group_name, is_word};
 pub use report::{reported, shown};
 pub use set::AttrSet;
 pub use summary_string::{Alone, summary, summary_one};
-
-#[cfg(test)]
-mod tests;
+pub use table::{Table, TableFault};

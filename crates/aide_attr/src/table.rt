@@ -1,0 +1,113 @@
+//! Values under names, and no more names than a limit.
+
+ghost use Rattle.std.specs.Prelude.{◌≡◌, IfErr, OnOk, OnErr, IsTrue, IsFalse, option_map};
+ghost use Rattle.std.specs.FinMap as map;
+ghost use Rattle.aide_attr.specs.Table.{HasRoom, IsFull};
+
+use std::alloc::{AllocError, AllocFailed, Allocator};
+use std::collections::BTreeMap;
+use std::marker::Model;
+
+/// How many names can stand in a table.
+const MOST_NAMES: usize = 1024;
+
+/// Why a name cannot be given a value.
+#[derive(Clone, Copy, PartialEq, Eq, Debug)]
+pub enum TableFault {
+    /// The name is new, and 1,024 names stand already.
+    Full,
+    /// Memory was refused.
+    Memory,
+}
+
+impl From<AllocError> for TableFault {
+    ghost use Rattle.aide_attr.specs.declared.table.TableFault.TheVariants.{Memory};
+
+    ghost from_gives = { λ _ e. e ≡ Memory };
+
+    fn from(_e: AllocError) -> TableFault {
+        TableFault::Memory
+    }
+}
+
+/// A finite map from names, which are bytes, to values: at most 1,024 names.
+#[derive(Drop)]
+pub struct Table<V: Drop, A: Allocator> {
+    values: BTreeMap<Vec<u8, A>, V, A>,
+    alloc: A,
+}
+
+impl<V: Drop, A: Allocator> Model for Table<V, A> {
+    ghost use Rattle.std.specs.Coded.{coded_ℕ, coded_list};
+    ghost use Rattle.std.specs.FinMap as map;
+    ghost use Rattle.aide_attr.specs.Table.{Names, named};
+
+    ghost Value = { Names V };
+
+    ghost coded = { map.code (coded_list coded_ℕ) V.code };
+
+    ghost view = { λ t. named t.values.entries };
+}
+
+impl<V: Drop, A: Allocator + Copy> Table<V, A> {
+    ghost use Rattle.aide_attr.specs.TableFault.{IsTableFault};
+
+    /// No name.
+    pub fn new(alloc: A) -> Table<V, A>
+        ensures { result ≡ map.empty }
+    {
+        Table {
+            values: BTreeMap::new(alloc),
+            alloc,
+        }
+    }
+
+    /// The value of this name, where it has one.
+    pub fn look(&self, name: &[u8]) -> Option<&V>
+        ensures { option_map (λ v. v.now) result ≡ map.get self.now name.now }
+    {
+        self.values.get(name)
+    }
+
+    /// Gives this name this value, in place of a former one. After a refusal the table is as before.
+    pub fn define(&mut self, name: &[u8], value: V) -> Result<(), TableFault>
+        ensures room { OnOk result (HasRoom self.old name.now) }
+        ensures ok { OnOk result (self.new ≡ map.insert self.old name.now value) }
+        ensures err { IfErr result (λ e. IsTableFault self.old name.now e) }
+        ensures unchanged { OnErr result (self.new ≡ self.old) }
+    {
+        if self.is_full(name) {
+            return Err(TableFault::Full);
+        }
+        self.put(name, value)?;
+        Ok(())
+    }
+
+    /// Whether the name is new and as many names as can be stand already.
+    fn is_full(&self, name: &[u8]) -> bool
+        ensures yes { IsTrue result → IsFull self.now name.now }
+        ensures no { IsFalse result → HasRoom self.now name.now }
+    {
+        if self.look(name).is_some() {
+            return false;
+        }
+        self.values.len() >= MOST_NAMES
+    }
+
+    /// Puts a value under the name.
+    fn put(&mut self, name: &[u8], value: V) -> Result<(), AllocError>
+        ensures ok { OnOk result (self.new ≡ map.insert self.old name.now value) }
+        ensures err { OnErr result (self.new ≡ self.old) }
+    {
+        let key = Vec::from_slice(self.alloc, name)?;
+        self.values.insert(key, value)?;
+        Ok(())
+    }
+
+    /// Takes this name away, where it stands.
+    pub fn remove(&mut self, name: &[u8])
+        ensures { self.new ≡ map.remove self.old name.now }
+    {
+        self.values.remove(name);
+    }
+}
