@@ -4,14 +4,15 @@ use Rattle.std.specs.Prelude.{codes, map}
 use Rattle.aide_attr.specs.declared.expression.ExprFault.TheVariants.{UnknownName}
 use Rattle.aide_attr.specs.declared.level.Level.TheVariants.{Minimal}
 use Rattle.aide_attr.specs.Attr.{row, row_of, attr_named}
+use Rattle.aide_attr.specs.Level.{level_named}
 use Rattle.aide_attr.specs.Name.{is_group_name, is_word, is_word_byte, is_empty_name}
 use Rattle.aide_conf.specs.declared.task.Need.TheVariants.{Compare, Check}
 use Rattle.aide_conf.specs.declared.fault.ConfText.TheVariants.{File, After}
 use Rattle.aide_conf.specs.declared.fault.ConfFaultKind.TheVariants.{BadDirective, LeftOut, StrayElse, StrayEndif, MissingEndif, TooDeep, BadName, BadValue, BadUrl, BadLine, UnknownAttribute, NoOldDatabase, NoNewDatabase}
 use Rattle.aide_conf.specs.declared.setting.Switch.TheVariants.{Quiet}
 use Rattle.aide_conf.specs.Lines.{Place, is_blank, strip, lines_of, places}
-use Rattle.aide_conf.specs.Reading.{Reading, Nothing, Faulty, Tells, Defines, Sets, OpensBlock, kept_reading, value_reading, is_selection, is_directive, is_omitted, main_setting, is_accepted, is_older, setting_named, level_named, bool_named, is_left_out, path_after, path_of}
-use Rattle.aide_conf.specs.Directive.{reading, item_of, item_by}
+use Rattle.aide_conf.specs.Reading.{Reading, Nothing, Faulty, SetsLevel, DefinesGroup, DefinesVariable, OpensBlock, kept_reading, value_reading, is_selection, is_directive, is_omitted, main_setting, is_accepted, is_older, setting_named, bool_named, is_left_out, path_after, path_of}
+use Rattle.aide_conf.specs.Directive.{reading, item_of, item_by, if_item}
 use Rattle.aide_conf.specs.Marks.{Marked, says, last_given, fault_at, missing, variable}
 use Rattle.aide_conf.specs.Settings.{counted, level_in, switch_in}
 
@@ -34,11 +35,11 @@ stripped = refl
 line : List ℕ → Reading
 line bytes = reading true bytes bytes
 
-level : line (codes "report_level = minimal") ≡ Tells Minimal
+level : line (codes "report_level = minimal") ≡ SetsLevel Minimal
 unfolding line reading item_of kept_reading value_reading is_selection is_directive setting_named main_setting strip is_blank level_named
 level = refl
 
-group_line : line (codes "my = p+s") ≡ Defines (codes "my") (codes "p+s")
+group_line : line (codes "my = p+s") ≡ DefinesGroup (codes "my") (codes "p+s")
 unfolding line reading item_of kept_reading is_selection is_directive setting_named main_setting is_accepted is_older strip is_blank is_group_name is_word is_word_byte attr_named row_of row is_empty_name
 group_line = refl
 
@@ -54,8 +55,8 @@ omitted : line (codes "@@include /x") ≡ Faulty LeftOut
 unfolding line reading item_of item_by is_directive is_omitted strip is_blank
 omitted = refl
 
-unknown_word : line (codes "@@if defined A") ≡ Faulty BadDirective
-unfolding line reading item_of item_by is_directive is_omitted strip is_blank
+unknown_word : line (codes "@@if version A") ≡ Faulty BadDirective
+unfolding line reading item_of item_by if_item is_directive is_omitted strip is_blank
 unknown_word = refl
 
 three_slashes : path_after (codes "///old") ≡ Some (codes "/old")
@@ -120,7 +121,7 @@ unused : List ℕ → Reading
 unused bytes = reading false bytes bytes
 
 -- a value is the rest of the line after its name
-defined : reading true (codes "@@define V  a b") (codes "a b") ≡ Sets (codes "V") (codes "a b")
+defined : reading true (codes "@@define V  a b") (codes "a b") ≡ DefinesVariable (codes "V") (codes "a b")
 unfolding reading item_of item_by is_directive is_omitted strip is_blank is_word is_word_byte
 defined = refl
 

@@ -15,5 +15,9 @@ pub mod PlaceTaken
 pub mod Passes
 pub mod Whole
 pub mod Only
+pub mod SetOf
+pub mod Exists
+pub mod Laws
 pub mod MacroExamples
 pub mod Examples
+pub mod FrameLemmas

@@ -11,7 +11,7 @@ use Rattle.aide_conf.specs.declared.task.Need.TheVariants.{Compare}
 use Rattle.aide_conf.specs.declared.fault.ConfText.{ConfText}
 use Rattle.aide_conf.specs.declared.fault.ConfText.TheVariants.{Before, File, After}
 use Rattle.aide_conf.specs.declared.fault.ConfFaultKind.{ConfFaultKind}
-use Rattle.aide_conf.specs.declared.fault.ConfFaultKind.TheVariants.{StrayElse, StrayEndif, MissingEndif, LineTooLong}
+use Rattle.aide_conf.specs.declared.fault.ConfFaultKind.TheVariants.{StrayElse, StrayEndif, MissingEndif, LineTooLong, Memory}
 use Rattle.aide_conf.specs.declared.setting.Database.TheVariants.{Old, New}
 use Rattle.aide_conf.specs.declared.pass.Pass.{Pass}
 use Rattle.aide_conf.specs.declared.blocks.Frame.{Frame}
@@ -19,12 +19,14 @@ use Rattle.aide_conf.specs.declared.directive.Directive.{Directive}
 use Rattle.aide_conf.specs.declared.directive.Directive.TheVariants as code
 use Rattle.aide_conf.specs.Lines.{strip}
 use Rattle.aide_conf.specs.Reading.{Reading, Nothing, Faulty, is_skipped, is_directive, expanded_reading}
-use Rattle.aide_conf.specs.Directive.{Item, Define, Undef, IfDef, IfNotDef, Else, EndIf, Omitted, Unknown, Plain, item, item_of, directive_item, item_text, item_chooses, item_reading, shape_of, reading}
+use Rattle.aide_conf.specs.Directive.{Item, Define, Undef, IfDef, IfNotDef, IfOther, Else, EndIf, Omitted, Unknown, Plain, item_of, directive_item, item_text, item_chooses, item_reading, item_grows, line_grows, shape_of, reading}
+use Rattle.aide_conf.specs.code.Said.{item}
 use Rattle.aide_conf.specs.Blocks.{Opens, Divides, Closes, Seen, is_single, opens, divides, closes}
-use Rattle.aide_conf.specs.Stack.{IsOpen, top_used, top_divided, opened, divided_at, closed_at, frames_after}
-use Rattle.aide_conf.specs.Expansion.{plain, expansion_after}
-use Rattle.aide_conf.specs.Marks.{Marked, says, names, value, is_defined, seen, seen_in, is_text, line_fault, fault_at, end_fault, end_block_fault, path_set, missing, IsMarkedWell, IsJudgedWell, expression_in}
-use Rattle.aide_conf.specs.Pass.{StandsFor, TakesOne, TakesReading, fault_of, place, text_at}
+use Rattle.aide_conf.specs.code.Stack.{IsOpen, top_used, top_divided, opened, divided_at, closed_at, frames_after}
+use Rattle.aide_conf.specs.Expansion.{plain}
+use Rattle.aide_conf.specs.code.Replacing.{expansion_after}
+use Rattle.aide_conf.specs.Marks.{Marked, says, stands_after, value, is_defined, seen, seen_in, is_text, Grows, line_fault, fault_at, end_fault, end_block_fault, path_set, missing, IsMarkedWell, IsJudgedWell, expression_in}
+use Rattle.aide_conf.specs.code.Pass.{StandsFor, TakesOne, TakesReading, fault_of, place_at, text_at}
 use Rattle.aide_conf.proofs.StackLemmas.{used_right, depth_right, divided_right, single_next, opens_next, divides_next, closes_next}
 use Rattle.aide_conf.proofs.ExpansionLemmas.{is_expansion}
 use Rattle.aide_conf.proofs.Stands.{stands_silent}
@@ -76,6 +78,7 @@ module _ (here : List Seen) (fs : List Frame) (o : IsOpen here fs) (earlier : Li
   blocks_after (Undef n) x e u f h = single_next here fs x o (ap is_single e)
   blocks_after (IfDef n) x e u f h = opens_well x (defined n) e u f
   blocks_after (IfNotDef n) x e u f h = opens_well x (not (defined n)) e u f
+  blocks_after IfOther x e u f h = opens_well x false e u f
   blocks_after Else x e u f h = divides_well x e fs o h
   blocks_after EndIf x e u f h = closes_well x e fs o h
   blocks_after (Omitted c) x e u f h = single_next here fs x o (ap is_single e)
@@ -102,7 +105,7 @@ module _ (need : Need) (earlier : List Marked) (text : ConfText) (n : ℕ) (line
 
   abbrev marked : Option (Result AttrSet ExprFault) → Marked
   marked v = record {
-    place = place text n (Some line);
+    place = place_at text n (Some line);
     used = top_used fs;
     depth = length fs;
     divided = top_divided fs;
@@ -119,21 +122,31 @@ module _ (need : Need) (earlier : List Marked) (text : ConfText) (n : ℕ) (line
   unfolding fault_at says
   fault-marked v = refl
 
-  well : (v : Option (Result AttrSet ExprFault)) → IsJudgedWell (names earlier) (expression_in said_here) v → IsMarkedWell earlier (marked v)
+  well : (v : Option (Result AttrSet ExprFault)) → IsJudgedWell (stands_after earlier) (expression_in said_here) v → IsMarkedWell earlier (marked v)
   well v j = record {
     is_used = used_right (seen_in text earlier) fs (seen (marked v)) o refl;
     is_enclosed = depth_right (seen_in text earlier) fs o;
     is_divided = divided_right (seen_in text earlier) fs o;
     is_first = refl;
     is_expanded = is_expansion (value earlier) (item_text line (item_of line));
-    is_judged = subst (λ z. IsJudgedWell (names earlier) (expression_in z) v) (sym (says-marked v)) j;
+    is_judged = subst (λ z. IsJudgedWell (stands_after earlier) (expression_in z) v) (sym (says-marked v)) j;
+  }
+
+  growing : line_grows (top_used fs) (length fs) line ≡ true → Grows earlier (place_at text n (Some line))
+  growing g = record {
+    used = top_used fs;
+    depth = length fs;
+    is_used = used_right (seen_in text earlier) fs (seen (marked None)) o refl;
+    is_enclosed = depth_right (seen_in text earlier) fs o;
+    grows = g;
   }
 
   -- what is taken where the blocks are right afterwards
   takes_place : {A : Type 0} (gs : List Frame) (q : Pass A) (result : Result (Unit {0}) ConfFaultKind)
       → ((v : Option (Result AttrSet ExprFault)) → line_fault earlier (length fs) (top_divided fs) said_here v ≡ None → OnOk result (IsOpen (seen_in text earlier ++ seen (marked v) ∷ []) gs))
-      → TakesReading {E = Unit {0}} earlier (length fs) (top_divided fs) said_here q result → TakesOne {E = Unit {0}} need earlier (place text n (Some line)) q gs result
-  takes_place gs q (Ok u) b t = (
+      → (result ≡ Err Memory → line_grows (top_used fs) (length fs) line ≡ true)
+      → TakesReading {E = Unit {0}} earlier (length fs) (top_divided fs) said_here q result → TakesOne {E = Unit {0}} need earlier (place_at text n (Some line)) q gs result
+  takes_place gs q (Ok u) b m t = (
     marked t.0,
     refl,
     well t.0 t.1,
@@ -141,8 +154,8 @@ module _ (need : Need) (earlier : List Marked) (text : ConfText) (n : ℕ) (line
     t.3 (marked t.0) (says-marked t.0) refl,
     subst (λ z. IsOpen z gs) (sym (seen_in-more text earlier (marked t.0) refl)) (b t.0 t.2),
   )
-  takes_place gs q (Err kind) b (inl t) = inl (marked t.0, refl, well t.0 t.1, fault-marked t.0 ∙ t.2)
-  takes_place gs q (Err kind) b (inr t) = inr (t, refl)
+  takes_place gs q (Err kind) b m (inl t) = inl (marked t.0, refl, well t.0 t.1, fault-marked t.0 ∙ t.2)
+  takes_place gs q (Err kind) b m (inr t) = inr (t, growing (m (ap Err t)))
 
   skipped_item : is_skipped line ≡ true → item_of line ≡ Plain
   unfolding item_of
@@ -156,22 +169,26 @@ module _ (need : Need) (earlier : List Marked) (text : ConfText) (n : ℕ) (line
   plain_after e v = single_next (seen_in text earlier) fs (seen (marked v)) o (ap (λ i. is_single (shape_of i)) e)
 
   -- an empty line or a comment
-  pub skipped_line : {A : Type 0} (q : Pass A) (u : Unit {0}) → is_skipped line ≡ true → TakesReading {E = Unit {0}} earlier (length fs) (top_divided fs) Nothing q (Ok u) → TakesOne {E = Unit {0}} need earlier (place text n (Some line)) q fs (Ok u)
-  skipped_line {A} q u h t = takes_place fs q (Ok u) (λ v f. plain_after (skipped_item h) v)
+  pub skipped_line : {A : Type 0} (q : Pass A) (u : Unit {0}) → is_skipped line ≡ true → TakesReading {E = Unit {0}} earlier (length fs) (top_divided fs) Nothing q (Ok u) → TakesOne {E = Unit {0}} need earlier (place_at text n (Some line)) q fs (Ok u)
+  skipped_line {A} q u h t = takes_place fs q (Ok u) (λ v f. plain_after (skipped_item h) v) (λ e. let bad : Ok u ≡ Err Memory = e in cc)
       (subst (λ r. TakesReading {E = Unit {0}} earlier (length fs) (top_divided fs) r q (Ok u)) (sym (skipped_says h)) t)
 
   -- a used line that is too long
-  pub long_line : {A : Type 0} (gs : List Frame) (q : Pass A) → is_skipped line ≡ false → (top_used fs && nat_lt 65536 (length line)) ≡ true → TakesOne {E = Unit {0}} need earlier (place text n (Some line)) q gs (Err LineTooLong)
+  pub long_line : {A : Type 0} (gs : List Frame) (q : Pass A) → is_skipped line ≡ false → (top_used fs && nat_lt 65536 (length line)) ≡ true → TakesOne {E = Unit {0}} need earlier (place_at text n (Some line)) q gs (Err LineTooLong)
   unfolding reading
   long_line {A} gs q h l =
       let r : said_here ≡ Faulty LineTooLong = rw (h, l) refl in
-      takes_place gs q (Err LineTooLong) (λ v f. tt) (inl (None, subst (λ z. IsJudgedWell (names earlier) (expression_in z) None) (sym r) refl, ap (λ z. line_fault earlier (length fs) (top_divided fs) z None) r))
+      takes_place gs q (Err LineTooLong) (λ v f. tt) (λ e. let bad : LineTooLong ≡ Memory = cc in cc) (inl (None, subst (λ z. IsJudgedWell (stands_after earlier) (expression_in z) None) (sym r) refl, ap (λ z. line_fault earlier (length fs) (top_divided fs) z None) r))
 
   -- any other line
   module _ (h : is_skipped line ≡ false) (l : (top_used fs && nat_lt 65536 (length line)) ≡ false) where
     says_item : said_here ≡ item_reading (top_used fs) (item_of line) out
     unfolding reading
     says_item = rw (h, l) refl
+
+    grows_item : item_grows (top_used fs) (length fs) (item_of line) ≡ true → line_grows (top_used fs) (length fs) line ≡ true
+    unfolding line_grows
+    grows_item g = rw (h, l, g) refl
 
     item_after : (gs : List Frame) → gs ≡ frames_after (shape_of (item_of line)) (top_used fs) (item_chooses (is_defined earlier) (item_of line)) fs
         → (v : Option (Result AttrSet ExprFault)) → line_fault earlier (length fs) (top_divided fs) said_here v ≡ None → IsOpen (seen_in text earlier ++ seen (marked v) ∷ []) gs
@@ -181,31 +198,65 @@ module _ (need : Need) (earlier : List Marked) (text : ConfText) (n : ℕ) (line
 
     item_taken : {A : Type 0} (gs : List Frame) (q : Pass A) (result : Result (Unit {0}) ConfFaultKind)
         → OnOk result (gs ≡ frames_after (shape_of (item_of line)) (top_used fs) (item_chooses (is_defined earlier) (item_of line)) fs)
-        → TakesReading {E = Unit {0}} earlier (length fs) (top_divided fs) (item_reading (top_used fs) (item_of line) out) q result → TakesOne {E = Unit {0}} need earlier (place text n (Some line)) q gs result
-    item_taken gs q (Ok u) b t = takes_place gs q (Ok u) (item_after gs b) (subst (λ r. TakesReading {E = Unit {0}} earlier (length fs) (top_divided fs) r q (Ok u)) (sym says_item) t)
-    item_taken gs q (Err kind) b t = takes_place gs q (Err kind) (λ v f. tt) (subst (λ r. TakesReading {E = Unit {0}} earlier (length fs) (top_divided fs) r q (Err kind)) (sym says_item) t)
+        → (result ≡ Err Memory → item_grows (top_used fs) (length fs) (item_of line) ≡ true)
+        → TakesReading {E = Unit {0}} earlier (length fs) (top_divided fs) (item_reading (top_used fs) (item_of line) out) q result → TakesOne {E = Unit {0}} need earlier (place_at text n (Some line)) q gs result
+    item_taken gs q (Ok u) b m t = takes_place gs q (Ok u) (item_after gs b) (λ e. grows_item (m e)) (subst (λ r. TakesReading {E = Unit {0}} earlier (length fs) (top_divided fs) r q (Ok u)) (sym says_item) t)
+    item_taken gs q (Err kind) b m t = takes_place gs q (Err kind) (λ v f. tt) (λ e. grows_item (m e)) (subst (λ r. TakesReading {E = Unit {0}} earlier (length fs) (top_divided fs) r q (Err kind)) (sym says_item) t)
 
     -- a directive
     pub directive_line : {A : Type 0} (i : Item) (gs : List Frame) (q : Pass A) (result : Result (Unit {0}) ConfFaultKind) → item_of line ≡ i → item_text line i ≡ item_text [] i
         → OnOk result (gs ≡ frames_after (shape_of i) (top_used fs) (item_chooses (is_defined earlier) i) fs)
-        → TakesReading {E = Unit {0}} earlier (length fs) (top_divided fs) (item_reading (top_used fs) i (expansion_after (value earlier) 0 (item_text [] i))) q result → TakesOne {E = Unit {0}} need earlier (place text n (Some line)) q gs result
-    directive_line {A} i gs q result e f b t = item_taken gs q result
+        → (result ≡ Err Memory → item_grows (top_used fs) (length fs) i ≡ true)
+        → TakesReading {E = Unit {0}} earlier (length fs) (top_divided fs) (item_reading (top_used fs) i (expansion_after (value earlier) 0 (item_text [] i))) q result → TakesOne {E = Unit {0}} need earlier (place_at text n (Some line)) q gs result
+    directive_line {A} i gs q result e f b m t = item_taken gs q result
         (subst (λ z. OnOk result (gs ≡ frames_after (shape_of z) (top_used fs) (item_chooses (is_defined earlier) z) fs)) (sym e) b)
+        (λ w. ap (item_grows (top_used fs) (length fs)) e ∙ m w)
         (subst (λ z. TakesReading {E = Unit {0}} earlier (length fs) (top_divided fs) (item_reading (top_used fs) z (expansion_after (value earlier) 0 (item_text line z))) q result) (sym e)
         (subst (λ z. TakesReading {E = Unit {0}} earlier (length fs) (top_divided fs) (item_reading (top_used fs) i (expansion_after (value earlier) 0 z)) q result) (sym f) t))
 
     -- a line that is no directive
-    pub plain_line : {A : Type 0} (q : Pass A) (result : Result (Unit {0}) ConfFaultKind) → is_directive line ≡ false
-        → TakesReading {E = Unit {0}} earlier (length fs) (top_divided fs) (if top_used fs then expanded_reading (strip (expansion_after (value earlier) 0 line)) else Nothing) q result → TakesOne {E = Unit {0}} need earlier (place text n (Some line)) q fs result
+    pub plain_line : {A : Type 0} (q : Pass A) (result : Result (Unit {0}) ConfFaultKind) → is_directive line ≡ false → (result ≡ Err Memory → top_used fs ≡ true)
+        → TakesReading {E = Unit {0}} earlier (length fs) (top_divided fs) (if top_used fs then expanded_reading (strip (expansion_after (value earlier) 0 line)) else Nothing) q result → TakesOne {E = Unit {0}} need earlier (place_at text n (Some line)) q fs result
     unfolding item_of
-    plain_line q result d t =
+    plain_line q result d m t =
         let e : item_of line ≡ Plain = ap (λ z. if z then directive_item (drop 2 line) else Plain) d in
-        item_taken fs q result (kept result e)
+        item_taken fs q result (kept result e) (λ w. ap (item_grows (top_used fs) (length fs)) e ∙ m w)
         (subst (λ z. TakesReading {E = Unit {0}} earlier (length fs) (top_divided fs) (item_reading (top_used fs) z (expansion_after (value earlier) 0 (item_text line z))) q result) (sym e) t)
       where
         kept : (r : Result (Unit {0}) ConfFaultKind) → item_of line ≡ Plain → OnOk r (fs ≡ frames_after (shape_of (item_of line)) (top_used fs) (item_chooses (is_defined earlier) (item_of line)) fs)
         kept (Ok u) e = ap (λ z. frames_after (shape_of z) (top_used fs) (item_chooses (is_defined earlier) z) fs) (sym e)
         kept (Err k) e = tt
+
+  long_says : is_skipped line ≡ false → (top_used fs && nat_lt 65536 (length line)) ≡ true → said_here ≡ Faulty LineTooLong
+  unfolding reading
+  long_says h l = rw (h, l) refl
+
+  -- the blocks behind this line, where it has no fault
+  blocks_behind : (v : Option (Result AttrSet ExprFault)) → fault_at need earlier (marked v) ≡ None → (gs : List Frame) × IsOpen (seen_in text earlier ++ seen (marked v) ∷ []) gs
+  blocks_behind v f = by_skip (is_skipped line) refl
+    where
+      by_length : is_skipped line ≡ false → (b : Bool) → (top_used fs && nat_lt 65536 (length line)) ≡ b → (gs : List Frame) × IsOpen (seen_in text earlier ++ seen (marked v) ∷ []) gs
+      by_length h true l =
+          let bad : Some LineTooLong ≡ None = sym (ap (λ r. line_fault earlier (length fs) (top_divided fs) r v) (long_says h l)) ∙ sym (fault-marked v) ∙ f in
+          absurd (let no : ⊥ = cc in no)
+      by_length h false l = (
+        frames_after (shape_of (item_of line)) (top_used fs) (item_chooses (is_defined earlier) (item_of line)) fs,
+        item_after h l _ refl v (sym (fault-marked v) ∙ f),
+      )
+
+      by_skip : (b : Bool) → is_skipped line ≡ b → (gs : List Frame) × IsOpen (seen_in text earlier ++ seen (marked v) ∷ []) gs
+      by_skip true h = (fs, plain_after (skipped_item h) v)
+      by_skip false h = by_length h (top_used fs && nat_lt 65536 (length line)) refl
+
+  -- This line is marked in some way, where its expression is judged in some way.
+  pub goes_on : ((v : Option (Result AttrSet ExprFault)) × IsJudgedWell (stands_after earlier) (expression_in said_here) v)
+      → (x : Marked) × (x.place ≡ place_at text n (Some line)) × IsMarkedWell earlier x × (fault_at need earlier x ≡ None → (gs : List Frame) × IsOpen (seen_in text (earlier ++ x ∷ [])) gs)
+  goes_on j = (
+    marked j.0,
+    refl,
+    well j.0 j.1,
+    λ f. let b = blocks_behind j.0 f in (b.0, subst (λ z. IsOpen z b.0) (sym (seen_in-more text earlier (marked j.0) refl)) b.1),
+  )
 
 -- the item of a directive is what stands behind its `@@`
 pub item_is : (line : List ℕ) (i : Item) → is_directive line ≡ true → i ≡ directive_item (drop 2 line) → item_of line ≡ i
@@ -218,6 +269,7 @@ text_of_directive line (code.Define n v) = refl
 text_of_directive line (code.Undef n) = refl
 text_of_directive line (code.IfDef n) = refl
 text_of_directive line (code.IfNotDef n) = refl
+text_of_directive line code.IfOther = refl
 text_of_directive line code.Else = refl
 text_of_directive line code.EndIf = refl
 text_of_directive line (code.Omitted c) = refl
@@ -235,7 +287,7 @@ missing_is earlier p s = ap (λ z. missing z (is_none p.new_path)) (is_none-text
 
 module _ (need : Need) (earlier : List Marked) (text : ConfText) (n : ℕ) (fs : List Frame) (o : IsOpen (seen_in text earlier) fs) where
   abbrev end_marked : Marked
-  end_marked = record { place = place text n None; used = top_used fs; depth = length fs; divided = top_divided fs; first = false; expanded = []; verdict = None }
+  end_marked = record { place = place_at text n None; used = top_used fs; depth = length fs; divided = top_divided fs; first = false; expanded = []; verdict = None }
 
   says-end : says end_marked ≡ Nothing
   unfolding says
@@ -252,10 +304,19 @@ module _ (need : Need) (earlier : List Marked) (text : ConfText) (n : ℕ) (fs :
     is_divided = divided_right (seen_in text earlier) fs o;
     is_first = refl;
     is_expanded = plain [] tt;
-    is_judged = subst (λ z. IsJudgedWell (names earlier) (expression_in z) None) (sym says-end) refl;
+    is_judged = subst (λ z. IsJudgedWell (stands_after earlier) (expression_in z) None) (sym says-end) refl;
   }
 
-  pub block_open : {A : Type 0} (p : Pass A) → 0 < length fs → TakesOne {E = Unit {0}} need earlier (place text n None) p fs (Err MissingEndif)
+  -- this end is marked in some way
+  pub ends_somehow : (x : Marked) × (x.place ≡ place_at text n None) × IsMarkedWell earlier x × (fault_at need earlier x ≡ None → (gs : List Frame) × IsOpen (seen_in text (earlier ++ x ∷ [])) gs)
+  ends_somehow = (
+    end_marked,
+    refl,
+    well_end,
+    λ f. (fs, subst (λ z. IsOpen z fs) (sym (seen_in-more text earlier end_marked refl)) (single_next (seen_in text earlier) fs (seen end_marked) o refl)),
+  )
+
+  pub block_open : {A : Type 0} (p : Pass A) → 0 < length fs → TakesOne {E = Unit {0}} need earlier (place_at text n None) p fs (Err MissingEndif)
   block_open p h =
       let e : (length fs == 0) ≡ false = grind (arith, nat_tests) in
       inl (end_marked, refl, well_end, fault-end ∙ ap (λ z. option_or (if z then None else Some MissingEndif) (end_fault need text earlier)) e)
@@ -265,7 +326,7 @@ module _ (need : Need) (earlier : List Marked) (text : ConfText) (n : ℕ) (fs :
       let e : (length fs == 0) ≡ true = grind (arith, nat_tests) in
       ap (λ z. option_or (if z then None else Some MissingEndif) (end_fault need text earlier)) e
 
-  pub ended : {A : Type 0} (p : Pass A) → StandsFor earlier p → (u : Unit {0}) → length fs ≡ 0 → end_fault need text earlier ≡ None → TakesOne {E = Unit {0}} need earlier (place text n None) p fs (Ok u)
+  pub ended : {A : Type 0} (p : Pass A) → StandsFor earlier p → (u : Unit {0}) → length fs ≡ 0 → end_fault need text earlier ≡ None → TakesOne {E = Unit {0}} need earlier (place_at text n None) p fs (Ok u)
   ended p s u h e = (
     end_marked,
     refl,
@@ -276,11 +337,11 @@ module _ (need : Need) (earlier : List Marked) (text : ConfText) (n : ℕ) (fs :
     subst (λ z. IsOpen z fs) (sym (seen_in-more text earlier end_marked refl)) (single_next (seen_in text earlier) fs (seen end_marked) o refl),
   )
 
-  pub end_refused : {A : Type 0} (p : Pass A) (kind : ConfFaultKind) → length fs ≡ 0 → end_fault need text earlier ≡ Some kind → TakesOne {E = Unit {0}} need earlier (place text n None) p fs (Err kind)
+  pub end_refused : {A : Type 0} (p : Pass A) (kind : ConfFaultKind) → length fs ≡ 0 → end_fault need text earlier ≡ Some kind → TakesOne {E = Unit {0}} need earlier (place_at text n None) p fs (Err kind)
   end_refused p kind h e = inl (end_marked, refl, well_end, fault-end ∙ no_block h ∙ e)
 
   -- the end of the last text, where databases may be missing
   pub lacking : {A : Type 0} (p : Pass A) → StandsFor earlier p → length fs ≡ 0 → end_fault need text earlier ≡ end_fault Compare After earlier
-      → (result : Result (Unit {0}) ConfFaultKind) → fault_of result ≡ missing (is_none p.old_path) (is_none p.new_path) → TakesOne {E = Unit {0}} need earlier (place text n None) p fs result
+      → (result : Result (Unit {0}) ConfFaultKind) → fault_of result ≡ missing (is_none p.old_path) (is_none p.new_path) → TakesOne {E = Unit {0}} need earlier (place_at text n None) p fs result
   lacking p s h e (Ok u) k = ended p s u h (e ∙ sym (missing_is earlier p s) ∙ sym k)
   lacking p s h e (Err kind) k = end_refused p kind h (e ∙ sym (missing_is earlier p s) ∙ sym k)

@@ -1,8 +1,8 @@
 -- What is taken where a line says something.
-use Rattle.std.proofs.Common.{ℕ, ◌≡◌, ◌≤◌, ◌<◌, Bool, true, false, List, [], length, refl, sym, ap, subst, ◌∙◌, arith, Option, Some, None, Result, Ok, Err, inl, inr, ◌⊎◌}
-use Rattle.std.specs.Prelude.{if◌then◌else◌, IsSome, nat_lt}
+use Rattle.std.proofs.Common.{ℕ, ◌≡◌, ◌≤◌, ◌<◌, Bool, true, false, List, [], length, refl, sym, ap, subst, ◌∙◌, arith, Option, Some, None, Result, Ok, Err, inl, inr}
+use Rattle.std.specs.Prelude.{if◌then◌else◌, nat_lt}
 use Rattle.std.specs.Option.{option_or}
-use Rattle.std.specs.FinMap.{get, len, insert, remove}
+use Rattle.std.specs.FinMap.{insert, remove}
 use Rattle.std.proofs.lemmas.Bool.Decides.{nat_tests}
 use Rattle.aide_attr.specs.declared.set.AttrSet.{AttrSet}
 use Rattle.aide_attr.specs.declared.level.Level.{Level}
@@ -11,20 +11,22 @@ use Rattle.aide_attr.specs.Groups.{names_of, stands_for}
 use Rattle.aide_attr.specs.Expression.{IsMeaning, IsFault}
 use Rattle.aide_attr.specs.Name.{is_word}
 use Rattle.aide_conf.specs.declared.fault.ConfFaultKind.{ConfFaultKind}
-use Rattle.aide_conf.specs.declared.fault.ConfFaultKind.TheVariants.{BadName, LineTooLong, ValueTooLong, TooMany}
+use Rattle.aide_conf.specs.declared.fault.ConfFaultKind.TheVariants.{BadDirective, BadName, LineTooLong, ValueTooLong, TooMany}
 use Rattle.aide_conf.specs.declared.setting.Database.{Database}
 use Rattle.aide_conf.specs.declared.setting.Switch.{Switch}
 use Rattle.aide_conf.specs.declared.setting.AttrList.{AttrList}
 use Rattle.aide_conf.specs.declared.pass.Pass.{Pass}
-use Rattle.aide_conf.specs.Reading.{Reading, Nothing, Faulty, Names, Tells, Turns, Lists, Fixes, Defines, Sets, Unsets, OpensBlock, DividesBlock, ClosesBlock, is_skipped, expanded_reading, kept_reading}
+use Rattle.aide_conf.specs.Reading.{Reading, Nothing, Faulty, NamesDatabase, SetsLevel, SetsSwitch, SetsAttributes, EndsOptions, DefinesGroup, DefinesVariable, DropsVariable, OpensBlock, DividesBlock, ClosesBlock, is_skipped, expanded_reading, kept_reading}
 use Rattle.aide_conf.specs.declared.directive.Directive.{Directive}
 use Rattle.aide_conf.specs.declared.blocks.Frame.{Frame}
-use Rattle.aide_conf.specs.Stack.{top_used, top_divided}
-use Rattle.aide_conf.specs.Expansion.{expansion_after}
-use Rattle.aide_conf.specs.Directive.{item, item_reading, item_text, set_reading, unset_reading}
-use Rattle.aide_conf.specs.Marks.{Marked, value, good, names, is_too_many, line_fault, verdict_fault, IsJudgedWell, expression_in}
-use Rattle.aide_conf.specs.Variables.{values_of, IsFull}
-use Rattle.aide_conf.specs.Pass.{StandsFor, TakesReading, IsTold, unless_fixed, with_level, with_switch, with_attrs, IsNamed, IsDefined, IsMisjudged, IsUndefined}
+use Rattle.aide_conf.specs.code.Stack.{top_used, top_divided}
+use Rattle.aide_conf.specs.code.Replacing.{expansion_after}
+use Rattle.aide_conf.specs.Directive.{item_reading, item_text, set_reading, unset_reading}
+use Rattle.aide_conf.specs.code.Said.{item}
+use Rattle.aide_conf.specs.Marks.{Marked, value, set_meant, stands_after, is_too_many, line_fault, verdict_fault, IsJudgedWell, expression_in}
+use Rattle.aide_conf.specs.code.Variables.{values_of}
+use Rattle.aide_attr.specs.Table.{HasRoom, IsFull}
+use Rattle.aide_conf.specs.code.Pass.{StandsFor, TakesReading, IsTold, unless_fixed, with_level, with_switch, with_attrs, NamesPath, HasNewGroup, IsMisjudged, HasNoRoom}
 use Rattle.aide_conf.proofs.Steps.{options_tell, options_turn, options_list}
 use Rattle.aide_conf.proofs.Stands.{IsQuiet, SetsNone, stands_silent, stands_set, stands_unset, stands_option, stands_fixed, stands_named, stands_defined, few, many, looks}
 use Rattle.aide_conf.proofs.VariableSteps.{room_left, no_room}
@@ -47,41 +49,41 @@ module _ {A : Type 0} (E : Type 0) (earlier : List Marked) (depth : ℕ) (divide
         (record { group = refl; fixing = refl; level = refl; switch = λ t. refl; attrs = λ l v. refl; path = λ d. refl }) (record { value = λ n. refl; name = refl }),
   )
 
-  pub tells : (u : E) (l : Level) → Taken (Tells l) (unless_fixed p (with_level l p.options)) (Ok u)
+  pub tells : (u : E) (l : Level) → Taken (SetsLevel l) (unless_fixed p (with_level l p.options)) (Ok u)
   tells u l = (
     None,
     refl,
     refl,
-    λ x e w. stands_option earlier x p s (Tells l) (with_level l p.options) e refl refl refl refl (record { value = λ n. refl; name = refl }) (λ h. options_tell earlier x p.options h l e),
+    λ x e w. stands_option earlier x p s (SetsLevel l) (with_level l p.options) e refl refl refl refl (record { value = λ n. refl; name = refl }) (λ h. options_tell earlier x p.options h l e),
   )
 
-  pub turns : (u : E) (t : Switch) (b : Bool) → Taken (Turns t b) (unless_fixed p (with_switch t b p.options)) (Ok u)
+  pub turns : (u : E) (t : Switch) (b : Bool) → Taken (SetsSwitch t b) (unless_fixed p (with_switch t b p.options)) (Ok u)
   turns u t b = (
     None,
     refl,
     refl,
-    λ x e w. stands_option earlier x p s (Turns t b) (with_switch t b p.options) e refl refl refl refl (record { value = λ n. refl; name = refl }) (λ h. options_turn earlier x p.options h t b e),
+    λ x e w. stands_option earlier x p s (SetsSwitch t b) (with_switch t b p.options) e refl refl refl refl (record { value = λ n. refl; name = refl }) (λ h. options_turn earlier x p.options h t b e),
   )
 
-  pub fixes_here : (u : E) → Taken Fixes (record p { fixed = true }) (Ok u)
+  pub fixes_here : (u : E) → Taken EndsOptions (record p { fixed = true }) (Ok u)
   fixes_here u = (None, refl, refl, λ x e w. stands_fixed earlier x p s e)
 
-  pub names_path : (u : E) (d : Database) (path : List ℕ) (q : Pass A) → IsNamed d path p q → Taken (Names d path) q (Ok u)
+  pub names_path : (u : E) (d : Database) (path : List ℕ) (q : Pass A) → NamesPath d path p q → Taken (NamesDatabase d path) q (Ok u)
   names_path u d path q h = (None, refl, refl, λ x e w. stands_named earlier x p s d path q e h)
 
   -- ---- expressions
 
-  meant : (expression : List ℕ) (set : AttrSet) → IsMeaning (stands_for (names_of p.groups)) expression set → IsMeaning (names earlier) expression set
+  meant : (expression : List ℕ) (set : AttrSet) → IsMeaning (stands_for (names_of p.groups)) expression set → IsMeaning (stands_after earlier) expression set
   meant expression set h = subst (λ z. IsMeaning z expression set) (looks earlier (names_of p.groups) s.groups) h
 
   pub lists : (u : E) (l : AttrList) (expression : List ℕ) (set : AttrSet) → IsMeaning (stands_for (names_of p.groups)) expression set
-      → Taken (Lists l expression) (unless_fixed p (with_attrs l set p.options)) (Ok u)
+      → Taken (SetsAttributes l expression) (unless_fixed p (with_attrs l set p.options)) (Ok u)
   lists u l expression set m = (
     Some (Ok set),
     meant expression set m,
     refl,
-    λ x e w. stands_option earlier x p s (Lists l expression) (with_attrs l set p.options) e refl refl refl refl (record { value = λ n. refl; name = refl })
-        (λ h. options_list earlier x p.options h l expression set e (ap good w)),
+    λ x e w. stands_option earlier x p s (SetsAttributes l expression) (with_attrs l set p.options) e refl refl refl refl (record { value = λ n. refl; name = refl })
+        (λ h. options_list earlier x p.options h l expression set e (ap set_meant w)),
   )
 
   misjudged : (r : Reading) (expression : List ℕ) → expression_in r ≡ Some expression → ((v : Option (Result AttrSet ExprFault)) (k : ConfFaultKind) → verdict_fault v ≡ Some k → line_fault earlier depth divided r v ≡ Some k)
@@ -89,38 +91,38 @@ module _ {A : Type 0} (E : Type 0) (earlier : List Marked) (depth : ℕ) (divide
   misjudged r expression is_in fails kind q m =
       let v = Some (Err m.0) in
       let judged = subst (λ z. IsFault z expression m.0) (looks earlier (names_of p.groups) s.groups) m.1 in
-      inl (v, subst (λ z. IsJudgedWell (names earlier) z v) (sym is_in) judged, fails v kind m.2)
+      inl (v, subst (λ z. IsJudgedWell (stands_after earlier) z v) (sym is_in) judged, fails v kind m.2)
 
-  pub lists_misjudged : (l : AttrList) (expression : List ℕ) (kind : ConfFaultKind) (q : Pass A) → IsMisjudged (stands_for (names_of p.groups)) expression kind → Taken (Lists l expression) q (Err kind)
-  lists_misjudged l expression = misjudged (Lists l expression) expression refl (λ v k h. h)
+  pub lists_misjudged : (l : AttrList) (expression : List ℕ) (kind : ConfFaultKind) (q : Pass A) → IsMisjudged (stands_for (names_of p.groups)) expression kind → Taken (SetsAttributes l expression) q (Err kind)
+  lists_misjudged l expression = misjudged (SetsAttributes l expression) expression refl (λ v k h. h)
 
-  pub defines_misjudged : (name expression : List ℕ) (kind : ConfFaultKind) (q : Pass A) → IsMisjudged (stands_for (names_of p.groups)) expression kind → Taken (Defines name expression) q (Err kind)
-  defines_misjudged name expression = misjudged (Defines name expression) expression refl (λ v k h. ap (λ z. option_or z (if is_too_many earlier name then Some TooMany else None)) h)
+  pub defines_misjudged : (name expression : List ℕ) (kind : ConfFaultKind) (q : Pass A) → IsMisjudged (stands_for (names_of p.groups)) expression kind → Taken (DefinesGroup name expression) q (Err kind)
+  defines_misjudged name expression = misjudged (DefinesGroup name expression) expression refl (λ v k h. ap (λ z. option_or z (if is_too_many earlier name then Some TooMany else None)) h)
 
-  pub defines : (u : E) (name expression : List ℕ) (set : AttrSet) (q : Pass A) → IsMeaning (stands_for (names_of p.groups)) expression set → IsDefined name set p q → Taken (Defines name expression) q (Ok u)
+  pub defines : (u : E) (name expression : List ℕ) (set : AttrSet) (q : Pass A) → IsMeaning (stands_for (names_of p.groups)) expression set → HasNewGroup name set p q → Taken (DefinesGroup name expression) q (Ok u)
   defines u name expression set q m h = (
     Some (Ok set),
     meant expression set m,
     ap (λ z. if z then Some TooMany else None) (few earlier (names_of p.groups) s.groups name h.room),
-    λ x e w. stands_defined earlier x p s name expression set q e (ap good w) h,
+    λ x e w. stands_defined earlier x p s name expression set q e (ap set_meant w) h,
   )
 
-  pub undefined : (name expression : List ℕ) (set : AttrSet) (kind : ConfFaultKind) (q : Pass A) → IsMeaning (stands_for (names_of p.groups)) expression set → IsUndefined name p kind → Taken (Defines name expression) q (Err kind)
+  pub undefined : (name expression : List ℕ) (set : AttrSet) (kind : ConfFaultKind) (q : Pass A) → IsMeaning (stands_for (names_of p.groups)) expression set → HasNoRoom name p kind → Taken (DefinesGroup name expression) q (Err kind)
   undefined name expression set kind q m (inl h) =
       inl (Some (Ok set), meant expression set m, ap (λ z. if z then Some TooMany else None) (many earlier (names_of p.groups) s.groups name h.1) ∙ ap Some (sym h.0))
   undefined name expression set kind q m (inr h) = inr h
 
   -- ---- variables
 
-  set_well : (name value : List ℕ) → is_word name ≡ true → (b : Bool) → nat_lt 4096 (length value) ≡ b → set_reading name value ≡ (if b then Faulty ValueTooLong else Sets name value)
-  set_well name value e b f = ap (λ z. if z then (if nat_lt 4096 (length value) then Faulty ValueTooLong else Sets name value) else Faulty BadName) e ∙ ap (λ z. if z then Faulty ValueTooLong else Sets name value) f
+  set_well : (name value : List ℕ) → is_word name ≡ true → (b : Bool) → nat_lt 4096 (length value) ≡ b → set_reading name value ≡ (if b then Faulty ValueTooLong else DefinesVariable name value)
+  set_well name value e b f = ap (λ z. if z then (if nat_lt 4096 (length value) then Faulty ValueTooLong else DefinesVariable name value) else Faulty BadName) e ∙ ap (λ z. if z then Faulty ValueTooLong else DefinesVariable name value) f
 
   pub set_too_long : (name value : List ℕ) (q : Pass A) → is_word name ≡ true → 4096 < length value → Taken (set_reading name value) q (Err ValueTooLong)
   set_too_long name value q e l =
       let f : nat_lt 4096 (length value) ≡ true = grind (arith, nat_tests) in
       subst (λ r. Taken r q (Err ValueTooLong)) (sym (set_well name value e true f)) (faulty ValueTooLong q)
 
-  pub sets : (u : E) (name value : List ℕ) (q : Pass A) → is_word name ≡ true → length value ≤ 4096 → IsSome (get (values_of p.variables) name) ⊎ (len (values_of p.variables) < 1024)
+  pub sets : (u : E) (name value : List ℕ) (q : Pass A) → is_word name ≡ true → length value ≤ 4096 → HasRoom (values_of p.variables) name
       → values_of q.variables ≡ insert (values_of p.variables) name value → q ≡ record p { variables = q.variables } → Taken (set_reading name value) q (Ok u)
   sets u name value q e l room t k =
       let f : nat_lt 4096 (length value) ≡ false = grind (arith, nat_tests) in
@@ -138,20 +140,27 @@ module _ {A : Type 0} (E : Type 0) (earlier : List Marked) (depth : ℕ) (divide
       (inl (None, refl, ap (λ z. if z then Some TooMany else None) (no_room earlier (values_of p.variables) s.variables name full)))
 
   pub unsets : (u : E) (name : List ℕ) (q : Pass A) → is_word name ≡ true → values_of q.variables ≡ remove (values_of p.variables) name → q ≡ record p { variables = q.variables } → Taken (unset_reading name) q (Ok u)
-  unsets u name q e t k = subst (λ r. Taken r q (Ok u)) (sym (ap (λ z. if z then Unsets name else Faulty BadName) e)) (None, refl, refl, λ x h w. stands_unset earlier x p s name q h t k)
+  unsets u name q e t k = subst (λ r. Taken r q (Ok u)) (sym (ap (λ z. if z then DropsVariable name else Faulty BadName) e)) (None, refl, refl, λ x h w. stands_unset earlier x p s name q h t k)
 
   -- ---- blocks
 
   silent : (r : Reading) → IsQuiet r → SetsNone r → expression_in r ≡ None → (u : E) → line_fault earlier depth divided r None ≡ None → Taken r p (Ok u)
-  silent r q n e u f = (None, subst (λ z. IsJudgedWell (names earlier) z None) (sym e) refl, f, λ x h w. stands_silent earlier x p s r h q n)
+  silent r q n e u f = (None, subst (λ z. IsJudgedWell (stands_after earlier) z None) (sym e) refl, f, λ x h w. stands_silent earlier x p s r h q n)
 
   told : (r : Reading) → IsQuiet r → SetsNone r → expression_in r ≡ None → (result : Result E ConfFaultKind) → IsTold (line_fault earlier depth divided r None) result → Taken r p result
   told r q n e (Ok u) h = silent r q n e u h
-  told r q n e (Err kind) (inl h) = inl (None, subst (λ z. IsJudgedWell (names earlier) z None) (sym e) refl, h)
+  told r q n e (Err kind) (inl h) = inl (None, subst (λ z. IsJudgedWell (stands_after earlier) z None) (sym e) refl, h)
   told r q n e (Err kind) (inr h) = inr h
 
   pub told_open : (good : Bool) (result : Result E ConfFaultKind) → IsTold (line_fault [] depth divided (OpensBlock good) None) result → Taken (OpensBlock good) p result
   told_open good = told (OpensBlock good) (record { group = refl; fixing = refl; level = refl; switch = λ t. refl; attrs = λ l v. refl; path = λ d. refl }) (record { value = λ n. refl; name = refl }) refl
+
+  pub told_other : (used : Bool) (result : Result E ConfFaultKind) → IsTold (line_fault [] depth divided (if used then Faulty BadDirective else OpensBlock true) None) result
+      → Taken (if used then Faulty BadDirective else OpensBlock true) p result
+  told_other true (Ok u) h = let bad : Some BadDirective ≡ None = h in cc
+  told_other true (Err k) (inl h) = let e : BadDirective ≡ k = cc in subst (λ z. Taken (Faulty BadDirective) p (Err z)) e (faulty BadDirective p)
+  told_other true (Err k) (inr h) = inr h
+  told_other false result h = told_open true result h
 
   pub told_divide : (result : Result E ConfFaultKind) → IsTold (line_fault [] depth divided DividesBlock None) result → Taken DividesBlock p result
   told_divide = told DividesBlock (record { group = refl; fixing = refl; level = refl; switch = λ t. refl; attrs = λ l v. refl; path = λ d. refl }) (record { value = λ n. refl; name = refl }) refl

@@ -8,7 +8,7 @@ use Rattle.aide_conf.specs.declared.fault.ConfText.{ConfText}
 use Rattle.aide_conf.specs.Lines.{Place, places_from}
 use Rattle.aide_conf.specs.Marks.{Marked, AreSound, is_text, seen, seen_in}
 use Rattle.aide_conf.specs.Answer.{IsRead, IsRefused, IsStarved}
-use Rattle.aide_conf.specs.Pass.{StandsFor, Takes, Stops, text_at}
+use Rattle.aide_conf.specs.code.Pass.{StandsFor, Takes, Stops, text_at}
 use Rattle.aide_conf.proofs.Cuts.{append_nothing}
 
 places_append : (xs ys : List Marked) → map (λ (x : Marked). x.place) (xs ++ ys) ≡ map (λ (x : Marked). x.place) xs ++ map (λ (x : Marked). x.place) ys
@@ -89,7 +89,7 @@ refused need ps e v = elim v.kind [
     text = v.text ∙ ap (λ (z : Place). z.text) (sym k.1);
     line = v.line ∙ ap (λ (z : Place). z.number) (sym k.1);
   })
-  | inr k ↦ inr (record { lines = v.lines; at = v.at; rest = v.rest; cut = v.cut; sound = v.sound; is_line = k.1; kind = k.0; text = v.text; line = v.line })
+  | inr k ↦ inr (record { lines = v.lines; at = v.at; rest = v.rest; cut = v.cut; sound = v.sound; grows = k.1; kind = k.0; text = v.text; line = v.line })
 ]
 
 pub taken : {A : Type 0} (need : Need) (ps : List Place) (p : Pass A) → Takes need [] ps p → IsRead need ps (record { options = p.options; old_path = text_at p.old_path; new_path = text_at p.new_path })

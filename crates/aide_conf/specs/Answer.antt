@@ -1,10 +1,10 @@
 -- The answer to the three texts of a configuration.
-use Rattle.std.specs.Prelude.{ℕ, ◌≡◌, List, [], ◌∷◌, ◌++◌, Some, IsSome, map, Result, Ok, Err}
+use Rattle.std.specs.Prelude.{ℕ, ◌≡◌, List, [], ◌∷◌, ◌++◌, Some, map, Result, Ok, Err}
 use Rattle.aide_conf.specs.declared.task.Need.{Need}
 use Rattle.aide_conf.specs.declared.fault.ConfFault.{ConfFault}
 use Rattle.aide_conf.specs.declared.fault.ConfFaultKind.TheVariants.{Memory}
 use Rattle.aide_conf.specs.Lines.{Place, places}
-use Rattle.aide_conf.specs.Marks.{Marked, AreSound, IsMarkedWell, fault_at}
+use Rattle.aide_conf.specs.Marks.{Marked, AreSound, Grows, IsMarkedWell, fault_at}
 use Rattle.aide_conf.specs.Settings.{Configured, AreSettings}
 
 -- no place has a fault, and these are the settings
@@ -26,14 +26,14 @@ pub record IsRefused (need : Need) (ps : List Place) (e : ConfFault) : Type 0 wh
   pub text : e.text ≡ at.place.text
   pub line : e.line ≡ at.place.number
 
--- a line at which memory was wanted: no place before it has a fault
+-- Want of memory: no place before this line has a fault, and something grows at it.
 pub record IsStarved (need : Need) (ps : List Place) (e : ConfFault) : Type 0 where
   pub lines : List Marked
   pub at : Place
   pub rest : List Place
   pub cut : ps ≡ map (λ x. x.place) lines ++ at ∷ rest
   pub sound : AreSound need [] lines
-  pub is_line : IsSome at.line
+  pub grows : Grows lines at
   pub kind : e.kind ≡ Memory
   pub text : e.text ≡ at.text
   pub line : e.line ≡ at.number

@@ -1,5 +1,36 @@
 -- Places with what is true of them, and the fault of a place.
-use Rattle.std.specs.Prelude.{ℕ, ◌≡◌, Bool, true, false, not, ◌&&◌, ◌||◌, ◌==◌, nat_le, List, [], ◌∷◌, ◌++◌, length, Option, Some, None, is_some, is_none, option_map, option_and_then, reverse, find, unwrap_or, if◌then◌else◌, Result, ◌↔◌, Ok, Err}
+use Rattle.std.specs.Prelude.{
+  ℕ,
+  ◌≡◌,
+  Bool,
+  true,
+  false,
+  not,
+  ◌&&◌,
+  ◌||◌,
+  ◌==◌,
+  nat_le,
+  List,
+  [],
+  ◌∷◌,
+  ◌++◌,
+  length,
+  Option,
+  Some,
+  None,
+  is_some,
+  is_none,
+  option_map,
+  option_and_then,
+  reverse,
+  find,
+  unwrap_or,
+  if◌then◌else◌,
+  Result,
+  ◌↔◌,
+  Ok,
+  Err,
+}
 use Rattle.std.specs.List.{list_any, filter}
 use Rattle.std.specs.Option.{option_or}
 use Rattle.aide_attr.specs.declared.attr.Attr.{Attr}
@@ -12,18 +43,46 @@ use Rattle.aide_attr.specs.Expression.{IsMeaning, IsFault}
 use Rattle.aide_conf.specs.declared.fault.ConfText.{ConfText}
 use Rattle.aide_conf.specs.declared.fault.ConfText.TheVariants.{Before, File, After}
 use Rattle.aide_conf.specs.declared.fault.ConfFaultKind.{ConfFaultKind}
-use Rattle.aide_conf.specs.declared.fault.ConfFaultKind.TheVariants.{StrayElse, StrayEndif, MissingEndif, TooDeep, BadName, UnknownAttribute, BadExpression, TooMany, NoOldDatabase, NoNewDatabase}
+use Rattle.aide_conf.specs.declared.fault.ConfFaultKind.TheVariants.{
+  StrayElse,
+  StrayEndif,
+  MissingEndif,
+  TooDeep,
+  BadName,
+  UnknownAttribute,
+  BadExpression,
+  TooMany,
+  NoOldDatabase,
+  NoNewDatabase,
+}
 use Rattle.aide_conf.specs.declared.task.Need.{Need}
-use Rattle.aide_conf.specs.declared.task.Need.TheVariants.{Compare, Check}
+use Rattle.aide_conf.specs.declared.task.Need.TheVariants.{Compare}
 use Rattle.aide_conf.specs.declared.setting.Database.{Database}
 use Rattle.aide_conf.specs.declared.setting.Database.TheVariants.{Old, New}
 use Rattle.aide_conf.specs.Lines.{Place}
-use Rattle.aide_conf.specs.Reading.{same, Reading, Nothing, Faulty, Names, Tells, Turns, Lists, Fixes, Defines, Sets, Unsets, OpensBlock, DividesBlock, ClosesBlock}
-use Rattle.aide_conf.specs.Directive.{item_of, shape_of, item_chooses, item_text, reading}
-use Rattle.aide_conf.specs.Blocks.{Shape, Single, Seen, AreEnclosing, IsDivided, IsUsedRight}
+use Rattle.aide_conf.specs.Reading.{same}
+use Rattle.aide_conf.specs.Reading.{
+  Reading,
+  Nothing,
+  Faulty,
+  NamesDatabase,
+  SetsAttributes,
+  DefinesGroup,
+  DefinesVariable,
+  DropsVariable,
+  OpensBlock,
+  DividesBlock,
+  ClosesBlock,
+}
+use Rattle.aide_conf.specs.Directive.{item_of, shape_of, item_chooses, item_text, reading, line_grows}
+use Rattle.aide_conf.specs.Blocks.{Shape, Single, Seen, AreEnclosing, EnclosedWell, IsDivided, IsUsedRight}
 use Rattle.aide_conf.specs.Expansion.{IsExpansion}
+use Rattle.aide_conf.specs.Limits.{most_variables, deepest}
+use Rattle.aide_attr.specs.Groups.{most_groups}
 
--- A place, and what is true of it: whether it is used; how many lines of its text enclose it, and whether it stands in the second part of the innermost of their blocks; of an opening line, whether it chooses its first part; what its bytes are after expansion; and what its expression means or why it means nothing.
+-- A place, and what is true of it: whether it is used; how many lines of its text enclose it, and whether it stands in the
+-- second part of the innermost of their blocks; of an opening line, whether it chooses its first part; what its bytes are after
+-- expansion; and what its expression means or why it means nothing.
 pub record Marked : Type 0 where
   pub place : Place
   pub used : Bool
@@ -33,6 +92,7 @@ pub record Marked : Type 0 where
   pub expanded : List ℕ
   pub verdict : Option (Result AttrSet ExprFault)
 
+-- what a line says, used or not, where this is its expansion; the end of a text says nothing
 abbrev pub line_says : Option (List ℕ) → Bool → List ℕ → Reading
 line_says None used expanded = Nothing
 line_says (Some line) used expanded = reading used line expanded
@@ -47,92 +107,67 @@ last_given f xs = option_and_then f (find (λ x. is_some (f x)) (reverse xs))
 
 -- ---- expressions and groups
 
-abbrev pub good : Option (Result AttrSet ExprFault) → Option AttrSet
-good None = None
-good (Some (Ok s)) = Some s
-good (Some (Err e)) = None
+-- the set that an expression means, where it means one
+abbrev pub set_meant : Option (Result AttrSet ExprFault) → Option AttrSet
+set_meant None = None
+set_meant (Some (Ok s)) = Some s
+set_meant (Some (Err e)) = None
 
+-- the expression that a line has, for an option or for a group
 abbrev pub expression_in : Reading → Option (List ℕ)
-expression_in Nothing = None
-expression_in (Faulty k) = None
-expression_in (Names d p) = None
-expression_in (Tells l) = None
-expression_in (Turns s b) = None
-expression_in (Lists l e) = Some e
-expression_in Fixes = None
-expression_in (Defines n e) = Some e
-expression_in (Sets n v) = None
-expression_in (Unsets n) = None
-expression_in (OpensBlock b) = None
-expression_in DividesBlock = None
-expression_in ClosesBlock = None
+expression_in (SetsAttributes l e) = Some e
+expression_in (DefinesGroup n e) = Some e
+expression_in _ = None
 
-abbrev pub name_in : Reading → Option (List ℕ)
-name_in Nothing = None
-name_in (Faulty k) = None
-name_in (Names d p) = None
-name_in (Tells l) = None
-name_in (Turns s b) = None
-name_in (Lists l e) = None
-name_in Fixes = None
-name_in (Defines n e) = Some n
-name_in (Sets n v) = None
-name_in (Unsets n) = None
-name_in (OpensBlock b) = None
-name_in DividesBlock = None
-name_in ClosesBlock = None
+-- the name of the group that a line defines
+abbrev pub group_name_of : Reading → Option (List ℕ)
+group_name_of (DefinesGroup n e) = Some n
+group_name_of _ = None
 
+-- a name is given, and it is this one
 abbrev pub is_name : List ℕ → Option (List ℕ) → Bool
 is_name n None = false
 is_name n (Some m) = same n m
 
 -- the set that a place gives to the group of a name
 abbrev pub group_in : List ℕ → Marked → Option AttrSet
-group_in n x = if is_name n (name_in (says x)) then good x.verdict else None
+group_in n x = if is_name n (group_name_of (says x)) then set_meant x.verdict else None
 
 -- the set of a group after these places: that of its last definition
 abbrev pub group : List Marked → List ℕ → Option AttrSet
 group xs n = last_given (group_in n) xs
 
 -- what a name stands for in an expression after these places
-abbrev pub names : List Marked → List ℕ → Option (Attr → Bool)
-names xs n = option_or (option_map has (group xs n)) (predefined n)
+abbrev pub stands_after : List Marked → List ℕ → Option (Attr → Bool)
+stands_after xs n = option_or (option_map has (group xs n)) (predefined n)
 
+-- these names and one more, where one is given that is not yet among them
 abbrev pub add_name : Option (List ℕ) → List (List ℕ) → List (List ℕ)
 add_name None ns = ns
 add_name (Some n) ns = if list_any (same n) ns then ns else n ∷ ns
 
 -- the names that places give, each once
-abbrev pub names_in : (Reading → Option (List ℕ)) → List Marked → List (List ℕ)
-names_in f [] = []
-names_in f (x ∷ xs) = add_name (f (says x)) (names_in f xs)
+abbrev pub names_given : (Reading → Option (List ℕ)) → List Marked → List (List ℕ)
+names_given f [] = []
+names_given f (x ∷ xs) = add_name (f (says x)) (names_given f xs)
 
 -- the names of the groups that these places define, each once
 unfoldable pub group_names : List Marked → List (List ℕ)
-group_names xs = names_in name_in (reverse xs)
+group_names xs = names_given group_name_of (reverse xs)
 
 -- a 1,025th group
 unfoldable pub is_too_many : List Marked → List ℕ → Bool
-is_too_many xs n = not (list_any (same n) (group_names xs)) && nat_le 1024 (length (group_names xs))
+is_too_many xs n = not (list_any (same n) (group_names xs)) && nat_le most_groups (length (group_names xs))
 
 -- ---- variables
 
 -- the value that a line gives to a variable, or that it has none from there on
 abbrev pub variable_by : List ℕ → Reading → Option (Option (List ℕ))
-variable_by n Nothing = None
-variable_by n (Faulty k) = None
-variable_by n (Names d p) = None
-variable_by n (Tells l) = None
-variable_by n (Turns s b) = None
-variable_by n (Lists l e) = None
-variable_by n Fixes = None
-variable_by n (Defines m e) = None
-variable_by n (Sets m v) = if same n m then Some (Some v) else None
-variable_by n (Unsets m) = if same n m then Some None else None
-variable_by n (OpensBlock b) = None
-variable_by n DividesBlock = None
-variable_by n ClosesBlock = None
+variable_by n (DefinesVariable m v) = if same n m then Some (Some v) else None
+variable_by n (DropsVariable m) = if same n m then Some None else None
+variable_by _ _ = None
 
+-- what a place gives to a variable, by what it says
 abbrev pub variable_in : List ℕ → Marked → Option (Option (List ℕ))
 variable_in n x = variable_by n (says x)
 
@@ -140,6 +175,7 @@ variable_in n x = variable_by n (says x)
 abbrev pub variable : List Marked → List ℕ → Option (List ℕ)
 variable xs n = unwrap_or (last_given (variable_in n) xs) None
 
+-- a variable has a value after these places
 abbrev pub is_defined : List Marked → List ℕ → Bool
 is_defined xs n = is_some (variable xs n)
 
@@ -147,24 +183,14 @@ is_defined xs n = is_some (variable xs n)
 abbrev pub value : List Marked → List ℕ → List ℕ
 value xs n = unwrap_or (variable xs n) []
 
-abbrev pub variable_name_in : Reading → Option (List ℕ)
-variable_name_in Nothing = None
-variable_name_in (Faulty k) = None
-variable_name_in (Names d p) = None
-variable_name_in (Tells l) = None
-variable_name_in (Turns s b) = None
-variable_name_in (Lists l e) = None
-variable_name_in Fixes = None
-variable_name_in (Defines n e) = None
-variable_name_in (Sets n v) = Some n
-variable_name_in (Unsets n) = None
-variable_name_in (OpensBlock b) = None
-variable_name_in DividesBlock = None
-variable_name_in ClosesBlock = None
+-- the name of the variable that a line sets
+abbrev pub variable_name_of : Reading → Option (List ℕ)
+variable_name_of (DefinesVariable n v) = Some n
+variable_name_of _ = None
 
 -- the names of the variables that these places set, each once
 unfoldable pub variable_names : List Marked → List (List ℕ)
-variable_names xs = names_in variable_name_in (reverse xs)
+variable_names xs = names_given variable_name_of (reverse xs)
 
 -- the names that are defined after these places, each once
 unfoldable pub defined_names : List Marked → List (List ℕ)
@@ -172,21 +198,18 @@ defined_names xs = filter (is_defined xs) (variable_names xs)
 
 -- a 1,025th variable
 unfoldable pub is_one_variable_more : List Marked → List ℕ → Bool
-is_one_variable_more xs n = not (is_defined xs n) && nat_le 1024 (length (defined_names xs))
+is_one_variable_more xs n = not (is_defined xs n) && nat_le most_variables (length (defined_names xs))
 
 -- ---- blocks
 
+-- both are the same of the three texts
 abbrev pub is_text : ConfText → ConfText → Bool
 is_text Before Before = true
-is_text Before File = false
-is_text Before After = false
-is_text File Before = false
 is_text File File = true
-is_text File After = false
-is_text After Before = false
-is_text After File = false
 is_text After After = true
+is_text _ _ = false
 
+-- what a line does to the blocks of its text; the end of a text does nothing to them
 abbrev pub shape_at : Option (List ℕ) → Shape
 shape_at None = Single
 shape_at (Some line) = shape_of (item_of line)
@@ -202,27 +225,19 @@ seen_in text (x ∷ xs) = if is_text text x.place.text then seen x ∷ seen_in t
 
 -- ---- the path of a database
 
+-- both are the same of the two databases
 abbrev pub is_database : Database → Database → Bool
 is_database Old Old = true
 is_database Old New = false
 is_database New Old = false
 is_database New New = true
 
+-- the path that a line gives to a database
 abbrev pub path_by : Database → Reading → Option (List ℕ)
-path_by d Nothing = None
-path_by d (Faulty k) = None
-path_by d (Names c p) = if is_database d c then Some p else None
-path_by d (Tells l) = None
-path_by d (Turns s b) = None
-path_by d (Lists l e) = None
-path_by d Fixes = None
-path_by d (Defines n e) = None
-path_by d (Sets n v) = None
-path_by d (Unsets n) = None
-path_by d (OpensBlock b) = None
-path_by d DividesBlock = None
-path_by d ClosesBlock = None
+path_by d (NamesDatabase c p) = if is_database d c then Some p else None
+path_by _ _ = None
 
+-- the path that a place gives to a database, by what it says
 abbrev pub path_in : Database → Marked → Option (List ℕ)
 path_in d x = path_by d (says x)
 
@@ -232,31 +247,30 @@ path_set d xs = last_given (path_in d) xs
 
 -- ---- the fault of a place
 
+-- the fault of an expression that means nothing
 abbrev pub verdict_fault : Option (Result AttrSet ExprFault) → Option ConfFaultKind
 verdict_fault None = None
 verdict_fault (Some (Ok s)) = None
 verdict_fault (Some (Err (expression.UnknownName i))) = Some UnknownAttribute
 verdict_fault (Some (Err (expression.BadExpression i))) = Some BadExpression
 
+-- the fault where something does not hold that has to
 abbrev pub unless : Bool → ConfFaultKind → Option ConfFaultKind
-unless good kind = if good then None else Some kind
+unless holds kind = if holds then None else Some kind
 
 -- the fault of a line after these places, so deep in blocks, and in the second part of the innermost or not
 abbrev pub line_fault : List Marked → ℕ → Bool → Reading → Option (Result AttrSet ExprFault) → Option ConfFaultKind
-line_fault earlier depth divided Nothing verdict = None
 line_fault earlier depth divided (Faulty k) verdict = Some k
-line_fault earlier depth divided (Names d p) verdict = None
-line_fault earlier depth divided (Tells l) verdict = None
-line_fault earlier depth divided (Turns s b) verdict = None
-line_fault earlier depth divided (Lists l e) verdict = verdict_fault verdict
-line_fault earlier depth divided Fixes verdict = None
-line_fault earlier depth divided (Defines n e) verdict = option_or (verdict_fault verdict) (if is_too_many earlier n then Some TooMany else None)
-line_fault earlier depth divided (Sets n v) verdict = if is_one_variable_more earlier n then Some TooMany else None
-line_fault earlier depth divided (Unsets n) verdict = None
-line_fault earlier depth divided (OpensBlock good) verdict = if nat_le 32 depth then Some TooDeep else unless good BadName
+line_fault earlier depth divided (SetsAttributes l e) verdict = verdict_fault verdict
+line_fault earlier depth divided (DefinesGroup n e) verdict =
+    option_or (verdict_fault verdict) (if is_too_many earlier n then Some TooMany else None)
+line_fault earlier depth divided (DefinesVariable n v) verdict = if is_one_variable_more earlier n then Some TooMany else None
+line_fault earlier depth divided (OpensBlock good) verdict = if nat_le deepest depth then Some TooDeep else unless good BadName
 line_fault earlier depth divided DividesBlock verdict = if depth == 0 || divided then Some StrayElse else None
 line_fault earlier depth divided ClosesBlock verdict = if depth == 0 then Some StrayEndif else None
+line_fault _ _ _ _ _ = None
 
+-- the fault where a database is not named: the old one's comes first
 abbrev pub missing : Bool → Bool → Option ConfFaultKind
 missing no_old no_new = if no_old then Some NoOldDatabase else if no_new then Some NoNewDatabase else None
 
@@ -266,11 +280,10 @@ end_block_fault depth = if depth == 0 then None else Some MissingEndif
 
 -- after the last text both databases have to be named, where they are compared
 abbrev pub end_fault : Need → ConfText → List Marked → Option ConfFaultKind
-end_fault Check text earlier = None
-end_fault Compare Before earlier = None
-end_fault Compare File earlier = None
 end_fault Compare After earlier = missing (is_none (path_set Old earlier)) (is_none (path_set New earlier))
+end_fault _ _ _ = None
 
+-- the fault of a line, or of the end of a text, where an open block comes before a database that is not named
 abbrev pub place_fault : Need → List Marked → Marked → Option (List ℕ) → Option ConfFaultKind
 place_fault need earlier x None = option_or (end_block_fault x.depth) (end_fault need x.place.text earlier)
 place_fault need earlier x (Some line) = line_fault earlier x.depth x.divided (says x) x.verdict
@@ -281,14 +294,17 @@ fault_at need earlier x = place_fault need earlier x x.place.line
 
 -- ---- the marks are right
 
+-- the line chooses its first part, where this says which names are defined; the end of a text chooses none
 abbrev pub chooses_at : (List ℕ → Bool) → Option (List ℕ) → Bool
 chooses_at defined None = false
 chooses_at defined (Some line) = item_chooses defined (item_of line)
 
+-- the bytes of a line that are expanded; the end of a text has none
 abbrev pub text_to_expand : Option (List ℕ) → List ℕ
 text_to_expand None = []
 text_to_expand (Some line) = item_text line (item_of line)
 
+-- A verdict is right: it is what the expression means or why it means nothing, and there is none without an expression.
 abbrev pub IsJudgedWell : (List ℕ → Option (Attr → Bool)) → Option (List ℕ) → Option (Result AttrSet ExprFault) → Type 0
 IsJudgedWell look None verdict = verdict ≡ None
 IsJudgedWell look (Some text) None = ⊥
@@ -302,7 +318,20 @@ pub record IsMarkedWell (earlier : List Marked) (x : Marked) : Type 0 where
   pub is_divided : (x.divided ≡ true) ↔ IsDivided (seen_in x.place.text earlier)
   pub is_first : x.first ≡ chooses_at (is_defined earlier) x.place.line
   pub is_expanded : IsExpansion (value earlier) (text_to_expand x.place.line) x.expanded
-  pub is_judged : IsJudgedWell (names earlier) (expression_in (says x)) x.verdict
+  pub is_judged : IsJudgedWell (stands_after earlier) (expression_in (says x)) x.verdict
+
+-- nothing grows at the end of a text
+abbrev pub place_grows : Bool → ℕ → Option (List ℕ) → Bool
+place_grows used depth None = false
+place_grows used depth (Some line) = line_grows used depth line
+
+-- A place, after these, where something grows: its line is expanded, or opens a block.
+pub record Grows (earlier : List Marked) (at : Place) : Type 0 where
+  pub used : Bool
+  pub depth : ℕ
+  pub is_used : (used ≡ true) ↔ EnclosedWell (seen_in at.text earlier)
+  pub is_enclosed : AreEnclosing depth (seen_in at.text earlier)
+  pub grows : place_grows used depth at.line ≡ true
 
 -- all are marked well, each after those before it, and none has a fault
 abbrev pub AreSound : Need → List Marked → List Marked → Type 0

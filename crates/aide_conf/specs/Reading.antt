@@ -1,11 +1,12 @@
 -- What a line says, as a function of its bytes.
-use Rattle.std.specs.Prelude.{ℕ, Bool, true, false, not, ◌&&◌, ◌||◌, ◌==◌, nat_lt, nat_eq, List, [], ◌∷◌, length, drop, Option, Some, None, codes, if◌then◌else◌}
+use Rattle.std.specs.Prelude.{ℕ, Bool, true, false, not, ◌&&◌, ◌||◌, ◌==◌, nat_lt, nat_eq, List, [], ◌∷◌, length, drop}
+use Rattle.std.specs.Prelude.{Option, Some, None, codes, if◌then◌else◌}
 use Rattle.std.specs.List.{starts_with}
 use Rattle.std.specs.Option.{option_or}
 use Rattle.std.specs.Str.{is_utf8}
 use Rattle.std.specs.Cmp.Lexicographic.{pointwise}
 use Rattle.aide_attr.specs.declared.level.Level.{Level}
-use Rattle.aide_attr.specs.declared.level.Level.TheVariants as level
+use Rattle.aide_attr.specs.Level.{level_named}
 use Rattle.aide_attr.specs.Name.{is_group_name}
 use Rattle.aide_conf.specs.declared.fault.ConfFaultKind.{ConfFaultKind}
 use Rattle.aide_conf.specs.declared.fault.ConfFaultKind.TheVariants.{LeftOut, BadName, BadValue, BadUrl, LineTooLong, ValueTooLong, BadLine}
@@ -18,10 +19,13 @@ use Rattle.aide_conf.specs.declared.setting.AttrList.TheVariants.{IgnoreAdded, I
 use Rattle.aide_conf.specs.declared.setting.Setting.{Setting}
 use Rattle.aide_conf.specs.declared.setting.Setting.TheVariants as setting
 use Rattle.aide_conf.specs.Lines.{strip, bytes_before, bytes_after}
+use Rattle.aide_conf.specs.Limits.{longest_line, longest_value}
 
+-- the same bytes in the same order
 abbrev pub same : List ℕ → List ℕ → Bool
 same xs ys = pointwise nat_eq xs ys
 
+-- the bytes begin with those of a text
 abbrev pub begins : List ℕ → List ℕ → Bool
 begins bs text = starts_with nat_eq bs text
 
@@ -30,19 +34,19 @@ pub data Reading : Type 0 where
   Nothing : Reading
   Faulty : ConfFaultKind → Reading
   -- the path of a database
-  Names : Database → List ℕ → Reading
-  Tells : Level → Reading
-  Turns : Switch → Bool → Reading
+  NamesDatabase : Database → List ℕ → Reading
+  SetsLevel : Level → Reading
+  SetsSwitch : Switch → Bool → Reading
   -- a set of attributes, by an expression
-  Lists : AttrList → List ℕ → Reading
+  SetsAttributes : AttrList → List ℕ → Reading
   -- `report_url=stdout`
-  Fixes : Reading
+  EndsOptions : Reading
   -- a group's name and its expression
-  Defines : List ℕ → List ℕ → Reading
+  DefinesGroup : List ℕ → List ℕ → Reading
   -- a variable's name and its value
-  Sets : List ℕ → List ℕ → Reading
+  DefinesVariable : List ℕ → List ℕ → Reading
   -- the name of a variable that is no longer defined
-  Unsets : List ℕ → Reading
+  DropsVariable : List ℕ → Reading
   -- a block begins; false where its name is read and out of form
   OpensBlock : Bool → Reading
   DividesBlock : Reading
@@ -79,25 +83,18 @@ is_accepted n =
 
 -- older names, which are left out
 unfoldable pub is_older : List ℕ → Bool
-is_older n = same n (codes "ignore_list") || same n (codes "report_attributes") || same n (codes "grouped") || same n (codes "summarize_changes")
+is_older n =
+    same n (codes "ignore_list") || same n (codes "report_attributes")
+    || same n (codes "grouped") || same n (codes "summarize_changes")
 
 -- the option of a name; any other name is that of a group
 unfoldable pub setting_named : List ℕ → Option Setting
-setting_named n = option_or (main_setting n) (if is_accepted n then Some setting.Accepted else if is_older n then Some setting.Older else None)
+setting_named n =
+    option_or (main_setting n) (if is_accepted n then Some setting.Accepted else if is_older n then Some setting.Older else None)
 
 -- ---- the values of options
 
-unfoldable pub level_named : List ℕ → Option Level
-level_named v =
-    if same v (codes "minimal") then Some level.Minimal
-    else if same v (codes "summary") then Some level.Summary
-    else if same v (codes "database_attributes") then Some level.DatabaseAttributes
-    else if same v (codes "list_entries") then Some level.ListEntries
-    else if same v (codes "changed_attributes") then Some level.ChangedAttributes
-    else if same v (codes "added_removed_attributes") then Some level.AddedRemovedAttributes
-    else if same v (codes "added_removed_entries") then Some level.AddedRemovedEntries
-    else None
-
+-- the truth value that a word stands for, where it stands for one
 unfoldable pub bool_named : List ℕ → Option Bool
 bool_named v =
     if same v (codes "yes") || same v (codes "true") then Some true
@@ -106,7 +103,9 @@ bool_named v =
 
 -- the URLs of databases that are left out
 unfoldable pub is_left_out : List ℕ → Bool
-is_left_out v = same v (codes "stdin") || begins v (codes "fd:") || begins v (codes "http:") || begins v (codes "https:") || begins v (codes "ftp:")
+is_left_out v =
+    same v (codes "stdin") || begins v (codes "fd:")
+    || begins v (codes "http:") || begins v (codes "https:") || begins v (codes "ftp:")
 
 -- an absolute path that stands after `file:`: `///p` is `/p`, and no other `//` begins one
 unfoldable pub path_after : List ℕ → Option (List ℕ)
@@ -116,6 +115,7 @@ path_after v =
     else if begins v (codes "/") then Some v
     else None
 
+-- the path, where its bytes are UTF-8
 abbrev pub in_utf8 : Option (List ℕ) → Option (List ℕ)
 in_utf8 None = None
 in_utf8 (Some p) = if is_utf8 p then Some p else None
@@ -124,21 +124,26 @@ in_utf8 (Some p) = if is_utf8 p then Some p else None
 unfoldable pub path_of : List ℕ → Option (List ℕ)
 path_of v = if begins v (codes "file:") then in_utf8 (path_after (drop 5 v)) else None
 
+-- what a database's URL says that leads to this path; a URL that leads to none is bad
 abbrev pub path_reading : Database → Option (List ℕ) → Reading
 path_reading d None = Faulty BadUrl
-path_reading d (Some p) = if nat_lt 4096 (length p) then Faulty ValueTooLong else Names d p
+path_reading d (Some p) = if nat_lt longest_value (length p) then Faulty ValueTooLong else NamesDatabase d p
 
+-- what `report_level` says; a word that is no level is a bad value
 abbrev pub level_reading : Option Level → Reading
 level_reading None = Faulty BadValue
-level_reading (Some l) = Tells l
+level_reading (Some l) = SetsLevel l
 
+-- what a switch says; a word that stands for no truth value is a bad value
 abbrev pub switch_reading : Switch → Option Bool → Reading
 switch_reading s None = Faulty BadValue
-switch_reading s (Some b) = Turns s b
+switch_reading s (Some b) = SetsSwitch s b
 
+-- What a database's URL says: the kinds that are left out are told apart from bad ones.
 abbrev pub url_reading : Database → List ℕ → Reading
 url_reading d v = if is_left_out v then Faulty LeftOut else path_reading d (path_of v)
 
+-- what `report_format` says: reports are plain, and JSON is left out
 abbrev pub format_reading : List ℕ → Reading
 format_reading v = if same v (codes "json") then Faulty LeftOut else if same v (codes "plain") then Nothing else Faulty BadValue
 
@@ -147,8 +152,8 @@ unfoldable pub value_reading : Setting → List ℕ → Reading
 value_reading (setting.Url d) v = url_reading d v
 value_reading setting.Level v = level_reading (level_named v)
 value_reading (setting.Flag s) v = switch_reading s (bool_named v)
-value_reading (setting.Attributes l) v = Lists l v
-value_reading setting.ReportUrl v = if same v (codes "stdout") then Fixes else Nothing
+value_reading (setting.Attributes l) v = SetsAttributes l v
+value_reading setting.ReportUrl v = if same v (codes "stdout") then EndsOptions else Nothing
 value_reading setting.ReportFormat v = format_reading v
 value_reading setting.Accepted v = Nothing
 value_reading setting.Older v = Faulty LeftOut
@@ -172,14 +177,16 @@ is_omitted w = same w (codes "include") || same w (codes "x_include") || same w 
 unfoldable pub is_selection : List ℕ → Bool
 is_selection bs = begins bs (codes "/") || begins bs (codes "!") || begins bs (codes "=") || begins bs (codes "-")
 
+-- the byte `=`, which ends the name of an option or a group
 abbrev pub is_equals : ℕ → Bool
 is_equals b = b == 61
 
 -- a name and its value
 abbrev pub assigned : Option Setting → List ℕ → List ℕ → Reading
 assigned (Some o) name value = if length value == 0 then Faulty BadValue else value_reading o value
-assigned None name value = if is_group_name name then Defines name value else Faulty BadName
+assigned None name value = if is_group_name name then DefinesGroup name value else Faulty BadName
 
+-- what a line says with this after its first `=`, where it has one, and this name before it
 abbrev pub cut_reading : Option (List ℕ) → List ℕ → Reading
 cut_reading None name = Faulty BadLine
 cut_reading (Some value) name = assigned (setting_named name) name (strip value)
@@ -192,5 +199,5 @@ kept_reading bs = if is_selection bs then Nothing else cut_reading (bytes_after 
 abbrev pub expanded_reading : List ℕ → Reading
 expanded_reading bs =
     if is_skipped bs then Nothing
-    else if nat_lt 65536 (length bs) then Faulty LineTooLong
+    else if nat_lt longest_line (length bs) then Faulty LineTooLong
     else kept_reading bs

@@ -1,7 +1,7 @@
 //! The open blocks of a text.
 
 ghost use Rattle.std.specs.Prelude.{◌≡◌, length, [], OnOk};
-ghost use Rattle.aide_conf.specs.Stack.{frames_of, top_used, top_divided, opened, divided_at, closed_at};
+ghost use Rattle.aide_conf.specs.code.Stack.{frames_of, top_used, top_divided, opened, divided_at, closed_at};
 
 use std::alloc::{AllocError, Allocator};
 
@@ -72,19 +72,11 @@ impl<A: Allocator + Copy> Blocks<A> {
     }
 
     /// Begins the second part of the innermost block.
-    pub(crate) fn divide(&mut self) -> Result<(), AllocError>
-        ensures { OnOk result (frames_of self.new ≡ divided_at (frames_of self.old)) }
+    pub(crate) fn divide(&mut self)
+        ensures { frames_of self.new ≡ divided_at (frames_of self.old) }
     {
-        match self.frames.pop() {
-            None => Ok(()),
-            Some(frame) => {
-                self.frames.push(Frame {
-                    used: frame.used,
-                    first: frame.first,
-                    second: true,
-                })?;
-                Ok(())
-            }
+        if let Some(frame) = self.frames.last_mut() {
+            frame.second = true;
         }
     }
 

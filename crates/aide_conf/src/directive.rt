@@ -2,7 +2,8 @@
 
 ghost use Rattle.std.specs.Prelude.{◌≡◌, [], unwrap_or};
 ghost use Rattle.aide_conf.specs.Lines.{is_blank, bytes_before, bytes_after};
-ghost use Rattle.aide_conf.specs.Directive.{item, item_by, directive_item};
+ghost use Rattle.aide_conf.specs.Directive.{item_by, directive_item, if_item, not_item};
+ghost use Rattle.aide_conf.specs.code.Said.{item};
 ghost use Rattle.aide_conf.specs.Reading.{is_omitted};
 
 use crate::line::{after_word, strip, word};
@@ -15,6 +16,8 @@ pub(crate) enum Directive<'a> {
     Undef(&'a [u8]),
     IfDef(&'a [u8]),
     IfNotDef(&'a [u8]),
+    /// An `@@if` whose condition is out of form.
+    IfOther,
     Else,
     EndIf,
     /// One that is left out, and whether its word begins with `if`.
@@ -43,6 +46,8 @@ fn directive_by<'a>(word_bytes: &'a [u8], rest: &'a [u8]) -> Directive<'a>
         Directive::IfDef(rest)
     } else if word_bytes == b"ifndef".as_slice() {
         Directive::IfNotDef(rest)
+    } else if word_bytes == b"if".as_slice() {
+        condition(rest)
     } else if word_bytes == b"else".as_slice() {
         Directive::Else
     } else if word_bytes == b"endif".as_slice() {
@@ -51,6 +56,33 @@ fn directive_by<'a>(word_bytes: &'a [u8], rest: &'a [u8]) -> Directive<'a>
         Directive::Omitted(word_bytes.starts_with(b"if".as_slice()))
     } else {
         Directive::Unknown(word_bytes.starts_with(b"if".as_slice()))
+    }
+}
+
+/// The directive that an `@@if` with this condition is.
+#[tactic(auto, unfolding(crate::specs::Directive::if_item))]
+fn condition(rest: &[u8]) -> Directive<'_>
+    ensures { item result ≡ if_item rest.now }
+{
+    let first = word(rest);
+    if first == b"defined".as_slice() {
+        Directive::IfDef(strip(after_word(rest)))
+    } else if first == b"not".as_slice() {
+        negated(strip(after_word(rest)))
+    } else {
+        Directive::IfOther
+    }
+}
+
+/// The same behind `not`.
+#[tactic(auto, unfolding(crate::specs::Directive::not_item))]
+fn negated(rest: &[u8]) -> Directive<'_>
+    ensures { item result ≡ not_item rest.now }
+{
+    if word(rest) == b"defined".as_slice() {
+        Directive::IfNotDef(strip(after_word(rest)))
+    } else {
+        Directive::IfOther
     }
 }
 

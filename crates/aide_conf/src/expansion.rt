@@ -1,22 +1,22 @@
 //! The expansion of a text by the variables. However long the values are, no more is kept than may stand.
 
 ghost use Rattle.std.specs.Prelude.{◌≡◌, ◌++◌, OnOk, IfOk, IfSome, IfNone};
-ghost use Rattle.aide_conf.specs.Variables.{values_of, value_by};
-ghost use Rattle.aide_conf.specs.Expansion.{IsFirstName, IsPlain};
-ghost use Rattle.aide_conf.specs.Bounded.{HasTaken};
-ghost use Rattle.aide_conf.specs.Expanded.{expanded_by, IsExpandedLine, IsExpandedValue};
+ghost use Rattle.aide_conf.specs.code.Variables.{values_of, value_by};
+ghost use Rattle.aide_conf.specs.code.Replacing.{IsFirstName, IsPlain};
+ghost use Rattle.aide_conf.specs.code.Bounded.{HasTaken};
+ghost use Rattle.aide_conf.specs.code.Expanded.{expanded_by, IsExpandedLine, IsExpandedValue};
 
 use crate::bounded::{Bounded, without_last_blanks};
 use crate::line::is_skipped;
-use crate::variables::Variables;
+use aide_attr::Table;
 use bstr::ByteSlice;
 use std::alloc::{AllocError, Allocator};
 
 /// How many bytes a line may have, without the blanks round it.
 pub(crate) const LONGEST_LINE: usize = 65_536;
 
-/// How many bytes a variable's value may have.
-const LONGEST_VALUE: usize = 4_096;
+/// How many bytes a path or a variable's value may have.
+pub(crate) const LONGEST_VALUE: usize = 4_096;
 
 /// What a line is after expansion, without the blanks round it.
 #[derive(Drop)]
@@ -59,13 +59,13 @@ fn next_name(text: &[u8]) -> Option<Found<'_>>
 fn take_value<A: Allocator + Copy>(
     kept: &mut Bounded<A>,
     found: Found<'_>,
-    variables: &Variables<A>,
+    variables: &Table<Vec<u8, A>, A>,
 ) -> Result<(), AllocError>
     ensures { OnOk result (HasTaken kept.old (found.entry.before.now ++ value_by (values_of variables.now) found.entry.name.now) kept.new) }
 {
     kept.extend(found.before)?;
-    if let Some(value) = variables.get(found.name) {
-        kept.extend(value)?;
+    if let Some(value) = variables.look(found.name) {
+        kept.extend(value.as_slice())?;
     }
     Ok(())
 }
@@ -74,7 +74,7 @@ fn take_value<A: Allocator + Copy>(
 fn take_expansion<A: Allocator + Copy>(
     kept: &mut Bounded<A>,
     text: &[u8],
-    variables: &Variables<A>,
+    variables: &Table<Vec<u8, A>, A>,
 ) -> Result<(), AllocError>
     ensures { OnOk result (HasTaken kept.old (expanded_by variables.now text.now) kept.new) }
 {
@@ -94,7 +94,7 @@ fn take_expansion<A: Allocator + Copy>(
 pub(crate) fn expand_line<A: Allocator + Copy>(
     alloc: A,
     line: &[u8],
-    variables: &Variables<A>,
+    variables: &Table<Vec<u8, A>, A>,
 ) -> Result<Expanded<A>, AllocError>
     ensures { IfOk result (λ e. IsExpandedLine (expanded_by variables.now line.now) e) }
 {
@@ -114,7 +114,7 @@ pub(crate) fn expand_line<A: Allocator + Copy>(
 pub(crate) fn expand_value<A: Allocator + Copy>(
     alloc: A,
     text: &[u8],
-    variables: &Variables<A>,
+    variables: &Table<Vec<u8, A>, A>,
 ) -> Result<Option<Vec<u8, A>>, AllocError>
     ensures { IfOk result (λ v. IsExpandedValue (expanded_by variables.now text.now) v) }
 {

@@ -2,12 +2,13 @@
 
 ghost use Rattle.std.specs.Prelude.{◌≡◌, IfOk};
 ghost use Rattle.aide_conf.specs.Reading.{kept_reading, assigned, value_reading};
-ghost use Rattle.aide_conf.specs.Said.{said, IsNamedWell};
+ghost use Rattle.aide_conf.specs.code.Said.{said, IsNamedWell};
 
+use crate::expansion::LONGEST_VALUE;
 use crate::fault::ConfFaultKind;
 use crate::line::{at_equals, is_selection, strip};
 use crate::setting::{AttrList, Database, Setting, Switch, setting_named};
-use crate::value::{bool_named, is_left_out, level_named, path_of};
+use crate::value::{bool_named, is_left_out, path_of};
 use aide_attr::{Level, is_group_name};
 
 /// What a line says.
@@ -16,17 +17,17 @@ pub(crate) enum Said<'a> {
     /// Nothing that has an effect.
     Nothing,
     /// The path of a database.
-    Names(Database, &'a str),
+    NamesDatabase(Database, &'a str),
     /// The level of the report.
-    Tells(Level),
+    SetsLevel(Level),
     /// A report option is on or off.
-    Turns(Switch, bool),
+    SetsSwitch(Switch, bool),
     /// A report option is the set that an expression means.
-    Lists(AttrList, &'a [u8]),
+    SetsAttributes(AttrList, &'a [u8]),
     /// The report options are fixed from here on.
-    Fixes,
+    EndsOptions,
     /// A group's name and its expression.
-    Defines(&'a [u8], &'a [u8]),
+    DefinesGroup(&'a [u8], &'a [u8]),
 }
 
 /// What a line says after expansion, or the fault that its bytes alone show. It is stripped, no comment, and not too long.
@@ -61,7 +62,7 @@ fn assigned<'a>(name: &'a [u8], value: &'a [u8]) -> Result<Said<'a>, ConfFaultKi
         }
         None => {
             if is_group_name(name) {
-                Ok(Said::Defines(name, value))
+                Ok(Said::DefinesGroup(name, value))
             } else {
                 Err(ConfFaultKind::BadName)
             }
@@ -77,18 +78,18 @@ fn value_reading(setting: Setting, value: &[u8]) -> Result<Said<'_>, ConfFaultKi
 {
     match setting {
         Setting::Url(database) => url_reading(database, value),
-        Setting::Level => match level_named(value) {
-            Some(level) => Ok(Said::Tells(level)),
+        Setting::Level => match Level::from_name(value) {
+            Some(level) => Ok(Said::SetsLevel(level)),
             None => Err(ConfFaultKind::BadValue),
         },
         Setting::Flag(switch) => match bool_named(value) {
-            Some(on) => Ok(Said::Turns(switch, on)),
+            Some(on) => Ok(Said::SetsSwitch(switch, on)),
             None => Err(ConfFaultKind::BadValue),
         },
-        Setting::Attributes(list) => Ok(Said::Lists(list, value)),
+        Setting::Attributes(list) => Ok(Said::SetsAttributes(list, value)),
         Setting::ReportUrl => {
             if value == b"stdout".as_slice() {
-                Ok(Said::Fixes)
+                Ok(Said::EndsOptions)
             } else {
                 Ok(Said::Nothing)
             }
@@ -126,8 +127,8 @@ fn url_reading(database: Database, value: &[u8]) -> Result<Said<'_>, ConfFaultKi
     let Some(path) = path_of(value) else {
         return Err(ConfFaultKind::BadUrl);
     };
-    if path.len() > 4096 {
+    if path.len() > LONGEST_VALUE {
         return Err(ConfFaultKind::ValueTooLong);
     }
-    Ok(Said::Names(database, path))
+    Ok(Said::NamesDatabase(database, path))
 }

@@ -1,19 +1,24 @@
 //! The lines of a configuration, taken one after another.
 
-ghost use Rattle.std.specs.Prelude.{◌≡◌, ℕ, List, Bool, [], Some, None, true, not, ◌||◌, length, OnOk, IsSome, is_none, if◌then◌else◌};
+ghost use Rattle.std.specs.Prelude.{◌≡◌, ◌≢◌, ℕ, List, Bool, [], Some, None, Err, true, false, not, ◌||◌, ◌&&◌};
+ghost use Rattle.std.specs.Prelude.{nat_lt, length, OnOk, IsSome, is_none, if◌then◌else◌};
 ghost use Rattle.aide_attr.specs.Name.{is_word};
 ghost use Rattle.aide_conf.specs.declared.task.Need.{Need};
 ghost use Rattle.aide_conf.specs.declared.task.Need.TheVariants.{Compare};
 ghost use Rattle.aide_conf.specs.declared.fault.ConfText.{ConfText};
 ghost use Rattle.aide_conf.specs.declared.fault.ConfText.TheVariants.{After};
+ghost use Rattle.aide_conf.specs.declared.fault.ConfFaultKind.TheVariants.{Memory};
+ghost use Rattle.aide_conf.specs.Limits.{deepest};
 ghost use Rattle.aide_conf.specs.Lines.{places_of};
 ghost use Rattle.aide_conf.specs.Reading.{OpensBlock, DividesBlock, ClosesBlock, expanded_reading};
 ghost use Rattle.aide_conf.specs.Lines.{strip};
-ghost use Rattle.aide_conf.specs.Directive.{item, item_chooses, item_reading, item_text, set_reading, shape_of, unset_reading};
-ghost use Rattle.aide_conf.specs.Expansion.{expansion_after};
+ghost use Rattle.aide_conf.specs.Directive.{IfOther, item_chooses, item_grows, item_reading, item_text};
+ghost use Rattle.aide_conf.specs.Directive.{set_reading, shape_of, unset_reading};
+ghost use Rattle.aide_conf.specs.code.Said.{item};
+ghost use Rattle.aide_conf.specs.code.Replacing.{expansion_after};
 ghost use Rattle.aide_conf.specs.Marks.{Marked, is_defined, line_fault, missing, seen_in, value};
-ghost use Rattle.aide_conf.specs.Stack.{IsOpen, closed_at, divided_at, frames_after, frames_of, opened, top_divided, top_used};
-ghost use Rattle.aide_conf.specs.Pass.{StandsFor, IsTold, TakesAll, TakesOne, TakesReading, fault_of, place};
+ghost use Rattle.aide_conf.specs.code.Stack.{IsOpen, closed_at, divided_at, frames_after, frames_of, opened, top_divided, top_used};
+ghost use Rattle.aide_conf.specs.code.Pass.{StandsFor, IsTold, TakesAll, TakesOne, TakesReading, fault_of, place_at};
 
 use crate::blocks::Blocks;
 use crate::directive::{Directive, read_directive};
@@ -23,8 +28,7 @@ use crate::line::{cut_line, is_directive, is_skipped, strip};
 use crate::pass::Pass;
 use crate::reading::kept_reading;
 use crate::task::Need;
-use crate::variables::VariableFault;
-use aide_attr::is_word;
+use aide_attr::{TableFault, is_word};
 use std::alloc::Allocator;
 
 /// How many blocks may be open.
@@ -33,7 +37,8 @@ const MOST_BLOCKS: usize = 32;
 impl<A: Allocator + Copy> Pass<A> {
     /// Takes a line that is no directive, after expansion.
     fn take_plain(&mut self, line: &[u8]) -> Result<(), ConfFaultKind>
-        ensures { (earlier : List Marked) (depth : ℕ) (divided : Bool) → StandsFor earlier self.old → TakesReading earlier depth divided (expanded_reading (strip (expansion_after (value earlier) 0 line.now))) self.new result }
+        ensures { (earlier : List Marked) (depth : ℕ) (divided : Bool) → StandsFor earlier self.old
+            → TakesReading earlier depth divided (expanded_reading (strip (expansion_after (value earlier) 0 line.now))) self.new result }
     {
         match expand_line(self.alloc, line, &self.variables) {
             Err(_) => Err(ConfFaultKind::Memory),
@@ -47,8 +52,10 @@ impl<A: Allocator + Copy> Pass<A> {
     }
 
     /// Gives a variable the expansion of a text.
-    fn set(&mut self, name: &[u8], text: &[u8]) -> Result<(), ConfFaultKind>
-        ensures { (earlier : List Marked) (depth : ℕ) (divided : Bool) → StandsFor earlier self.old → TakesReading earlier depth divided (set_reading name.now (expansion_after (value earlier) 0 text.now)) self.new result }
+    fn define_variable(&mut self, name: &[u8], text: &[u8]) -> Result<(), ConfFaultKind>
+        ensures memory { result ≡ Err Memory → is_word name.now ≡ true }
+        ensures taken { (earlier : List Marked) (depth : ℕ) (divided : Bool) → StandsFor earlier self.old
+            → TakesReading earlier depth divided (set_reading name.now (expansion_after (value earlier) 0 text.now)) self.new result }
     {
         if !is_word(name) {
             return Err(ConfFaultKind::BadName);
@@ -58,20 +65,22 @@ impl<A: Allocator + Copy> Pass<A> {
             Ok(None) => Err(ConfFaultKind::ValueTooLong),
             Ok(Some(value)) => match self.variables.define(name, value) {
                 Ok(()) => Ok(()),
-                Err(VariableFault::Full) => Err(ConfFaultKind::TooMany),
-                Err(VariableFault::Memory) => Err(ConfFaultKind::Memory),
+                Err(TableFault::Full) => Err(ConfFaultKind::TooMany),
+                Err(TableFault::Memory) => Err(ConfFaultKind::Memory),
             },
         }
     }
 
     /// Takes a variable away.
-    fn unset(&mut self, name: &[u8]) -> Result<(), ConfFaultKind>
-        ensures { (earlier : List Marked) (depth : ℕ) (divided : Bool) → StandsFor earlier self.old → TakesReading earlier depth divided (unset_reading name.now) self.new result }
+    fn drop_variable(&mut self, name: &[u8]) -> Result<(), ConfFaultKind>
+        ensures memory { result ≢ Err Memory }
+        ensures taken { (earlier : List Marked) (depth : ℕ) (divided : Bool) → StandsFor earlier self.old
+            → TakesReading earlier depth divided (unset_reading name.now) self.new result }
     {
         if !is_word(name) {
             return Err(ConfFaultKind::BadName);
         }
-        self.variables.undefine(name);
+        self.variables.remove(name);
         Ok(())
     }
 
@@ -79,7 +88,7 @@ impl<A: Allocator + Copy> Pass<A> {
     fn is_defined(&self, name: &[u8]) -> bool
         ensures { (earlier : List Marked) → StandsFor earlier self.now → result ≡ is_defined earlier name.now }
     {
-        self.variables.get(name).is_some()
+        self.variables.look(name).is_some()
     }
 
     /// Takes a directive.
@@ -88,13 +97,33 @@ impl<A: Allocator + Copy> Pass<A> {
         blocks: &mut Blocks<A>,
         directive: Directive<'_>,
     ) -> Result<(), ConfFaultKind>
-        ensures taken { (earlier : List Marked) → StandsFor earlier self.old → TakesReading earlier (length (frames_of blocks.old)) (top_divided (frames_of blocks.old)) (item_reading (top_used (frames_of blocks.old)) (item directive.entry) (expansion_after (value earlier) 0 (item_text [] (item directive.entry)))) self.new result }
-        ensures blocks { (earlier : List Marked) → StandsFor earlier self.old → OnOk result (frames_of blocks.new ≡ frames_after (shape_of (item directive.entry)) (top_used (frames_of blocks.old)) (item_chooses (is_defined earlier) (item directive.entry)) (frames_of blocks.old)) }
+        ensures taken { (earlier : List Marked) → StandsFor earlier self.old
+            → TakesReading earlier (length (frames_of blocks.old)) (top_divided (frames_of blocks.old))
+            (item_reading (top_used (frames_of blocks.old)) (item directive.entry)
+            (expansion_after (value earlier) 0 (item_text [] (item directive.entry))))
+            self.new result }
+        ensures memory { result ≡ Err Memory
+            → item_grows (top_used (frames_of blocks.old)) (length (frames_of blocks.old)) (item directive.entry) ≡ true }
+        ensures blocks { (earlier : List Marked) → StandsFor earlier self.old
+            → OnOk result (frames_of blocks.new ≡ frames_after (shape_of (item directive.entry)) (top_used (frames_of blocks.old))
+            (item_chooses (is_defined earlier) (item directive.entry)) (frames_of blocks.old)) }
     {
         let used = blocks.is_used();
         match directive {
-            Directive::Define(name, text) => { if used { self.set(name, text) } else { Ok(()) } }
-            Directive::Undef(name) => { if used { self.unset(name) } else { Ok(()) } }
+            Directive::Define(name, text) => {
+                if used {
+                    self.define_variable(name, text)
+                } else {
+                    Ok(())
+                }
+            }
+            Directive::Undef(name) => {
+                if used {
+                    self.drop_variable(name)
+                } else {
+                    Ok(())
+                }
+            }
             Directive::IfDef(name) => {
                 let first = self.is_defined(name);
                 open_block(blocks, name, first)
@@ -103,6 +132,7 @@ impl<A: Allocator + Copy> Pass<A> {
                 let first = !self.is_defined(name);
                 open_block(blocks, name, first)
             }
+            Directive::IfOther => open_other(blocks),
             Directive::Else => divide_block(blocks),
             Directive::EndIf => close_block(blocks),
             Directive::Omitted(begins_with_if) => refuse(
@@ -120,7 +150,9 @@ impl<A: Allocator + Copy> Pass<A> {
 
     /// Takes a line, stripped.
     fn take_line(&mut self, blocks: &mut Blocks<A>, line: &[u8]) -> Result<(), ConfFaultKind>
-        ensures { (need : Need) (earlier : List Marked) (text : ConfText) (n : ℕ) → StandsFor earlier self.old → IsOpen (seen_in text earlier) (frames_of blocks.old) → TakesOne need earlier (place text n (Some line.now)) self.new (frames_of blocks.new) result }
+        ensures { (need : Need) (earlier : List Marked) (text : ConfText) (n : ℕ) → StandsFor earlier self.old
+            → IsOpen (seen_in text earlier) (frames_of blocks.old)
+            → TakesOne need earlier (place_at text n (Some line.now)) self.new (frames_of blocks.new) result }
     {
         if is_skipped(line) {
             return Ok(());
@@ -140,7 +172,9 @@ impl<A: Allocator + Copy> Pass<A> {
 
     /// Takes the end of a text.
     fn take_end(&self, blocks: &Blocks<A>, text: ConfText, need: Need) -> Result<(), ConfFaultKind>
-        ensures taken { (earlier : List Marked) (n : ℕ) → StandsFor earlier self.now → IsOpen (seen_in text earlier) (frames_of blocks.now) → TakesOne need earlier (place text n None) self.now (frames_of blocks.now) result }
+        ensures taken { (earlier : List Marked) (n : ℕ) → StandsFor earlier self.now
+            → IsOpen (seen_in text earlier) (frames_of blocks.now)
+            → TakesOne need earlier (place_at text n None) self.now (frames_of blocks.now) result }
         ensures named { need ≡ Compare → text ≡ After → OnOk result (IsSome self.now.old_path × IsSome self.now.new_path) }
     {
         if blocks.depth() > 0 {
@@ -177,7 +211,8 @@ impl<A: Allocator + Copy> Pass<A> {
         bytes: &[u8],
         need: Need,
     ) -> Result<(), ConfFault>
-        ensures taken { (earlier : List Marked) → seen_in text earlier ≡ [] → StandsFor earlier self.old → TakesAll need earlier (places_of text bytes.now) self.new result }
+        ensures taken { (earlier : List Marked) → seen_in text earlier ≡ [] → StandsFor earlier self.old
+            → TakesAll need earlier (places_of text bytes.now) self.new result }
         ensures named { need ≡ Compare → text ≡ After → OnOk result (IsSome self.new.old_path × IsSome self.new.new_path) }
     {
         let mut blocks = Blocks::new(self.alloc);
@@ -191,16 +226,17 @@ impl<A: Allocator + Copy> Pass<A> {
             rest = more;
             line += 1;
         }
-        if let Err(kind) = self.take_end(&blocks, text, need) {
-            return Err(ConfFault { text, line, kind });
+        match self.take_end(&blocks, text, need) {
+            Ok(()) => Ok(()),
+            Err(kind) => Err(ConfFault { text, line, kind }),
         }
-        Ok(())
     }
 }
 
 /// Refuses a directive that is used, or whose word begins with `if`.
 fn refuse(used: bool, begins_with_if: bool, kind: ConfFaultKind) -> Result<(), ConfFaultKind>
-    ensures { IsTold (if used || begins_with_if then Some kind else None) result }
+    ensures memory { kind ≢ Memory → result ≢ Err Memory }
+    ensures told { IsTold (if used || begins_with_if then Some kind else None) result }
 {
     if used || begins_with_if {
         return Err(kind);
@@ -214,7 +250,10 @@ fn open_block<A: Allocator + Copy>(
     name: &[u8],
     first: bool,
 ) -> Result<(), ConfFaultKind>
-    ensures told { IsTold (line_fault [] (length (frames_of blocks.old)) (top_divided (frames_of blocks.old)) (OpensBlock (not (top_used (frames_of blocks.old)) || is_word name.now)) None) result }
+    ensures told { IsTold (line_fault [] (length (frames_of blocks.old)) (top_divided (frames_of blocks.old))
+        (OpensBlock (not (top_used (frames_of blocks.old)) || is_word name.now)) None) result }
+    ensures memory { result ≡ Err Memory
+        → (nat_lt (length (frames_of blocks.old)) deepest && (not (top_used (frames_of blocks.old)) || is_word name.now)) ≡ true }
     ensures opened { OnOk result (frames_of blocks.new ≡ opened (top_used (frames_of blocks.old)) first (frames_of blocks.old)) }
 {
     if blocks.depth() >= MOST_BLOCKS {
@@ -230,23 +269,37 @@ fn open_block<A: Allocator + Copy>(
     }
 }
 
+/// Opens a block whose condition is out of form, which only an unused part passes over.
+fn open_other<A: Allocator + Copy>(blocks: &mut Blocks<A>) -> Result<(), ConfFaultKind>
+    ensures told { IsTold (line_fault [] (length (frames_of blocks.old)) (top_divided (frames_of blocks.old))
+        (item_reading (top_used (frames_of blocks.old)) IfOther []) None) result }
+    ensures memory { result ≡ Err Memory
+        → (nat_lt (length (frames_of blocks.old)) deepest && not (top_used (frames_of blocks.old))) ≡ true }
+    ensures opened { OnOk result (frames_of blocks.new ≡ opened (top_used (frames_of blocks.old)) false (frames_of blocks.old)) }
+{
+    if blocks.is_used() {
+        return Err(ConfFaultKind::BadDirective);
+    }
+    open_block(blocks, b"".as_slice(), false)
+}
+
 /// Begins the second part of the innermost block.
 fn divide_block<A: Allocator + Copy>(blocks: &mut Blocks<A>) -> Result<(), ConfFaultKind>
     ensures told { IsTold (line_fault [] (length (frames_of blocks.old)) (top_divided (frames_of blocks.old)) DividesBlock None) result }
+    ensures memory { result ≢ Err Memory }
     ensures divided { OnOk result (frames_of blocks.new ≡ divided_at (frames_of blocks.old)) }
 {
     if blocks.depth() == 0 || blocks.is_divided() {
         return Err(ConfFaultKind::StrayElse);
     }
-    match blocks.divide() {
-        Ok(()) => Ok(()),
-        Err(_) => Err(ConfFaultKind::Memory),
-    }
+    blocks.divide();
+    Ok(())
 }
 
 /// Closes the innermost block.
 fn close_block<A: Allocator + Copy>(blocks: &mut Blocks<A>) -> Result<(), ConfFaultKind>
     ensures told { IsTold (line_fault [] (length (frames_of blocks.old)) (top_divided (frames_of blocks.old)) ClosesBlock None) result }
+    ensures memory { result ≢ Err Memory }
     ensures closed { OnOk result (frames_of blocks.new ≡ closed_at (frames_of blocks.old)) }
 {
     if blocks.depth() == 0 {

@@ -4,11 +4,11 @@ use Rattle.aide_attr.specs.Name.{is_word}
 use Rattle.aide_conf.specs.declared.directive.Directive.TheVariants as code
 use Rattle.aide_conf.specs.declared.fault.ConfFaultKind.TheVariants.{LeftOut, BadDirective}
 use Rattle.aide_conf.specs.Directive.{set_reading, unset_reading}
-use Rattle.aide_conf.specs.Expansion.{expansion_after}
+use Rattle.aide_conf.specs.code.Replacing.{expansion_after}
 use Rattle.aide_conf.specs.Marks.{value}
 use Rattle.aide_conf.specs.Reading.{Faulty, Nothing, OpensBlock, DividesBlock, ClosesBlock}
-use Rattle.aide_conf.specs.Stack.{frames_of, top_used, top_divided}
-use Rattle.aide_conf.proofs.Takes.{by_item, nothing, told_open, told_divide, told_close, refused_if}
+use Rattle.aide_conf.specs.code.Stack.{frames_of, top_used, top_divided}
+use Rattle.aide_conf.proofs.Takes.{by_item, nothing, told_open, told_other, told_divide, told_close, refused_if}
 use Rattle.aide_conf.proofs.pass.Pass.take_directive.Goals as goal
 
 pub returns-then-used-clause-taken : goal.returns-then-used-clause-taken
@@ -17,8 +17,8 @@ returns-then-used-clause-taken g c =
     let u : top_used fs ≡ true = search rules in
     λ earlier s.
     let r = set_reading c.in-Define.name.now (expansion_after (value earlier) 0 c.in-Define.text.now) in
-    by_item earlier fs c.args.directive (code.Define c.in-Define.name c.in-Define.text) r c.set.new.self c.set.result c.in-Define.is
-    (sym (ap (λ z. if z then r else Nothing) u)) (c.set.ensures earlier (length fs) (top_divided fs) s)
+    by_item earlier fs c.args.directive (code.Define c.in-Define.name c.in-Define.text) r c.define_variable.new.self c.define_variable.result c.in-Define.is
+    (sym (ap (λ z. if z then r else Nothing) u)) (c.define_variable.ensures.taken earlier (length fs) (top_divided fs) s)
 
 pub returns-else-used-clause-taken : goal.returns-else-used-clause-taken
 returns-else-used-clause-taken g c =
@@ -35,8 +35,8 @@ returns-then-used-2-clause-taken g c =
     let u : top_used fs ≡ true = search rules in
     λ earlier s.
     let r = unset_reading c.in-Undef.name.now in
-    by_item earlier fs c.args.directive (code.Undef c.in-Undef.name) r c.unset.new.self c.unset.result c.in-Undef.is
-    (sym (ap (λ z. if z then r else Nothing) u)) (c.unset.ensures earlier (length fs) (top_divided fs) s)
+    by_item earlier fs c.args.directive (code.Undef c.in-Undef.name) r c.drop_variable.new.self c.drop_variable.result c.in-Undef.is
+    (sym (ap (λ z. if z then r else Nothing) u)) (c.drop_variable.ensures.taken earlier (length fs) (top_divided fs) s)
 
 pub returns-else-used-2-clause-taken : goal.returns-else-used-2-clause-taken
 returns-else-used-2-clause-taken g c =
@@ -61,6 +61,12 @@ returns-in-IfNotDef-clause-taken g c =
     λ earlier s. by_item earlier fs c.args.directive (code.IfNotDef c.in-IfNotDef.name) (OpensBlock good) c.args.self.now c.open_block-in-IfNotDef.result c.in-IfNotDef.is refl
     (told_open (Unit {0}) earlier (length fs) (top_divided fs) _ s good c.open_block-in-IfNotDef.result c.open_block-in-IfNotDef.ensures.told)
 
+pub returns-in-IfOther-clause-taken : goal.returns-in-IfOther-clause-taken
+returns-in-IfOther-clause-taken g c =
+    let fs = frames_of c.args.blocks.now in
+    λ earlier s. by_item earlier fs c.args.directive code.IfOther (if top_used fs then Faulty BadDirective else OpensBlock true) c.args.self.now c.open_other.result c.in-IfOther.is refl
+    (told_other (Unit {0}) earlier (length fs) (top_divided fs) _ s (top_used fs) c.open_other.result c.open_other.ensures.told)
+
 pub returns-in-Else-clause-taken : goal.returns-in-Else-clause-taken
 returns-in-Else-clause-taken g c =
     let fs = frames_of c.args.blocks.now in
@@ -79,7 +85,7 @@ returns-in-Omitted-clause-taken g c =
     let b = c.is_used-used.result || c.in-Omitted.begins_with_if in
     λ earlier s. by_item earlier fs c.args.directive (code.Omitted c.in-Omitted.begins_with_if) (if b then Faulty LeftOut else Nothing) c.args.self.now c.refuse.result c.in-Omitted.is
     (ap (λ z. if z || c.in-Omitted.begins_with_if then Faulty LeftOut else Nothing) c.is_used-used.ensures)
-    (refused_if (Unit {0}) earlier (length fs) (top_divided fs) _ s b LeftOut c.refuse.result c.refuse.ensures)
+    (refused_if (Unit {0}) earlier (length fs) (top_divided fs) _ s b LeftOut c.refuse.result c.refuse.ensures.told)
 
 pub returns-in-Unknown-clause-taken : goal.returns-in-Unknown-clause-taken
 returns-in-Unknown-clause-taken g c =
@@ -87,4 +93,4 @@ returns-in-Unknown-clause-taken g c =
     let b = c.is_used-used.result || c.in-Unknown.begins_with_if in
     λ earlier s. by_item earlier fs c.args.directive (code.Unknown c.in-Unknown.begins_with_if) (if b then Faulty BadDirective else Nothing) c.args.self.now c.refuse-in-Unknown.result c.in-Unknown.is
     (ap (λ z. if z || c.in-Unknown.begins_with_if then Faulty BadDirective else Nothing) c.is_used-used.ensures)
-    (refused_if (Unit {0}) earlier (length fs) (top_divided fs) _ s b BadDirective c.refuse-in-Unknown.result c.refuse-in-Unknown.ensures)
+    (refused_if (Unit {0}) earlier (length fs) (top_divided fs) _ s b BadDirective c.refuse-in-Unknown.result c.refuse-in-Unknown.ensures.told)

@@ -1,0 +1,80 @@
+-- Each test of attributes is that of a set.
+use Rattle.std.proofs.Common.{ℕ, ◌≡◌, ◌<◌, ◌^◌, suc, zero, Bool, true, false, refl, sym, ap, ◌∙◌, arith, inl, inr, ◌⊎◌, get_or}
+use Rattle.std.specs.Prelude.{◌==◌, ◌||◌}
+use Rattle.std.specs.Int.{bit_at}
+use Rattle.std.specs.Int.RustNames.{bit_or}
+use Rattle.std.proofs.Math.Pow.{pow_pos}
+use Rattle.std.proofs.Math.Path.{fun_ext}
+use Rattle.std.proofs.lemmas.Nat.{or_lt, pow_below}
+use Rattle.std.proofs.lemmas.Nat.Bits.{bit_at-zero, bit_at-pow_same, bit_at-pow_other, bit_at_above}
+use Rattle.aide_attr.specs.declared.attr.Attr.{Attr}
+use Rattle.aide_attr.specs.declared.attr.Attr.TheVariants as attr
+use Rattle.aide_attr.specs.declared.set.AttrSet.{AttrSet}
+use Rattle.aide_attr.specs.Attr.{number, all_attrs, count}
+use Rattle.aide_attr.specs.Set.{has}
+use Rattle.aide_attr.proofs.AttrLemmas.{at_number, number_small}
+use Rattle.aide_attr.proofs.SetLemmas.{bit_or_test}
+
+attr_of : ℕ → Attr
+attr_of i = get_or all_attrs i attr.Ftype
+
+bit_if : Bool → ℕ → ℕ
+bit_if true n = 2 ^ n
+bit_if false n = 0
+
+-- the bits of the first attributes that pass a test
+bits : (Attr → Bool) → ℕ → ℕ
+bits f zero = 0
+bits f (suc n) = bit_or (bits f n) (bit_if (f (attr_of n)) n)
+
+bit_small : (b : Bool) (n : ℕ) → bit_if b n < 2 ^ suc n
+unfolding bit_if
+bit_small true n = pow_below n (suc n) (omega arith)
+bit_small false n = pow_pos (suc n)
+
+bits_small : (f : Attr → Bool) (n : ℕ) → bits f n < 2 ^ n
+unfolding bits
+bits_small f zero = pow_pos 0
+bits_small f (suc n) =
+    let below : 2 ^ n < 2 ^ suc n = pow_below n (suc n) (omega arith) in
+    or_lt (suc n) (bits f n) (bit_if (f (attr_of n)) n) (omega (arith, bits_small f n, below)) (bit_small (f (attr_of n)) n)
+
+own_bit : (b : Bool) (n : ℕ) → (bit_at (bit_if b n) n == 1) ≡ b
+unfolding bit_if
+own_bit true n = ap (λ z. z == 1) (bit_at-pow_same n)
+own_bit false n = ap (λ z. z == 1) (bit_at-zero n)
+
+other_bit : (b : Bool) (n i : ℕ) → i < n → (bit_at (bit_if b n) i == 1) ≡ false
+unfolding bit_if
+other_bit true n i h = ap (λ z. z == 1) (bit_at-pow_other n i (λ e. omega (arith, e, h)))
+other_bit false n i h = ap (λ z. z == 1) (bit_at-zero i)
+
+or_false : (b : Bool) → (b || false) ≡ b
+or_false true = refl
+or_false false = refl
+
+bits_are : (f : Attr → Bool) (n i : ℕ) → i < n → (bit_at (bits f n) i == 1) ≡ f (attr_of i)
+unfolding bits
+bits_are f zero i h = absurd (omega arith)
+bits_are f (suc n) i h = bit_or_test (bits f n) (bit_if (f (attr_of n)) n) i ∙ by_place (λ l. bits_are f n i l) (split i n h)
+  where
+    split : (i n : ℕ) → i < suc n → (i < n) ⊎ (i ≡ n)
+    split zero zero h = inr refl
+    split zero (suc n) h = inl (omega arith)
+    split (suc i) zero h = absurd (omega arith)
+    split (suc i) (suc n) h = elim (split i n (omega arith)) [ inl l ↦ inl (omega (arith, l)) | inr e ↦ inr (ap suc e) ]
+
+    by_place : ((i < n) → (bit_at (bits f n) i == 1) ≡ f (attr_of i)) → (i < n) ⊎ (i ≡ n) → ((bit_at (bits f n) i == 1) || (bit_at (bit_if (f (attr_of n)) n) i == 1)) ≡ f (attr_of i)
+    by_place below (inl l) = ap (λ z. z || (bit_at (bit_if (f (attr_of n)) n) i == 1)) (below l)
+        ∙ ap (λ z. f (attr_of i) || z) (other_bit (f (attr_of n)) n i l) ∙ or_false (f (attr_of i))
+    by_place below (inr e) =
+        let none : (bit_at (bits f n) i == 1) ≡ false = ap (λ z. z == 1) (bit_at_above (bits f n) n i (bits_small f n) (omega (arith, e))) in
+        ap (λ z. z || (bit_at (bit_if (f (attr_of n)) n) i == 1)) none ∙ ap (λ z. bit_at (bit_if (f (attr_of n)) n) z == 1) e ∙ own_bit (f (attr_of n)) n ∙ ap (λ z. f (attr_of z)) (sym e)
+
+-- the set of the attributes that pass a test
+pub set_of : (Attr → Bool) → AttrSet
+set_of f = record { bits = record { 0 = bits f count }; known = bits_small f count }
+
+pub has_set_of : (f : Attr → Bool) → has (set_of f) ≡ f
+unfolding has set_of attr_of
+has_set_of f = fun_ext (λ a. bits_are f count (number a) (number_small a) ∙ ap f (at_number a attr.Ftype))

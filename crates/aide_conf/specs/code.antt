@@ -1,0 +1,7 @@
+pub mod Variables
+pub mod Replacing
+pub mod Expanded
+pub mod Bounded
+pub mod Said
+pub mod Stack
+pub mod Pass

@@ -1,0 +1,16 @@
+-- Variables as a finite map from names to values.
+use Rattle.std.specs.Prelude.{ℕ, List, [], unwrap_or, Vec}
+use Rattle.std.specs.FinMap.{get}
+use Rattle.aide_attr.specs.Table.{Names, seen}
+
+-- values under names
+abbrev pub Values : Type 0
+Values = Names (List ℕ)
+
+-- the variables of a table, each with the bytes of its value
+abbrev pub values_of : {A : Type 0} → Names (Vec ℕ A) → Values
+values_of table = seen (λ v. v.items) table
+
+-- the value of a name, which is empty where none is defined
+abbrev pub value_by : Values → List ℕ → List ℕ
+value_by values name = unwrap_or (get values name) []
