@@ -1,9 +1,17 @@
 mod Examples
 mod DatabaseExamples
+mod ValueExamples
 pub mod LinesLemmas
+pub mod BlocksLemmas
+pub mod BlankLemmas
+pub mod HashLemmas
+pub mod SpanLemmas
+pub mod PieceLemmas
 pub mod Front
 pub mod PathLemmas
+pub mod CutLemmas
 pub mod FieldLemmas
+pub mod KindLemmas
 pub mod Steps
 pub mod Advance
 pub mod Order
@@ -19,4 +27,11 @@ pub mod SkippedLemmas
 pub mod TakesLemmas
 pub mod FirstFault
 pub mod FaultLaws
+pub mod FaultExists
+pub mod Laws
 pub mod ValueLaws
+pub mod FormLaws
+pub mod DecodeLemmas
+pub mod FieldValues
+pub mod AttrLoops
+pub mod ColumnLemmas

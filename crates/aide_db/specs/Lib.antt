@@ -2,6 +2,9 @@ pub mod Text
 pub mod Path
 pub mod Lines
 pub mod Fields
+pub mod Numbers
+pub mod Values
+pub mod Lent
 pub mod Entry
 pub mod Database
 pub mod Columns
@@ -9,6 +12,8 @@ pub mod DeskView
 pub mod Desk
 pub mod CursorView
 pub mod TakeLine
+pub mod Cause
+pub mod Memory
 pub mod Parts
 pub mod Place
 pub mod Judge
@@ -21,7 +26,12 @@ pub mod Standing
 pub mod Advance
 pub mod Answer
 pub mod Drain
-pub mod NextByte
+pub mod Piece
+pub mod Spans
+pub mod Hashed
+pub mod Accept
+pub mod BlocksView
+pub mod Blocks
 pub mod Takes
 pub mod Fault
 pub mod Reading

@@ -1,0 +1,26 @@
+-- What a judgement leaves of a desk.
+use Rattle.std.specs.Prelude.{◌≡◌, List, []}
+use Rattle.aide_db.specs.DeskView.{DeskView}
+use Rattle.aide_db.specs.Side.{other_side}
+use Rattle.aide_db.specs.Desk.{list_of, columns_of_side}
+use Rattle.aide_db.specs.declared.column.Column.{Column}
+use Rattle.aide_db.specs.declared.side.Side.{Side}
+use Rattle.aide_db.specs.declared.judge.Judgement.{Judgement}
+use Rattle.aide_db.specs.declared.judge.Judgement.TheVariants.{Pass, Entry, End, Fault}
+
+-- the line that was read is the side's entry
+pub record HasAccepted (side : Side) (columns : List Column) (old new : DeskView) : Type 0 where
+  pub list : list_of side new ≡ old.line
+  pub columns_are : columns_of_side side new ≡ columns
+  pub other_list : list_of (other_side side) new ≡ list_of (other_side side) old
+  pub other_columns : columns_of_side (other_side side) new ≡ columns_of_side (other_side side) old
+  pub line : new.line ≡ []
+  pub peak : new.peak ≡ old.peak
+  pub room : new.room ≡ old.room
+
+-- what a judgement leaves of a desk: only an entry changes it
+abbrev pub IsAccepted : Side → List Column → DeskView → DeskView → Judgement → Type 0
+IsAccepted side columns old now (Pass place after) = now ≡ old
+IsAccepted side columns old now Entry = HasAccepted side columns old now
+IsAccepted side columns old now End = now ≡ old
+IsAccepted side columns old now (Fault kind) = now ≡ old

@@ -1,0 +1,42 @@
+-- What asking a reel for the next block gives.
+use Rattle.std.specs.Prelude.{ℕ, ◌≡◌, true, List, [], ◌++◌, take}
+use Rattle.aide_db.specs.Text.{is_filled}
+use Rattle.sha2.specs.Hashers.{Holds256}
+use Rattle.sha2.specs.declared.Sha256.{Sha256}
+use Rattle.aide_db.specs.Count.{one_more}
+use Rattle.aide_db.specs.declared.blocks.Filled.{Filled}
+use Rattle.aide_db.specs.declared.blocks.Filled.TheVariants.{Some, Nothing, Failed}
+
+-- of the bytes before and those that are left
+abbrev pub IsFilled : List ℕ → List ℕ → List ℕ → Filled → Type 0
+IsFilled bytes left ahead Some = bytes ≡ ahead ++ left
+IsFilled bytes left ahead Nothing = (bytes ≡ []) × (left ≡ [])
+IsFilled bytes left ahead Failed = left ≡ bytes
+
+-- bytes are ahead, or none
+abbrev pub IsAhead : List ℕ → Filled → Type 0
+IsAhead ahead Some = is_filled ahead ≡ true
+IsAhead ahead Nothing = ahead ≡ []
+IsAhead ahead Failed = ahead ≡ []
+
+-- a failure is counted
+abbrev pub after_filled : Filled → ℕ → ℕ
+after_filled Some n = n
+after_filled Nothing n = n
+after_filled Failed n = one_more n
+
+-- so many bytes, which stand at the front of the block, have come
+abbrev pub IsFront : ℕ → List ℕ → List ℕ → List ℕ → Type 0
+IsFront count block bytes left = bytes ≡ take count block ++ left
+
+-- the bytes still to use stay, and none are left where none came
+abbrev pub IsLeft : List ℕ → List ℕ → Filled → Type 0
+IsLeft bytes left Some = left ≡ bytes
+IsLeft bytes left Nothing = (bytes ≡ []) × (left ≡ [])
+IsLeft bytes left Failed = left ≡ bytes
+
+-- of the bytes still to come the first ones came, or none, and they were hashed
+pub record Gives (bytes left : List ℕ) (hash hash_now : Sha256) : Type 0 where
+  pub given : List ℕ
+  pub parts : bytes ≡ given ++ left
+  pub hashed : (before : List ℕ) → Holds256 hash before → Holds256 hash_now (before ++ given)

@@ -1,0 +1,41 @@
+-- Want of memory, and where a cursor has answered it.
+use Rattle.std.specs.Prelude.{◌≡◌, Bool, false, Result, Ok, Err}
+use Rattle.aide_db.specs.Cause.{cause_of, from_memory}
+use Rattle.aide_db.specs.declared.fault.DbFault.{DbFault}
+use Rattle.aide_db.specs.declared.fault.DbFaultKind.{DbFaultKind}
+use Rattle.aide_db.specs.declared.place.Place.{Place}
+use Rattle.aide_db.specs.declared.place.Place.TheVariants as places
+use Rattle.aide_db.specs.declared.place.Progress.{Progress}
+use Rattle.aide_db.specs.declared.place.Progress.TheVariants as steps
+use Rattle.aide_db.specs.declared.step.Step.{Step}
+use Rattle.aide_db.specs.declared.take_line.Taken.{Taken}
+use Rattle.aide_db.specs.declared.take_line.Taken.TheVariants as takes
+
+-- the fault is want of memory
+abbrev pub is_memory : DbFaultKind → Bool
+is_memory kind = from_memory (cause_of kind)
+
+-- the answer is want of memory
+abbrev pub wants_memory : Result Step DbFault → Bool
+wants_memory (Ok step) = false
+wants_memory (Err fault) = is_memory fault.kind
+
+-- the cursor at this place has answered want of memory
+abbrev pub wanted_memory : Place → Bool
+wanted_memory places.Start = false
+wanted_memory places.Begun = false
+wanted_memory places.Entries = false
+wanted_memory places.Ended = false
+wanted_memory (places.Failed fault) = is_memory fault.kind
+
+-- a line is read without want of memory
+abbrev pub HasMemory : Taken → Type 0
+HasMemory takes.NoMemory = ⊥
+HasMemory _ = Unit {0}
+
+-- one line more is read without want of memory
+abbrev pub GoesOn : Progress → Type 0
+GoesOn steps.Line = Unit {0}
+GoesOn steps.Entry = Unit {0}
+GoesOn steps.End = Unit {0}
+GoesOn (steps.Fault kind) = is_memory kind ≡ false

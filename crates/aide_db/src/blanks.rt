@@ -1,0 +1,76 @@
+//! The blanks among 32 bytes, as bits.
+ghost use Rattle.std.specs.Prelude.{ℕ, true, ◌≡◌, ◌≢◌, ◌↔◌, ◌+◌, ◌<◌, ◌≤◌, ◌==◌, if◌then◌else◌, length, slice_index, bit_or};
+ghost use Rattle.std.specs.Int.{bit_at};
+ghost use Rattle.memchr.specs.Lanes.{HasLanes};
+ghost use Rattle.aide_db.specs.Text.{is_blank};
+
+use std::simd::prelude::*;
+
+fn next_lanes(line: &[u8], at: usize) -> u8x32
+    requires { at + 32 ≤ length line.now }
+    ensures { HasLanes result (λ k. slice_index line.now (at + k)) }
+{
+    u8x32::from_slice(&line[at..])
+}
+
+fn lanes_equal(v: u8x32, byte: u8) -> u8x32
+    ensures { HasLanes result (λ k. if slice_index v k == byte then 255 else 0) }
+{
+    v.simd_eq(u8x32::splat(byte))
+        .select(u8x32::splat(255), u8x32::splat(0))
+}
+
+fn lanes_either(a: u8x32, b: u8x32) -> u8x32
+    ensures { HasLanes result (λ k. bit_or (slice_index a k) (slice_index b k)) }
+{
+    a | b
+}
+
+fn high_lanes(v: u8x32) -> u64
+    ensures { (k : ℕ) → (bit_at result k ≡ 1) ↔ (128 ≤ slice_index v k) }
+{
+    v.simd_ge(u8x32::splat(128)).to_bitmask()
+}
+
+/// Bit k tells whether the byte k places on is blank.
+pub fn blanks_at(line: &[u8], at: usize) -> u64
+    requires { at + 32 ≤ length line.now }
+    ensures each { (k : ℕ) → k < 32 → (bit_at result k ≡ 1) ↔ (is_blank (slice_index line.now (at + k)) ≡ true) }
+    ensures within { (k : ℕ) → bit_at result k ≡ 1 → k < 32 }
+{
+    let v = next_lanes(line, at);
+    let either = lanes_either(lanes_equal(v, b' '), lanes_equal(v, b'\t'));
+    high_lanes(either)
+}
+
+/// The place of the lowest bit.
+pub fn lowest_bit(bits: u64) -> usize
+    requires { bits ≢ 0 }
+    ensures bound { result < 64 }
+    ensures set { bit_at bits result ≡ 1 }
+    ensures below { (k : ℕ) → k < result → bit_at bits k ≡ 0 }
+{
+    bits.trailing_zeros() as usize
+}
+
+/// The bits without one of them.
+pub fn without_bit(bits: u64, bit: usize) -> u64
+    requires bound { bit < 64 }
+    requires set { bit_at bits bit ≡ 1 }
+    ensures smaller { result < bits }
+    ensures kept { (k : ℕ) → k < 64 → k ≢ bit → bit_at result k ≡ bit_at bits k }
+    ensures fewer { (k : ℕ) → bit_at result k ≡ 1 → bit_at bits k ≡ 1 }
+    ensures gone { bit_at result bit ≡ 0 }
+{
+    bits & !(1 << bit)
+}
+
+/// The bits from a place on.
+pub fn bits_from(bits: u64, place: usize) -> u64
+    requires { place < 64 }
+    ensures kept { (k : ℕ) → place ≤ k → bit_at result k ≡ bit_at bits k }
+    ensures gone { (k : ℕ) → k < place → bit_at result k ≡ 0 }
+{
+    let high = bits >> place;
+    high << place
+}

@@ -1,0 +1,163 @@
+//! A reel that is read in blocks.
+ghost use Rattle.sha2.specs.Hashers.{Holds256};
+ghost use Rattle.sha2.specs.Sha256.{sha256};
+ghost use Rattle.std.specs.Prelude.{ℕ, List, true, [], ◌++◌, Some, drop, length, IfOk, OnErr, OnOk, ◌≡◌, ◌<◌, ◌≤◌, ◌==◌};
+ghost use Rattle.aide_db.specs.Blocks.{IsFilled, IsLeft, Gives, IsAhead, IsFront, after_filled};
+ghost use Rattle.aide_db.specs.Count.{one_more};
+ghost use Rattle.aide_db.specs.Told.{told, tells};
+ghost use Rattle.aide_db.specs.BlocksView.{BlocksView, left_in};
+
+use crate::fault::DeviceFault;
+use crate::reel::Reel;
+use sha2::{Digest, Sha256};
+use std::marker::Model;
+
+/// What asking for a block gave.
+#[derive(Clone, Copy)]
+pub enum Filled {
+    /// Bytes, which are ahead now.
+    Some,
+    /// No byte is left.
+    Nothing,
+    /// The device failed, and took no byte.
+    Failed,
+}
+
+/// A reel, and the block that it gave last. Contracts see the reel and the bytes of the block that were not used yet.
+pub struct Blocks<R: Reel> {
+    reel: R,
+    block: [u8; 4096],
+    start: usize,
+    end: usize,
+    hash: Sha256,
+}
+
+impl<R: Reel> Model for Blocks<R> {
+    ghost use Rattle.std.specs.Prelude.{◌≤◌, ◌-◌, take, drop};
+    ghost use Rattle.aide_db.specs.BlocksView.{BlocksView};
+
+    ghost Value = { BlocksView R };
+
+    ghost view = { λ b. record { reel = b.reel; ahead = take (b.end - b.start) (drop b.start b.block); hash = b.hash } };
+
+    ghost invariant = { λ b. (b.start ≤ b.end) × (b.end ≤ 4096) };
+}
+
+impl<R: Reel> Blocks<R> {
+    /// A reel of which nothing was asked yet.
+    pub fn new(reel: R) -> Blocks<R>
+        ensures reel { result.reel ≡ reel }
+        ensures ahead { result.ahead ≡ [] }
+        ensures hash { Holds256 result.hash [] }
+    {
+        Blocks {
+            reel,
+            block: [0; 4096],
+            start: 0,
+            end: 0,
+            hash: Sha256::new(),
+        }
+    }
+
+    /// Hands back the reel as it is.
+    pub fn into_reel(self) -> R
+        ensures { result ≡ self.reel }
+    {
+        let Blocks {
+            reel,
+            block: _,
+            start: _,
+            end: _,
+            hash: _,
+        } = self;
+        reel
+    }
+
+    /// The bytes that were not used yet.
+    pub fn ahead(&self) -> &[u8]
+        ensures same { result.now ≡ self.now.ahead }
+        ensures small { length result.now ≤ 4096 }
+    {
+        &self.block[self.start..self.end]
+    }
+
+    /// The SHA-256 of all bytes that the reel gave.
+    pub fn sum(&self) -> Option<[u8; 32]>
+        ensures { (text : List ℕ) → Holds256 self.now.hash text → result ≡ Some (sha256 text) }
+    {
+        match self.hash.clone() {
+            Ok(hash) => Some(hash.finalize()),
+            Err(_) => None,
+        }
+    }
+
+    /// Uses so many bytes.
+    pub fn skip(&mut self, count: usize)
+        requires { count ≤ length self.old.ahead }
+        ensures reel { self.new.reel ≡ self.old.reel }
+        ensures ahead { self.new.ahead ≡ drop count self.old.ahead }
+        ensures hash { self.new.hash ≡ self.old.hash }
+    {
+        self.start += count;
+    }
+
+    /// Sees to it that bytes are ahead. Where none is, the reel is asked for so many at most.
+    pub fn more(&mut self, most: u64) -> Filled
+        requires some { 0 < most }
+        ensures left { tells (R.to_come self.old.reel) ≡ true → IsLeft (left_in R.to_come self.old) (left_in R.to_come self.new) result }
+        ensures gives { tells (R.to_come self.old.reel) ≡ true
+            → Gives (told (R.to_come self.old.reel)) (told (R.to_come self.new.reel)) self.old.hash self.new.hash }
+        ensures ahead { IsAhead self.new.ahead result }
+        ensures most { length self.old.ahead ≤ most → length self.new.ahead ≤ most }
+        ensures tells { tells (R.to_come self.old.reel) ≡ true → tells (R.to_come self.new.reel) ≡ true }
+        ensures failures { R.failures self.new.reel ≡ after_filled result (R.failures self.old.reel) }
+    {
+        if self.start < self.end {
+            return Filled::Some;
+        }
+        self.fill(most)
+    }
+
+    /// Asks the reel for the next block, of so many bytes at most.
+    fn fill(&mut self, most: u64) -> Filled
+        requires used { self.old.ahead ≡ [] }
+        requires some { 0 < most }
+        ensures filled { tells (R.to_come self.old.reel) ≡ true
+            → IsFilled (told (R.to_come self.old.reel)) (told (R.to_come self.new.reel)) self.new.ahead result }
+        ensures hashed { (before : List ℕ) → Holds256 self.old.hash before → Holds256 self.new.hash (before ++ self.new.ahead) }
+        ensures ahead { IsAhead self.new.ahead result }
+        ensures most { length self.new.ahead ≤ most }
+        ensures tells { tells (R.to_come self.old.reel) ≡ true → tells (R.to_come self.new.reel) ≡ true }
+        ensures failures { R.failures self.new.reel ≡ after_filled result (R.failures self.old.reel) }
+    {
+        let size = if most < 4096 { most as usize } else { 4096 };
+        self.start = 0;
+        self.end = 0;
+        match take_front(&mut self.reel, &mut self.block, size) {
+            Err(_) => Filled::Failed,
+            Ok(0) => Filled::Nothing,
+            Ok(count) => {
+                self.end = count;
+                self.hash.update(&self.block[..count]);
+                Filled::Some
+            }
+        }
+    }
+}
+
+/// Takes bytes into the front of a block, so many at most.
+fn take_front<R: Reel>(reel: &mut R, block: &mut [u8], size: usize) -> Result<usize, DeviceFault>
+    requires some { 0 < size }
+    requires room { size ≤ length block.old }
+    ensures room { length block.new ≡ length block.old }
+    ensures most { IfOk result (λ count. count ≤ size) }
+    ensures front { IfOk result (λ count. tells (R.to_come reel.old) ≡ true
+        → IsFront count block.new (told (R.to_come reel.old)) (told (R.to_come reel.new))) }
+    ensures end { IfOk result (λ count. count ≡ 0 → tells (R.to_come reel.old) ≡ true → told (R.to_come reel.old) ≡ []) }
+    ensures kept { OnErr result (tells (R.to_come reel.old) ≡ true → told (R.to_come reel.new) ≡ told (R.to_come reel.old)) }
+    ensures tells { tells (R.to_come reel.old) ≡ true → tells (R.to_come reel.new) ≡ true }
+    ensures fault { OnErr result (R.failures reel.new ≡ one_more (R.failures reel.old)) }
+    ensures ok { OnOk result (R.failures reel.new ≡ R.failures reel.old) }
+{
+    reel.read(&mut block[..size])
+}

@@ -1,0 +1,31 @@
+//! The first piece of a line among bytes that have come.
+ghost use Rattle.std.specs.Prelude.{◌≡◌, take};
+ghost use Rattle.aide_db.specs.Piece.{IsPiece};
+
+use memchr::memchr;
+
+/// The first bytes, so many at most.
+pub fn front_of(bytes: &[u8], room: u64) -> &[u8]
+    ensures { result.now ≡ take room bytes.now }
+{
+    if bytes.len() as u64 > room {
+        let (front, _) = bytes.split_at(room as usize);
+        front
+    } else {
+        bytes
+    }
+}
+
+/// The bytes before the first newline, so many at most, and whether a newline stands behind them among so many.
+pub fn first_piece(ahead: &[u8], room: u64) -> (&[u8], bool)
+    ensures { IsPiece ahead.now room result.0.now result.1 }
+{
+    let near = front_of(ahead, room);
+    match memchr(b'\n', near) {
+        Some(at) => {
+            let (piece, _) = near.split_at(at);
+            (piece, true)
+        }
+        None => (near, false),
+    }
+}

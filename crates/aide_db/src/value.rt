@@ -1,0 +1,284 @@
+//! What a field means, by its form.
+ghost use Rattle.std.specs.Prelude.{ℕ, true, ◌≡◌, ◌<◌, ◌≤◌, length, is_some, Option};
+ghost use Rattle.std.specs.Str.{bytes_eq};
+ghost use Rattle.percent_encoding.specs.Iter.{decoded_bytes};
+ghost use Rattle.base64.specs.Engines.{standard};
+ghost use Rattle.base64.specs.GeneralPurpose.{decoded_of};
+ghost use Rattle.aide_attr.specs.Attr.{most_bytes};
+ghost use Rattle.aide_db.specs.Numbers.{mode_of};
+ghost use Rattle.aide_db.specs.Values.{is_nought, type_of_bits, type_of_mode, begins_number, time_of, digest_of, link_text};
+ghost use Rattle.aide_db.specs.Values.{link_of, value_of, is_field};
+ghost use Rattle.aide_db.specs.Attributes.{number_of_type, is_different};
+ghost use Rattle.aide_db.specs.Lent.{IsDecoded, IsDigest, lent_link, differs_by, same_number, same_mode, same_type, same_link_name};
+
+use crate::number::{is_digit, read_mode, read_number};
+use crate::view::Decoded;
+use aide_attr::{FileType, Form};
+use base64::engine::general_purpose::STANDARD;
+use percent_encoding::percent_decode;
+
+/// The field that says that there is no value.
+pub fn is_nought(field: &[u8]) -> bool
+    ensures { result ≡ is_nought field.now }
+{
+    field == b"0".as_slice()
+}
+
+fn type_of_bits(bits: u32) -> Option<FileType>
+    requires { bits < 16 }
+    ensures { result ≡ type_of_bits bits }
+{
+    match bits {
+        0 => None,
+        8 => Some(FileType::File),
+        4 => Some(FileType::Directory),
+        10 => Some(FileType::Link),
+        2 => Some(FileType::Char),
+        6 => Some(FileType::Block),
+        1 => Some(FileType::Fifo),
+        12 => Some(FileType::Socket),
+        _ => Some(FileType::Other(bits as u8)),
+    }
+}
+
+/// The type of a file, from its mode.
+pub fn read_type(field: &[u8]) -> Option<FileType>
+    ensures { result ≡ type_of_mode (mode_of field.now) }
+{
+    match read_mode(field) {
+        None => None,
+        Some(mode) => type_of_bits(mode / 4096 % 16),
+    }
+}
+
+fn begins_number(field: &[u8]) -> bool
+    ensures { result ≡ begins_number field.now }
+{
+    match field.split_first() {
+        None => false,
+        Some((first, _)) => is_digit(10, *first) || *first == b'-',
+    }
+}
+
+/// Seconds, as a number or as base64 of one.
+#[tactic(auto, unfolding(crate::specs::Values::time_of))]
+pub fn read_time(field: &[u8]) -> Option<i128>
+    ensures { result ≡ time_of field.now }
+{
+    if begins_number(field) {
+        return read_number(field);
+    }
+    if field.len() > 44 {
+        return None;
+    }
+    let mut text = [0; 33];
+    match STANDARD.decode_slice_unchecked(field, &mut text) {
+        Ok(len) => {
+            let (front, _) = text.split_at(len);
+            read_number(front)
+        }
+        Err(_) => None,
+    }
+}
+
+/// Decodes base64 to the front of a buffer, if it fits: how many bytes there are.
+fn decode(field: &[u8], buffer: &mut [u8; 64]) -> Option<usize>
+    ensures { IsDecoded (decoded_of standard field.now) 64 result buffer.new }
+{
+    match STANDARD.decode_slice(field, buffer) {
+        Ok(len) => Some(len),
+        Err(_) => None,
+    }
+}
+
+/// The bytes of a digest, at the front of a buffer: how many there are.
+#[tactic(auto, unfolding(crate::specs::Values::digest_of))]
+pub fn read_digest(least: u8, most: u8, field: &[u8], buffer: &mut [u8; 64]) -> Option<usize>
+    requires { most ≤ 64 }
+    ensures { IsDigest (digest_of least most field.now) result buffer.new }
+{
+    match decode(field, buffer) {
+        None => None,
+        Some(len) => {
+            if len >= least as usize && len <= most as usize {
+                Some(len)
+            } else {
+                None
+            }
+        }
+    }
+}
+
+fn is_digest(least: u8, most: u8, field: &[u8]) -> bool
+    requires { most ≤ 64 }
+    ensures { result ≡ is_some (digest_of least most field.now) }
+{
+    let mut buffer = [0; 64];
+    read_digest(least, most, field, &mut buffer).is_some()
+}
+
+fn link_text(field: &[u8]) -> &[u8]
+    ensures { result.now ≡ link_text field.now }
+{
+    if field.starts_with(b"00") {
+        let (_, text) = field.split_at(1);
+        text
+    } else {
+        field
+    }
+}
+
+/// The name in a symbolic link: none, the empty one, or a text with escapes.
+#[tactic(auto, unfolding(crate::specs::Values::link_of, percent_encoding::specs::Percent::percent_decode))]
+pub fn read_link(field: &[u8]) -> Option<Decoded<'_>>
+    ensures { lent_link result ≡ link_of field.now }
+{
+    if is_nought(field) {
+        None
+    } else if field == b"0-".as_slice() {
+        Some(percent_decode(b""))
+    } else {
+        Some(percent_decode(link_text(field)))
+    }
+}
+
+/// Whether a field of this form has a value.
+pub fn has_value(form: Form, field: &[u8]) -> bool
+    requires { most_bytes form ≤ 64 }
+    ensures { result ≡ is_some (value_of form field.now) }
+{
+    match form {
+        Form::Kind => read_type(field).is_some(),
+        Form::Mode => read_mode(field).is_some(),
+        Form::Number => read_number(field).is_some(),
+        Form::Time => read_time(field).is_some(),
+        Form::Link => true,
+        Form::Digest(least, most) => is_digest(least, most, field),
+        Form::Opaque => !is_nought(field),
+    }
+}
+
+/// Whether a field has this form.
+pub fn is_field(form: Form, field: &[u8]) -> bool
+    requires { most_bytes form ≤ 64 }
+    ensures { result ≡ is_field form field.now }
+{
+    match form {
+        Form::Kind => read_mode(field).is_some(),
+        Form::Mode => read_mode(field).is_some(),
+        Form::Number => read_number(field).is_some(),
+        Form::Time => read_time(field).is_some(),
+        Form::Link => true,
+        Form::Digest(least, most) => is_nought(field) || is_digest(least, most, field),
+        Form::Opaque => true,
+    }
+}
+
+// ---- whether two fields of one form have different values
+
+fn numbers_differ(old: Option<i128>, new: Option<i128>) -> bool
+    ensures { result ≡ differs_by same_number old new }
+{
+    match (old, new) {
+        (Some(x), Some(y)) => x != y,
+        _ => false,
+    }
+}
+
+fn modes_differ(old: Option<u32>, new: Option<u32>) -> bool
+    ensures { result ≡ differs_by same_mode old new }
+{
+    match (old, new) {
+        (Some(x), Some(y)) => x % 4096 != y % 4096,
+        _ => false,
+    }
+}
+
+fn number_of_type(kind: FileType) -> u16
+    ensures { result ≡ number_of_type kind }
+{
+    match kind {
+        FileType::File => 0,
+        FileType::Directory => 1,
+        FileType::Link => 2,
+        FileType::Char => 3,
+        FileType::Block => 4,
+        FileType::Fifo => 5,
+        FileType::Socket => 6,
+        FileType::Other(bits) => 7 + u16::from(bits),
+    }
+}
+
+fn types_differ(old: Option<FileType>, new: Option<FileType>) -> bool
+    ensures { result ≡ differs_by same_type old new }
+{
+    match (old, new) {
+        (Some(x), Some(y)) => number_of_type(x) != number_of_type(y),
+        _ => false,
+    }
+}
+
+/// Whether two texts with escapes say the same.
+fn same_texts(old: Decoded<'_>, new: Decoded<'_>) -> bool
+    ensures { result ≡ bytes_eq (decoded_bytes old.entry) (decoded_bytes new.entry) }
+{
+    let mut left = old;
+    let mut right = new;
+    'bytes: while let Some(a) = left.next() {
+        let Some(b) = right.next() else {
+            return false;
+        };
+        if a != b {
+            return false;
+        }
+    }
+    right.next().is_none()
+}
+
+fn links_differ(old: Option<Decoded<'_>>, new: Option<Decoded<'_>>) -> bool
+    ensures { result ≡ differs_by same_link_name (Some (lent_link old.entry)) (Some (lent_link new.entry)) }
+{
+    match (old, new) {
+        (None, None) => false,
+        (Some(x), Some(y)) => !same_texts(x, y),
+        _ => true,
+    }
+}
+
+fn digests_differ(least: u8, most: u8, old: &[u8], new: &[u8]) -> bool
+    requires { most ≤ 64 }
+    ensures { result ≡ differs_by bytes_eq (digest_of least most old.now) (digest_of least most new.now) }
+{
+    let mut left = [0; 64];
+    let mut right = [0; 64];
+    match (
+        read_digest(least, most, old, &mut left),
+        read_digest(least, most, new, &mut right),
+    ) {
+        (Some(n), Some(m)) => {
+            let (x, _) = left.split_at(n);
+            let (y, _) = right.split_at(m);
+            x != y
+        }
+        _ => false,
+    }
+}
+
+/// Whether two fields of one form have values that differ. Equal fields are not read.
+pub fn differ(form: Form, old: &[u8], new: &[u8]) -> bool
+    requires { most_bytes form ≤ 64 }
+    ensures { result ≡ is_different (value_of form old.now) (value_of form new.now) }
+{
+    if old == new {
+        return false;
+    }
+    match form {
+        Form::Kind => types_differ(read_type(old), read_type(new)),
+        Form::Mode => modes_differ(read_mode(old), read_mode(new)),
+        Form::Number => numbers_differ(read_number(old), read_number(new)),
+        Form::Time => numbers_differ(read_time(old), read_time(new)),
+        Form::Link => links_differ(read_link(old), read_link(new)),
+        Form::Digest(least, most) => digests_differ(least, most, old, new),
+        Form::Opaque => !is_nought(old) && !is_nought(new),
+    }
+}
