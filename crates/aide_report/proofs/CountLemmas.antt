@@ -2,13 +2,14 @@
 use Rattle.std.proofs.Common.{◌≡◌, ℕ, ◌+◌, ◌-◌, ◌<◌, ◌≤◌, Bool, List, [], ◌∷◌, ◌++◌, ap, ◌∙◌, arith}
 use Rattle.std.specs.Prelude.{count_by, cond}
 use Rattle.std.proofs.lemmas.List.Sums.{count_by-le-length, sum_by-append}
-use Rattle.aide_attr.specs.declared.delta.Ignore.{Ignore}
+use Rattle.aide_conf.specs.declared.options.Options.{Options}
 use Rattle.aide_db.specs.Attributes.{Attributes}
 use Rattle.aide_report.specs.Changed.{differ_by}
 use Rattle.aide_report.specs.Changes.{is_added, is_removed, is_changed, is_of_new}
 use Rattle.aide_report.specs.Compare.{Change as Sided}
 use Rattle.aide_report.specs.Counts.{Completes, AreBelow}
-use Rattle.aide_report.specs.declared.count.Counts.{Counts}
+use Rattle.aide_report.specs.Entries.{is_shown_entry}
+use Rattle.aide_text.specs.declared.counts.Counts.{Counts}
 
 abbrev Change : Type 0
 Change = Sided (List ℕ) Attributes
@@ -18,20 +19,22 @@ one_more : (p : Change → Bool) (change : Change) (a b : ℕ) (rest more all : 
 one_more p change a b rest more all is grows so_far =
     omega (arith, ap (count_by p) is, sum_by-append (λ x. cond (p x) 1 0) (change ∷ []) more)
 
-pub counts_more : (ignore : Ignore) (a b : Counts) (change : Change) (rest changes more all : List Change)
+pub counts_more : (options : Options) (a b : Counts) (change : Change) (rest changes more all : List Change)
     → rest ≡ changes ++ more → changes ≡ change ∷ []
     → b.added ≡ a.added + count_by is_added (change ∷ [])
     → b.removed ≡ a.removed + count_by is_removed (change ∷ [])
-    → b.changed ≡ a.changed + count_by (is_changed (differ_by ignore)) (change ∷ [])
+    → b.changed ≡ a.changed + count_by (is_changed (differ_by options.ignore)) (change ∷ [])
     → b.total ≡ a.total + count_by is_of_new (change ∷ [])
-    → Completes ignore a rest all → Completes ignore b more all
-counts_more ignore a b change rest changes more all is one e f g h so_far =
+    → b.shown ≡ a.shown + count_by (is_shown_entry options) (change ∷ [])
+    → Completes options a rest all → Completes options b more all
+counts_more options a b change rest changes more all is one e f g h s so_far =
     let step : rest ≡ (change ∷ []) ++ more = is ∙ ap (λ cs. cs ++ more) one in
     record {
       added = one_more is_added change a.added b.added rest more all step e so_far.added;
       removed = one_more is_removed change a.removed b.removed rest more all step f so_far.removed;
-      changed = one_more (is_changed (differ_by ignore)) change a.changed b.changed rest more all step g so_far.changed;
+      changed = one_more (is_changed (differ_by options.ignore)) change a.changed b.changed rest more all step g so_far.changed;
       total = one_more is_of_new change a.total b.total rest more all step h so_far.total;
+      shown = one_more (is_shown_entry options) change a.shown b.shown rest more all step s so_far.shown;
     }
 
 at_most_one : (p : Change → Bool) (change : Change) → count_by p (change ∷ []) ≤ 1
@@ -40,23 +43,25 @@ at_most_one p change = count_by-le-length p (change ∷ [])
 small_one : (p : Change → Bool) (change : Change) (a b top m n : ℕ) → n < m → b ≡ a + count_by p (change ∷ []) → a < top - m → b < top - n
 small_one p change a b top m n less grows small = omega (arith, at_most_one p change)
 
-pub small_more : (ignore : Ignore) (a b : Counts) (change : Change) (top m n : ℕ)
+pub small_more : (options : Options) (a b : Counts) (change : Change) (top m n : ℕ)
     → n < m
     → b.added ≡ a.added + count_by is_added (change ∷ [])
     → b.removed ≡ a.removed + count_by is_removed (change ∷ [])
-    → b.changed ≡ a.changed + count_by (is_changed (differ_by ignore)) (change ∷ [])
+    → b.changed ≡ a.changed + count_by (is_changed (differ_by options.ignore)) (change ∷ [])
     → b.total ≡ a.total + count_by is_of_new (change ∷ [])
+    → b.shown ≡ a.shown + count_by (is_shown_entry options) (change ∷ [])
     → AreBelow a (top - m) → AreBelow b (top - n)
-small_more ignore a b change top m n less e f g h small = record {
+small_more options a b change top m n less e f g h s small = record {
   added = small_one is_added change a.added b.added top m n less e small.added;
   removed = small_one is_removed change a.removed b.removed top m n less f small.removed;
-  changed = small_one (is_changed (differ_by ignore)) change a.changed b.changed top m n less g small.changed;
+  changed = small_one (is_changed (differ_by options.ignore)) change a.changed b.changed top m n less g small.changed;
   total = small_one is_of_new change a.total b.total top m n less h small.total;
+  shown = small_one (is_shown_entry options) change a.shown b.shown top m n less s small.shown;
 }
 
 -- no change was shown
-pub counts_same : (ignore : Ignore) (a : Counts) (rest changes more all : List Change) → rest ≡ changes ++ more → changes ≡ [] → Completes ignore a rest all → Completes ignore a more all
-counts_same ignore a rest changes more all is none so_far = let step : rest ≡ more = is ∙ ap (λ cs. cs ++ more) none in rw step at so_far
+pub counts_same : (options : Options) (a : Counts) (rest changes more all : List Change) → rest ≡ changes ++ more → changes ≡ [] → Completes options a rest all → Completes options a more all
+counts_same options a rest changes more all is none so_far = let step : rest ≡ more = is ∙ ap (λ cs. cs ++ more) none in rw step at so_far
 
 pub small_same : (a : Counts) (top m n : ℕ) → n < m → AreBelow a (top - m) → AreBelow a (top - n)
-small_same a top m n less small = record { added = omega (arith, small.added); removed = omega (arith, small.removed); changed = omega (arith, small.changed); total = omega (arith, small.total) }
+small_same a top m n less small = record { added = omega (arith, small.added); removed = omega (arith, small.removed); changed = omega (arith, small.changed); total = omega (arith, small.total); shown = omega (arith, small.shown) }

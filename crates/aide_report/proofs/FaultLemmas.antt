@@ -1,7 +1,7 @@
 -- The faults of a run, by cases.
 use Rattle.std.specs.Prelude.{◌≡◌, ℕ, Option, Some, Result, Err, List, true, false}
 use Rattle.std.proofs.Common.{refl, sym, ap, ◌∙◌}
-use Rattle.aide_conf.specs.declared.options.Options.{Options}
+use Rattle.aide_report.specs.Asked.{Asked}
 use Rattle.aide_db.specs.Database.{IsSound}
 use Rattle.aide_db.specs.Failures.{is_outside}
 use Rattle.aide_db.specs.declared.fault.DbFault.{DbFault}
@@ -12,14 +12,19 @@ use Rattle.aide_db.specs.declared.side.Side.{Side}
 use Rattle.aide_db.specs.declared.side.Side.TheVariants.{Old, New}
 use Rattle.aide_db.proofs.MapLaws.{first_fault_unsound}
 use Rattle.aide_report.specs.LaterFault.{later_by, later_of}
+use Rattle.aide_report.specs.PassFaults.{IfDatabase, IfWrite, pass_fault_of}
+use Rattle.aide_report.specs.Openings.{OpensFirst}
 use Rattle.aide_report.specs.Reading.{IsFaultOf}
-use Rattle.aide_report.specs.RunFaults.{IsCaused, IsLater, IsRight}
+use Rattle.aide_report.specs.RunFaults.{IsCaused, IsLater, IsRight, TellsPen}
+use Rattle.aide_report.specs.declared.entries.PassFault.{PassFault}
+use Rattle.aide_report.specs.declared.entries.PassFault.TheVariants as passes
+use Rattle.aide_text.specs.declared.pen.Pen.{Pen}
 use Rattle.aide_report.specs.Runs.{Report, Runs, IsAnswer, StandsOn, HasCause}
 use Rattle.aide_report.specs.declared.run_fault.RunFault.{RunFault}
 use Rattle.aide_report.specs.declared.run_fault.RunFault.TheVariants.{Open, Database, Changed, Write}
 use Rattle.aide_report.proofs.FirstFaults.{Runs-unique}
 
-abbrev HasFault : Limits → (Side → Option (List ℕ)) → DbFault → Type 0
+abbrev pub HasFault : Limits → (Side → Option (List ℕ)) → DbFault → Type 0
 HasFault limits bytes_of fault = (text : List ℕ) → bytes_of fault.side ≡ Some text → IsFaultOf limits text fault
 
 changed_later : (limits : Limits) (bytes_of : Side → Option (List ℕ)) (fault : DbFault) → HasFault limits bytes_of fault
@@ -77,15 +82,89 @@ stands_on rose first Memory read inside = tt
 stands_on rose first Read read inside = read refl
 stands_on rose first TooManyBytes read inside = inside refl
 
--- why the readings fail
-pub has_cause : (limits : Limits) (options : Options) (bytes_of : Side → Option (List ℕ)) (sources sink : Type 0) (fault : RunFault)
-    → IsCaused sources ⊥ fault → IsAnswer limits options bytes_of fault → IsRight limits bytes_of fault
+-- why a run fails
+pub has_cause : (limits : Limits) (task : Asked) (bytes_of : Side → Option (List ℕ)) (sources sink : Type 0) (fault : RunFault)
+    → IsCaused sources sink fault → IsAnswer limits task bytes_of fault → IsRight limits bytes_of fault
     → HasCause fault sources sink
-    (λ first. (old new : List ℕ) → bytes_of Old ≡ Some old → bytes_of New ≡ Some new → (r : Result Report DbFault) → Runs limits options old new r → r ≡ Err first)
+    (λ first. (old new : List ℕ) → bytes_of Old ≡ Some old → bytes_of New ≡ Some new → (r : Result Report DbFault) → Runs limits task old new r → r ≡ Err first)
     (λ side. (text : List ℕ) → bytes_of side ≡ Some text → ⊥)
-has_cause limits options bytes_of sources sink (Open side) caused answer right = caused
-has_cause limits options bytes_of sources sink (Database fault) caused answer right =
+has_cause limits task bytes_of sources sink (Open side) caused answer right = caused
+has_cause limits task bytes_of sources sink (Database fault) caused answer right =
     stands_on sources _ fault.kind caused
-    (λ inside old new told_old told_new r runs. Runs-unique limits options old new r (Err fault) runs (answer old new told_old told_new inside))
-has_cause limits options bytes_of sources sink (Changed side) caused answer right = right
-has_cause limits options bytes_of sources sink (Write written) caused answer right = absurd caused
+    (λ inside old new told_old told_new r runs. Runs-unique limits task old new r (Err fault) runs (answer old new told_old told_new inside))
+has_cause limits task bytes_of sources sink (Changed side) caused answer right = right
+has_cause limits task bytes_of sources sink (Write written) caused answer right = caused
+
+-- ---- the end of a pass
+
+pub if_database : (P Q : DbFault → Type 0) → ((fault : DbFault) → P fault → Q fault) → (fault : PassFault) → IfDatabase P fault → IfDatabase Q fault
+if_database P Q f (passes.Database fault) p = f fault p
+if_database P Q f passes.Write p = tt
+
+-- a fault of the text shows that its side is not sound
+pub pass_later : (limits : Limits) (bytes_of : Side → Option (List ℕ)) (fault : PassFault) (sent : ℕ) → IfDatabase (HasFault limits bytes_of) fault → IsLater limits bytes_of (pass_fault_of fault sent)
+pass_later limits bytes_of (passes.Database fault) sent first = later_fault limits bytes_of fault first
+pass_later limits bytes_of passes.Write sent first = tt
+
+caused_at : (sources sink : Type 0) (fault : DbFault) → (fault.kind ≡ Read → sources) → (kind : DbFaultKind) → IsCaused sources sink (later_by kind fault)
+caused_at sources sink fault read LineTooLong = tt
+caused_at sources sink fault read NoBegin = tt
+caused_at sources sink fault read BadDirective = tt
+caused_at sources sink fault read BadSpec = tt
+caused_at sources sink fault read NoSpec = tt
+caused_at sources sink fault read FieldCount = tt
+caused_at sources sink fault read BadName = tt
+caused_at sources sink fault read OutOfOrder = tt
+caused_at sources sink fault read (BadNumber column) = tt
+caused_at sources sink fault read (BadTime column) = tt
+caused_at sources sink fault read (BadDigest column) = tt
+caused_at sources sink fault read NoEnd = tt
+caused_at sources sink fault read Memory = read
+caused_at sources sink fault read Read = read
+caused_at sources sink fault read TooManyBytes = tt
+
+pub pass_caused : (sources sink : Type 0) (fault : PassFault) (sent : ℕ) → IfDatabase (λ f. f.kind ≡ Read → sources) fault → IfWrite sink fault → IsCaused sources sink (pass_fault_of fault sent)
+pass_caused sources sink (passes.Database fault) sent read write = caused_at sources sink fault read fault.kind
+pass_caused sources sink passes.Write sent read write = write
+
+tells_at : (pen : Pen) (fault : DbFault) (kind : DbFaultKind) → TellsPen pen (later_by kind fault)
+tells_at pen fault LineTooLong = tt
+tells_at pen fault NoBegin = tt
+tells_at pen fault BadDirective = tt
+tells_at pen fault BadSpec = tt
+tells_at pen fault NoSpec = tt
+tells_at pen fault FieldCount = tt
+tells_at pen fault BadName = tt
+tells_at pen fault OutOfOrder = tt
+tells_at pen fault (BadNumber column) = tt
+tells_at pen fault (BadTime column) = tt
+tells_at pen fault (BadDigest column) = tt
+tells_at pen fault NoEnd = tt
+tells_at pen fault Memory = tt
+tells_at pen fault Read = tt
+tells_at pen fault TooManyBytes = tt
+
+pub pass_tells : (pen : Pen) (fault : PassFault) → IfWrite (pen.failed ≡ true) fault → TellsPen pen (pass_fault_of fault pen.sent)
+pass_tells pen (passes.Database fault) write = tells_at pen fault fault.kind
+pass_tells pen passes.Write write = (write, refl)
+
+-- ---- a fault after the first readings is no fault of a text
+
+pub answer_later : (limits : Limits) (task : Asked) (bytes_of : Side → Option (List ℕ)) (given : Side → Option (List ℕ)) (fault : RunFault)
+    → IsLater limits given fault → IsAnswer limits task bytes_of fault
+answer_later limits task bytes_of given (Open side) later = tt
+answer_later limits task bytes_of given (Database fault) later = λ old new told_old told_new inside. absurd (true_false (sym later ∙ inside))
+answer_later limits task bytes_of given (Changed side) later = tt
+answer_later limits task bytes_of given (Write written) later = tt
+
+pub first_later : (limits : Limits) (given : Side → Option (List ℕ)) (before after : Side → ℕ) (fault : RunFault) → IsLater limits given fault → OpensFirst before after fault
+first_later limits given before after (Open side) later = tt
+first_later limits given before after (Database fault) later = λ inside. absurd (true_false (sym later ∙ inside))
+first_later limits given before after (Changed side) later = tt
+first_later limits given before after (Write written) later = tt
+
+pub rose_later : (first second sink : Type 0) (fault : RunFault) → (first → second) → IsCaused first sink fault → IsCaused second sink fault
+rose_later first second sink (Open side) f p = f p
+rose_later first second sink (Database fault) f p = λ e. f (p e)
+rose_later first second sink (Changed side) f p = tt
+rose_later first second sink (Write written) f p = p

@@ -1,7 +1,7 @@
 -- A text has one first fault, and a run one right answer.
-use Rattle.std.specs.Prelude.{◌≡◌, ℕ, ◌+◌, ◌⊎◌, true, false, Some, Result, Ok, Err, List, [], ◌∷◌, ◌++◌, length, nat_le}
+use Rattle.std.specs.Prelude.{◌≡◌, ℕ, ◌+◌, ◌≤◌, ◌⊎◌, true, false, Some, Result, Ok, Err, List, [], ◌∷◌, ◌++◌, length, nat_le}
 use Rattle.std.proofs.Common.{refl, sym, ap, subst, ◌∙◌, inl, inr, append_assoc}
-use Rattle.aide_conf.specs.declared.options.Options.{Options}
+use Rattle.aide_report.specs.Asked.{Asked}
 use Rattle.aide_db.specs.Database.{IsFront, IsAtLine, IsFirstFault, fault_of, whole_lines}
 use Rattle.aide_db.specs.Text.{lines}
 use Rattle.aide_db.specs.declared.fault.DbFault.{DbFault}
@@ -9,8 +9,9 @@ use Rattle.aide_db.specs.declared.fault.DbFaultKind.{DbFaultKind}
 use Rattle.aide_db.specs.declared.limits.Limits.{Limits}
 use Rattle.aide_db.specs.declared.side.Side.{Side}
 use Rattle.aide_db.specs.declared.side.Side.TheVariants.{Old, New}
+use Rattle.aide_db.proofs.FaultExists.{sound_or_fault}
 use Rattle.aide_db.proofs.MapLaws.{first_fault_unsound}
-use Rattle.aide_report.specs.Runs.{Report, Runs, IsFirstFaultOf}
+use Rattle.aide_report.specs.Runs.{Report, Runs, HasAnswer, IsFirstFaultOf, report_over}
 
 -- of two cuts of a list at an element, they are one, or the first ends in the front of the second, or the other way round
 record SameCut {X : Type 0} (xs : List X) (x : X) (zs : List X) (z : X) : Type 0 where
@@ -119,17 +120,17 @@ same_fault limits side text f g a b =
     λ i. record { side = sides i; line = same.0 i; kind = same.1 i }
 
 -- a run has one right answer
-pub Runs-unique : (limits : Limits) (options : Options) (old new : List ℕ) (r s : Result Report DbFault) → Runs limits options old new r → Runs limits options old new s → r ≡ s
-Runs-unique limits options old new (Ok x) (Ok y) a b = ap Ok (a.2 ∙ sym b.2)
-Runs-unique limits options old new (Ok x) (Err g) a b = absurd (elim b [
+pub Runs-unique : (limits : Limits) (task : Asked) (old new : List ℕ) (r s : Result Report DbFault) → Runs limits task old new r → Runs limits task old new s → r ≡ s
+Runs-unique limits task old new (Ok x) (Ok y) a b = ap Ok (a.2 ∙ sym b.2)
+Runs-unique limits task old new (Ok x) (Err g) a b = absurd (elim b [
   | inl p ↦ first_fault_unsound limits old g.line g.kind p.1 a.0
   | inr p ↦ first_fault_unsound limits new g.line g.kind p.1.1 a.1
 ])
-Runs-unique limits options old new (Err f) (Ok y) a b = absurd (elim a [
+Runs-unique limits task old new (Err f) (Ok y) a b = absurd (elim a [
   | inl p ↦ first_fault_unsound limits old f.line f.kind p.1 b.0
   | inr p ↦ first_fault_unsound limits new f.line f.kind p.1.1 b.1
 ])
-Runs-unique limits options old new (Err f) (Err g) a b = ap Err (elim a [
+Runs-unique limits task old new (Err f) (Err g) a b = ap Err (elim a [
   | inl p ↦ elim b [
     | inl q ↦ same_fault limits Old old f g p q
     | inr q ↦ absurd (first_fault_unsound limits old f.line f.kind p.1 q.0)
@@ -139,3 +140,13 @@ Runs-unique limits options old new (Err f) (Err g) a b = ap Err (elim a [
     | inr q ↦ same_fault limits New new f g p.1 q.1
   ]
 ])
+
+-- and it has one
+pub Runs-exists : (limits : Limits) (task : Asked) (old new : List ℕ) → 14 ≤ limits.line → HasAnswer limits task old new
+Runs-exists limits task old new le = elim (sound_or_fault limits old le) [
+  | inr bad ↦ (Err (record { side = Old; line = bad.0; kind = bad.1 }), inl (refl, bad.2))
+  | inl sound_old ↦ elim (sound_or_fault limits new le) [
+    | inr bad ↦ (Err (record { side = New; line = bad.0; kind = bad.1 }), inr (sound_old, (refl, bad.2)))
+    | inl sound_new ↦ (Ok (report_over task old new), (sound_old, sound_new, refl))
+  ]
+]

@@ -4,11 +4,12 @@ use Rattle.std.proofs.Common.{refl, sym, ap, subst, ◌∙◌, arith}
 use Rattle.std.specs.FinMap.{len}
 use Rattle.std.specs.Io.KnownBytes.{Appends}
 use Rattle.aide_conf.specs.declared.options.Options.{Options}
+use Rattle.aide_conf.specs.declared.task.Task.{Task}
+use Rattle.aide_report.specs.Asked.{asked}
+use Rattle.sha2.specs.Sha256.{sha256}
 use Rattle.aide_db.specs.Database.{IsSound}
-use Rattle.aide_db.specs.Giving.{columns_of_text}
 use Rattle.aide_db.specs.Map.{database_of, entries_of}
 use Rattle.aide_db.specs.Path.{path_cmp}
-use Rattle.aide_db.specs.Skipped.{skipped_in}
 use Rattle.aide_db.specs.declared.fault.DbFault.{DbFault}
 use Rattle.aide_db.specs.declared.limits.Limits.{Limits}
 use Rattle.aide_db.proofs.PathLaws.{path_cmp_total, path_cmp-IsAntisymmetric}
@@ -18,15 +19,17 @@ use Rattle.aide_report.specs.Changes.{is_added, is_removed, is_changed, is_of_ne
 use Rattle.aide_report.specs.Compare.{changes, added, removed, changed}
 use Rattle.aide_report.specs.Counts.{Completes}
 use Rattle.aide_report.specs.Merged.{merged}
-use Rattle.aide_report.specs.Report.{is_different, text_of}
-use Rattle.aide_report.specs.Runs.{Report, report_over, Runs, EndsWell, EndsEarly}
-use Rattle.aide_report.specs.Sent.{SendsPart}
-use Rattle.aide_report.specs.declared.count.Counts.{Counts}
-use Rattle.aide_report.specs.declared.outcome.Outcome.{Outcome}
+use Rattle.aide_report.specs.Entries.{is_shown_entry}
+use Rattle.aide_report.specs.Finding.{IsFinding, old_origin, new_origin, walk_of}
+use Rattle.aide_report.specs.Report.{text_of, counts_of, outcome_by, section_count}
+use Rattle.aide_report.specs.declared.comparison.Finding.{Finding}
+use Rattle.aide_report.specs.Runs.{Report, report_over, sections_over, Runs, EndsWell, EndsEarly}
+use Rattle.aide_text.specs.Sent.{SendsPart}
+use Rattle.aide_text.specs.declared.counts.Counts.{Counts}
 use Rattle.aide_report.proofs.FirstFaults.{Runs-unique}
 use Rattle.aide_report.proofs.Laws.{added_count, removed_count, changed_count, total_count}
 use Rattle.aide_report.proofs.MergeLemmas.{changes-merged}
-use Rattle.aide_report.proofs.Sending.{Appends-nothing}
+use Rattle.aide_text.proofs.Sending.{Appends-nothing}
 
 -- of sound texts, the walk goes over the comparison of the maps
 pub walk_is_changes : (limits : Limits) (old new : List ℕ) → IsSound limits old → IsSound limits new
@@ -35,14 +38,10 @@ walk_is_changes limits old new sound_old sound_new =
     changes-merged path_cmp path_cmp_total path_cmp-IsAntisymmetric (database_of old) (database_of new)
     ∙ (λ i. merged path_cmp (entries-database_of limits old sound_old i) (entries-database_of limits new sound_new i))
 
--- the counts of a whole walk, and the columns passed over, are the outcome
-pub outcome_is : (limits : Limits) (options : Options) (counts : Counts) (skipped_old skipped_new : ℕ) (old new : List ℕ)
-    → IsSound limits old → IsSound limits new → skipped_old ≡ skipped_in (columns_of_text old) → skipped_new ≡ skipped_in (columns_of_text new)
-    → Completes options.ignore counts [] (merged path_cmp (entries_of old) (entries_of new))
-    → (report_over options old new).outcome
-    ≡ record { added = counts.added; removed = counts.removed; changed = counts.changed; total = counts.total; skipped_old = skipped_old; skipped_new = skipped_new }
-unfolding report_over
-outcome_is limits options counts skipped_old skipped_new old new sound_old sound_new is_old is_new done =
+-- the counts of a whole walk are those of the maps
+pub counts_are : (limits : Limits) (options : Options) (counts : Counts) (old new : List ℕ) → IsSound limits old → IsSound limits new
+    → Completes options counts [] (walk_of old new) → counts ≡ counts_of options (database_of old) (database_of new)
+counts_are limits options counts old new sound_old sound_new done =
     let walk = walk_is_changes limits old new sound_old sound_new in
     let a : length (added (database_of old) (database_of new)) ≡ counts.added =
     sym (added_count path_cmp path_cmp_total path_cmp-IsAntisymmetric (database_of old) (database_of new)) ∙ ap (count_by is_added) walk ∙ omega (arith, done.added) in
@@ -52,34 +51,56 @@ outcome_is limits options counts skipped_old skipped_new old new sound_old sound
     sym (changed_count path_cmp path_cmp_total (differ_by options.ignore) path_cmp-IsAntisymmetric (database_of old) (database_of new)) ∙ ap (count_by (is_changed (differ_by options.ignore))) walk ∙ omega (arith, done.changed) in
     let t : len (database_of new) ≡ counts.total =
     sym (total_count path_cmp path_cmp_total path_cmp-IsAntisymmetric (database_of old) (database_of new)) ∙ ap (count_by is_of_new) walk ∙ omega (arith, done.total) in
-    λ i. record { added = a i; removed = r i; changed = c i; total = t i; skipped_old = sym is_old i; skipped_new = sym is_new i }
+    let s : count_by (is_shown_entry options) (changes (database_of old) (database_of new)) ≡ counts.shown =
+    ap (count_by (is_shown_entry options)) walk ∙ omega (arith, done.shown) in
+    λ i. record { added = sym a i; removed = sym r i; changed = sym c i; total = sym t i; shown = sym s i }
 
--- the text that the outcome calls for is the report
-pub text_is : (options : Options) (old new : List ℕ) (outcome : Outcome) → (report_over options old new).outcome ≡ outcome
-    → text_of options.quiet (is_different outcome.added outcome.removed outcome.changed) ≡ (report_over options old new).text
+-- the digests of the finding are those of the texts
+pub record HasDigests (finding : Finding) (old new : List ℕ) : Type 0 where
+  pub of_old : finding.digests.of_old ≡ sha256 old
+  pub of_new : finding.digests.of_new ≡ sha256 new
+
+-- the text that the finding calls for is the report
+pub text_is : (limits : Limits) (task : Task) (finding : Finding) (old new : List ℕ) → IsSound limits old → IsSound limits new
+    → IsFinding task.options finding old new → HasDigests finding old new
+    → text_of task.options (old_origin task finding) (new_origin task finding) finding.counts (walk_of old new) ≡ (report_over (asked task) old new).text
 unfolding report_over
-text_is options old new outcome is = ap (λ o. text_of options.quiet (is_different o.added o.removed o.changed)) (sym is)
+text_is limits task finding old new sound_old sound_new is digests =
+    let walk = sym (walk_is_changes limits old new sound_old sound_new) in
+    λ i. text_of task.options (record { path = task.old_path.now; digest = digests.of_old i }) (record { path = task.new_path.now; digest = digests.of_new i }) (is.counts i) (walk i)
 
-right_report : (limits : Limits) (options : Options) (old new : List ℕ) → IsSound limits old → IsSound limits new
-    → (r : Result Report DbFault) → Runs limits options old new r → Ok (report_over options old new) ≡ r
-right_report limits options old new sound_old sound_new r runs =
-    Runs-unique limits options old new (Ok (report_over options old new)) r (sound_old, sound_new, refl) runs
+-- its outcome is the one that is told
+pub outcome_is : (task : Task) (finding : Finding) (old new : List ℕ) → IsFinding task.options finding old new
+    → (report_over (asked task) old new).outcome ≡ outcome_by finding.counts finding.skipped_old finding.skipped_new
+unfolding report_over
+outcome_is task finding old new is = λ i. outcome_by (sym is.counts i) (sym is.skipped_old i) (sym is.skipped_new i)
 
-pub ends_well : (limits : Limits) (options : Options) (old new : List ℕ) (outcome : Outcome) (before after : Option (List ℕ)) → IsSound limits old → IsSound limits new
-    → (report_over options old new).outcome ≡ outcome
-    → Appends before after (text_of options.quiet (is_different outcome.added outcome.removed outcome.changed))
-    → (r : Result Report DbFault) → Runs limits options old new r → EndsWell r outcome before after
-ends_well limits options old new outcome before after sound_old sound_new is sent r runs =
-    subst (λ answer. EndsWell answer outcome before after) (right_report limits options old new sound_old sound_new r runs)
-    (is, subst (λ text. Appends before after text) (text_is options old new outcome is) sent)
+-- its sections of entries are as many
+pub sections_are : (task : Task) (finding : Finding) (old new : List ℕ) → IsFinding task.options finding old new
+    → section_count task.options finding.counts ≡ sections_over (asked task) old new
+unfolding sections_over
+sections_are task finding old new is = ap (section_count task.options) is.counts
 
-pub ends_early : (limits : Limits) (options : Options) (old new : List ℕ) (outcome : Outcome) (before after : Option (List ℕ)) → IsSound limits old → IsSound limits new
-    → (report_over options old new).outcome ≡ outcome
-    → SendsPart (text_of options.quiet (is_different outcome.added outcome.removed outcome.changed)) before after
-    → (r : Result Report DbFault) → Runs limits options old new r → EndsEarly r before after
-ends_early limits options old new outcome before after sound_old sound_new is sent r runs =
-    subst (λ answer. EndsEarly answer before after) (right_report limits options old new sound_old sound_new r runs)
-    (subst (λ text. SendsPart text before after) (text_is options old new outcome is) sent)
+right_report : (limits : Limits) (task : Task) (old new : List ℕ) → IsSound limits old → IsSound limits new
+    → (r : Result Report DbFault) → Runs limits (asked task) old new r → Ok (report_over (asked task) old new) ≡ r
+right_report limits task old new sound_old sound_new r runs =
+    Runs-unique limits (asked task) old new (Ok (report_over (asked task) old new)) r (sound_old, sound_new, refl) runs
+
+pub ends_well : (limits : Limits) (task : Task) (finding : Finding) (old new : List ℕ) (before after : Option (List ℕ)) → IsSound limits old → IsSound limits new
+    → IsFinding task.options finding old new → HasDigests finding old new
+    → Appends before after (text_of task.options (old_origin task finding) (new_origin task finding) finding.counts (walk_of old new))
+    → (r : Result Report DbFault) → Runs limits (asked task) old new r → EndsWell r (outcome_by finding.counts finding.skipped_old finding.skipped_new) before after
+ends_well limits task finding old new before after sound_old sound_new is digests sent r runs =
+    subst (λ answer. EndsWell answer (outcome_by finding.counts finding.skipped_old finding.skipped_new) before after) (right_report limits task old new sound_old sound_new r runs)
+    (outcome_is task finding old new is, subst (λ text. Appends before after text) (text_is limits task finding old new sound_old sound_new is digests) sent)
+
+pub ends_early : (limits : Limits) (task : Task) (finding : Finding) (old new : List ℕ) (before after : Option (List ℕ)) → IsSound limits old → IsSound limits new
+    → IsFinding task.options finding old new → HasDigests finding old new
+    → SendsPart (text_of task.options (old_origin task finding) (new_origin task finding) finding.counts (walk_of old new)) before after
+    → (r : Result Report DbFault) → Runs limits (asked task) old new r → EndsEarly r before after
+ends_early limits task finding old new before after sound_old sound_new is digests sent r runs =
+    subst (λ answer. EndsEarly answer before after) (right_report limits task old new sound_old sound_new r runs)
+    (subst (λ text. SendsPart text before after) (text_is limits task finding old new sound_old sound_new is digests) sent)
 
 -- nothing is a front of every answer
 pub nothing_early : (r : Result Report DbFault) (bytes : Option (List ℕ)) → EndsEarly r bytes bytes

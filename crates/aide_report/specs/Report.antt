@@ -1,36 +1,96 @@
 -- The report over two databases, the outcome and the status.
-use Rattle.std.specs.Prelude.{ℕ, ◌+◌, ◌==◌, ◌&&◌, ◌||◌, not, Bool, if◌then◌else◌, List, [], length, codes}
+use Rattle.std.specs.Prelude.{ℕ, ◌+◌, ◌==◌, ◌&&◌, not, Bool, if◌then◌else◌, List, [], ◌∷◌, ◌++◌, length, count_by, codes}
+use Rattle.std.specs.List.{flat_map}
 use Rattle.std.specs.FinMap.{len}
+use Rattle.aide_attr.specs.declared.level.Level.TheVariants.{DatabaseAttributes}
 use Rattle.aide_conf.specs.declared.options.Options.{Options}
 use Rattle.aide_report.specs.Changed.{differ_by}
-use Rattle.aide_report.specs.Compare.{added, removed, changed}
+use Rattle.aide_report.specs.Compare.{added, removed, changed, changes}
+use Rattle.aide_report.specs.Entries.{Entry, is_shown_entry}
+use Rattle.aide_report.specs.Sections.{sections_of, section_text}
+use Rattle.aide_text.specs.Front.{differs, front_by, when}
+use Rattle.aide_attr.specs.Level.{reaches}
+use Rattle.aide_text.specs.Text.{alone, path_line}
+use Rattle.aide_text.specs.Titles.{titled}
+use Rattle.aide_text.specs.Values.{digest_text}
 use Rattle.aide_db.specs.Map.{Database}
+use Rattle.aide_text.specs.declared.counts.Counts.{Counts}
 use Rattle.aide_report.specs.declared.outcome.Outcome.{Outcome}
 
--- the first line: whether the databases differ
-unfoldable pub head_of : Bool → List ℕ
-head_of differ = if differ
-    then codes "AIDE found differences between the two databases.\n"
-    else codes "AIDE found NO differences between the two databases.\n"
+-- ---- the databases
 
--- by the numbers of added, removed and changed entries, whether there is any
-abbrev pub is_different : ℕ → ℕ → ℕ → Bool
-is_different added removed changed = not (added == 0) || (not (removed == 0) || not (changed == 0))
+-- the configured path of a database, and the SHA-256 of its bytes
+pub record Origin : Type 0 where
+  pub path : List ℕ
+  pub digest : List ℕ
 
--- a quiet report of no differences is empty
-abbrev pub text_of : Bool → Bool → List ℕ
-text_of quiet differ = if quiet && not differ then [] else head_of differ
+-- the path of a database below a word, and its digest
+unfoldable pub origin_lines : Bool → List ℕ → List ℕ → List ℕ → List ℕ
+origin_lines base16 word path digest = path_line word path ++ alone (codes "SHA256") (digest_text base16 digest)
 
-abbrev pub report_of : Options → Database → Database → List ℕ
-report_of options old new = text_of options.quiet (is_different (length (added old new)) (length (removed old new)) (length (changed (differ_by options.ignore) old new)))
+-- the same of an origin
+abbrev pub origin_text : Bool → List ℕ → Origin → List ℕ
+origin_text base16 word origin = origin_lines base16 word origin.path origin.digest
 
--- what a run answers, with the numbers of the columns that it passed over
-abbrev pub outcome_of : Options → Database → Database → ℕ → ℕ → Outcome
-outcome_of options old new skipped_old skipped_new = record {
+-- the title of this part
+unfoldable pub databases_title : List ℕ
+databases_title = titled (codes "The attributes of the databases:") ++ 10 ∷ []
+
+-- the title, the old database and the new one
+unfoldable pub databases_of : Bool → Origin → Origin → List ℕ
+databases_of base16 old_origin new_origin =
+    databases_title ++ (origin_text base16 (codes "Old database") old_origin ++ origin_text base16 (codes "New database") new_origin)
+
+-- ---- the whole
+
+-- the numbers of added, removed and changed paths, of the paths of the new map, and of those that show an attribute
+abbrev pub counts_of : Options → Database → Database → Counts
+counts_of options old new = record {
   added = length (added old new);
   removed = length (removed old new);
   changed = length (changed (differ_by options.ignore) old new);
   total = len new;
+  shown = count_by (is_shown_entry options) (changes old new);
+}
+
+-- the sections of entries
+unfoldable pub sections_text : Options → Counts → List Entry → List ℕ
+sections_text options counts entries = flat_map (section_text options entries) (sections_of options counts)
+
+-- the databases from their level on
+unfoldable pub databases_text : Options → Origin → Origin → List ℕ
+databases_text options old_origin new_origin =
+    when (reaches options.level DatabaseAttributes) (databases_of options.base16 old_origin new_origin)
+
+-- the head and the summary, the sections, the databases
+unfoldable pub parts_of : Options → Origin → Origin → Counts → List Entry → List ℕ
+parts_of options old_origin new_origin counts entries =
+    front_by options.level counts ++ (sections_text options counts entries ++ databases_text options old_origin new_origin)
+
+-- a quiet report of no differences is empty
+abbrev pub is_silent : Options → Bool → Bool
+is_silent options differ = options.quiet && not differ
+
+-- all parts, unless the report is silent
+unfoldable pub text_of : Options → Origin → Origin → Counts → List Entry → List ℕ
+text_of options old_origin new_origin counts entries =
+    if is_silent options (differs counts) then [] else parts_of options old_origin new_origin counts entries
+
+-- how many sections of entries it has
+abbrev pub section_count : Options → Counts → ℕ
+section_count options counts = if is_silent options (differs counts) then 0 else length (sections_of options counts)
+
+-- the report over two maps
+abbrev pub report_of : Options → Origin → Origin → Database → Database → List ℕ
+report_of options old_origin new_origin old new = text_of options old_origin new_origin (counts_of options old new) (changes old new)
+
+-- what a run answers, with the numbers of the columns that it passed over
+abbrev pub outcome_by : Counts → ℕ → ℕ → Outcome
+outcome_by counts skipped_old skipped_new = record {
+  added = counts.added;
+  removed = counts.removed;
+  changed = counts.changed;
+  total = counts.total;
   skipped_old = skipped_old;
   skipped_new = skipped_new;
 }

@@ -1,12 +1,14 @@
 -- What the faults of a run say.
-use Rattle.std.specs.Prelude.{◌≡◌, ℕ, Option, Some, List, true, ⊤}
+use Rattle.std.specs.Prelude.{◌≡◌, ◌<◌, ◌≤◌, ◌+◌, ◌-◌, ◌^◌, ℕ, Option, Some, List, [], true, ⊤}
+use Rattle.std.specs.Io.KnownBytes.{Appends}
 use Rattle.aide_db.specs.Database.{IsSound}
 use Rattle.aide_db.specs.Failures.{is_outside}
 use Rattle.aide_db.specs.declared.fault.DbFaultKind.TheVariants.{Read}
 use Rattle.aide_db.specs.declared.limits.Limits.{Limits}
 use Rattle.aide_db.specs.declared.side.Side.{Side}
 use Rattle.aide_report.specs.Reading.{IsFaultOf}
-use Rattle.aide_report.specs.Sent.{IsCounted}
+use Rattle.aide_text.specs.Sent.{IsCounted}
+use Rattle.aide_text.specs.declared.pen.Pen.{Pen}
 use Rattle.aide_report.specs.declared.run_fault.RunFault.{RunFault}
 use Rattle.aide_report.specs.declared.run_fault.RunFault.TheVariants.{Open, Database, Changed, Write}
 
@@ -19,6 +21,12 @@ TellsWritten old new _ = ⊥
 abbrev pub TellsIfWritten : Option (List ℕ) → Option (List ℕ) → RunFault → Type 0
 TellsIfWritten old new (Write written) = IsCounted old new 0 written
 TellsIfWritten old new _ = ⊤
+
+-- Where no write failed and the old side was opened at most twice, which is before the report is begun, nothing has gone out. This
+-- speaks of runs in which the count of openings stays below its last value.
+abbrev pub IsSilent : (opened_old opened_new : ℕ) → Option (List ℕ) → Option (List ℕ) → RunFault → Type 0
+IsSilent opened_old opened_new old new (Write written) = ⊤
+IsSilent opened_old opened_new old new _ = opened_new < 2 ^ 64 - 1 → opened_new ≤ opened_old + 2 → Appends old new []
 
 -- A side is not opened or not read only where the sources have failed, and a write fails only where the sink has.
 abbrev pub IsCaused : Type 0 → Type 0 → RunFault → Type 0
@@ -39,10 +47,16 @@ abbrev pub IsLater : Limits → (Side → Option (List ℕ)) → RunFault → Ty
 IsLater limits bytes_of (Open side) = ⊤
 IsLater limits bytes_of (Database fault) = is_outside fault.kind ≡ true
 IsLater limits bytes_of (Changed side) = (text : List ℕ) → bytes_of side ≡ Some text → IsSound limits text → ⊥
-IsLater limits bytes_of (Write written) = ⊥
+IsLater limits bytes_of (Write written) = ⊤
+
+-- a write failed, and the pen has the number of bytes that went out
+abbrev pub TellsPen : Pen → RunFault → Type 0
+TellsPen pen (Write written) = (pen.failed ≡ true) × (written ≡ pen.sent)
+TellsPen pen _ = ⊤
 
 -- a fault of the first reading of this side
 abbrev pub IsFirst : Limits → (Side → Option (List ℕ)) → Side → RunFault → Type 0
 IsFirst limits bytes_of side (Open opened) = opened ≡ side
-IsFirst limits bytes_of side (Database fault) = (fault.side ≡ side) × ((text : List ℕ) → bytes_of side ≡ Some text → IsFaultOf limits text fault)
+IsFirst limits bytes_of side (Database fault) = (fault.side ≡ side)
+    × ((text : List ℕ) → bytes_of side ≡ Some text → IsFaultOf limits text fault)
 IsFirst limits bytes_of side _ = ⊥

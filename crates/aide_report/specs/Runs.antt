@@ -1,7 +1,8 @@
 -- What a run over two databases answers.
-use Rattle.std.specs.Prelude.{◌≡◌, ℕ, ◌⊎◌, Option, Some, Result, Ok, Err, List, [], ⊤, false}
+use Rattle.std.specs.Prelude.{◌≡◌, ℕ, ◌+◌, ◌⊎◌, Option, Some, Result, Ok, Err, List, [], ⊤, false}
 use Rattle.std.specs.Io.KnownBytes.{Appends}
-use Rattle.aide_conf.specs.declared.options.Options.{Options}
+use Rattle.aide_report.specs.Asked.{Asked}
+use Rattle.sha2.specs.Sha256.{sha256}
 use Rattle.aide_db.specs.Database.{IsSound, IsFirstFault}
 use Rattle.aide_db.specs.Failures.{is_outside}
 use Rattle.aide_db.specs.Giving.{columns_of_text}
@@ -13,8 +14,8 @@ use Rattle.aide_db.specs.declared.fault.DbFaultKind.TheVariants.{Memory, Read}
 use Rattle.aide_db.specs.declared.limits.Limits.{Limits}
 use Rattle.aide_db.specs.declared.side.Side.{Side}
 use Rattle.aide_db.specs.declared.side.Side.TheVariants.{Old, New}
-use Rattle.aide_report.specs.Report.{report_of, outcome_of}
-use Rattle.aide_report.specs.Sent.{SendsPart}
+use Rattle.aide_report.specs.Report.{Origin, report_of, counts_of, outcome_by, section_count}
+use Rattle.aide_text.specs.Sent.{SendsPart}
 use Rattle.aide_report.specs.declared.outcome.Outcome.{Outcome}
 use Rattle.aide_report.specs.declared.run_fault.RunFault.{RunFault}
 use Rattle.aide_report.specs.declared.run_fault.RunFault.TheVariants.{Open, Database, Changed, Write}
@@ -24,12 +25,25 @@ pub record Report : Type 0 where
   pub text : List ℕ
   pub outcome : Outcome
 
+-- what a report tells of a database itself
+abbrev pub origin_of : List ℕ → List ℕ → Origin
+origin_of path text = record { path = path; digest = sha256 text }
+
 -- the report over two sound texts
-unfoldable pub report_over : Options → List ℕ → List ℕ → Report
-report_over options old new = record {
-  text = report_of options (database_of old) (database_of new);
-  outcome = outcome_of options (database_of old) (database_of new) (skipped_in (columns_of_text old)) (skipped_in (columns_of_text new));
+unfoldable pub report_over : Asked → List ℕ → List ℕ → Report
+report_over asked old new = record {
+  text = report_of asked.options (origin_of asked.old_path old) (origin_of asked.new_path new) (database_of old) (database_of new);
+  outcome = outcome_by (counts_of asked.options (database_of old) (database_of new)) (skipped_in (columns_of_text old))
+      (skipped_in (columns_of_text new));
 }
+
+-- how many sections of entries that report has
+unfoldable pub sections_over : Asked → List ℕ → List ℕ → ℕ
+sections_over asked old new = section_count asked.options (counts_of asked.options (database_of old) (database_of new))
+
+-- how often each database is opened for it: to be read whole, to count, and for each of these sections
+abbrev pub openings_over : Asked → List ℕ → List ℕ → ℕ
+openings_over asked old new = 2 + sections_over asked old new
 
 -- the first fault of the text of this side
 abbrev pub IsFirstFaultOf : Limits → Side → List ℕ → DbFault → Type 0
@@ -37,15 +51,19 @@ IsFirstFaultOf limits side text fault = (fault.side ≡ side) × IsFirstFault li
 
 -- The right answer over two texts: the report where both are sound, otherwise the first fault, the old one's before
 -- the new one's.
-abbrev pub Runs : Limits → Options → List ℕ → List ℕ → Result Report DbFault → Type 0
-Runs limits options old new (Ok report) = IsSound limits old × IsSound limits new × (report ≡ report_over options old new)
-Runs limits options old new (Err fault) = IsFirstFaultOf limits Old old fault ⊎ (IsSound limits old × IsFirstFaultOf limits New new fault)
+abbrev pub Runs : Limits → Asked → List ℕ → List ℕ → Result Report DbFault → Type 0
+Runs limits asked old new (Ok report) = IsSound limits old × IsSound limits new × (report ≡ report_over asked old new)
+Runs limits asked old new (Err fault) = IsFirstFaultOf limits Old old fault ⊎ (IsSound limits old × IsFirstFaultOf limits New new fault)
+
+-- there is a right answer
+abbrev pub HasAnswer : Limits → Asked → List ℕ → List ℕ → Type 0
+HasAnswer limits asked old new = (r : Result Report DbFault) × Runs limits asked old new r
 
 -- a fault of a text is the right answer
-abbrev pub IsAnswer : Limits → Options → (Side → Option (List ℕ)) → RunFault → Type 0
-IsAnswer limits options bytes_of (Database fault) = (old new : List ℕ) → bytes_of Old ≡ Some old → bytes_of New ≡ Some new
-    → is_outside fault.kind ≡ false → Runs limits options old new (Err fault)
-IsAnswer limits options bytes_of _ = ⊤
+abbrev pub IsAnswer : Limits → Asked → (Side → Option (List ℕ)) → RunFault → Type 0
+IsAnswer limits asked bytes_of (Database fault) = (old new : List ℕ) → bytes_of Old ≡ Some old → bytes_of New ≡ Some new
+    → is_outside fault.kind ≡ false → Runs limits asked old new (Err fault)
+IsAnswer limits asked bytes_of _ = ⊤
 
 -- the whole of an answer's report has gone out, and its outcome is told
 abbrev pub EndsWell : Result Report DbFault → Outcome → Option (List ℕ) → Option (List ℕ) → Type 0

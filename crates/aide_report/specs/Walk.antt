@@ -12,12 +12,14 @@ use Rattle.aide_report.specs.Compare.{Change}
 use Rattle.aide_report.specs.Held.{ahead, work}
 use Rattle.aide_report.specs.Merged.{merged}
 use Rattle.aide_report.specs.Reading.{Stands, rest_of, left_of, IsUnfailed}
-use Rattle.aide_report.specs.declared.merge.Held.TheVariants.{Here}
+use Rattle.aide_db.specs.declared.place.Place.TheVariants.{Ended as AtEnd}
+use Rattle.aide_report.specs.declared.merge.Held.TheVariants.{Here, Ended}
 use Rattle.aide_report.specs.declared.merge.Merge.{Merge}
 
 -- the changes that a merge has still to give, of databases of these texts
 abbrev pub remaining : {R : Type 0} → Merge R → DeskView → List ℕ → List ℕ → List (Change (List ℕ) Attributes)
-remaining m desk old new = merged path_cmp (ahead m.old_held (desk_entry Old desk) (rest_of m.old_cursor old)) (ahead m.new_held (desk_entry New desk) (rest_of m.new_cursor new))
+remaining m desk old new = merged path_cmp (ahead m.old_held (desk_entry Old desk) (rest_of m.old_cursor old))
+    (ahead m.new_held (desk_entry New desk) (rest_of m.new_cursor new))
 
 -- the cursors are of their sides and have not failed, and what is held stands on the desk
 pub record IsReady {R : Type 0} (m : Merge R) (desk : DeskView) : Type 0 where
@@ -27,11 +29,20 @@ pub record IsReady {R : Type 0} (m : Merge R) (desk : DeskView) : Type 0 where
   pub new_unfailed : IsUnfailed m.new_cursor.place
   pub old_here : m.old_held ≡ Here → IsSome (desk_entry Old desk)
   pub new_here : m.new_held ≡ Here → IsSome (desk_entry New desk)
+  pub old_ended : m.old_held ≡ Ended → m.old_cursor.place ≡ AtEnd
+  pub new_ended : m.new_held ≡ Ended → m.new_cursor.place ≡ AtEnd
 
+-- both databases have been read to their ends
+pub record IsEnded {R : Type 0} (m : Merge R) : Type 0 where
+  pub old_ended : m.old_cursor.place ≡ AtEnd
+  pub new_ended : m.new_cursor.place ≡ AtEnd
+
+-- the cursor of a side
 abbrev pub cursor_at : {R : Type 0} → Merge R → Side → CursorView R
 cursor_at m Old = m.old_cursor
 cursor_at m New = m.new_cursor
 
+-- the limits of a side
 abbrev pub limits_at : {R : Type 0} → Merge R → Side → Limits
 limits_at m side = (cursor_at m side).limits
 

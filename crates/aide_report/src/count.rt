@@ -1,19 +1,22 @@
 //! How many entries were added, removed and changed.
-ghost use Rattle.std.specs.Prelude.{◌≡◌, ◌+◌, ◌^◌, ◌<◌, [], ◌∷◌, ℕ, List, IfOk, IfErr, count_by};
+ghost use Rattle.std.specs.Prelude.{◌≡◌, ◌+◌, ◌^◌, ◌<◌, ◌≤◌, [], ◌∷◌, ℕ, List, IfOk, IfErr, OnOk, count_by};
 ghost use Rattle.aide_db.specs.Desk.{desk_entry};
 ghost use Rattle.aide_report.specs.Bound.{FitsAfterBoth};
 ghost use Rattle.aide_report.specs.Changed.{differ_by};
 ghost use Rattle.aide_report.specs.Changes.{is_added, is_removed, is_changed, is_of_new};
 ghost use Rattle.aide_report.specs.ChangeView.{change_of, ShowsChange};
 ghost use Rattle.aide_report.specs.Counts.{Completes, AreBelow};
+ghost use Rattle.aide_report.specs.Entries.{is_shown_entry};
 ghost use Rattle.aide_report.specs.Place.{change_at};
 ghost use Rattle.aide_report.specs.Reading.{IsFaultOf};
-ghost use Rattle.aide_report.specs.Walk.{remaining, IsReady, StandsAt, limits_at, total_work, reels_failed};
+ghost use Rattle.aide_report.specs.Room.{IsNotMemory};
+ghost use Rattle.aide_report.specs.Walk.{remaining, IsReady, IsEnded, StandsAt, limits_at, total_work, reels_failed};
 
-use crate::difference::differ;
+use crate::difference::{differ, shows};
 use crate::merge::{Merge, Place};
-use aide_attr::Ignore;
+use aide_conf::Options;
 use aide_db::{DbFault, DbFaultKind, Desk, Reel, Side, View};
+use aide_text::Counts;
 use std::alloc::Allocator;
 
 /// What the databases have at one path.
@@ -36,46 +39,30 @@ pub(crate) fn change_on<A: Allocator + Copy>(desk: &Desk<A>, place: Place) -> Op
     }
 }
 
-/// The entries counted so far.
-#[derive(Clone, Copy, Debug, PartialEq, Eq)]
-pub(crate) struct Counts {
-    pub(crate) added: u64,
-    pub(crate) removed: u64,
-    pub(crate) changed: u64,
-    pub(crate) total: u64,
-}
-
-impl Counts {
-    fn new() -> Counts
-        ensures { result ≡ record { added = 0; removed = 0; changed = 0; total = 0 } }
-    {
-        Counts {
-            added: 0,
-            removed: 0,
-            changed: 0,
-            total: 0,
-        }
+/// Counts a change.
+fn add(counts: &mut Counts, change: Change<'_>, options: &Options)
+    requires { AreBelow counts.old (2 ^ 63) }
+    ensures added { counts.new.added ≡ counts.old.added + count_by is_added (change_of change.entry ∷ []) }
+    ensures removed { counts.new.removed ≡ counts.old.removed + count_by is_removed (change_of change.entry ∷ []) }
+    ensures changed { counts.new.changed ≡ counts.old.changed + count_by (is_changed (differ_by options.now.ignore))
+        (change_of change.entry ∷ []) }
+    ensures total { counts.new.total ≡ counts.old.total + count_by is_of_new (change_of change.entry ∷ []) }
+    ensures shown { counts.new.shown ≡ counts.old.shown + count_by (is_shown_entry options.now) (change_of change.entry ∷ []) }
+{
+    if shows(change, options) {
+        counts.shown += 1;
     }
-
-    fn add(&mut self, change: Change<'_>, ignore: &Ignore)
-        requires { AreBelow self.old (2 ^ 63) }
-        ensures added { self.new.added ≡ self.old.added + count_by is_added (change_of change.entry ∷ []) }
-        ensures removed { self.new.removed ≡ self.old.removed + count_by is_removed (change_of change.entry ∷ []) }
-        ensures changed { self.new.changed ≡ self.old.changed + count_by (is_changed (differ_by ignore.now)) (change_of change.entry ∷ []) }
-        ensures total { self.new.total ≡ self.old.total + count_by is_of_new (change_of change.entry ∷ []) }
-    {
-        match change {
-            Change::Added(_) => {
-                self.added += 1;
-                self.total += 1;
+    match change {
+        Change::Added(_) => {
+            counts.added += 1;
+            counts.total += 1;
+        }
+        Change::Removed(_) => counts.removed += 1,
+        Change::Common(old, new) => {
+            if differ(&old, &new, &options.ignore) {
+                counts.changed += 1;
             }
-            Change::Removed(_) => self.removed += 1,
-            Change::Common(old, new) => {
-                if differ(&old, &new, ignore) {
-                    self.changed += 1;
-                }
-                self.total += 1;
-            }
+            counts.total += 1;
         }
     }
 }
@@ -84,16 +71,21 @@ impl Counts {
 pub(crate) fn count<R: Reel, A: Allocator + Copy>(
     merge: &mut Merge<R>,
     desk: &mut Desk<A>,
-    ignore: &Ignore,
+    options: &Options,
 ) -> Result<Counts, DbFault>
     requires ready { IsReady merge.old desk.old }
     requires short { total_work merge.old < 2 ^ 62 }
     ensures counts { IfOk result (λ counts. (old new : List ℕ)
         → StandsAt R.to_come merge.old desk.old Side.Old old → StandsAt R.to_come merge.old desk.old Side.New new
-        → Completes ignore.now counts [] (remaining merge.old desk.old old new)) }
+        → Completes options.now counts [] (remaining merge.old desk.old old new)) }
     ensures fault { IfErr result (λ fault. (text : List ℕ) → StandsAt R.to_come merge.old desk.old fault.side text
         → IsFaultOf (limits_at merge.old fault.side) text fault) }
     ensures read { IfErr result (λ fault. fault.kind ≡ DbFaultKind.Read → 0 < reels_failed R.failures merge.new) }
+    ensures stands { (side : Side) (text : List ℕ) → StandsAt R.to_come merge.old desk.old side text
+        → StandsAt R.to_come merge.new desk.new side text }
+    ensures ended { OnOk result (IsEnded merge.new) }
+    ensures room { desk.new.room ≡ desk.old.room }
+    ensures memory { ((side : Side) → (limits_at merge.old side).line ≤ desk.old.room) → IfErr result IsNotMemory }
     ensures fits { FitsAfterBoth R.to_come merge.old desk.old desk.new }
 {
     let mut counts = Counts::new();
@@ -106,7 +98,7 @@ pub(crate) fn count<R: Reel, A: Allocator + Copy>(
             return Ok(counts);
         }
         if let Some(change) = change_on(desk, place) {
-            counts.add(change, ignore);
+            add(&mut counts, change, options);
         }
     }
 }

@@ -3,22 +3,19 @@
 
 mod comparison;
 mod count;
+mod databases;
+mod details;
 mod difference;
-mod emitting;
-mod memory_sink;
+mod digests;
+mod entries;
 mod merge;
 mod outcome;
 mod pass;
-mod put;
-mod report_text;
+mod report;
 mod run_fault;
-mod sink;
-#[cfg(test)]
-mod tests;
+mod sections;
 
+pub use aide_text::{MemorySink, Sink, WriteSink, emit, emit_path};
 pub use comparison::run;
-pub use emitting::{emit, emit_path};
-pub use memory_sink::MemorySink;
 pub use outcome::Outcome;
 pub use run_fault::RunFault;
-pub use sink::{Sink, WriteSink};

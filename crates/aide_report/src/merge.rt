@@ -4,11 +4,13 @@ ghost use Rattle.aide_db.specs.Attributes.{Entry};
 ghost use Rattle.aide_db.specs.Desk.{desk_entry, Shows};
 ghost use Rattle.aide_db.specs.Kept.{IsKept};
 ghost use Rattle.aide_db.specs.Side.{other_side};
+ghost use Rattle.aide_db.specs.declared.place.Place.TheVariants.{Ended as AtEnd};
 ghost use Rattle.aide_report.specs.Bound.{FitsAfter, FitsAfterBoth};
 ghost use Rattle.aide_report.specs.Held.{ahead, front, work};
 ghost use Rattle.aide_report.specs.Place.{place_of, change_at, old_after, new_after};
 ghost use Rattle.aide_report.specs.Reading.{Stands, rest_of, left_of, IsUnfailed, IsFaultOf};
-ghost use Rattle.aide_report.specs.Walk.{remaining, IsReady, StandsAt, limits_at, total_work, reels_failed};
+ghost use Rattle.aide_report.specs.Room.{IsNotMemory};
+ghost use Rattle.aide_report.specs.Walk.{remaining, IsReady, IsEnded, StandsAt, limits_at, total_work, reels_failed};
 
 use aide_db::{Cursor, DbFault, DbFaultKind, Desk, Reel, Side, Step, View, cmp_names};
 use std::alloc::Allocator;
@@ -34,8 +36,8 @@ pub(crate) enum Place {
 
 /// Two cursors, and what is held of each side.
 pub(crate) struct Merge<R: Reel> {
-    old_cursor: Cursor<R>,
-    new_cursor: Cursor<R>,
+    pub(crate) old_cursor: Cursor<R>,
+    pub(crate) new_cursor: Cursor<R>,
     old_held: Held,
     new_held: Held,
 }
@@ -81,6 +83,7 @@ fn advance<R: Reel, A: Allocator + Copy>(
     ensures not_due { IfOk result (λ now. now ≢ Held.Due) }
     ensures here { (held ≡ Held.Here → IsSome (desk_entry cursor.old.side desk.old))
         → IfOk result (λ now. now ≡ Held.Here → IsSome (desk_entry cursor.old.side desk.new)) }
+    ensures ended { (held ≡ Held.Ended → cursor.old.place ≡ AtEnd) → IfOk result (λ now. now ≡ Held.Ended → cursor.new.place ≡ AtEnd) }
     ensures falls { IfOk result (λ now. work now (left_of cursor.new) ≤ work held (left_of cursor.old)) }
     ensures fault_side { IfErr result (λ fault. fault.side ≡ cursor.old.side) }
     ensures read { IfErr result (λ fault. fault.kind ≡ DbFaultKind.Read → 0 < R.failures cursor.new.reel) }
@@ -90,6 +93,8 @@ fn advance<R: Reel, A: Allocator + Copy>(
         ≡ ahead held (desk_entry cursor.old.side desk.old) (rest_of cursor.old text)) }
     ensures fault { IfErr result (λ fault. (text : List ℕ) → Stands R.to_come cursor.old desk.old text
         → IsFaultOf cursor.old.limits text fault) }
+    ensures room { desk.new.room ≡ desk.old.room }
+    ensures memory { cursor.old.limits.line ≤ desk.old.room → IfErr result IsNotMemory }
     ensures fits { FitsAfter R.to_come cursor.old desk.old desk.new }
 {
     match held {
@@ -136,8 +141,10 @@ impl<R: Reel> Merge<R> {
         ensures ready { OnOk result (IsReady self.new desk.new) }
         ensures limits { (side : Side) → limits_at self.new side ≡ limits_at self.old side }
         ensures falls { IfOk result (λ place. place ≢ Place.End → total_work self.new < total_work self.old) }
-        ensures stands_old { (text : List ℕ) → StandsAt R.to_come self.old desk.old Side.Old text → StandsAt R.to_come self.new desk.new Side.Old text }
-        ensures stands_new { (text : List ℕ) → StandsAt R.to_come self.old desk.old Side.New text → StandsAt R.to_come self.new desk.new Side.New text }
+        ensures stands_old { (text : List ℕ) → StandsAt R.to_come self.old desk.old Side.Old text
+            → StandsAt R.to_come self.new desk.new Side.Old text }
+        ensures stands_new { (text : List ℕ) → StandsAt R.to_come self.old desk.old Side.New text
+            → StandsAt R.to_come self.new desk.new Side.New text }
         ensures gives { IfOk result (λ place. (old new : List ℕ)
             → StandsAt R.to_come self.old desk.old Side.Old old → StandsAt R.to_come self.old desk.old Side.New new
             → remaining self.old desk.old old new
@@ -145,9 +152,12 @@ impl<R: Reel> Merge<R> {
         ensures end { IfOk result (λ place. (old new : List ℕ)
             → StandsAt R.to_come self.old desk.old Side.Old old → StandsAt R.to_come self.old desk.old Side.New new
             → place ≡ Place.End → remaining self.old desk.old old new ≡ []) }
+        ensures ended { IfOk result (λ place. place ≡ Place.End → IsEnded self.new) }
         ensures fault { IfErr result (λ fault. (text : List ℕ) → StandsAt R.to_come self.old desk.old fault.side text
             → IsFaultOf (limits_at self.old fault.side) text fault) }
         ensures read { IfErr result (λ fault. fault.kind ≡ DbFaultKind.Read → 0 < reels_failed R.failures self.new) }
+        ensures room { desk.new.room ≡ desk.old.room }
+        ensures memory { ((side : Side) → (limits_at self.old side).line ≤ desk.old.room) → IfErr result IsNotMemory }
         ensures fits { FitsAfterBoth R.to_come self.old desk.old desk.new }
     {
         self.old_held = advance(&mut self.old_cursor, self.old_held, desk)?;
@@ -160,7 +170,10 @@ impl<R: Reel> Merge<R> {
     }
 
     fn pass(&mut self, place: Place)
-        ensures { self.new ≡ record self.old { old_held = old_after place self.old.old_held; new_held = new_after place self.old.new_held } }
+        ensures { self.new ≡ record self.old {
+          old_held = old_after place self.old.old_held;
+          new_held = new_after place self.old.new_held;
+        } }
     {
         match place {
             Place::Added => self.new_held = Held::Due,

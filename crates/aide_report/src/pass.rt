@@ -1,5 +1,5 @@
 //! Readings of databases: each whole, or both in lock step.
-ghost use Rattle.std.specs.Prelude.{◌≡◌, ◌<◌, ◌≤◌, ◌+◌, ◌^◌, [], ℕ, List, Option, Some, IfOk, IfErr, OnOk, OnErr};
+ghost use Rattle.std.specs.Prelude.{◌≡◌, ◌<◌, ◌≤◌, ◌+◌, ◌^◌, [], false, true, ℕ, List, Option, Some, IfOk, IfErr, OnOk, OnErr};
 ghost use Rattle.aide_db.specs.Count.{one_more};
 ghost use Rattle.aide_db.specs.Database.{IsSound};
 ghost use Rattle.aide_db.specs.Desk.{list_of};
@@ -10,21 +10,32 @@ ghost use Rattle.aide_db.specs.Map.{entries_of};
 ghost use Rattle.aide_db.specs.Path.{path_cmp};
 ghost use Rattle.aide_db.specs.Side.{by_side, other_side};
 ghost use Rattle.aide_db.specs.Skipped.{skipped_in};
+ghost use Rattle.aide_db.specs.declared.place.Place.TheVariants.{Ended as AtEnd};
+ghost use Rattle.sha2.specs.Sha256.{sha256};
 ghost use Rattle.aide_report.specs.Bound.{Fits, FitsAfter, TakesWithin, OpensWithin};
 ghost use Rattle.aide_report.specs.Counts.{Completes};
-ghost use Rattle.aide_report.specs.Failures.{CountsFault, Rose};
+ghost use Rattle.aide_report.specs.Digests.{AreDigests};
+ghost use Rattle.aide_text.specs.Failures.{CountsFault, Rose};
 ghost use Rattle.aide_report.specs.LaterFault.{later_of};
 ghost use Rattle.aide_report.specs.Merged.{merged};
-ghost use Rattle.aide_report.specs.Openings.{OpensExactly, OpensAtMost};
+ghost use Rattle.aide_report.specs.Openings.{OpensExactly, OpensAtMost, IsRefusedThere};
+ghost use Rattle.aide_report.specs.PassFaults.{Writes, pass_fault_of};
+ghost use Rattle.aide_text.specs.PenSheet.{sheet};
 ghost use Rattle.aide_report.specs.Reading.{Stands, rest_of, IsUnfailed, IsFaultOf};
-ghost use Rattle.aide_report.specs.RunFaults.{IsCaused, IsLater, IsFirst};
+ghost use Rattle.aide_report.specs.Room.{IsNotMemory, IsNotOfMemory};
+ghost use Rattle.aide_report.specs.RunFaults.{IsCaused, IsLater, IsFirst, TellsPen};
+ghost use Rattle.aide_report.specs.Sections.{entries_text};
+ghost use Rattle.aide_text.specs.Sheet.{WritesSome};
 ghost use Rattle.aide_report.specs.Walk.{remaining, IsReady, StandsAt, limits_at, total_work, reels_failed};
 
-use crate::count::{Counts, count};
+use crate::count::count;
+use crate::digests::{Digests, Reading, changed_side, digest_of};
+use crate::entries::{PassFault, put_entries};
 use crate::merge::Merge;
 use crate::run_fault::RunFault;
-use aide_attr::Ignore;
+use aide_conf::Options;
 use aide_db::{Cursor, DbFault, DbFaultKind, Desk, Limits, OpenFault, Reel, Side, Sources, Step};
+use aide_text::{Counts, Pen, Section, Sink};
 use std::alloc::Allocator;
 
 /// Lets go what a desk still holds of an earlier run.
@@ -34,6 +45,7 @@ pub(crate) fn clear<A: Allocator + Copy>(limits: Limits, desk: &mut Desk<A>)
     ensures old { list_of Side.Old desk.new ≡ [] }
     ensures new { list_of Side.New desk.new ≡ [] }
     ensures peak { desk.new.peak ≡ desk.old.peak }
+    ensures room { desk.new.room ≡ desk.old.room }
 {
     let nothing: &[u8] = &[];
     let _ = Cursor::start(Side::Old, nothing, limits, desk).into_reel();
@@ -56,9 +68,11 @@ fn open_cursor<S: Sources, A: Allocator + Copy>(
     ensures side { IfOk result (λ cursor. cursor.side ≡ side) }
     ensures limits { IfOk result (λ cursor. cursor.limits ≡ limits) }
     ensures unfailed { IfOk result (λ cursor. IsUnfailed cursor.place) }
-    ensures stands { IfOk result (λ cursor. (text : List ℕ) → S.bytes_of sources.old side ≡ Some text → Stands S.R.to_come cursor desk.new text) }
+    ensures stands { IfOk result (λ cursor. (text : List ℕ) → S.bytes_of sources.old side ≡ Some text
+        → Stands S.R.to_come cursor desk.new text) }
     ensures rest { IfOk result (λ cursor. (text : List ℕ) → rest_of cursor text ≡ entries_of text) }
     ensures other { IsKept (other_side side) desk.old desk.new }
+    ensures room { desk.new.room ≡ desk.old.room }
     ensures fits { (old_line new_line before : ℕ) → Fits old_line new_line before desk.old → Fits old_line new_line before desk.new }
     ensures within { IfOk result (λ cursor. (longest : ℕ) → OpensWithin (S.bytes_of sources.old) limits side longest
         → TakesWithin S.R.to_come cursor desk.new longest) }
@@ -83,12 +97,19 @@ fn open_both<S: Sources, A: Allocator + Copy>(
     ensures ready { IfOk result (λ merge. IsReady merge desk.new) }
     ensures limits { IfOk result (λ merge. (side : Side) → limits_at merge side ≡ limits) }
     ensures short { IfOk result (λ merge. total_work merge < 2 ^ 62) }
-    ensures stands_old { IfOk result (λ merge. (text : List ℕ) → S.bytes_of sources.old Side.Old ≡ Some text → StandsAt S.R.to_come merge desk.new Side.Old text) }
-    ensures stands_new { IfOk result (λ merge. (text : List ℕ) → S.bytes_of sources.old Side.New ≡ Some text → StandsAt S.R.to_come merge desk.new Side.New text) }
-    ensures rest { IfOk result (λ merge. (old new : List ℕ) → remaining merge desk.new old new ≡ merged path_cmp (entries_of old) (entries_of new)) }
+    ensures stands_old { IfOk result (λ merge. (text : List ℕ) → S.bytes_of sources.old Side.Old ≡ Some text
+        → StandsAt S.R.to_come merge desk.new Side.Old text) }
+    ensures stands_new { IfOk result (λ merge. (text : List ℕ) → S.bytes_of sources.old Side.New ≡ Some text
+        → StandsAt S.R.to_come merge desk.new Side.New text) }
+    ensures rest { IfOk result (λ merge. (old new : List ℕ) → remaining merge desk.new old new ≡ merged path_cmp (entries_of old)
+        (entries_of new)) }
     ensures caused { IfErr result (IsCaused (Rose (S.failures sources.old) (S.failures sources.new)) ⊥) }
+    ensures old_opened { S.openings sources.new Side.Old ≡ one_more (S.openings sources.old Side.Old) }
+    ensures refused { IfErr result (IsRefusedThere (S.openings sources.old) (S.openings sources.new)) }
     ensures later { IfErr result (IsLater limits (S.bytes_of sources.old)) }
     ensures never_falls { S.failures sources.old ≤ S.failures sources.new }
+    ensures room { desk.new.room ≡ desk.old.room }
+    ensures memory { IfErr result IsNotOfMemory }
     ensures fits { (old_line new_line before : ℕ) → Fits old_line new_line before desk.old → Fits old_line new_line before desk.new }
     ensures within_old { IfOk result (λ merge. (longest : ℕ) → OpensWithin (S.bytes_of sources.old) limits Side.Old longest
         → TakesWithin S.R.to_come merge.old_cursor desk.new longest) }
@@ -131,6 +152,16 @@ fn later_fault(fault: DbFault) -> RunFault
     }
 }
 
+/// How the end of a walk is answered, with the number of bytes that have gone out.
+fn pass_fault(fault: PassFault, sent: u64) -> RunFault
+    ensures { result ≡ pass_fault_of fault sent }
+{
+    match fault {
+        PassFault::Database(fault) => later_fault(fault),
+        PassFault::Write => RunFault::Write { written: sent },
+    }
+}
+
 /// Reads to the end of a database.
 fn read_to_end<R: Reel, A: Allocator + Copy>(
     cursor: &mut Cursor<R>,
@@ -139,9 +170,14 @@ fn read_to_end<R: Reel, A: Allocator + Copy>(
     requires { IsUnfailed cursor.old.place }
     ensures sound { OnOk result ((text : List ℕ) → Stands R.to_come cursor.old desk.old text
         → IsSound cursor.old.limits text × (cursor.new.columns ≡ columns_of_text text)) }
-    ensures fault { IfErr result (λ fault. (text : List ℕ) → Stands R.to_come cursor.old desk.old text → IsFaultOf cursor.old.limits text fault) }
+    ensures ended { OnOk result (cursor.new.place ≡ AtEnd) }
+    ensures stands { (text : List ℕ) → Stands R.to_come cursor.old desk.old text → Stands R.to_come cursor.new desk.new text }
+    ensures fault { IfErr result (λ fault. (text : List ℕ) → Stands R.to_come cursor.old desk.old text
+        → IsFaultOf cursor.old.limits text fault) }
     ensures fault_side { IfErr result (λ fault. fault.side ≡ cursor.old.side) }
     ensures read { IfErr result (λ fault. fault.kind ≡ DbFaultKind.Read → 0 < R.failures cursor.new.reel) }
+    ensures room { desk.new.room ≡ desk.old.room }
+    ensures memory { cursor.old.limits.line ≤ desk.old.room → IfErr result IsNotMemory }
     ensures fits { FitsAfter R.to_come cursor.old desk.old desk.new }
 {
     'read: loop {
@@ -153,23 +189,25 @@ fn read_to_end<R: Reel, A: Allocator + Copy>(
     }
 }
 
-/// Reads the database of a side whole, and answers which columns were passed over.
+/// Reads the database of a side whole, and answers which columns were passed over, and the digest of its bytes.
 pub(crate) fn read_whole<S: Sources, A: Allocator + Copy>(
     sources: &mut S,
     side: Side,
     limits: Limits,
     desk: &mut Desk<A>,
-) -> Result<u64, RunFault>
+) -> Result<Reading, RunFault>
     requires line { 14 ≤ limits.line }
     requires bytes { limits.bytes ≤ 2 ^ 60 }
     ensures same { S.bytes_of sources.new ≡ S.bytes_of sources.old }
     ensures opens { S.openings sources.new side ≡ one_more (S.openings sources.old side) }
     ensures others { S.openings sources.new (other_side side) ≡ S.openings sources.old (other_side side) }
-    ensures sound { IfOk result (λ skipped. (text : List ℕ) → S.bytes_of sources.old side ≡ Some text
-        → IsSound limits text × (skipped ≡ skipped_in (columns_of_text text))) }
+    ensures sound { IfOk result (λ reading. (text : List ℕ) → S.bytes_of sources.old side ≡ Some text
+        → IsSound limits text × (reading.skipped ≡ skipped_in (columns_of_text text)) × (reading.digest ≡ sha256 text)) }
     ensures first { IfErr result (IsFirst limits (S.bytes_of sources.old) side) }
     ensures caused { IfErr result (IsCaused (Rose (S.failures sources.old) (S.failures sources.new)) ⊥) }
     ensures never_falls { S.failures sources.old ≤ S.failures sources.new }
+    ensures room { desk.new.room ≡ desk.old.room }
+    ensures memory { limits.line ≤ desk.old.room → IfErr result IsNotOfMemory }
     ensures fits { (old_line new_line before : ℕ) → OpensWithin (S.bytes_of sources.old) limits side (by_side old_line new_line side)
         → Fits old_line new_line before desk.old → Fits old_line new_line before desk.new }
 {
@@ -177,12 +215,19 @@ pub(crate) fn read_whole<S: Sources, A: Allocator + Copy>(
         Ok(cursor) => cursor,
         Err(OpenFault) => return Err(RunFault::Open(side)),
     };
-    let result = read_to_end(&mut cursor, desk);
-    let skipped = cursor.skipped();
-    sources.close(cursor.into_reel());
-    match result {
-        Ok(()) => Ok(skipped),
-        Err(fault) => Err(RunFault::Database(fault)),
+    match read_to_end(&mut cursor, desk) {
+        Ok(()) => {
+            let reading = Reading {
+                skipped: cursor.skipped(),
+                digest: digest_of(&cursor),
+            };
+            sources.close(cursor.into_reel());
+            Ok(reading)
+        }
+        Err(fault) => {
+            sources.close(cursor.into_reel());
+            Err(RunFault::Database(fault))
+        }
     }
 }
 
@@ -191,18 +236,24 @@ pub(crate) fn count_pass<S: Sources, A: Allocator + Copy>(
     sources: &mut S,
     limits: Limits,
     desk: &mut Desk<A>,
-    ignore: &Ignore,
+    options: &Options,
+    digests: &Digests,
 ) -> Result<Counts, RunFault>
     requires line { 14 ≤ limits.line }
     requires bytes { limits.bytes ≤ 2 ^ 60 }
+    requires digests { AreDigests (S.bytes_of sources.old) digests.now }
     ensures same { S.bytes_of sources.new ≡ S.bytes_of sources.old }
     ensures opens { OnOk result (OpensExactly (S.openings sources.old) (S.openings sources.new) 1) }
     ensures opens_some { OpensAtMost (S.openings sources.old) (S.openings sources.new) 1 }
-    ensures counts { IfOk result (λ counts. (old new : List ℕ) → S.bytes_of sources.old Side.Old ≡ Some old → S.bytes_of sources.old Side.New ≡ Some new
-        → Completes ignore.now counts [] (merged path_cmp (entries_of old) (entries_of new))) }
+    ensures counts { IfOk result (λ counts. (old new : List ℕ) → S.bytes_of sources.old Side.Old ≡ Some old
+        → S.bytes_of sources.old Side.New ≡ Some new
+        → Completes options.now counts [] (merged path_cmp (entries_of old) (entries_of new))) }
+    ensures refused { IfErr result (IsRefusedThere (S.openings sources.old) (S.openings sources.new)) }
     ensures later { IfErr result (IsLater limits (S.bytes_of sources.old)) }
     ensures caused { IfErr result (IsCaused (Rose (S.failures sources.old) (S.failures sources.new)) ⊥) }
     ensures never_falls { S.failures sources.old ≤ S.failures sources.new }
+    ensures room { desk.new.room ≡ desk.old.room }
+    ensures memory { limits.line ≤ desk.old.room → IfErr result IsNotOfMemory }
     ensures fits { (old_line new_line before : ℕ)
         → OpensWithin (S.bytes_of sources.old) limits Side.Old old_line → OpensWithin (S.bytes_of sources.old) limits Side.New new_line
         → Fits old_line new_line before desk.old → Fits old_line new_line before desk.new }
@@ -211,10 +262,74 @@ pub(crate) fn count_pass<S: Sources, A: Allocator + Copy>(
         Ok(merge) => merge,
         Err(fault) => return Err(fault),
     };
-    let result = count(&mut merge, desk, ignore);
-    close_both(sources, merge);
-    match result {
-        Ok(counts) => Ok(counts),
-        Err(fault) => Err(later_fault(fault)),
+    match count(&mut merge, desk, options) {
+        Ok(counts) => {
+            let changed = changed_side(&merge, digests);
+            close_both(sources, merge);
+            match changed {
+                None => Ok(counts),
+                Some(side) => Err(RunFault::Changed(side)),
+            }
+        }
+        Err(fault) => {
+            close_both(sources, merge);
+            Err(later_fault(fault))
+        }
+    }
+}
+
+/// The pass of a section, which writes what it says of the entries.
+pub(crate) fn entries_pass<S: Sources, W: Sink, A: Allocator + Copy>(
+    sources: &mut S,
+    limits: Limits,
+    desk: &mut Desk<A>,
+    out: &mut W,
+    pen: &mut Pen,
+    options: &Options,
+    digests: &Digests,
+    section: Section,
+) -> Result<(), RunFault>
+    requires line { 14 ≤ limits.line }
+    requires bytes { limits.bytes ≤ 2 ^ 60 }
+    requires digests { AreDigests (S.bytes_of sources.old) digests.now }
+    requires writes_on { pen.old.failed ≡ false }
+    ensures same { S.bytes_of sources.new ≡ S.bytes_of sources.old }
+    ensures opens { OnOk result (OpensExactly (S.openings sources.old) (S.openings sources.new) 1) }
+    ensures opens_some { OpensAtMost (S.openings sources.old) (S.openings sources.new) 1 }
+    ensures writes { (old new : List ℕ) → S.bytes_of sources.old Side.Old ≡ Some old → S.bytes_of sources.old Side.New ≡ Some new
+        → Writes result (entries_text options.now section (merged path_cmp (entries_of old) (entries_of new)))
+        (sheet W.delivered W.failures W.flushes out.old pen.old) (sheet W.delivered W.failures W.flushes out.new pen.new) }
+    ensures some { WritesSome
+        (sheet W.delivered W.failures W.flushes out.old pen.old) (sheet W.delivered W.failures W.flushes out.new pen.new) }
+    ensures writes_on { OnOk result (pen.new.failed ≡ false) }
+    ensures tells { IfErr result (TellsPen pen.new) }
+    ensures old_opened { S.openings sources.new Side.Old ≡ one_more (S.openings sources.old Side.Old) }
+    ensures refused { IfErr result (IsRefusedThere (S.openings sources.old) (S.openings sources.new)) }
+    ensures later { IfErr result (IsLater limits (S.bytes_of sources.old)) }
+    ensures caused { IfErr result (IsCaused (Rose (S.failures sources.old) (S.failures sources.new)) (pen.new.failed ≡ true)) }
+    ensures never_falls { S.failures sources.old ≤ S.failures sources.new }
+    ensures room { desk.new.room ≡ desk.old.room }
+    ensures memory { limits.line ≤ desk.old.room → IfErr result IsNotOfMemory }
+    ensures fits { (old_line new_line before : ℕ)
+        → OpensWithin (S.bytes_of sources.old) limits Side.Old old_line → OpensWithin (S.bytes_of sources.old) limits Side.New new_line
+        → Fits old_line new_line before desk.old → Fits old_line new_line before desk.new }
+{
+    let mut merge = match open_both(sources, limits, desk) {
+        Ok(merge) => merge,
+        Err(fault) => return Err(fault),
+    };
+    match put_entries(&mut merge, desk, out, pen, options, section) {
+        Ok(()) => {
+            let changed = changed_side(&merge, digests);
+            close_both(sources, merge);
+            match changed {
+                None => Ok(()),
+                Some(side) => Err(RunFault::Changed(side)),
+            }
+        }
+        Err(fault) => {
+            close_both(sources, merge);
+            Err(pass_fault(fault, pen.sent))
+        }
     }
 }

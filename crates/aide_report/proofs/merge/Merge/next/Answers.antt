@@ -1,10 +1,11 @@
-use Rattle.std.proofs.Common.{◌∙◌, is_some, arith, ap, sym}
+use Rattle.std.proofs.Common.{rules, ◌∙◌, is_some, arith, ap, refl, sym}
 use Rattle.aide_db.specs.Desk.{desk_entry}
 use Rattle.aide_db.specs.declared.side.Side.TheVariants.{Old, New}
 use Rattle.aide_report.specs.Reading.{rest_of, left_of}
 use Rattle.aide_report.proofs.BoundLemmas.{fits_both}
 use Rattle.aide_report.proofs.ReadingLemmas.{kept_entry, stands_across}
-use Rattle.aide_report.proofs.Steps.{next_gives, all_done, step_falls}
+use Rattle.aide_report.proofs.Steps.{next_gives, all_done, step_falls, ended_at}
+use Rattle.aide_report.proofs.RoomLemmas.{still_fits}
 use Rattle.aide_report.proofs.merge.Merge.next.Goals as goal
 
 pub returns-clause-gives : goal.returns-clause-gives
@@ -65,3 +66,24 @@ pub returns-clause-fits : goal.returns-clause-fits
 returns-clause-fits g c =
     fits_both g.R.Reel.to_come c.args.self.now c.args.desk.now c.advance.new.desk c.advance-2.new.desk
     c.requires.old_side c.requires.new_side (rw c.requires.old_side at c.advance.ensures.other) c.advance.ensures.fits c.advance-2.ensures.fits
+
+pub returns-clause-ended : goal.returns-clause-ended
+returns-clause-ended g c is =
+    let one = rw c.requires.old_side at c.in_ok-self.ensures in
+    let two = rw c.requires.new_side at c.in_ok-self-2.ensures in
+    let same_new = kept_entry New c.args.desk.now c.advance.new.desk one.other in
+    let same_old = kept_entry Old c.advance.new.desk c.advance-2.new.desk two.other in
+    let both = ended_at c.in_ok-self.field-0 c.in_ok-self-2.field-0 (desk_entry Old c.advance-2.new.desk) (desk_entry New c.advance-2.new.desk)
+    one.not_due two.not_due
+    (λ h. ap is_some same_old ∙ one.here c.requires.old_here h)
+    (two.here (λ h. ap is_some same_new ∙ c.requires.new_here h))
+    (sym is ∙ c.next_place-place.ensures _ _ c.held_view-old.ensures c.held_view-new.ensures) in
+    rw c.pass.ensures (record { old_ended = c.in_ok-self.ensures.ended c.requires.old_ended both.0; new_ended = c.in_ok-self-2.ensures.ended c.requires.new_ended both.1 })
+
+pub returns-in_err-self-clause-memory : goal.returns-in_err-self-clause-memory
+returns-in_err-self-clause-memory g c fits = let is = c.in_err-self.ensures.memory (fits Old) in search rules
+
+pub returns-in_err-self-2-clause-memory : goal.returns-in_err-self-2-clause-memory
+returns-in_err-self-2-clause-memory g c fits =
+    let is = c.in_err-self-2.ensures.memory (still_fits c.args.self.now.new_cursor.limits c.args.self.now.new_cursor.limits c.args.desk.now.room c.advance.new.desk.room refl
+    c.advance.ensures.room (fits New)) in search rules

@@ -1,0 +1,65 @@
+-- From what a pen has written to what a run tells.
+use Rattle.std.proofs.Common.{◌≡◌, ℕ, ◌≤◌, true, false, if◌then◌else◌, List, [], sym, ap, subst, arith}
+use Rattle.std.specs.Prelude.{Option}
+use Rattle.std.specs.Io.KnownBytes.{Appends, Keeps}
+use Rattle.std.proofs.lemmas.List.{append-nil}
+use Rattle.aide_conf.specs.declared.options.Options.{Options}
+use Rattle.aide_report.specs.Entries.{Entry}
+use Rattle.aide_text.specs.Failures.{Rose}
+use Rattle.aide_report.specs.Report.{Origin, is_silent, parts_of, text_of}
+use Rattle.aide_text.specs.Front.{differs}
+use Rattle.aide_report.specs.RunFaults.{IsCaused, TellsPen, TellsIfWritten}
+use Rattle.aide_text.specs.Sent.{SendsPart, IsCounted}
+use Rattle.aide_text.specs.Sheet.{Sheet, Wrote, WritesSome}
+use Rattle.aide_text.specs.declared.counts.Counts.{Counts}
+use Rattle.aide_text.specs.declared.pen.Pen.{Pen}
+use Rattle.aide_report.specs.declared.run_fault.RunFault.{RunFault}
+use Rattle.aide_report.specs.declared.run_fault.RunFault.TheVariants.{Open, Database, Changed, Write}
+use Rattle.aide_text.proofs.Sending.{Appends-Keeps}
+use Rattle.aide_text.proofs.Sheets.{from_fresh, wrote_whole}
+
+pub silent_text : (options : Options) (old_origin new_origin : Origin) (counts : Counts) (entries : List Entry) → is_silent options (differs counts) ≡ true
+    → text_of options old_origin new_origin counts entries ≡ []
+unfolding text_of
+silent_text options old_origin new_origin counts entries e = ap (λ b. if b then [] else parts_of options old_origin new_origin counts entries) e
+
+pub full_text : (options : Options) (old_origin new_origin : Origin) (counts : Counts) (entries : List Entry) → is_silent options (differs counts) ≡ false
+    → text_of options old_origin new_origin counts entries ≡ parts_of options old_origin new_origin counts entries
+unfolding text_of
+full_text options old_origin new_origin counts entries e = ap (λ b. if b then [] else parts_of options old_origin new_origin counts entries) e
+
+-- ---- after a flush
+
+pub flushed_whole : {text : List ℕ} {a b : Sheet} (c : Option (List ℕ)) → a.failed ≡ false → b.failed ≡ false → Wrote text a b → Keeps b.bytes c → Appends a.bytes c text
+flushed_whole {text} {a} {b} c fresh on p kept = Appends-Keeps a.bytes b.bytes c text (wrote_whole fresh on p) kept
+
+pub flushed_part : {text : List ℕ} {a b : Sheet} (c : Option (List ℕ)) → a.failed ≡ false → b.failed ≡ false → Wrote text a b → Keeps b.bytes c → SendsPart text a.bytes c
+flushed_part {text} {a} {b} c fresh on p kept = record { front = text; rest = []; whole = sym (append-nil text); bytes = flushed_whole c fresh on p kept }
+
+pub flushed_count : {a b : Sheet} (c : Option (List ℕ)) → a.failed ≡ false → a.sent ≡ 0 → WritesSome a b → Keeps b.bytes c → IsCounted a.bytes c 0 b.sent
+flushed_count {a} {b} c fresh start p kept =
+    let sent = from_fresh fresh p in
+    record { sent = sent.0; bytes = Appends-Keeps a.bytes b.bytes c sent.0 sent.1 kept; count = omega (arith, sent.2, start) }
+
+pub never_falls : {a b : Sheet} → a.failed ≡ false → WritesSome a b → a.failures ≤ b.failures
+never_falls {a} {b} fresh p = (from_fresh fresh p).3
+
+-- ---- the fault of a report
+
+pub count_of_pen : {a b : Sheet} → a.failed ≡ false → a.sent ≡ 0 → WritesSome a b → IsCounted a.bytes b.bytes 0 b.sent
+count_of_pen {a} {b} fresh start p = let sent = from_fresh fresh p in record { sent = sent.0; bytes = sent.1; count = omega (arith, sent.2, start) }
+
+pub tells_of_pen : (pen : Pen) (before after : Option (List ℕ)) (fault : RunFault) → IsCounted before after 0 pen.sent → TellsPen pen fault → TellsIfWritten before after fault
+tells_of_pen pen before after (Open side) is tells = tt
+tells_of_pen pen before after (Database fault) is tells = tt
+tells_of_pen pen before after (Changed side) is tells = tt
+tells_of_pen pen before after (Write written) is tells = subst (λ n. IsCounted before after 0 n) (sym tells.1) is
+
+pub rose_of_pen : {a b : Sheet} → a.failed ≡ false → WritesSome a b → b.failed ≡ true → Rose a.failures b.failures
+rose_of_pen {a} {b} fresh p failed below = let e = (from_fresh fresh p).4 failed in omega (arith, e)
+
+pub caused_as : (sources first second : Type 0) (fault : RunFault) → (first → second) → IsCaused sources first fault → IsCaused sources second fault
+caused_as sources first second (Open side) f p = p
+caused_as sources first second (Database fault) f p = p
+caused_as sources first second (Changed side) f p = tt
+caused_as sources first second (Write written) f p = f p

@@ -1,0 +1,57 @@
+-- Where a line fits into the room that was reserved, memory is never wanted.
+use Rattle.std.proofs.Common.{◌≡◌, ◌≤◌, ℕ, Bool, true, false, refl, subst, sym}
+use Rattle.aide_db.specs.Memory.{is_memory, wanted_memory}
+use Rattle.aide_db.specs.declared.fault.DbFault.{DbFault}
+use Rattle.aide_db.specs.declared.fault.DbFaultKind.{DbFaultKind}
+use Rattle.aide_db.specs.declared.fault.DbFaultKind.TheVariants.{LineTooLong, NoBegin, BadDirective, BadSpec, NoSpec, FieldCount, BadName, OutOfOrder, BadNumber, BadTime, BadDigest, NoEnd, Memory, Read, TooManyBytes}
+use Rattle.aide_db.specs.declared.limits.Limits.{Limits}
+use Rattle.aide_db.specs.declared.place.Place.{Place}
+use Rattle.aide_db.specs.declared.place.Place.TheVariants.{Start, Begun, Entries, Ended, Failed}
+use Rattle.aide_report.specs.LaterFault.{later_by, later_of}
+use Rattle.aide_report.specs.PassFaults.{IfDatabase, pass_fault_of}
+use Rattle.aide_report.specs.Reading.{IsUnfailed}
+use Rattle.aide_report.specs.Room.{IsNotMemory, IsNotOfMemory}
+use Rattle.aide_report.specs.declared.entries.PassFault.{PassFault}
+use Rattle.aide_report.specs.declared.entries.PassFault.TheVariants as passes
+
+not_true : (b : Bool) → (b ≡ true → false ≡ true) → b ≡ false
+not_true false h = refl
+not_true true h = sym (h refl)
+
+-- a cursor that has not failed wants no memory
+pub not_memory : (place : Place) (fault : DbFault) → IsUnfailed place → (is_memory fault.kind ≡ true → wanted_memory place ≡ true) → IsNotMemory fault
+not_memory Start fault unfailed h = not_true (is_memory fault.kind) h
+not_memory Begun fault unfailed h = not_true (is_memory fault.kind) h
+not_memory Entries fault unfailed h = not_true (is_memory fault.kind) h
+not_memory Ended fault unfailed h = not_true (is_memory fault.kind) h
+not_memory (Failed failure) fault unfailed h = absurd unfailed
+
+-- the limits and the room are what they were
+pub still_fits : (a b : Limits) (m n : ℕ) → b ≡ a → n ≡ m → a.line ≤ m → b.line ≤ n
+still_fits a b m n same kept le = subst (λ (limits : Limits). limits.line ≤ n) (sym same) (subst (λ x. a.line ≤ x) (sym kept) le)
+
+later_at : (fault : DbFault) → IsNotMemory fault → (kind : DbFaultKind) → IsNotOfMemory (later_by kind fault)
+later_at fault is LineTooLong = tt
+later_at fault is NoBegin = tt
+later_at fault is BadDirective = tt
+later_at fault is BadSpec = tt
+later_at fault is NoSpec = tt
+later_at fault is FieldCount = tt
+later_at fault is BadName = tt
+later_at fault is OutOfOrder = tt
+later_at fault is (BadNumber column) = tt
+later_at fault is (BadTime column) = tt
+later_at fault is (BadDigest column) = tt
+later_at fault is NoEnd = tt
+later_at fault is Memory = is
+later_at fault is Read = is
+later_at fault is TooManyBytes = tt
+
+-- nor does a later fault
+pub later_room : (fault : DbFault) → IsNotMemory fault → IsNotOfMemory (later_of fault)
+later_room fault is = later_at fault is fault.kind
+
+-- nor the end of a walk
+pub pass_room : (fault : PassFault) (sent : ℕ) → IfDatabase IsNotMemory fault → IsNotOfMemory (pass_fault_of fault sent)
+pass_room (passes.Database fault) sent is = later_room fault is
+pass_room passes.Write sent is = tt

@@ -1,0 +1,57 @@
+-- Whether a set of attributes has any, and what an entry's change shows.
+use Rattle.std.proofs.Common.{ℕ, ◌<◌, ◌≡◌, Bool, true, false, List, [], ◌∷◌, suc, zero, length, refl, sym, ap, ◌∙◌, arith, get_or, inl, inr}
+use Rattle.std.specs.Prelude.{◌||◌, not, IsTrue, ◌↔◌}
+use Rattle.std.specs.List.{list_any}
+use Rattle.aide_attr.specs.declared.attr.Attr.{Attr}
+use Rattle.aide_attr.specs.declared.delta.Delta.{Delta}
+use Rattle.aide_attr.specs.declared.set.AttrSet.{AttrSet}
+use Rattle.aide_attr.specs.Attr.{number, all_attrs, count}
+use Rattle.aide_attr.specs.Difference.{sides_of}
+use Rattle.aide_attr.specs.Set.{has}
+use Rattle.aide_attr.proofs.AttrLemmas.{at_number, number_small}
+use Rattle.aide_attr.proofs.WalkLemmas.{bool_cases}
+use Rattle.aide_db.specs.Attributes.{Attributes, sides_between}
+
+none_any : (p : Attr → Bool) (xs : List Attr) (k : ℕ) (d : Attr) → list_any p xs ≡ false → k < length xs → p (get_or xs k d) ≡ false
+none_any p [] k d h l = absurd (omega arith)
+none_any p (x ∷ xs) zero d h l = first (p x) (list_any p xs) h
+  where
+    first : (a b : Bool) → (a || b) ≡ false → a ≡ false
+    first false b h = refl
+    first true b h = cc
+none_any p (x ∷ xs) (suc k) d h l = none_any p xs k d (second (p x) (list_any p xs) h) (omega arith)
+  where
+    second : (a b : Bool) → (a || b) ≡ false → b ≡ false
+    second false b h = h
+    second true b h = cc
+
+none_of : (p : Attr → Bool) → ((a : Attr) → p a ≡ false) → (xs : List Attr) → list_any p xs ≡ false
+none_of p h [] = refl
+none_of p h (x ∷ xs) = rw (h x, none_of p h xs) refl
+
+some_of : (p : Attr → Bool) → (((a : Attr) → p a ≡ false) → ⊥) → list_any p all_attrs ≡ true
+unfolding count
+some_of p k = elim (bool_cases (list_any p all_attrs)) [
+  | inl e ↦ e
+  | inr e ↦ absurd (k (λ a. ap p (sym (at_number a a)) ∙ none_any p all_attrs (number a) a e (number_small a)))
+]
+
+-- a set is empty exactly where no attribute passes its test
+pub any_in : (r : AttrSet) (p : Attr → Bool) (empty : Bool) → ((a : Attr) → has r a ≡ p a) → (IsTrue empty ↔ ((a : Attr) → has r a ≡ false)) → not empty ≡ list_any p all_attrs
+any_in r p true same tells = sym (none_of p (λ a. sym (same a) ∙ tells.0 refl a) all_attrs)
+any_in r p false same tells = sym (some_of p (λ h. let e = tells.1 (λ a. same a ∙ h a) in cc))
+
+-- two entries differ as the difference between them says
+pub same_sides : (d : Delta) (old new : Attributes)
+    → ((a : Attr) → (sides_of d).in_old a ≡ (sides_between old new).in_old a) → ((a : Attr) → (sides_of d).in_new a ≡ (sides_between old new).in_new a)
+    → ((a : Attr) → (sides_of d).differs a ≡ (sides_between old new).differs a)
+    → (sides_of d).size ≡ (sides_between old new).size → (sides_of d).old_type ≡ (sides_between old new).old_type → (sides_of d).new_type ≡ (sides_between old new).new_type
+    → sides_of d ≡ sides_between old new
+same_sides d old new in_old in_new differs size old_type new_type i = record {
+  in_old = λ a. in_old a i;
+  in_new = λ a. in_new a i;
+  differs = λ a. differs a i;
+  size = size i;
+  old_type = old_type i;
+  new_type = new_type i;
+}

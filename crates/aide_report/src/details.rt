@@ -1,0 +1,207 @@
+//! The details of an entry.
+ghost use Rattle.std.specs.Prelude.{◌≡◌, ◌++◌, Option, None, Some, if◌then◌else◌, [], List};
+ghost use Rattle.std.specs.List.{filter};
+ghost use Rattle.aide_attr.specs.Attr.{detail_name_of};
+ghost use Rattle.aide_attr.specs.Set.{has};
+ghost use Rattle.aide_attr.specs.declared.attr.Attr.{Attr as AnyAttr};
+ghost use Rattle.aide_db.specs.Attributes.{type_in};
+ghost use Rattle.aide_db.specs.View.{entry_in};
+ghost use Rattle.aide_report.specs.ChangeView.{change_of};
+ghost use Rattle.aide_text.specs.DecodedRest.{decoded_rest};
+ghost use Rattle.aide_report.specs.Entries.{entry_details, attribute_text, attributes_text, shown_text, title_of, title_word, type_on};
+ghost use Rattle.aide_text.specs.Text.{path_line};
+ghost use Rattle.aide_text.specs.PenSheet.{sheet};
+ghost use Rattle.aide_text.specs.Printed.{printed};
+ghost use Rattle.aide_text.specs.ReadyRest.{ready_rest};
+ghost use Rattle.aide_text.specs.SliceRest.{slice_rest};
+ghost use Rattle.aide_text.specs.Sheet.{Wrote};
+ghost use Rattle.aide_text.specs.TextRest.{text_rest};
+ghost use Rattle.aide_text.specs.Values.{text_at, side_text, option_text, link_text, digest_text};
+ghost use Rattle.aide_db.specs.Attributes.{link_in, digest_in, opaque_in};
+ghost use Rattle.aide_attr.specs.Summary.{first_type};
+
+use crate::count::Change;
+use crate::difference::shown_in;
+use crate::entries::path_of;
+use aide_attr::{Attr, AttrSet, FileType, Form};
+use aide_conf::Options;
+use aide_db::View;
+use aide_text::{
+    DecodedSource, Pen, Printed, Ready, Sink, SliceSource, ValueText, digest_of, kind_text,
+    mode_of, number_of, put_newline, put_path_line, put_side_by_side,
+};
+
+fn link_value<'a>(view: &View<'a>) -> ValueText<Ready, DecodedSource<'a>, SliceSource<'a>>
+    ensures { text_rest ready_rest decoded_rest slice_rest result ≡ option_text link_text (link_in ((entry_in view.now).1 AnyAttr.Lname)) }
+{
+    match view.link() {
+        None => ValueText::Short(Ready::of(b"")),
+        Some(None) => ValueText::Short(Ready::of(b"")),
+        Some(Some(name)) => ValueText::Link(Printed::of(DecodedSource::of(name))),
+    }
+}
+
+fn field_value<'a>(
+    view: &View<'a>,
+    attr: Attr,
+) -> ValueText<Ready, DecodedSource<'a>, SliceSource<'a>>
+    ensures { text_rest ready_rest decoded_rest slice_rest result ≡ option_text printed (opaque_in ((entry_in view.now).1 attr)) }
+{
+    match view.field(attr) {
+        None => ValueText::Short(Ready::of(b"")),
+        Some(bytes) => ValueText::Field(Printed::of(SliceSource::of(bytes))),
+    }
+}
+
+fn digest_value(view: &View<'_>, attr: Attr, base16: bool) -> Ready
+    ensures { ready_rest result ≡ option_text (digest_text base16) (digest_in ((entry_in view.now).1 attr)) }
+{
+    let mut buffer = [0; 64];
+    match view.digest(attr, &mut buffer) {
+        None => Ready::of(b""),
+        Some(len) => digest_of(base16, &buffer[..len]),
+    }
+}
+
+/// The value of an attribute as a text.
+fn value<'a>(
+    view: &View<'a>,
+    attr: Attr,
+    base16: bool,
+) -> ValueText<Ready, DecodedSource<'a>, SliceSource<'a>>
+    ensures { text_rest ready_rest decoded_rest slice_rest result ≡ text_at base16 attr ((entry_in view.now).1 attr) }
+{
+    match attr.form() {
+        Form::Kind => ValueText::Short(kind_text(view.kind())),
+        Form::Mode => ValueText::Short(mode_of(view.number(attr))),
+        Form::Number => ValueText::Short(number_of(view.number(attr))),
+        Form::Time => ValueText::Short(number_of(view.number(attr))),
+        Form::Link => link_value(view),
+        Form::Digest(_, _) => ValueText::Short(digest_value(view, attr, base16)),
+        Form::Opaque => field_value(view, attr),
+    }
+}
+
+/// The old side's value in a change, the empty text where it lacks the entry.
+fn old_value<'a>(
+    change: Change<'a>,
+    attr: Attr,
+    base16: bool,
+) -> ValueText<Ready, DecodedSource<'a>, SliceSource<'a>>
+    ensures { text_rest ready_rest decoded_rest slice_rest result ≡ side_text base16 attr (change_of change.entry).1.0 }
+{
+    match change {
+        Change::Added(_) => ValueText::Short(Ready::of(b"")),
+        Change::Removed(old) => value(&old, attr, base16),
+        Change::Common(old, _) => value(&old, attr, base16),
+    }
+}
+
+/// The new side's value.
+fn new_value<'a>(
+    change: Change<'a>,
+    attr: Attr,
+    base16: bool,
+) -> ValueText<Ready, DecodedSource<'a>, SliceSource<'a>>
+    ensures { text_rest ready_rest decoded_rest slice_rest result ≡ side_text base16 attr (change_of change.entry).1.1 }
+{
+    match change {
+        Change::Added(new) => value(&new, attr, base16),
+        Change::Removed(_) => ValueText::Short(Ready::of(b"")),
+        Change::Common(_, new) => value(&new, attr, base16),
+    }
+}
+
+/// An attribute: the old value beside the new one.
+fn put_attribute<W: Sink>(out: &mut W, pen: &mut Pen, change: Change<'_>, attr: Attr, base16: bool)
+    ensures { Wrote (attribute_text base16 (change_of change.entry).1 attr)
+        (sheet W.delivered W.failures W.flushes out.old pen.old) (sheet W.delivered W.failures W.flushes out.new pen.new) }
+{
+    put_side_by_side(
+        out,
+        pen,
+        attr.detail_name(),
+        old_value(change, attr, base16),
+        new_value(change, attr, base16),
+    );
+}
+
+#[tactic(auto, unfolding(crate::specs::Entries::shown_text))]
+fn put_if_shown<W: Sink>(
+    out: &mut W,
+    pen: &mut Pen,
+    change: Change<'_>,
+    attr: Attr,
+    base16: bool,
+    shown: AttrSet,
+)
+    ensures { Wrote (shown_text base16 (change_of change.entry).1 (has shown) attr)
+        (sheet W.delivered W.failures W.flushes out.old pen.old) (sheet W.delivered W.failures W.flushes out.new pen.new) }
+{
+    if shown.has(attr) {
+        put_attribute(out, pen, change, attr, base16);
+    }
+}
+
+/// The attributes that are shown, in their order.
+fn put_attributes<W: Sink>(
+    out: &mut W,
+    pen: &mut Pen,
+    change: Change<'_>,
+    base16: bool,
+    shown: AttrSet,
+    attrs: &[Attr],
+)
+    ensures { Wrote (attributes_text base16 (change_of change.entry).1 (has shown) attrs.now)
+        (sheet W.delivered W.failures W.flushes out.old pen.old) (sheet W.delivered W.failures W.flushes out.new pen.new) }
+{
+    for attr in attrs {
+        put_if_shown(out, pen, change, *attr, base16, shown);
+    }
+}
+
+fn word(kind: Option<FileType>) -> &'static [u8]
+    ensures { result.now ≡ title_word kind }
+{
+    match kind {
+        None => b"Entry",
+        Some(FileType::File) => b"File",
+        Some(FileType::Directory) => b"Directory",
+        Some(FileType::Link) => b"Link",
+        Some(FileType::Char) => b"Character device",
+        Some(FileType::Block) => b"Block device",
+        Some(FileType::Fifo) => b"FIFO",
+        Some(FileType::Socket) => b"Socket",
+        Some(FileType::Other(_)) => b"Entry",
+    }
+}
+
+/// The title word: by the new entry's type where it has one, otherwise by the old entry's.
+fn title(change: Change<'_>) -> &'static [u8]
+    ensures { result.now ≡ title_of (change_of change.entry).1 }
+{
+    match change {
+        Change::Added(new) => word(new.kind()),
+        Change::Removed(old) => word(old.kind()),
+        Change::Common(old, new) => match new.kind() {
+            None => word(old.kind()),
+            Some(kind) => word(Some(kind)),
+        },
+    }
+}
+
+/// The details of a change.
+pub(crate) fn put_details<W: Sink>(
+    out: &mut W,
+    pen: &mut Pen,
+    options: &Options,
+    change: Change<'_>,
+)
+    ensures { Wrote (entry_details options.now (change_of change.entry))
+        (sheet W.delivered W.failures W.flushes out.old pen.old) (sheet W.delivered W.failures W.flushes out.new pen.new) }
+{
+    let shown = shown_in(change, options);
+    put_newline(out, pen);
+    put_path_line(out, pen, title(change), path_of(change));
+    put_attributes(out, pen, change, options.base16, shown, &Attr::ALL);
+}

@@ -1,0 +1,8 @@
+use Rattle.std.proofs.Common.{ap}
+use Rattle.aide_text.specs.Front.{head_of, front_of}
+use Rattle.aide_text.proofs.Sheets.{wrote_more, wrote_as}
+use Rattle.aide_text.proofs.front.put_front.Goals as goal
+
+pub returns : goal.returns
+unfolding front_of
+returns g c = wrote_more (wrote_as (ap head_of c.is_different.ensures) c.put_head.ensures) c.put_wanted_summary.ensures

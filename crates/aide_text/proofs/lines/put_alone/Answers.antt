@@ -1,0 +1,22 @@
+use Rattle.std.proofs.Common.{ap, sym, arith}
+use Rattle.aide_text.specs.PenSheet.{sheet}
+use Rattle.aide_text.specs.Text.{alone}
+use Rattle.aide_text.proofs.Pieces.{later_single, single_first, single_some, single_none, no_length, single_shorter}
+use Rattle.aide_text.proofs.Sheets.{writing_start, writing_more, writing_as, writing_done}
+use Rattle.aide_text.proofs.lines.put_alone.Goals as goal
+
+pub lines-init : goal.lines-init
+lines-init g c =
+    writing_as (ap later_single (sym c.behind-rest.ensures))
+    (writing_more (single_first c.args.name.now c.args.text.now) (writing_start (alone c.args.name.now c.args.text.now) (sheet g.W.Sink.delivered g.W.Sink.failures g.W.Sink.flushes c.args.out.now c.args.pen.now)) c.put_first.ensures)
+
+pub lines-smaller : goal.lines-smaller
+lines-smaller g c = rw c.behind-rest-in-lines.ensures (single_shorter c.lines.rest.now (grind (arith, c.lines-test.ensures)))
+
+pub lines-preserved : goal.lines-preserved
+lines-preserved g c =
+    writing_as (ap later_single (sym c.behind-rest-in-lines.ensures))
+    (writing_more (single_some c.lines.rest.now (grind (arith, c.lines-test.ensures))) c.lines.invariant c.put_more.ensures)
+
+pub returns : goal.returns
+returns g c = writing_done (single_none c.lines.rest.now (no_length c.lines.rest.now (grind (arith, c.lines-test.ensures)))) c.lines.invariant

@@ -1,0 +1,14 @@
+-- The lines that have been written and those of the rests are all.
+use Rattle.std.proofs.Common.{◌+◌, length}
+use Rattle.aide_text.specs.PenSheet.{sheet}
+use Rattle.aide_text.specs.Sheet.{Writing}
+use Rattle.aide_text.specs.Text.{side_by_side}
+use Rattle.aide_text.proofs.Pieces.{later_lines}
+use Rattle.aide_text.proofs.lines.put_side_by_side.Given as goal
+
+abbrev pub invariant-lines : goal.invariant-lines
+invariant-lines g l = Writing (side_by_side l.fn.name (g.B.Source.rest l.fn.old_text) (g.C.Source.rest l.fn.new_text)) (later_lines (g.B.Source.rest l.old_text) (g.C.Source.rest l.new_text))
+    (sheet g.W.Sink.delivered g.W.Sink.failures g.W.Sink.flushes l.fn.out l.fn.pen) (sheet g.W.Sink.delivered g.W.Sink.failures g.W.Sink.flushes l.out l.pen)
+
+abbrev pub decreases-lines : goal.decreases-lines
+decreases-lines g l = length (g.B.Source.rest l.old_text) + length (g.C.Source.rest l.new_text)

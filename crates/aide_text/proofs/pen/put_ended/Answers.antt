@@ -1,0 +1,7 @@
+use Rattle.aide_text.specs.Text.{empty_line, ended}
+use Rattle.aide_text.proofs.Sheets.{wrote_more}
+use Rattle.aide_text.proofs.pen.put_ended.Goals as goal
+
+pub returns : goal.returns
+unfolding empty_line ended
+returns g c = wrote_more c.put.ensures c.put_newline.ensures

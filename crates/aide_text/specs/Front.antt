@@ -1,0 +1,56 @@
+-- What stands first in a report: whether the databases differ, and the numbers of entries.
+use Rattle.std.specs.Prelude.{ℕ, ◌==◌, ◌||◌, not, Bool, if◌then◌else◌, List, [], ◌++◌, decimal, codes}
+use Rattle.aide_attr.specs.declared.level.Level.{Level}
+use Rattle.aide_attr.specs.declared.level.Level.TheVariants.{Summary}
+use Rattle.aide_attr.specs.Level.{reaches}
+use Rattle.aide_text.specs.Text.{ended}
+use Rattle.aide_text.specs.declared.counts.Counts.{Counts}
+
+-- by the numbers of added, removed and changed entries, whether there is any
+abbrev pub is_different : (added removed changed : ℕ) → Bool
+is_different added removed changed = not (added == 0) || (not (removed == 0) || not (changed == 0))
+
+-- the same of counts
+abbrev pub differs : Counts → Bool
+differs counts = is_different counts.added counts.removed counts.changed
+
+-- a part of the report, where it is wanted
+abbrev pub when : Bool → List ℕ → List ℕ
+when wanted text = if wanted then text else []
+
+-- the first line
+unfoldable pub head_of : Bool → List ℕ
+head_of differ = if differ
+    then codes "AIDE found differences between the two databases.\n"
+    else codes "AIDE found NO differences between the two databases.\n"
+
+-- an empty line, and the title of the summary
+unfoldable pub summary_title : List ℕ
+summary_title = codes "\nSummary:\n"
+
+-- a number in decimal behind a label
+unfoldable pub number_line : List ℕ → ℕ → List ℕ
+number_line label n = label ++ ended (decimal n)
+
+-- the first two lines of the summary
+unfoldable pub first_numbers : (total added : ℕ) → List ℕ
+first_numbers total added =
+    number_line (codes "  Total number of entries: ") total ++ number_line (codes "  Added entries:           ") added
+
+-- its last two lines
+unfoldable pub last_numbers : (removed changed : ℕ) → List ℕ
+last_numbers removed changed =
+    number_line (codes "  Removed entries:         ") removed ++ number_line (codes "  Changed entries:         ") changed
+
+-- the summary: the numbers of entries
+unfoldable pub summary_of : (total added removed changed : ℕ) → List ℕ
+summary_of total added removed changed = summary_title ++ (first_numbers total added ++ last_numbers removed changed)
+
+-- the head, and the summary from its level on
+unfoldable pub front_of : Level → (total added removed changed : ℕ) → List ℕ
+front_of level total added removed changed =
+    head_of (is_different added removed changed) ++ when (reaches level Summary) (summary_of total added removed changed)
+
+-- the same of counts
+abbrev pub front_by : Level → Counts → List ℕ
+front_by level counts = front_of level counts.total counts.added counts.removed counts.changed

@@ -1,0 +1,17 @@
+pub mod Failures
+pub mod Counted
+pub mod Printed
+pub mod Sent
+pub mod Text
+pub mod Values
+pub mod Source
+pub mod PieceText
+pub mod ReadyRest
+pub mod PrintedRest
+pub mod SliceRest
+pub mod DecodedRest
+pub mod TextRest
+pub mod Sheet
+pub mod PenSheet
+pub mod Front
+pub mod Titles

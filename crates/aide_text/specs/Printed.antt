@@ -1,0 +1,19 @@
+-- How a path is printed.
+use Rattle.std.specs.Prelude.{ℕ, ◌+◌, ◌/◌, ◌%◌, ◌==◌, ◌||◌, if◌then◌else◌, Bool, List, [], ◌∷◌, nat_lt}
+use Rattle.std.specs.List.{flat_map}
+
+-- control bytes and the backslash
+abbrev pub is_escaped : ℕ → Bool
+is_escaped c = nat_lt c 32 || (c == 127 || c == 92)
+
+-- a backslash and three octal digits
+abbrev pub octal_escape : ℕ → List ℕ
+octal_escape c = 92 ∷ (48 + c / 64) ∷ (48 + c / 8 % 8) ∷ (48 + c % 8) ∷ []
+
+-- a byte as it is printed
+abbrev pub printed_byte : ℕ → List ℕ
+printed_byte c = if is_escaped c then octal_escape c else (c ∷ [])
+
+-- byte by byte
+abbrev pub printed : List ℕ → List ℕ
+printed path = flat_map printed_byte path

@@ -1,0 +1,7 @@
+-- What a short text has still to give.
+use Rattle.std.specs.Prelude.{ℕ, List, take, drop}
+use Rattle.aide_text.specs.declared.ready.Ready.{Ready}
+
+-- the bytes behind its place
+abbrev pub ready_rest : Ready → List ℕ
+ready_rest r = drop r.at (take r.len r.bytes)

@@ -1,0 +1,230 @@
+//! Lines of padded and cut text.
+ghost use Rattle.std.specs.Prelude.{◌≡◌, ◌≤◌, replicate, take, drop, if◌then◌else◌, []};
+ghost use Rattle.aide_text.specs.PenSheet.{sheet};
+ghost use Rattle.aide_text.specs.Sheet.{Wrote};
+ghost use Rattle.aide_text.specs.Text.{padded, margin, indent, colon, heading, single_line, alone, bar, left_part, pair_body, pair_line};
+ghost use Rattle.aide_text.specs.Text.{next_line, has_lines, side_by_side};
+ghost use Rattle.aide_text.specs.PieceText.{piece_text};
+
+use crate::pen::{Pen, put, put_ended};
+use crate::piece::Piece;
+use crate::sink::Sink;
+use crate::source::Source;
+
+const BLANKS: [u8; 32] = [b' '; 32];
+
+/// This many blanks.
+fn blanks(count: usize) -> &'static [u8]
+    requires { count ≤ 32 }
+    ensures { result.now ≡ replicate count 32 }
+{
+    &BLANKS[..count]
+}
+
+/// A text, left in a width.
+fn put_padded<W: Sink>(out: &mut W, pen: &mut Pen, width: usize, text: &[u8])
+    requires { width ≤ 32 }
+    ensures { Wrote (padded width text.now)
+        (sheet W.delivered W.failures W.flushes out.old pen.old) (sheet W.delivered W.failures W.flushes out.new pen.new) }
+{
+    put(out, pen, text);
+    put(out, pen, blanks(width.saturating_sub(text.len())));
+}
+
+#[tactic(auto, unfolding(crate::specs::Text::margin))]
+fn put_margin<W: Sink>(out: &mut W, pen: &mut Pen)
+    ensures { Wrote margin
+        (sheet W.delivered W.failures W.flushes out.old pen.old) (sheet W.delivered W.failures W.flushes out.new pen.new) }
+{
+    put(out, pen, b"              ");
+}
+
+#[tactic(auto, unfolding(crate::specs::Text::indent))]
+fn put_indent<W: Sink>(out: &mut W, pen: &mut Pen)
+    ensures { Wrote indent
+        (sheet W.delivered W.failures W.flushes out.old pen.old) (sheet W.delivered W.failures W.flushes out.new pen.new) }
+{
+    put(out, pen, b"  ");
+}
+
+#[tactic(auto, unfolding(crate::specs::Text::colon))]
+fn put_separator<W: Sink>(out: &mut W, pen: &mut Pen)
+    ensures { Wrote colon
+        (sheet W.delivered W.failures W.flushes out.old pen.old) (sheet W.delivered W.failures W.flushes out.new pen.new) }
+{
+    put(out, pen, b": ");
+}
+
+/// The head of a line: a name left in ten columns.
+fn put_heading<W: Sink>(out: &mut W, pen: &mut Pen, name: &[u8])
+    ensures { Wrote (heading name.now)
+        (sheet W.delivered W.failures W.flushes out.old pen.old) (sheet W.delivered W.failures W.flushes out.new pen.new) }
+{
+    put_indent(out, pen);
+    put_padded(out, pen, 10, name);
+    put_separator(out, pen);
+}
+
+/// The first 32 bytes, or all.
+fn piece(text: &[u8]) -> &[u8]
+    ensures { result.now ≡ take 32 text.now }
+{
+    if text.len() < 32 { text } else { &text[..32] }
+}
+
+/// The bytes behind the first 32.
+fn behind(text: &[u8]) -> &[u8]
+    ensures { result.now ≡ drop 32 text.now }
+{
+    if text.len() < 32 { &[] } else { &text[32..] }
+}
+
+fn put_first<W: Sink>(out: &mut W, pen: &mut Pen, name: &[u8], text: &[u8])
+    ensures { Wrote (single_line (heading name.now) (take 32 text.now))
+        (sheet W.delivered W.failures W.flushes out.old pen.old) (sheet W.delivered W.failures W.flushes out.new pen.new) }
+{
+    put_heading(out, pen, name);
+    put_ended(out, pen, piece(text));
+}
+
+fn put_more<W: Sink>(out: &mut W, pen: &mut Pen, text: &[u8])
+    ensures { Wrote (single_line margin (take 32 text.now))
+        (sheet W.delivered W.failures W.flushes out.old pen.old) (sheet W.delivered W.failures W.flushes out.new pen.new) }
+{
+    put_margin(out, pen);
+    put_ended(out, pen, piece(text));
+}
+
+/// A text cut into pieces, below a name.
+pub(crate) fn put_alone<W: Sink>(out: &mut W, pen: &mut Pen, name: &[u8], text: &[u8])
+    ensures { Wrote (alone name.now text.now)
+        (sheet W.delivered W.failures W.flushes out.old pen.old) (sheet W.delivered W.failures W.flushes out.new pen.new) }
+{
+    put_first(out, pen, name, text);
+    let mut rest = behind(text);
+    'lines: while !rest.is_empty() {
+        put_more(out, pen, rest);
+        rest = behind(rest);
+    }
+}
+
+#[tactic(auto, unfolding(crate::specs::Text::bar))]
+fn put_bar<W: Sink>(out: &mut W, pen: &mut Pen)
+    ensures { Wrote bar
+        (sheet W.delivered W.failures W.flushes out.old pen.old) (sheet W.delivered W.failures W.flushes out.new pen.new) }
+{
+    put(out, pen, b" | ");
+}
+
+/// The old piece left in 32 columns, and what parts it from the new one.
+fn put_left<W: Sink>(out: &mut W, pen: &mut Pen, text: &[u8])
+    ensures { Wrote (left_part text.now)
+        (sheet W.delivered W.failures W.flushes out.old pen.old) (sheet W.delivered W.failures W.flushes out.new pen.new) }
+{
+    put_padded(out, pen, 32, text);
+    put_bar(out, pen);
+}
+
+fn put_pair<W: Sink>(out: &mut W, pen: &mut Pen, old_piece: &[u8], new_piece: &[u8])
+    ensures { Wrote (pair_body old_piece.now new_piece.now)
+        (sheet W.delivered W.failures W.flushes out.old pen.old) (sheet W.delivered W.failures W.flushes out.new pen.new) }
+{
+    put_left(out, pen, old_piece);
+    put_ended(out, pen, new_piece);
+}
+
+fn put_first_line<W: Sink>(
+    out: &mut W,
+    pen: &mut Pen,
+    name: &[u8],
+    old_piece: &[u8],
+    new_piece: &[u8],
+)
+    ensures { Wrote (pair_line (heading name.now) old_piece.now new_piece.now)
+        (sheet W.delivered W.failures W.flushes out.old pen.old) (sheet W.delivered W.failures W.flushes out.new pen.new) }
+{
+    put_heading(out, pen, name);
+    put_pair(out, pen, old_piece, new_piece);
+}
+
+fn put_more_line<W: Sink>(out: &mut W, pen: &mut Pen, old_piece: &[u8], new_piece: &[u8])
+    ensures { Wrote (pair_line margin old_piece.now new_piece.now)
+        (sheet W.delivered W.failures W.flushes out.old pen.old) (sheet W.delivered W.failures W.flushes out.new pen.new) }
+{
+    put_margin(out, pen);
+    put_pair(out, pen, old_piece, new_piece);
+}
+
+/// Whether either piece has a byte.
+fn has_more(old_piece: &Piece, new_piece: &Piece) -> bool
+    ensures { result ≡ has_lines (piece_text old_piece.now) (piece_text new_piece.now) }
+{
+    old_piece.len() + new_piece.len() != 0
+}
+
+/// The line with the name.
+fn put_name_line<W: Sink, B: Source, C: Source>(
+    out: &mut W,
+    pen: &mut Pen,
+    name: &[u8],
+    old_text: &mut B,
+    new_text: &mut C,
+)
+    ensures wrote { Wrote (pair_line (heading name.now) (take 32 (B.rest old_text.old)) (take 32 (C.rest new_text.old)))
+        (sheet W.delivered W.failures W.flushes out.old pen.old) (sheet W.delivered W.failures W.flushes out.new pen.new) }
+    ensures old_rest { B.rest old_text.new ≡ drop 32 (B.rest old_text.old) }
+    ensures new_rest { C.rest new_text.new ≡ drop 32 (C.rest new_text.old) }
+{
+    let old_piece = Piece::of(old_text);
+    let new_piece = Piece::of(new_text);
+    put_first_line(out, pen, name, old_piece.bytes(), new_piece.bytes());
+}
+
+fn put_pieces<W: Sink>(out: &mut W, pen: &mut Pen, more: bool, old_piece: &Piece, new_piece: &Piece)
+    ensures { Wrote (if more then pair_line margin (piece_text old_piece.now) (piece_text new_piece.now) else [])
+        (sheet W.delivered W.failures W.flushes out.old pen.old) (sheet W.delivered W.failures W.flushes out.new pen.new) }
+{
+    if more {
+        put_more_line(out, pen, old_piece.bytes(), new_piece.bytes());
+    }
+}
+
+/// The next line below the first, where a text has one; whether there was one.
+fn put_next_line<W: Sink, B: Source, C: Source>(
+    out: &mut W,
+    pen: &mut Pen,
+    old_text: &mut B,
+    new_text: &mut C,
+) -> bool
+    ensures wrote { Wrote (next_line (B.rest old_text.old) (C.rest new_text.old))
+        (sheet W.delivered W.failures W.flushes out.old pen.old) (sheet W.delivered W.failures W.flushes out.new pen.new) }
+    ensures old_rest { B.rest old_text.new ≡ drop 32 (B.rest old_text.old) }
+    ensures new_rest { C.rest new_text.new ≡ drop 32 (C.rest new_text.old) }
+    ensures more { result ≡ has_lines (B.rest old_text.old) (C.rest new_text.old) }
+{
+    let old_piece = Piece::of(old_text);
+    let new_piece = Piece::of(new_text);
+    let more = has_more(&old_piece, &new_piece);
+    put_pieces(out, pen, more, &old_piece, &new_piece);
+    more
+}
+
+/// Two texts side by side, cut into pieces, below a name of at most ten bytes.
+pub fn put_side_by_side<W: Sink, B: Source, C: Source>(
+    out: &mut W,
+    pen: &mut Pen,
+    name: &[u8],
+    mut old_text: B,
+    mut new_text: C,
+)
+    ensures { Wrote (side_by_side name.now (B.rest old_text) (C.rest new_text))
+        (sheet W.delivered W.failures W.flushes out.old pen.old) (sheet W.delivered W.failures W.flushes out.new pen.new) }
+{
+    put_name_line(out, pen, name, &mut old_text, &mut new_text);
+    'lines: loop {
+        let more = put_next_line(out, pen, &mut old_text, &mut new_text);
+        if !more {
+            return;
+        }
+    }
+}

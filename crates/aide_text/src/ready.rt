@@ -1,0 +1,48 @@
+//! A short text, kept in place.
+
+ghost use Rattle.std.specs.Prelude.{◌≡◌, ◌<◌, ◌≤◌, ◌++◌, ◌∷◌, [], ◌-◌, ℕ, List, length, take, drop};
+
+use crate::source::Source;
+
+/// A short text.
+#[derive(Clone, Copy, Debug)]
+pub struct Ready {
+    bytes: [u8; 128],
+    at: usize,
+    len: usize,
+    ghost fits: { len ≤ 128 },
+}
+
+impl Ready {
+    ghost use Rattle.aide_text.specs.ReadyRest.{ready_rest};
+
+    /// A copy of this text.
+    pub fn of(text: &[u8]) -> Ready
+        requires { length text.now ≤ 128 }
+        ensures { ready_rest result ≡ text.now }
+    {
+        let mut bytes = [0; 128];
+        bytes[..text.len()].copy_from_slice(text);
+        Ready {
+            bytes,
+            at: 0,
+            len: text.len(),
+        }
+    }
+}
+
+impl Source for Ready {
+    ghost use Rattle.aide_text.specs.ReadyRest.{ready_rest};
+
+    ghost rest = { ready_rest };
+
+    fn next_byte(&mut self) -> Option<u8> {
+        if self.at < self.len {
+            let c = self.bytes[self.at];
+            self.at += 1;
+            Some(c)
+        } else {
+            None
+        }
+    }
+}

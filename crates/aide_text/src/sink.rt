@@ -1,0 +1,130 @@
+//! Where a report goes: devices that take bytes.
+ghost use Rattle.std.specs.Prelude.{◌≡◌, ◌<◌, ◌≤◌, ℕ, List, Option, length, IfOk, OnOk, Bool, true, false};
+ghost use Rattle.std.specs.Io.KnownBytes.{WriteAppends, Keeps};
+ghost use Rattle.aide_text.specs.Failures.{CountsFault, CountsFlush};
+
+use aide_db::DeviceFault;
+use std::io::Write;
+use std::marker::Model;
+
+/// A device that takes bytes. Contracts see the bytes delivered, where the device tells them, a count of failures,
+/// how often it was flushed, and whether all that was delivered has been flushed. Both counts stop at `u64::MAX`.
+pub trait Sink {
+    /// The bytes delivered so far, where the device tells them.
+    ghost delivered: { Self → Option (List ℕ) };
+
+    /// How often the device has failed.
+    ghost failures: { Self → ℕ };
+
+    /// How often the device was flushed, refused flushes aside.
+    ghost flushes: { Self → ℕ };
+
+    /// Whether all that was delivered has been flushed.
+    ghost is_flushed: { Self → Bool };
+
+    /// Takes bytes from the front, at least one of them, and answers how many.
+    fn write(&mut self, bytes: &[u8]) -> Result<usize, DeviceFault>
+        requires { 0 < length bytes.now }
+        ensures some { IfOk result (λ n. (0 < n) × (n ≤ length bytes.now)) }
+        ensures bytes { WriteAppends (delivered self.old) (delivered self.new) result bytes.now }
+        ensures flushes { flushes self.new ≡ flushes self.old }
+        ensures fault { CountsFault (failures self.old) (failures self.new) result };
+
+    /// Passes on what the device has taken so far. It delivers no byte of its own.
+    fn flush(&mut self) -> Result<(), DeviceFault>
+        ensures bytes { Keeps (delivered self.old) (delivered self.new) }
+        ensures flushed { OnOk result (is_flushed self.new ≡ true) }
+        ensures flushes { CountsFlush (flushes self.old) (flushes self.new) result }
+        ensures fault { CountsFault (failures self.old) (failures self.new) result };
+}
+
+/// A sink over any writer. Every error of the writer is a failure, and so is a write that takes no byte.
+#[derive(Drop)]
+pub struct WriteSink<W> {
+    writer: W,
+    failures: u64,
+    flushes: u64,
+    is_flushed: bool,
+}
+
+impl<W> Model for WriteSink<W> {
+    ghost use Rattle.aide_text.specs.Counted.{Counted};
+
+    ghost Value = { Counted W };
+
+    ghost view = { λ sink. record {
+      device = sink.writer;
+      failures = sink.failures;
+      flushes = sink.flushes;
+      is_flushed = sink.is_flushed;
+    } };
+}
+
+impl<W: Write> WriteSink<W> {
+    /// A sink that has counted no failure. It takes no memory.
+    pub fn new(writer: W) -> WriteSink<W>
+        ensures { result ≡ record { device = writer; failures = 0; flushes = 0; is_flushed = false } }
+    {
+        WriteSink {
+            writer,
+            failures: 0,
+            flushes: 0,
+            is_flushed: false,
+        }
+    }
+
+    /// How often the writer was flushed, refused flushes aside. The count stops at its last value.
+    pub fn flushes(&self) -> u64
+        ensures { result ≡ self.now.flushes }
+    {
+        self.flushes
+    }
+
+    /// The writer, as it is.
+    pub fn into_inner(self) -> W
+        ensures { result ≡ self.device }
+    {
+        let WriteSink {
+            writer,
+            failures: _,
+            flushes: _,
+            is_flushed: _,
+        } = self;
+        writer
+    }
+}
+
+impl<W: Write> Sink for WriteSink<W> {
+    ghost delivered = { λ sink. W.contents sink.device };
+
+    ghost failures = { λ sink. sink.failures };
+
+    ghost flushes = { λ sink. sink.flushes };
+
+    ghost is_flushed = { λ sink. sink.is_flushed };
+
+    fn write(&mut self, bytes: &[u8]) -> Result<usize, DeviceFault> {
+        self.is_flushed = false;
+        match self.writer.write(bytes) {
+            Ok(count) if count > 0 => Ok(count),
+            _ => {
+                self.failures = self.failures.saturating_add(1);
+                Err(DeviceFault)
+            }
+        }
+    }
+
+    fn flush(&mut self) -> Result<(), DeviceFault> {
+        match self.writer.flush() {
+            Ok(()) => {
+                self.flushes = self.flushes.saturating_add(1);
+                self.is_flushed = true;
+                Ok(())
+            }
+            Err(_) => {
+                self.failures = self.failures.saturating_add(1);
+                Err(DeviceFault)
+            }
+        }
+    }
+}

@@ -1,0 +1,66 @@
+//! Texts that are handed out byte by byte, and cut into pieces.
+
+ghost use Rattle.std.specs.Prelude.{◌≡◌, ◌<◌, ◌≤◌, ◌++◌, ◌∷◌, [], ◌-◌, ℕ, List, length, take, drop, Some, None};
+ghost use Rattle.aide_text.specs.Source.{Taken};
+ghost use Rattle.aide_text.specs.Printed.{printed};
+
+use crate::emitting::{needs_escape, octal_escape};
+
+/// Bytes that are handed out one after another.
+pub trait Source: Drop {
+    /// The bytes that are still to come.
+    ghost rest: { Self → List ℕ };
+
+    /// Hands out the next byte, where there is one.
+    fn next_byte(&mut self) -> Option<u8>
+        ensures { Taken result (rest self.old) (rest self.new) };
+}
+
+/// Bytes as a path is printed.
+#[derive(Clone, Copy, Debug, Drop)]
+pub struct Printed<B> {
+    bytes: B,
+    pending: [u8; 4],
+    at: usize,
+}
+
+impl<B: Source> Printed<B> {
+    ghost use Rattle.aide_text.specs.PrintedRest.{printed_rest};
+
+    /// The bytes of a source, printed: a control byte or a backslash as a backslash and three octal digits.
+    pub fn of(bytes: B) -> Printed<B>
+        ensures { printed_rest B.rest result ≡ printed (B.rest bytes) }
+    {
+        Printed {
+            bytes,
+            pending: [0; 4],
+            at: 4,
+        }
+    }
+}
+
+impl<B: Source> Source for Printed<B> {
+    ghost use Rattle.aide_text.specs.PrintedRest.{printed_rest};
+
+    ghost rest = { printed_rest B.rest };
+
+    fn next_byte(&mut self) -> Option<u8> {
+        if self.at < 4 {
+            let c = self.pending[self.at];
+            self.at += 1;
+            return Some(c);
+        }
+        match self.bytes.next_byte() {
+            None => None,
+            Some(c) => {
+                if needs_escape(c) {
+                    self.pending = octal_escape(c);
+                    self.at = 1;
+                    Some(b'\\')
+                } else {
+                    Some(c)
+                }
+            }
+        }
+    }
+}

@@ -1,0 +1,142 @@
+//! The text of an attribute's value.
+
+ghost use Rattle.std.specs.Prelude.{◌≡◌, ◌<◌, ◌≤◌, ◌++◌, ◌∷◌, [], ◌-◌, ℕ, ℤ, List, length, take, drop, nat_abs};
+ghost use Rattle.std.specs.Fmt.{signed_decimal};
+ghost use Rattle.aide_text.specs.ReadyRest.{ready_rest};
+ghost use Rattle.aide_text.specs.TextRest.{text_rest};
+ghost use Rattle.aide_text.specs.Values.{type_text, mode_text, digest_text, option_text, octal_text};
+
+use crate::ready::Ready;
+use crate::source::{Printed, Source};
+use aide_attr::FileType;
+use base64::engine::general_purpose::STANDARD;
+use itoa::Buffer;
+
+/// The text of a value, as it is handed out: a short one that is kept in place, or a link name or a field as a path is printed.
+#[derive(Clone, Copy, Drop)]
+pub enum ValueText<S, L, F> {
+    /// A text that is kept in place.
+    Short(S),
+    /// A link name.
+    Link(Printed<L>),
+    /// A field as the database has it.
+    Field(Printed<F>),
+}
+
+impl<S: Source, L: Source, F: Source> Source for ValueText<S, L, F> {
+    ghost rest = { text_rest S.rest L.rest F.rest };
+
+    fn next_byte(&mut self) -> Option<u8> {
+        match self {
+            ValueText::Short(ready) => ready.next_byte(),
+            ValueText::Link(printed) => printed.next_byte(),
+            ValueText::Field(printed) => printed.next_byte(),
+        }
+    }
+}
+
+fn word(kind: FileType) -> &'static [u8]
+    ensures value { result.now ≡ type_text kind }
+    ensures short { length result.now ≤ 16 }
+{
+    match kind {
+        FileType::File => b"File",
+        FileType::Directory => b"Directory",
+        FileType::Link => b"Link",
+        FileType::Char => b"Character device",
+        FileType::Block => b"Block device",
+        FileType::Fifo => b"FIFO",
+        FileType::Socket => b"Socket",
+        FileType::Other(_) => b"Other",
+    }
+}
+
+/// A type as a word, the empty text where there is none.
+pub fn kind_text(kind: Option<FileType>) -> Ready
+    ensures { ready_rest result ≡ option_text type_text kind }
+{
+    match kind {
+        None => Ready::of(b""),
+        Some(kind) => Ready::of(word(kind)),
+    }
+}
+
+fn octal(n: u128) -> Ready
+    ensures { ready_rest result ≡ octal_text n }
+{
+    Ready::of(&[
+        octal_digit(n / 512),
+        octal_digit(n / 64),
+        octal_digit(n / 8),
+        octal_digit(n),
+    ])
+}
+
+fn octal_digit(n: u128) -> u8
+    ensures { result ≡ 48 + n % 8 }
+{
+    b'0' + (n % 8) as u8
+}
+
+ghost use Rattle.std.specs.Prelude.{◌+◌, ◌%◌};
+
+/// A mode as four octal digits, the empty text where there is none.
+pub fn mode_of(mode: Option<i128>) -> Ready
+    ensures { ready_rest result ≡ option_text mode_text mode }
+{
+    match mode {
+        None => Ready::of(b""),
+        Some(mode) => octal(mode.unsigned_abs()),
+    }
+}
+
+/// A number in decimal, the empty text where there is none.
+pub fn number_of(number: Option<i128>) -> Ready
+    ensures { ready_rest result ≡ option_text signed_decimal number }
+{
+    match number {
+        None => Ready::of(b""),
+        Some(number) => {
+            let mut buffer = Buffer::new();
+            Ready::of(buffer.format(number).as_bytes())
+        }
+    }
+}
+
+fn hex_of(bytes: &[u8]) -> Ready
+    requires { length bytes.now ≤ 64 }
+    ensures { ready_rest result ≡ encode_lower bytes.now }
+{
+    let mut text = [0; 128];
+    let text = &mut text[..2 * bytes.len()];
+    let _ = hex::encode_to_slice(bytes, text);
+    Ready::of(text)
+}
+
+ghost use Rattle.hex.specs.Hex.{encode_lower};
+ghost use Rattle.base64.specs.Engines.{standard};
+ghost use Rattle.base64.specs.GeneralPurpose.{encode_of};
+
+fn base64_of(bytes: &[u8]) -> Ready
+    requires { length bytes.now ≤ 64 }
+    ensures { ready_rest result ≡ encode_of standard bytes.now }
+{
+    let mut text = [0; 88];
+    match STANDARD.encode_slice(bytes, &mut text) {
+        Ok(len) => Ready::of(&text[..len]),
+        Err(_) => Ready::of(b""),
+    }
+}
+
+/// A digest of at most 64 bytes as a text: in base 16 (lowercase), otherwise in base 64 (RFC 4648 section 4).
+#[tactic(auto, unfolding(crate::specs::Values::digest_text))]
+pub fn digest_of(base16: bool, bytes: &[u8]) -> Ready
+    requires { length bytes.now ≤ 64 }
+    ensures { ready_rest result ≡ digest_text base16 bytes.now }
+{
+    if base16 {
+        hex_of(bytes)
+    } else {
+        base64_of(bytes)
+    }
+}
