@@ -1,0 +1,113 @@
+//! Standard output and standard error that fail, and pages before them.
+use super::session::{CONF, site_of, words_of};
+use aide_faults::{Pace, PlannedSink};
+use aide_report::{MemorySink, Sink};
+use aide_session::{Memory, PagedSink, session};
+use std::alloc::Global;
+use std::process::Abort;
+use std::test::Fail;
+
+const OLD: &[u8] =
+    b"@@begin_db\n@@db_spec name attr perm size\n/b 36 40755 4096\n/c 36 100644 10\n@@end_db\n";
+
+const NEW: &[u8] =
+    b"@@begin_db\n@@db_spec name attr perm size\n/a 36 100644 5\n/c 36 100600 7\n@@end_db\n";
+
+const FULL: &[u8] = b"aide: cannot write the report\n";
+
+/// What a comparison of these two writes to standard output.
+fn report(rt: &impl Abort, alloc: Global) -> Result<MemorySink<Global>, Memory> {
+    let mut site = site_of(alloc, CONF, OLD, NEW)?;
+    let words = words_of(alloc, "aide -E -c /conf")?;
+    let mut out = MemorySink::new(alloc);
+    let mut err = MemorySink::new(alloc);
+    let status = session(alloc, &words, &mut site, &mut out, &mut err);
+    assert!(rt; status == 7 && err.bytes().is_empty(), "status {status}");
+    Ok(out)
+}
+
+/// The same where standard output fails after so many bytes.
+fn assert_stops(rt: &impl Abort, alloc: Global, whole: &[u8], sound: usize) -> Result<(), Memory> {
+    let mut site = site_of(alloc, CONF, OLD, NEW)?;
+    let words = words_of(alloc, "aide -E -c /conf")?;
+    let inner = MemorySink::new(alloc);
+    let mut out = PlannedSink::new(inner, Pace::new(7), sound as u64, true);
+    let mut err = MemorySink::new(alloc);
+    let status = session(alloc, &words, &mut site, &mut out, &mut err);
+    assert!(rt; status == 18, "status {status} at {sound}");
+    assert!(rt; err.bytes() == FULL, "error lines at {sound}");
+    assert!(rt; whole.starts_with(out.inner().bytes()), "output at {sound}");
+    assert!(rt; out.inner().bytes().len() == sound, "bytes at {sound}");
+    Ok(())
+}
+
+#[test]
+fn stops_at_each_byte(rt: HostRuntime) -> Result<(), Fail> {
+    let alloc = rt.alloc();
+    let sink = report(&rt, alloc)?;
+    let whole = sink.bytes();
+    for sound in 0..whole.len() {
+        assert_stops(&rt, alloc, whole, sound)?;
+    }
+    Ok(())
+}
+
+/// A session whose standard error fails at once, and what is wanted of it.
+struct Deaf {
+    line: &'static str,
+    old: &'static [u8],
+    output: &'static [u8],
+    status: u8,
+}
+
+const DEAF: [Deaf; 3] = [
+    Deaf {
+        line: "aide -E -c /conf -A report_level=minimal",
+        old: b"@@begin_db\n@@db_spec name size\n/a 1\n/a-b 1\n/a/b 1\n@@end_db\n",
+        output: b"",
+        status: 24,
+    },
+    Deaf {
+        line: "aide -E -c /conf -A report_level=minimal",
+        old: b"@@begin_db\n@@db_spec name size foo\n/a 1 2\n@@end_db\n",
+        output: b"AIDE found NO differences between the two databases.\n",
+        status: 0,
+    },
+    Deaf {
+        line: "aide -E",
+        old: b"",
+        output: b"",
+        status: 15,
+    },
+];
+
+#[test]
+fn goes_on_without_standard_error(rt: HostRuntime) -> Result<(), Fail> {
+    let alloc = rt.alloc();
+    let new = b"@@begin_db\n@@db_spec name size\n/a 1\n@@end_db\n";
+    for row in &DEAF {
+        let mut site = site_of(alloc, CONF, row.old, new)?;
+        let words = words_of(alloc, row.line)?;
+        let mut out = MemorySink::new(alloc);
+        let mut err = PlannedSink::new(MemorySink::new(alloc), Pace::new(1), 0, false);
+        let status = session(alloc, &words, &mut site, &mut out, &mut err);
+        assert!(rt; status == row.status, "status {status} of {}", row.line);
+        assert!(rt; out.bytes() == row.output, "output of {}", row.line);
+    }
+    Ok(())
+}
+
+#[test]
+fn gathers_pieces(rt: HostRuntime) -> Result<(), Fail> {
+    let alloc = rt.alloc();
+    let inner = PlannedSink::new(MemorySink::new(alloc), Pace::new(4096), 40_000, true);
+    let mut page = PagedSink::new(inner);
+    let piece = [b'x'; 1000];
+    for _ in 0..40 {
+        aide_report::emit(&mut page, &piece).unwrap_or(());
+    }
+    assert!(rt; page.flush().is_ok());
+    assert!(rt; aide_report::emit(&mut page, &piece).is_ok());
+    assert!(rt; page.flush().is_err());
+    Ok(())
+}

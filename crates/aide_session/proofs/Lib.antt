@@ -1,0 +1,9 @@
+mod Endings
+mod HeldLemmas
+mod JobLemmas
+mod Readings
+mod Stages
+mod Tellings
+mod Closings
+mod Existence
+mod Pages

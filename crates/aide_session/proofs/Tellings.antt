@@ -1,0 +1,65 @@
+-- What was told, piece by piece.
+use Rattle.std.proofs.Common.{◌≡◌, ◌∙◌, ℕ, ◌+◌, ◌≤◌, List, [], ◌∷◌, ◌++◌, Option, Some, None, sym, ap, append_assoc, arith, suc}
+use Rattle.std.proofs.Math.Path.{subst}
+use Rattle.std.proofs.lemmas.Grind.{flat_map-append}
+use Rattle.std.proofs.lemmas.List.{append-nil}
+use Rattle.std.specs.List.{flat_map}
+use Rattle.std.proofs.KnownBytes.{Appends-kept}
+use Rattle.std.specs.Io.KnownBytes.{Appends, Keeps}
+use Rattle.aide_db.specs.declared.side.Side.{Side}
+use Rattle.aide_session.specs.Lines.{below, place_line}
+use Rattle.aide_session.specs.Told.{Told}
+
+pub appends_more : (a b c : Option (List ℕ)) (xs ys : List ℕ) → Appends a b xs → Appends b c ys → Appends a c (xs ++ ys)
+appends_more None b c xs ys h k = tt
+appends_more (Some x) None c xs ys h k = absurd h
+appends_more (Some x) (Some y) None xs ys h k = absurd k
+appends_more (Some x) (Some y) (Some z) xs ys h k = k ∙ ap (λ (l : List ℕ). l ++ ys) h ∙ append_assoc x xs ys
+
+pub appends_none : (a : Option (List ℕ)) → Appends a a []
+appends_none None = tt
+appends_none (Some x) = sym (append-nil x)
+
+pub told_more : {a b c : Option (List ℕ)} {m n k : ℕ} {xs ys : List ℕ} → Told xs a b m n → Told ys b c n k → Told (xs ++ ys) a c m k
+told_more {a} {b} {c} {m} {n} {k} {xs} {ys} p q = record {
+  never_falls = let h = p.never_falls in let i = q.never_falls in omega arith;
+  exact = λ quiet. let h = p.never_falls in let i = q.never_falls in
+      appends_more a b c xs ys (p.exact (omega (arith, quiet.0, quiet.1), omega (arith, quiet.0, quiet.1))) (q.exact (omega (arith, quiet.0, quiet.1), omega (arith, quiet.0, quiet.1)));
+}
+
+pub told_none : (a : Option (List ℕ)) (n : ℕ) → Told [] a a n n
+told_none a n = record { never_falls = omega arith; exact = λ _. appends_none a }
+
+pub told_as : (xs ys : List ℕ) {a b : Option (List ℕ)} {m n : ℕ} → xs ≡ ys → Told xs a b m n → Told ys a b m n
+told_as xs ys {a} {b} {m} {n} e p = subst (λ (l : List ℕ). Told l a b m n) e p
+
+-- the same text once it is passed on
+pub told_passed : (text : List ℕ) (a b c : Option (List ℕ)) (m n k : ℕ) → Keeps b c → n ≤ k → Told text a b m n → Told text a c m k
+told_passed text a b c m n k kept more p = record {
+  never_falls = let h = p.never_falls in omega (arith, h, more);
+  exact = λ quiet. let h = p.never_falls in
+      Appends-kept a b c text (p.exact (omega (arith, h, more, quiet.0), omega (arith, h, more, quiet.0, quiet.1))) kept;
+}
+
+below_more : (n : ℕ) → below (n + 1) ≡ below n ++ n ∷ []
+unfolding below
+below_more n = let e : n + 1 ≡ suc n = omega arith in ap below e
+
+lines_more : (side : Side) (columns n : ℕ) → flat_map (place_line side columns) (below (n + 1)) ≡ flat_map (place_line side columns) (below n) ++ place_line side columns n
+lines_more side columns n =
+    ap (λ (l : List ℕ). flat_map (place_line side columns) l) (below_more n)
+    ∙ flat_map-append (place_line side columns) (below n) (n ∷ [])
+    ∙ ap (λ (l : List ℕ). flat_map (place_line side columns) (below n) ++ l) (append-nil (place_line side columns n))
+
+-- the lines of the places so far, and the next one
+pub told_place : (side : Side) (columns place : ℕ) (a b c : Option (List ℕ)) (m n k : ℕ) → Told (flat_map (place_line side columns) (below place)) a b m n → Told (place_line side columns place) b c n k
+    → Told (flat_map (place_line side columns) (below (place + 1))) a c m k
+told_place side columns place a b c m n k p q = subst (λ (l : List ℕ). Told l a c m k) (sym (lines_more side columns place)) (told_more p q)
+
+pub no_places : (side : Side) (columns : ℕ) (a : Option (List ℕ)) (n : ℕ) → Told (flat_map (place_line side columns) (below 0)) a a n n
+unfolding below
+no_places side columns a n = told_none a n
+
+pub told_to : (side : Side) (columns place end : ℕ) (a b : Option (List ℕ)) (m n : ℕ) → place ≡ end → Told (flat_map (place_line side columns) (below place)) a b m n
+    → Told (flat_map (place_line side columns) (below end)) a b m n
+told_to side columns place end a b m n e p = subst (λ (k : ℕ). Told (flat_map (place_line side columns) (below k)) a b m n) e p

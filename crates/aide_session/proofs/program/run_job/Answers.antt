@@ -1,0 +1,70 @@
+use Rattle.std.proofs.Common.{◌≡◌, ◌∙◌, ap, refl, sym, false, Err, Some, List, ℕ}
+use Rattle.std.proofs.Math.Path.{subst}
+use Rattle.aide_session.specs.Answer.{IsTextAnswer}
+use Rattle.aide_session.specs.Ends.{config_unread}
+use Rattle.aide_session.specs.Files.{Files, is_too_large}
+use Rattle.aide_session.specs.Job.{text_of_job}
+use Rattle.aide_session.specs.Lines.{too_large_line, unread_line}
+use Rattle.aide_session.proofs.Closings.{closes_later, closes_large, closes_starved, closes_unread, same_course}
+use Rattle.aide_session.proofs.Endings.{ends_broken, ends_by, ends_refused, ends_starved, rose_later}
+use Rattle.aide_session.proofs.Stages.{large_is, text_is}
+use Rattle.aide_session.proofs.Tellings.{told_as}
+use Rattle.aide_session.proofs.program.run_job.Goals as goal
+
+pub returns-in-Ok-clause-ends : goal.returns-in-Ok-clause-ends
+returns-in-Ok-clause-ends g c = λ named a is.
+    let job = text_of_job c.args.job.now in
+    let files = g.S.Sources.file_at c.args.site.now in
+    let known = subst (λ (path : List ℕ). files path ≡ Some is.file) (sym c.as_str-path.ensures) is.known in
+    let of_text = text_is files job is.file c.in-Ok.text.items named a (c.in-Ok.ensures.ok is.file known) is.then_is in
+    let of_slice = subst (λ (text : List ℕ). IsTextAnswer files job text named a) (sym c.as_slice.ensures.value) of_text in
+    ends_by a named _ _ _ _ _ (rose_later _ _ _ c.read_config.ensures.never_falls)
+    (c.after_reading.ensures.ends named a (subst (λ (f : Files). IsTextAnswer f job c.as_slice.result.now named a) (sym c.read_config.ensures.files) of_slice))
+
+pub returns-in-Ok-clause-closes : goal.returns-in-Ok-clause-closes
+returns-in-Ok-clause-closes g c = λ words is.
+    let files = g.S.Sources.file_at c.args.site.now in
+    let later = g.S.Sources.file_at c.read_config.new.site in
+    let same = sym c.as_slice.ensures.value in
+    let small = subst (λ (text : List ℕ). is_too_large text ≡ false) same c.in-Ok.ensures.small in
+    closes_later files later words _ _ _ _ _ _ _ _ c.read_config.ensures.files
+    (same_course g.S.Sources.openings g.W.Sink.flushes g.W.Sink.is_flushed c.args.site.now c.read_config.new.site c.after_reading.new.site c.args.out.now c.after_reading.new.out c.read_config.ensures.openings)
+    c.read_config.ensures.never_falls
+    (c.after_reading.ensures.closes words is small
+    (λ file known.
+    let before = subst (λ (f : Files). f c.args.job.now.config ≡ Some file) c.read_config.ensures.files known in
+    let at_path = subst (λ (path : List ℕ). files path ≡ Some file) (sym c.as_str-path.ensures) before in
+    (c.in-Ok.ensures.ok file at_path).0 ∙ ap (λ (text : List ℕ). Some text) same))
+
+pub returns-in-Err-TooLarge-clause-ends : goal.returns-in-Err-TooLarge-clause-ends
+returns-in-Err-TooLarge-clause-ends g c = λ named a is.
+    let job = text_of_job c.args.job.now in
+    let files = g.S.Sources.file_at c.args.site.now in
+    let known = subst (λ (path : List ℕ). files path ≡ Some is.file) (sym c.as_str-path.ensures) is.known in
+    let large = c.read_config.ensures.large (c.in-Err-TooLarge.is ∙ ap Err c.in-Err-TooLarge.field-0-is) is.file known in
+    ends_refused a named too_large_line 17 _ _ _ _ _ _ _ (large_is files job is.file named a large is.then_is) c.tell_too_large_line.ensures
+
+pub returns-in-Err-TooLarge-clause-closes : goal.returns-in-Err-TooLarge-clause-closes
+returns-in-Err-TooLarge-clause-closes g c = λ words is.
+    let job = text_of_job c.args.job.now in
+    let files = g.S.Sources.file_at c.args.site.now in
+    closes_large files words job _ _ _ _ _ _ _ _ is
+    (λ file known. c.read_config.ensures.large (c.in-Err-TooLarge.is ∙ ap Err c.in-Err-TooLarge.field-0-is) file
+    (subst (λ (path : List ℕ). files path ≡ Some file) (sym c.as_str-path.ensures) known)) c.tell_too_large_line.ensures c.read_config.ensures.openings refl
+
+pub returns-in-Err-Unread-clause-ends : goal.returns-in-Err-Unread-clause-ends
+returns-in-Err-Unread-clause-ends g c = λ named a is.
+    let cause = c.read_config.ensures.unread (c.in-Err-Unread.is ∙ ap Err c.in-Err-Unread.field-0-is) in
+    let told = told_as _ _ (ap unread_line (c.as_str-path.ensures ∙ sym is.config_is)) c.tell_unread_line.ensures in
+    ends_broken a named config_unread _ _ _ _ _ _ _ cause told
+
+pub returns-in-Err-Unread-clause-closes : goal.returns-in-Err-Unread-clause-closes
+returns-in-Err-Unread-clause-closes g c = λ words is.
+    let cause = c.read_config.ensures.unread (c.in-Err-Unread.is ∙ ap Err c.in-Err-Unread.field-0-is) in
+    closes_unread _ words (text_of_job c.args.job.now) _ _ _ _ _ _ _ _ is cause (told_as _ _ (ap unread_line c.as_str-path.ensures) c.tell_unread_line.ensures) c.read_config.ensures.openings refl
+
+pub returns-in-Err-Memory-clause-ends : goal.returns-in-Err-Memory-clause-ends
+returns-in-Err-Memory-clause-ends g c = λ named a is. ends_starved a named _ _ _ _ _ _ _ c.tell_memory_line.ensures
+
+pub returns-in-Err-Memory-clause-closes : goal.returns-in-Err-Memory-clause-closes
+returns-in-Err-Memory-clause-closes g c = λ words is. closes_starved _ words _ _ _ _ _ _ _ _ c.tell_memory_line.ensures c.read_config.ensures.openings refl

@@ -1,0 +1,109 @@
+-- The answer of a session: its output, its error lines and its status, as the words and the files give them.
+use Rattle.std.specs.Prelude.{◌≡◌, ℕ, ◌^◌, Bool, true, false, List, [], Ok, Err, Result, Option, Some, None}
+use Rattle.aide_conf.specs.Settings.{Configured}
+use Rattle.aide_conf.specs.Answer.{ReadsAs}
+use Rattle.aide_conf.specs.declared.fault.ConfFault.{ConfFault}
+use Rattle.aide_conf.specs.declared.options.Options.{Options}
+use Rattle.aide_conf.specs.declared.task.Need.{Need}
+use Rattle.aide_conf.specs.declared.task.Need.TheVariants.{Compare, Check}
+use Rattle.aide_db.specs.declared.fault.DbFault.{DbFault}
+use Rattle.aide_db.specs.declared.limits.Limits.{Limits}
+use Rattle.aide_report.specs.Asked.{Asked}
+use Rattle.aide_report.specs.Runs.{Report, Runs}
+use Rattle.aide_report.specs.Report.{status_of}
+use Rattle.aide_session.specs.Files.{Files, is_too_large}
+use Rattle.aide_session.specs.Job.{JobText, job_of}
+use Rattle.aide_session.specs.Lines.{usage_line, unread_line, too_large_line, conf_line, database_line, outcome_lines}
+
+-- what a session writes to standard output and to standard error, and its status
+pub record Answer : Type 0 where
+  pub output : List ℕ
+  pub errors : List ℕ
+  pub status : ℕ
+
+-- the paths that the words and the configuration name
+pub record Named : Type 0 where
+  pub config : List ℕ
+  pub old_path : List ℕ
+  pub new_path : List ℕ
+
+-- what a comparison with these options and of these paths is asked for
+abbrev pub asked_by : Options → Named → Asked
+asked_by options named = record { options = options; old_path = named.old_path; new_path = named.new_path }
+
+-- nothing but lines on standard error, and a status
+abbrev pub refused : List ℕ → ℕ → Answer
+refused lines status = record { output = []; errors = lines; status = status }
+
+-- a configuration without a fault
+abbrev pub checked : Answer
+checked = record { output = []; errors = []; status = 0 }
+
+-- a line of a database has at most 1,048,576 bytes, and a database at most 2 ^ 40
+abbrev pub limits : Limits
+limits = record { line = 1048576; bytes = 2 ^ 40 }
+
+-- the answer of a comparison: its report, or the first fault of a database
+abbrev pub answer_of_run : Result Report DbFault → Answer
+answer_of_run (Ok report) = record {
+  output = report.text;
+  errors = outcome_lines report.outcome;
+  status = status_of report.outcome.added report.outcome.removed report.outcome.changed;
+}
+answer_of_run (Err fault) = refused (database_line fault) 24
+
+-- the comparison of the two databases that the settings name, where both are there
+pub record Compares (files : Files) (s : Configured) (named : Named) (a : Answer) : Type 0 where
+  pub old_is : s.old_path ≡ Some named.old_path
+  pub new_is : s.new_path ≡ Some named.new_path
+  pub old_bytes : List ℕ
+  pub new_bytes : List ℕ
+  pub old_there : files named.old_path ≡ Some (Some old_bytes)
+  pub new_there : files named.new_path ≡ Some (Some new_bytes)
+  pub run : Result Report DbFault
+  pub runs : Runs limits (asked_by s.options named) old_bytes new_bytes run
+  pub is : a ≡ answer_of_run run
+
+-- what a configuration is read for: to compare, or to be checked
+abbrev pub need_of : Bool → Need
+need_of true = Compare
+need_of false = Check
+
+-- the answer where the configuration reads as settings, or has a fault
+abbrev pub IsReadAnswer : Files → Bool → Result Configured ConfFault → Named → Answer → Type 0
+IsReadAnswer files true (Ok s) named a = Compares files s named a
+IsReadAnswer files false (Ok s) named a = a ≡ checked
+IsReadAnswer files compare (Err fault) named a = a ≡ refused (conf_line fault) 17
+
+-- the answer where the configuration has this text
+pub record IsTextAnswer (files : Files) (job : JobText) (text : List ℕ) (named : Named) (a : Answer) : Type 0 where
+  pub read : Result Configured ConfFault
+  pub reads : ReadsAs (need_of job.compare) job.before text job.after read
+  pub then_is : IsReadAnswer files job.compare read named a
+
+-- the answer by whether the configuration is too large
+abbrev pub IsSizedAnswer : Files → JobText → Bool → List ℕ → Named → Answer → Type 0
+IsSizedAnswer files job true text named a = a ≡ refused too_large_line 17
+IsSizedAnswer files job false text named a = IsTextAnswer files job text named a
+
+-- the answer by what stands at the configuration's path
+abbrev pub IsFileAnswer : Files → JobText → Option (List ℕ) → Named → Answer → Type 0
+IsFileAnswer files job None named a = a ≡ refused (unread_line job.config) 18
+IsFileAnswer files job (Some text) named a = IsSizedAnswer files job (is_too_large text) text named a
+
+-- the answer to a job, where its configuration's file is known
+pub record IsJobAnswer (files : Files) (job : JobText) (named : Named) (a : Answer) : Type 0 where
+  pub config_is : named.config ≡ job.config
+  pub file : Option (List ℕ)
+  pub known : files job.config ≡ Some file
+  pub then_is : IsFileAnswer files job file named a
+
+-- the answer by the job that the words ask for
+abbrev pub IsWordsAnswer : Files → Option JobText → Named → Answer → Type 0
+IsWordsAnswer files None named a = a ≡ refused usage_line 15
+IsWordsAnswer files (Some job) named a = IsJobAnswer files job named a
+
+-- The answer to the words, over these files: the first fault of the words, of the configuration or of a database,
+-- or what the job asks for. `named` has the paths that are named on the way there.
+abbrev pub IsAnswer : Files → List (List ℕ) → Named → Answer → Type 0
+IsAnswer files words named a = IsWordsAnswer files (job_of words) named a

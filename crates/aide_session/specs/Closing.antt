@@ -1,0 +1,157 @@
+-- How a session closes over any site, also over one that does not tell its files: what it comes to, and what that stands on.
+use Rattle.std.specs.Prelude.{◌≡◌, ℕ, Bool, true, false, List, [], Ok, Err, Result, Option, Some, None, ⊤}
+use Rattle.std.specs.Io.KnownBytes.{Appends}
+use Rattle.aide_conf.specs.Settings.{Configured}
+use Rattle.aide_conf.specs.Answer.{ReadsAs}
+use Rattle.aide_conf.specs.declared.fault.ConfFault.{ConfFault}
+use Rattle.aide_conf.specs.declared.options.Options.{Options}
+use Rattle.aide_db.specs.Database.{IsSound}
+use Rattle.aide_db.specs.Side.{by_side}
+use Rattle.aide_db.specs.declared.fault.DbFaultKind.TheVariants.{Read}
+use Rattle.aide_db.specs.declared.side.Side.{Side}
+use Rattle.aide_db.specs.declared.side.Side.TheVariants.{Old}
+use Rattle.aide_report.specs.FaultStatus.{fault_status}
+use Rattle.aide_report.specs.Openings.{IsRefusedThere}
+use Rattle.aide_report.specs.Reading.{IsFaultOf}
+use Rattle.aide_report.specs.Room.{IsNotMemory}
+use Rattle.aide_report.specs.Failures.{counted}
+use Rattle.aide_report.specs.Agreement.{IsOfOutcome}
+use Rattle.aide_report.specs.Report.{status_of}
+use Rattle.aide_report.specs.RunFaults.{IsSilent}
+use Rattle.aide_report.specs.declared.outcome.Outcome.{Outcome}
+use Rattle.aide_report.specs.declared.run_fault.RunFault.{RunFault}
+use Rattle.aide_report.specs.declared.run_fault.RunFault.TheVariants.{Open, Database, Changed, Write}
+use Rattle.aide_session.specs.Answer.{Named, limits, need_of}
+use Rattle.aide_session.specs.Ends.{Sinks, Tells}
+use Rattle.aide_session.specs.Files.{Files, IsLarge, is_too_large}
+use Rattle.aide_session.specs.Job.{JobText, job_of}
+use Rattle.aide_session.specs.Lines.{usage_line, memory_line, unread_line, too_large_line, conf_line, run_fault_line, outcome_lines}
+
+-- what a session comes to
+pub data Closing : Type 0 where
+  no_job : Closing
+  no_memory : Closing
+  no_config : Closing
+  large_config : Closing
+  bad_config : ConfFault → Closing
+  good_config : Closing
+  bad_run : RunFault → Closing
+  good_run : Options → Outcome → Closing
+
+-- the exit status
+abbrev pub closing_status : Closing → ℕ
+closing_status no_job = 15
+closing_status no_memory = 22
+closing_status no_config = 18
+closing_status large_config = 17
+closing_status (bad_config fault) = 17
+closing_status good_config = 0
+closing_status (bad_run fault) = fault_status fault
+closing_status (good_run options outcome) = status_of outcome.added outcome.removed outcome.changed
+
+-- what is told on standard error
+abbrev pub closing_line : Named → Closing → List ℕ
+closing_line named no_job = usage_line
+closing_line named no_memory = memory_line
+closing_line named no_config = unread_line named.config
+closing_line named large_config = too_large_line
+closing_line named (bad_config fault) = conf_line fault
+closing_line named good_config = []
+closing_line named (bad_run fault) = run_fault_line named.old_path named.new_path fault
+closing_line named (good_run options outcome) = outcome_lines outcome
+
+-- how often each side was opened and the output was flushed, before and after, and whether all of the output is flushed
+pub record Course : Type 0 where
+  pub opened_before : Side → ℕ
+  pub opened_after : Side → ℕ
+  pub flushes_before : ℕ
+  pub flushes_after : ℕ
+  pub is_flushed : Bool
+
+-- the same, by what the devices tell
+abbrev pub course_between : {S W : Type 0} → (S → Side → ℕ) → (W → ℕ) → (W → Bool) → S → S → W → W → Course
+course_between openings flushes is_flushed site_old site_new out_old out_new = record {
+  opened_before = openings site_old;
+  opened_after = openings site_new;
+  flushes_before = flushes out_old;
+  flushes_after = flushes out_new;
+  is_flushed = is_flushed out_new;
+}
+
+-- A good run sends a report that begins with the head and the summary of its outcome, and is these alone where no more is wanted,
+-- and flushes it once, after its last byte; any other closing flushes nothing. A run that is given up has sent nothing where no write
+-- failed and the report was not begun, and a side that it could not open is the one that was opened last. Every other closing sends
+-- nothing and opens no side.
+abbrev pub ClosingOutput : Closing → Course → Option (List ℕ) → Option (List ℕ) → Type 0
+ClosingOutput (good_run options outcome) course before after = IsOfOutcome options outcome before after
+    × (course.is_flushed ≡ true) × (course.flushes_after ≡ counted course.flushes_before)
+ClosingOutput (bad_run fault) course before after = IsSilent (course.opened_before Old) (course.opened_after Old) before after fault
+    × IsRefusedThere course.opened_before course.opened_after fault × (course.flushes_after ≡ course.flushes_before)
+ClosingOutput _ course before after = Appends before after [] × (course.opened_after ≡ course.opened_before)
+    × (course.flushes_after ≡ course.flushes_before)
+
+-- the words ask for a job, and its configuration is the one that is named
+pub record Asks (words : List (List ℕ)) (named : Named) : Type 0 where
+  pub job : JobText
+  pub job_is : job_of words ≡ Some job
+  pub config_is : named.config ≡ job.config
+
+-- The words ask for a job with this configuration, and what it reads as. The text that was read is that of the file, where this
+-- is known.
+pub record AsksAndReads (files : Files) (words : List (List ℕ)) (config : List ℕ) (compare : Bool)
+    (read : Result Configured ConfFault) : Type 0 where
+  pub job : JobText
+  pub job_is : job_of words ≡ Some job
+  pub config_is : config ≡ job.config
+  pub compare_is : job.compare ≡ compare
+  pub text : List ℕ
+  pub text_is : (file : Option (List ℕ)) → files job.config ≡ Some file → file ≡ Some text
+  pub small : is_too_large text ≡ false
+  pub reads : ReadsAs (need_of compare) job.before text job.after read
+
+-- the words ask for a comparison of the databases at the paths that are named
+pub record AsksToCompare (files : Files) (words : List (List ℕ)) (named : Named) : Type 0 where
+  pub settings : Configured
+  pub asks : AsksAndReads files words named.config true (Ok settings)
+  pub old_is : settings.old_path ≡ Some named.old_path
+  pub new_is : settings.new_path ≡ Some named.new_path
+
+-- the database of a side is known to be this text
+abbrev pub HasText : Files → Named → Side → List ℕ → Type 0
+HasText files named side text = files (by_side named.old_path named.new_path side) ≡ Some (Some text)
+
+-- Why a run is given up: the site or the output has counted a failure, or the fault of a database is its first one, where
+-- its text is known, and never want of memory; a database whose text is known is never called changed.
+abbrev pub RunCause : Files → Named → RunFault → (site out : Type 0) → Type 0
+RunCause files named (Open side) site out = site
+RunCause files named (Database fault) site out = (fault.kind ≡ Read → site)
+    × ((text : List ℕ) → HasText files named fault.side text → IsFaultOf limits text fault)
+    × IsNotMemory fault
+RunCause files named (Changed side) site out = (text : List ℕ) → HasText files named side text → ⊥
+RunCause files named (Write written) site out = out
+
+-- both databases are sound, where their texts are known
+abbrev pub AreSound : Files → Named → Type 0
+AreSound files named = (side : Side) (text : List ℕ) → HasText files named side text → IsSound limits text
+
+-- what a closing stands on; `site` and `out` say that these have counted a failure
+abbrev pub ClosingCause : Files → List (List ℕ) → Named → Closing → (site out : Type 0) → Type 0
+ClosingCause files words named no_job site out = job_of words ≡ None
+ClosingCause files words named no_memory site out = ⊤
+ClosingCause files words named no_config site out = Asks words named × site
+ClosingCause files words named large_config site out = Asks words named
+    × ((file : Option (List ℕ)) → files named.config ≡ Some file → IsLarge file)
+ClosingCause files words named (bad_config fault) site out = (compare : Bool) × AsksAndReads files words named.config compare (Err fault)
+ClosingCause files words named good_config site out = (s : Configured) × AsksAndReads files words named.config false (Ok s)
+ClosingCause files words named (bad_run fault) site out = AsksToCompare files words named × RunCause files named fault site out
+ClosingCause files words named (good_run options outcome) site out =
+    ((asks : AsksToCompare files words named) × (asks.settings.options ≡ options)) × AreSound files named
+
+-- The status, the lines on standard error and what goes out are those of a closing that stands on its cause.
+pub record Closes (files : Files) (words : List (List ℕ)) (status : ℕ) (sinks : Sinks) (course : Course) (site out : Type 0) : Type 0 where
+  pub closing : Closing
+  pub named : Named
+  pub cause : ClosingCause files words named closing site out
+  pub status_is : status ≡ closing_status closing
+  pub output : ClosingOutput closing course sinks.out_old sinks.out_new
+  pub told : Tells (closing_line named closing) sinks

@@ -1,0 +1,73 @@
+//! The configuration file, whole.
+ghost use Rattle.std.specs.Prelude.{◌≡◌, ◌≤◌, ℕ, List, Option, Some, None, IfOk, IsErrOf, true, false};
+ghost use Rattle.aide_report.specs.Failures.{Rose};
+ghost use Rattle.aide_session.specs.Files.{IsLarge, is_too_large};
+
+use crate::site::Site;
+use aide_db::{DeviceFault, OpenFault, Reel};
+use std::alloc::Global;
+
+/// Why a configuration was not read.
+#[derive(Clone, Copy, Debug, PartialEq, Eq)]
+pub(crate) enum ConfigFault {
+    TooLarge,
+    Unread,
+    Memory,
+}
+
+/// The most bytes that a configuration may have.
+const LIMIT: usize = 4_194_304;
+
+/// All bytes of a reel.
+fn read_all<R: Reel>(alloc: Global, reel: &mut R) -> Result<Vec<u8>, ConfigFault>
+    ensures ok { IfOk result (λ text. (bytes : List ℕ) → R.to_come reel.old ≡ Some bytes
+        → (bytes ≡ text.items) × (is_too_large bytes ≡ false)) }
+    ensures small { IfOk result (λ text. is_too_large text.items ≡ false) }
+    ensures large { IsErrOf result ConfigFault.TooLarge → (bytes : List ℕ) → R.to_come reel.old ≡ Some bytes
+        → is_too_large bytes ≡ true }
+    ensures unread { IsErrOf result ConfigFault.Unread → Rose (R.failures reel.old) (R.failures reel.new) }
+{
+    let mut text = Vec::new(alloc);
+    let mut block = [0u8; 4096];
+    'blocks: while text.len() <= LIMIT {
+        match reel.read(&mut block) {
+            Ok(0) => return Ok(text),
+            Ok(count) => {
+                if let Err(_) = text.extend_from_slice(&block[..count]) {
+                    return Err(ConfigFault::Memory);
+                }
+            }
+            Err(DeviceFault) => return Err(ConfigFault::Unread),
+        }
+    }
+    Err(ConfigFault::TooLarge)
+}
+
+/// Opens the configuration, reads it whole and closes it.
+pub(crate) fn read_config<S: Site>(
+    alloc: Global,
+    site: &mut S,
+    path: &str,
+) -> Result<Vec<u8>, ConfigFault>
+    ensures ok { IfOk result (λ text. (file : Option (List ℕ)) → S.file_at site.old path.now ≡ Some file
+        → (file ≡ Some text.items) × (is_too_large text.items ≡ false)) }
+    ensures small { IfOk result (λ text. is_too_large text.items ≡ false) }
+    ensures large { IsErrOf result ConfigFault.TooLarge → (file : Option (List ℕ))
+        → S.file_at site.old path.now ≡ Some file
+        → IsLarge file }
+    ensures unread { IsErrOf result ConfigFault.Unread → Rose (S.failures site.old) (S.failures site.new) }
+    ensures files { S.file_at site.new ≡ S.file_at site.old }
+    ensures openings { S.openings site.new ≡ S.openings site.old }
+    ensures never_falls { S.failures site.old ≤ S.failures site.new }
+{
+    let mut reel = match site.config(path) {
+        Ok(reel) => reel,
+        Err(OpenFault) => return Err(ConfigFault::Unread),
+    };
+    let result = read_all(alloc, &mut reel);
+    site.close(reel);
+    match result {
+        Ok(text) => Ok(text),
+        Err(fault) => Err(fault),
+    }
+}

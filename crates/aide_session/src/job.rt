@@ -1,0 +1,128 @@
+//! What a command line asks for.
+ghost use Rattle.std.specs.Prelude.{◌≡◌, ◌≢◌, [], false, Some, None, IfOk, IsErrOf};
+ghost use Rattle.aide_session.specs.Job.{aide_command, flag_of, option_rule, job_of, text_of, text_of_job};
+ghost use Rattle.clap.specs.Words.{app_of, fault_of, found_of, matches_of, rows_of, rule_of};
+
+use crate::words::{Memory, Word, Words};
+use clap::error::ErrorKind;
+use clap::{Arg, ArgAction, ArgMatches, Command};
+use std::alloc::{AllocError, Global};
+
+/// What the program is to do.
+#[derive(Drop)]
+pub struct Job {
+    /// Whether the databases are to be compared; otherwise the configuration is only checked.
+    pub compare: bool,
+    /// The path of the configuration.
+    pub config: Word,
+    /// Lines of configuration before those of the file, empty where none were given.
+    pub before: Word,
+    /// Lines of configuration after those of the file, empty where none were given.
+    pub after: Word,
+}
+
+/// Why words ask for nothing that the program does.
+#[derive(Clone, Copy, Debug, PartialEq, Eq)]
+pub enum WordsFault {
+    /// The words are not those of the command.
+    Usage,
+    /// No memory was left.
+    Memory,
+}
+
+impl From<Memory> for WordsFault {
+    ghost use Rattle.std.specs.Prelude.{◌≡◌};
+    ghost use Rattle.aide_session.specs.declared.job.WordsFault.TheVariants as fault;
+
+    ghost from_gives = { λ _ e. e ≡ fault.Memory };
+
+    fn from(_fault: Memory) -> WordsFault {
+        WordsFault::Memory
+    }
+}
+
+/// The option `--id`, with a letter.
+fn option<'a>(alloc: Global, id: &'a str, letter: char, action: ArgAction) -> Arg<'a>
+    ensures rule { rule_of result ≡ option_rule id.now letter action }
+    ensures local { result.global ≡ false }
+{
+    Arg::new(alloc, id).short(letter).long(id).action(action)
+}
+
+/// The command.
+fn command<'a>(alloc: Global) -> Result<Command<'a>, AllocError>
+    ensures { IfOk result (λ c. app_of c ≡ aide_command) }
+{
+    let compare = option(alloc, "compare", 'E', ArgAction::SetTrue);
+    let check = option(alloc, "config-check", 'D', ArgAction::SetTrue);
+    let config = option(alloc, "config", 'c', ArgAction::Set).required(true);
+    let before = option(alloc, "before", 'B', ArgAction::Set);
+    let after = option(alloc, "after", 'A', ArgAction::Set);
+    Command::new(alloc, "aide")
+        .arg(compare)?
+        .arg(check)?
+        .arg(config)?
+        .arg(before)?
+        .arg(after)
+}
+
+/// The matches of the words.
+fn matches<'a>(alloc: Global, words: &'a [Word]) -> Result<ArgMatches<'a>, WordsFault>
+    ensures ok { IfOk result (λ m. (fault_of aide_command words.now ≡ [])
+        × (rows_of (found_of m) ≡ matches_of aide_command words.now)) }
+    ensures usage { IsErrOf result WordsFault.Usage → fault_of aide_command words.now ≢ [] }
+{
+    let Ok(command) = command(alloc) else {
+        return Err(WordsFault::Memory);
+    };
+    match command.try_get_matches_from(words) {
+        Ok(matches) => Ok(matches),
+        Err(error) => match error.kind() {
+            ErrorKind::OutOfMemory => Err(WordsFault::Memory),
+            _ => Err(WordsFault::Usage),
+        },
+    }
+}
+
+/// Whether a flag was given.
+fn is_set(matches: &ArgMatches<'_>, id: &str) -> bool
+    ensures { result ≡ flag_of id.now (rows_of (found_of matches.now)) }
+{
+    match matches.get_str(id) {
+        Some(text) => text == "true",
+        None => false,
+    }
+}
+
+/// The text of an option, empty where it was not given.
+fn text<'a>(matches: &ArgMatches<'a>, id: &str) -> &'a str
+    ensures { result.now ≡ text_of id.now (rows_of (found_of matches.now)) }
+{
+    matches.get_str(id).unwrap_or("")
+}
+
+/// Reads the words of a command line, the first of which is the program's name:
+/// `aide (-E | --compare | -D | --config-check) (-c | --config) FILE [-B | --before TEXT] [-A | --after TEXT]`.
+///
+/// Exactly one of `-E` and `-D` is wanted, and each option at most once. Everything else is
+/// `Usage`, also what asks for help.
+pub fn read_words(alloc: Global, words: &Words) -> Result<Job, WordsFault>
+    ensures ok { IfOk result (λ job. job_of words.now ≡ Some (text_of_job job)) }
+    ensures usage { IsErrOf result WordsFault.Usage → job_of words.now ≡ None }
+{
+    let found = matches(alloc, words.as_slice())?;
+    let compare = is_set(&found, "compare");
+    let check = is_set(&found, "config-check");
+    if compare == check {
+        return Err(WordsFault::Usage);
+    }
+    let Some(config) = found.get_str("config") else {
+        return Err(WordsFault::Usage);
+    };
+    Ok(Job {
+        compare,
+        config: Word::new(alloc, config)?,
+        before: Word::new(alloc, text(&found, "before"))?,
+        after: Word::new(alloc, text(&found, "after"))?,
+    })
+}

@@ -1,0 +1,25 @@
+//! A session: its words, its configuration and its two databases, over any site.
+#![tactic(auto)]
+
+mod config_file;
+mod file_site;
+mod job;
+mod lines;
+mod machine;
+mod memory_site;
+mod paged_sink;
+mod pieces;
+mod pointed;
+mod program;
+mod site;
+mod tell;
+mod words;
+
+pub use file_site::FileSite;
+pub use job::{Job, WordsFault, read_words};
+pub use machine::start;
+pub use memory_site::MemorySite;
+pub use paged_sink::PagedSink;
+pub use program::session;
+pub use site::Site;
+pub use words::{Memory, Word, Words};

@@ -1,0 +1,195 @@
+//! A site in memory.
+ghost use Rattle.std.specs.Prelude.{◌≡◌, ◌≢◌, ◌++◌, ◌∷◌, [], ℕ, List, Option};
+ghost use Rattle.std.specs.Prelude.{Some, None, IfOk, IfSome, IsSome, OnOk, OnErr, option_and_then};
+ghost use Rattle.std.specs.Option.{option_map};
+ghost use Rattle.aide_session.specs.Held.{bytes_at, either, files_at, of_file, side_bytes, side_openings, side_path};
+ghost use Rattle.aide_session.specs.Files.{GivesFile};
+ghost use Rattle.aide_db.specs.Count.{one_more, sum_of};
+ghost use Rattle.aide_db.specs.Side.{other_side};
+
+use crate::pointed::Pointed;
+use crate::site::Site;
+use crate::words::{Memory, Word};
+use aide_db::{OpenFault, Reel, Side, Sources};
+use std::alloc::Global;
+use std::marker::Model;
+
+/// A file by its path, which contracts see as its path and its bytes.
+#[derive(Drop)]
+pub struct Held<'a> {
+    path: &'a str,
+    bytes: &'a [u8],
+}
+
+impl<'a> Model for Held<'a> {
+    ghost Value = { List ℕ × List ℕ };
+
+    ghost view = { λ h. (h.path.now, h.bytes.now) };
+}
+
+/// Files in memory, which are lent to it. Of one path the file added last counts.
+#[derive(Drop)]
+pub struct MemorySite<'a> {
+    files: Vec<Held<'a>>,
+    sides: Pointed,
+    failures: u64,
+}
+
+impl<'a> Model for MemorySite<'a> {
+    ghost use Rattle.aide_session.specs.Held.{Shelf};
+
+    ghost Value = { Shelf };
+
+    ghost view = { λ s. record {
+      files = s.files.items;
+      old_path = s.sides.old_path;
+      new_path = s.sides.new_path;
+      old_openings = s.sides.old_openings;
+      new_openings = s.sides.new_openings;
+      failures = s.failures;
+    } };
+}
+
+/// The bytes of a file if the path is its own, otherwise those found before.
+fn later<'a>(found: Option<&'a [u8]>, file: &Held<'a>, path: &str) -> Option<&'a [u8]>
+    ensures { option_map (λ b. b.now) result
+        ≡ either (of_file file.now path.now) (option_map (λ b. b.now) found.entry) }
+{
+    if file.path == path {
+        Some(file.bytes)
+    } else {
+        found
+    }
+}
+
+/// The bytes of the last file of a path.
+fn look<'a>(files: &[Held<'a>], path: &str) -> Option<&'a [u8]>
+    ensures { option_map (λ b. b.now) result ≡ bytes_at files.now path.now }
+{
+    let mut found = None;
+    for file in files {
+        found = later(found, file, path);
+    }
+    found
+}
+
+fn look_side<'a>(files: &[Held<'a>], path: &Option<Word>) -> Option<&'a [u8]>
+    ensures { option_map (λ b. b.now) result ≡ option_and_then (λ p. bytes_at files.now p) path.now }
+{
+    match path {
+        Some(path) => look(files, path.as_str()),
+        None => None,
+    }
+}
+
+impl<'a> MemorySite<'a> {
+    /// A site without files, whose sides are not pointed yet. Takes no memory.
+    pub fn new(alloc: Global) -> MemorySite<'a>
+        ensures { result ≡ record {
+          files = [];
+          failures = 0;
+          old_path = None;
+          new_path = None;
+          old_openings = 0;
+          new_openings = 0;
+        } }
+    {
+        MemorySite {
+            files: Vec::new(alloc),
+            sides: Pointed::new(),
+            failures: 0,
+        }
+    }
+
+    /// Adds a file. The path and each side that is pointed at it have these bytes from now on.
+    pub fn add(&mut self, path: &'a str, bytes: &'a [u8]) -> Result<(), Memory>
+        ensures ok { OnOk result (self.new
+            ≡ record self.old { files = self.old.files ++ (path.entry.now, bytes.entry.now) ∷ [] }) }
+        ensures here { OnOk result (bytes_at self.new.files path.entry.now ≡ Some bytes.entry.now) }
+        ensures elsewhere { OnOk result ((other : List ℕ) → other ≢ path.entry.now
+            → bytes_at self.new.files other ≡ bytes_at self.old.files other) }
+        ensures err { OnErr result (self.new ≡ self.old) }
+    {
+        if let Err(_) = self.files.push(Held { path, bytes }) {
+            return Err(Memory);
+        }
+        Ok(())
+    }
+}
+
+impl<'a> Sources for MemorySite<'a> {
+    type R = &'a [u8];
+
+    ghost bytes_of = { side_bytes };
+
+    ghost openings = { side_openings };
+
+    ghost failures = { λ s. s.failures };
+
+    ghost file_at = { files_at };
+
+    // A side is refused exactly where it is not pointed at a file that is there.
+    fn open(&mut self, side: Side) -> Result<&'a [u8], OpenFault>
+        ensures missing { OnErr result (side_bytes self.old side ≡ None) }
+        ensures there { OnOk result (IsSome (side_bytes self.old side)) }
+        ensures fresh { IfOk result (λ reel. ⟦<&'a [u8] as Reel>⟧.failures reel ≡ 0) }
+        ensures gives { IfOk result (λ reel. IfSome (side_bytes self.old side)
+            (λ bytes. ⟦<&'a [u8] as Reel>⟧.to_come reel ≡ Some bytes)) }
+        ensures same { side_bytes self.new ≡ side_bytes self.old }
+        ensures files { files_at self.new ≡ files_at self.old }
+        ensures counts { side_openings self.new side ≡ one_more (side_openings self.old side) }
+        ensures others { side_openings self.new (other_side side) ≡ side_openings self.old (other_side side) }
+        ensures ok { OnOk result (self.new.failures ≡ self.old.failures) }
+        ensures fault { OnErr result (self.new.failures ≡ one_more self.old.failures) }
+    {
+        self.sides.count(side);
+        match look_side(self.files.as_slice(), self.sides.path(side)) {
+            Some(bytes) => Ok(bytes),
+            None => {
+                self.failures = self.failures.saturating_add(1);
+                Err(OpenFault)
+            }
+        }
+    }
+
+    fn close(&mut self, reel: &'a [u8])
+        ensures quiet { self.new ≡ self.old }
+        ensures same { side_bytes self.new ≡ side_bytes self.old }
+        ensures files { files_at self.new ≡ files_at self.old }
+        ensures openings { side_openings self.new ≡ side_openings self.old }
+        ensures adds { self.new.failures ≡ sum_of self.old.failures (⟦<&'a [u8] as Reel>⟧.failures reel.entry) }
+    {
+        let _ = reel;
+    }
+}
+
+impl<'a> Site for MemorySite<'a> {
+    ghost path_of = { side_path };
+
+    // A path is refused exactly where there is no file.
+    fn config(&mut self, path: &str) -> Result<&'a [u8], OpenFault>
+        ensures missing { OnErr result (bytes_at self.old.files path.now ≡ None) }
+        ensures there { OnOk result (IsSome (bytes_at self.old.files path.now)) }
+        ensures fresh { IfOk result (λ reel. ⟦<&'a [u8] as Reel>⟧.failures reel ≡ 0) }
+        ensures gives { IfOk result (λ reel. (file : Option (List ℕ)) → files_at self.old path.now ≡ Some file
+            → GivesFile file (⟦<&'a [u8] as Reel>⟧.to_come reel)) }
+        ensures sides { side_bytes self.new ≡ side_bytes self.old }
+        ensures paths { side_path self.new ≡ side_path self.old }
+        ensures files { files_at self.new ≡ files_at self.old }
+        ensures openings { side_openings self.new ≡ side_openings self.old }
+        ensures ok { OnOk result (self.new.failures ≡ self.old.failures) }
+        ensures fault { OnErr result (self.new.failures ≡ one_more self.old.failures) }
+    {
+        match look(self.files.as_slice(), path) {
+            Some(bytes) => Ok(bytes),
+            None => {
+                self.failures = self.failures.saturating_add(1);
+                Err(OpenFault)
+            }
+        }
+    }
+
+    fn point(&mut self, alloc: Global, side: Side, path: &str) -> Result<(), Memory> {
+        self.sides.point(alloc, side, path)
+    }
+}
