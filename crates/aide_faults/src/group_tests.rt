@@ -1,9 +1,37 @@
-//! Groups that are refused memory, and as many groups as there may be.
+//! Attributes: names, expressions and changes; groups that are refused memory, and as many groups as there may be.
 use crate::Refusing;
 use aide_attr::{Attr, AttrSet, GroupFault, Groups};
 use std::alloc::Allocator;
 use std::process::Abort;
 use std::test::Fail;
+
+mod changes;
+mod expressions;
+mod names;
+mod table;
+
+/// Whether the name stands among these, which stand between blanks.
+fn is_listed(name: &[u8], names: &[u8]) -> bool {
+    names.split(|byte| *byte == b' ').any(|n| n == name)
+}
+
+/// Whether the set has these attributes and no other.
+fn has_exactly(set: AttrSet, names: &[u8]) -> bool {
+    Attr::ALL
+        .iter()
+        .all(|attr| set.has(*attr) == is_listed(attr.name(), names))
+}
+
+/// The set of these attributes.
+fn set_named(names: &[u8]) -> AttrSet {
+    let mut set = AttrSet::empty();
+    for attr in &Attr::ALL {
+        if is_listed(attr.name(), names) {
+            set = set.union(AttrSet::of(*attr));
+        }
+    }
+    set
+}
 
 /// A name for each number below 10,000.
 fn name_of(number: u32) -> [u8; 5] {
@@ -46,9 +74,9 @@ fn define_all<A: Allocator + Copy>(rt: &impl Abort, groups: &mut Groups<A>) -> u
         match groups.define(&name, set_of(definition)) {
             Ok(()) => {}
             Err(fault) => {
-                assert_eq!(rt; fault, GroupFault::Memory);
+                assert!(rt; fault == GroupFault::Memory);
                 assert!(rt; are_as_wanted(groups, definition), "before {definition}");
-                assert_eq!(rt; groups.define(&name, set_of(definition)), Ok(()));
+                assert!(rt; groups.define(&name, set_of(definition)) == Ok(()));
                 refused = refused.saturating_add(1);
             }
         }
@@ -65,10 +93,10 @@ fn each_growth_refused_in_turn(rt: HostRuntime) -> Result<(), Fail> {
         let mut groups = Groups::new(&alloc);
         let refused = define_all(&rt, &mut groups);
         if !alloc.has_refused() {
-            assert_eq!(rt; refused, 0);
+            assert!(rt; refused == 0);
             break;
         }
-        assert_eq!(rt; refused, 1, "growth {growth}");
+        assert!(rt; refused == 1, "growth {growth}");
         growths = growths.saturating_add(1);
     }
     assert!(rt; growths > 100 && growths < 1000);
@@ -79,15 +107,13 @@ fn each_growth_refused_in_turn(rt: HostRuntime) -> Result<(), Fail> {
 fn a_full_table(rt: HostRuntime) -> Result<(), Fail> {
     let mut groups = Groups::new(rt.alloc());
     for number in 0..1024 {
-        assert_eq!(rt; groups.define(&name_of(number), set_of(number)), Ok(()));
+        assert!(rt; groups.define(&name_of(number), set_of(number)) == Ok(()));
     }
-    assert_eq!(rt;
-        groups.define(&name_of(1024), AttrSet::empty()),
-        Err(GroupFault::Full)
-    );
-    assert_eq!(rt; groups.look(&name_of(1024)), None);
-    assert_eq!(rt; groups.define(&name_of(7), AttrSet::empty()), Ok(()));
-    assert_eq!(rt; groups.look(&name_of(7)), Some(AttrSet::empty()));
-    assert_eq!(rt; groups.look(&name_of(8)), Some(set_of(8)));
+    let refused = groups.define(&name_of(1024), AttrSet::empty());
+    assert!(rt; refused == Err(GroupFault::Full));
+    assert!(rt; groups.look(&name_of(1024)) == None);
+    assert!(rt; groups.define(&name_of(7), AttrSet::empty()) == Ok(()));
+    assert!(rt; groups.look(&name_of(7)) == Some(AttrSet::empty()));
+    assert!(rt; groups.look(&name_of(8)) == Some(set_of(8)));
     Ok(())
 }

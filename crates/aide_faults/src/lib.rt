@@ -5,6 +5,7 @@
 mod cursor_tests;
 #[cfg(test)]
 mod group_tests;
+mod noted;
 mod pace;
 mod reels;
 mod refusing;
@@ -15,6 +16,7 @@ mod settings_tests;
 mod sinks;
 mod sources;
 
+pub use noted::{Journal, NotedReel, NotedSources};
 pub use pace::Pace;
 pub use reels::{EndlessReel, PlannedReel};
 pub use refusing::Refusing;

@@ -1,21 +1,24 @@
-//! An allocator that refuses one growth, chosen by its number.
-ghost use Rattle.std.specs.Prelude.{◌≡◌};
+//! An allocator that refuses one growth, chosen by its number, or all from that one on.
+ghost use Rattle.std.specs.Prelude.{◌≡◌, true, false};
 
 use std::alloc::{AllocError, Allocator};
 use std::cell::Cell;
 
-/// Which growth is refused, and how many were asked for so far.
+/// Which growth is refused, whether those after it are too, and how many were asked for so far.
 struct Plan {
     refused: u64,
+    for_good: bool,
     asked: Cell<u64>,
 }
 
 impl Plan {
-    fn new(refused: u64) -> Plan
-        ensures { result.refused ≡ refused }
+    fn new(refused: u64, for_good: bool) -> Plan
+        ensures refused { result.refused ≡ refused }
+        ensures for_good { result.for_good ≡ for_good }
     {
         Plan {
             refused,
+            for_good,
             asked: Cell::new(0),
         }
     }
@@ -24,11 +27,11 @@ impl Plan {
         self.asked.get()
     }
 
-    /// Counts one more growth, and answers whether it is the one to refuse.
+    /// Counts one more growth, and answers whether it is to be refused.
     fn refuses(&self) -> bool {
         let number = self.asked.get();
         self.asked.set(number.saturating_add(1));
-        number == self.refused
+        number == self.refused || (self.for_good && number > self.refused)
     }
 }
 
@@ -36,31 +39,45 @@ impl Drop for Plan {
     fn drop(self) {
         let Self {
             refused: _,
+            for_good: _,
             asked: _,
         } = self;
     }
 }
 
-/// Hands each call on to another allocator, but for one growth, which it refuses. `&Refusing<Global>` is
+/// Hands each call on to another allocator, but for the growths that it refuses. `&Refusing<Global>` is
 /// `Allocator + Copy`.
 ///
 /// Growths are counted from 0, so that a loop over 0, 1, 2 and so on refuses each in turn, and ends where
-/// [`Refusing::has_refused`] answers that the chosen growth was never asked for. The growths after the refused one
-/// succeed as those before it. The count is no part of a contract, since it changes behind a shared reference.
+/// [`Refusing::has_refused`] answers that the chosen growth was never asked for. The growths before it succeed. The count is
+/// no part of a contract, since it changes behind a shared reference.
 pub struct Refusing<B: Allocator> {
     inner: B,
     plan: Plan,
 }
 
 impl<B: Allocator> Refusing<B> {
-    /// Refuses the growth with this number. It takes no memory.
+    /// Refuses the growth with this number alone. It takes no memory.
     pub fn new(inner: B, refused: u64) -> Refusing<B>
         ensures inner { result.inner ≡ inner }
         ensures refused { result.plan.refused ≡ refused }
+        ensures once { result.plan.for_good ≡ false }
     {
         Refusing {
             inner,
-            plan: Plan::new(refused),
+            plan: Plan::new(refused, false),
+        }
+    }
+
+    /// Refuses the growth with this number and all after it. It takes no memory.
+    pub fn all_from(inner: B, refused: u64) -> Refusing<B>
+        ensures inner { result.inner ≡ inner }
+        ensures refused { result.plan.refused ≡ refused }
+        ensures for_good { result.plan.for_good ≡ true }
+    {
+        Refusing {
+            inner,
+            plan: Plan::new(refused, true),
         }
     }
 

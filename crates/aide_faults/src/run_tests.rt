@@ -1,46 +1,101 @@
 //! Runs over devices that fail, change or move few bytes at a time, and on desks that are refused memory.
 use crate::{Pace, PlannedSources, SidePlan};
-use aide_attr::Level;
-use aide_conf::{Options, Task};
-use aide_db::{Desk, Limits};
+use aide_conf::{Need, Options, Settings, Task};
+use aide_db::{Desk, Limits, Sources};
 use aide_report::{Outcome, RunFault, Sink, run};
-use std::alloc::Allocator;
+use std::alloc::{Allocator, Global};
+use std::process::Abort;
 
-mod compared;
+mod counts;
+mod details;
+mod growths;
+mod large;
+mod levels;
+mod lists;
+mod pair;
 mod refused;
+mod room;
+mod rows;
+mod trial;
+mod values;
 mod written;
-
-const OLD: &[u8] = b"@@begin_db\n@@db_spec name attr size\n/b 32 4096\n/c 32 10\n@@end_db\n";
-
-const NEW: &[u8] = b"@@begin_db\n@@db_spec name attr size\n/a 32 5\n/c 32 7\n@@end_db\n";
 
 const DIFFERENT: &[u8] = b"AIDE found differences between the two databases.\n";
 
 const SAME: &[u8] = b"AIDE found NO differences between the two databases.\n";
 
-/// One entry added, one removed, one changed, and two in the new database.
-const ALL_THREE: Outcome = Outcome {
-    added: 1,
-    removed: 1,
-    changed: 1,
-    total: 2,
-    skipped_old: 0,
-    skipped_new: 0,
-};
+const OLD: &[u8] =
+    b"@@begin_db\n@@db_spec name attr perm size\n/b 36 40755 4096\n/c 36 100644 10\n@@end_db\n";
 
-/// Options with the head line alone.
-fn minimal() -> Options {
-    Options {
-        level: Level::Minimal,
-        ..Options::plain()
+const NEW: &[u8] =
+    b"@@begin_db\n@@db_spec name attr perm size\n/a 36 100644 5\n/c 36 100600 7\n@@end_db\n";
+
+/// The report of these two by the options that a configuration has by itself.
+const REPORT: &[u8] = b"AIDE found differences between the two databases.
+
+Summary:
+  Total number of entries: 2
+  Added entries:           1
+  Removed entries:         1
+  Changed entries:         1
+
+---------------------------------------------------
+Added entries:
+---------------------------------------------------
+
+f+++++++++++++++++: /a
+
+---------------------------------------------------
+Removed entries:
+---------------------------------------------------
+
+d-----------------: /b
+
+---------------------------------------------------
+Changed entries:
+---------------------------------------------------
+
+f < p             : /c
+
+---------------------------------------------------
+Detailed information about changes:
+---------------------------------------------------
+
+File: /c
+  Size      : 10                               | 7
+  Perm      : 0644                             | 0600
+
+---------------------------------------------------
+The attributes of the databases:
+---------------------------------------------------
+
+Old database: /old
+  SHA256    : XqTnHmcWl4M/C5prhMRSZ0MAUmeoGWJf
+              tyi33GN3rcQ=
+New database: /new
+  SHA256    : CBYnHcP+vG0n7JUKxquzWvCdqhRFsZa2
+              sJpZJgJZBvo=
+";
+
+/// How many bytes a device moves at a time: few, and round about the size of a block.
+const PACES: [usize; 5] = [1, 7, 4095, 4096, 4097];
+
+/// The options that the lines of a configuration set.
+fn options_of(rt: &impl Abort, alloc: Global, lines: &[u8]) -> Options {
+    match Settings::read(alloc, b"", lines, b"", Need::Check) {
+        Ok(settings) => settings.options(),
+        Err(fault) => {
+            assert!(rt; false, "{fault:?}");
+            Options::plain()
+        }
     }
 }
 
 /// A run over these sources.
-fn run_over<W: Sink, A: Allocator + Copy>(
+fn run_over<S: Sources, W: Sink, A: Allocator + Copy>(
     options: Options,
     desk: &mut Desk<A>,
-    sources: &mut PlannedSources<'_>,
+    sources: &mut S,
     out: &mut W,
 ) -> Result<Outcome, RunFault> {
     let task = Task {
@@ -53,9 +108,4 @@ fn run_over<W: Sink, A: Allocator + Copy>(
         bytes: 1_048_576,
     };
     run(&task, limits, desk, sources, out)
-}
-
-/// Sources of two plans at a pace of so many bytes.
-fn sources_of<'a>(old: SidePlan<'a>, new: SidePlan<'a>) -> PlannedSources<'a> {
-    PlannedSources::new(old, new, Pace::new(4096))
 }

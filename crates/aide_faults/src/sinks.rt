@@ -64,6 +64,10 @@ impl<W: Sink> Sink for PlannedSink<W> {
 
     ghost failures = { λ sink. sink.failures };
 
+    ghost flushes = { λ sink. W.flushes sink.inner };
+
+    ghost is_flushed = { λ sink. W.is_flushed sink.inner };
+
     fn write(&mut self, bytes: &[u8]) -> Result<usize, DeviceFault> {
         let count = self.pace.before(self.sound).min(bytes.len());
         if count > 0 {
@@ -76,9 +80,10 @@ impl<W: Sink> Sink for PlannedSink<W> {
     }
 
     fn flush(&mut self) -> Result<(), DeviceFault> {
-        let flushed = self.inner.flush();
-        if self.flushes && flushed.is_ok() {
-            return Ok(());
+        if self.flushes {
+            if let Ok(()) = self.inner.flush() {
+                return Ok(());
+            }
         }
         Err(self.fail())
     }

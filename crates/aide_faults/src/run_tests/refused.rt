@@ -1,224 +1,344 @@
-//! Databases that are unsound, cannot be opened or read, or change.
-use super::{ALL_THREE, DIFFERENT, NEW, OLD, minimal, run_over};
-use crate::{Broken, Change, Pace, PlannedSources, SidePlan};
-use aide_db::{DbFault, DbFaultKind, Desk, Side};
-use aide_report::{MemorySink, RunFault};
-use std::alloc::Allocator;
+//! Databases that are unsound, cannot be opened or read, or change between two openings.
+use super::trial::{Trial, Wrong, assert_stops, database, line_at};
+use super::{DIFFERENT, NEW, OLD, REPORT, SAME, options_of};
+use crate::{Broken, Change, SidePlan};
+use aide_db::{DbFaultKind as Kind, Side};
+use aide_report::RunFault;
+use std::alloc::Global;
 use std::process::Abort;
+use std::test::Fail;
 
-/// Runs over two plans, and looks at the fault, its status, the openings and that nothing went out.
-fn assert_refused<A: Allocator + Copy>(
-    rt: &impl Abort,
-    alloc: A,
-    (old, new): (SidePlan<'_>, SidePlan<'_>),
-    wanted: RunFault,
-    status: u8,
-    openings: (u64, u64),
-) {
-    let mut desk = Desk::new(alloc);
-    let mut sources = PlannedSources::new(old, new, Pace::new(16));
-    let mut out = MemorySink::new(alloc);
-    let answer = run_over(minimal(), &mut desk, &mut sources, &mut out);
-    assert_eq!(rt; answer, Err(wanted));
-    assert_eq!(rt; wanted.status(), status);
-    assert_eq!(rt;
-        (sources.openings(Side::Old), sources.openings(Side::New)),
-        openings
-    );
-    assert!(rt; out.bytes().is_empty());
-    let mut sources = PlannedSources::new(
-        SidePlan::plain(OLD),
-        SidePlan::plain(NEW),
-        Pace::new(16),
-    );
-    let answer = run_over(minimal(), &mut desk, &mut sources, &mut out);
-    assert_eq!(rt; answer, Ok(ALL_THREE), "the same desk again");
-    assert_eq!(rt; out.bytes(), DIFFERENT);
+const SIDES: [Side; 2] = [Side::Old, Side::New];
+
+/// Two databases, one of them unsound, the fault, and how often the new one is opened: the old one is opened once.
+struct Unsound {
+    old: &'static [u8],
+    new: &'static [u8],
+    side: Side,
+    line: u64,
+    kind: Kind,
+    new_openings: u64,
 }
 
-/// A fault of a database, as a run answers it.
-fn database(side: Side, line: u64, kind: DbFaultKind) -> RunFault {
-    RunFault::Database(DbFault { side, line, kind })
-}
+const SOUND: &[u8] = b"@@begin_db\n@@db_spec name size\n/a 1\n@@end_db\n";
+
+const UNORDERED: &[u8] = b"@@begin_db\n@@db_spec name size\n/a 1\n/a-b 1\n/a/b 1\n@@end_db\n";
+
+const CUT: &[u8] = b"@@begin_db\n@@db_spec name size\n/a 1\n";
+
+const ZIPPED: &[u8] = b"\x1f\x8b\x08\x00\n";
+
+const NUMBER: &[u8] =
+    b"@@begin_db\n@@db_spec name size\n/a 1\n/b 1\n/c 1\n/d 1\n/e 1\n/f 1\n/g x\n@@end_db\n";
+
+const DIRECTIVE: &[u8] = b"@@begin_db\n@@db_spec name size\n@@foo\n@@end_db\n";
+
+const BAD: Kind = Kind::BadNumber { column: 2 };
+
+const UNSOUND: [Unsound; 9] = [
+    Unsound {
+        old: UNORDERED,
+        new: SOUND,
+        side: Side::Old,
+        line: 5,
+        kind: Kind::OutOfOrder,
+        new_openings: 0,
+    },
+    Unsound {
+        old: SOUND,
+        new: UNORDERED,
+        side: Side::New,
+        line: 5,
+        kind: Kind::OutOfOrder,
+        new_openings: 1,
+    },
+    Unsound {
+        old: NUMBER,
+        new: DIRECTIVE,
+        side: Side::Old,
+        line: 9,
+        kind: BAD,
+        new_openings: 0,
+    },
+    Unsound {
+        old: SOUND,
+        new: DIRECTIVE,
+        side: Side::New,
+        line: 3,
+        kind: Kind::BadDirective,
+        new_openings: 1,
+    },
+    Unsound {
+        old: CUT,
+        new: UNORDERED,
+        side: Side::Old,
+        line: 4,
+        kind: Kind::NoEnd,
+        new_openings: 0,
+    },
+    Unsound {
+        old: b"",
+        new: SOUND,
+        side: Side::Old,
+        line: 1,
+        kind: Kind::NoBegin,
+        new_openings: 0,
+    },
+    Unsound {
+        old: SOUND,
+        new: b"",
+        side: Side::New,
+        line: 1,
+        kind: Kind::NoBegin,
+        new_openings: 1,
+    },
+    Unsound {
+        old: ZIPPED,
+        new: SOUND,
+        side: Side::Old,
+        line: 1,
+        kind: Kind::NoBegin,
+        new_openings: 0,
+    },
+    Unsound {
+        old: SOUND,
+        new: ZIPPED,
+        side: Side::New,
+        line: 1,
+        kind: Kind::NoBegin,
+        new_openings: 1,
+    },
+];
 
 #[test]
 fn unsound_databases(rt: HostRuntime) {
-    let sound: &[u8] = b"@@begin_db\n@@db_spec name size\n/a 1\n@@end_db\n";
-    let order: &[u8] = b"@@begin_db\n@@db_spec name size\n/a 1\n/a-b 1\n/a/b 1\n@@end_db\n";
-    let number: &[u8] =
-        b"@@begin_db\n@@db_spec name size\n/a 1\n/b 1\n/c 1\n/d 1\n/e 1\n/f 1\n/g x\n@@end_db\n";
-    let directive: &[u8] = b"@@begin_db\n@@db_spec name size\n@@foo\n";
-    let cut: &[u8] = b"@@begin_db\n@@db_spec name size\n/a 1\n";
-    let bad_number = DbFaultKind::BadNumber { column: 2 };
-    let table = [
-        (
-            order,
-            sound,
-            database(Side::Old, 5, DbFaultKind::OutOfOrder),
-            (1, 0),
-        ),
-        (
-            sound,
-            order,
-            database(Side::New, 5, DbFaultKind::OutOfOrder),
-            (1, 1),
-        ),
-        (
-            number,
-            directive,
-            database(Side::Old, 9, bad_number),
-            (1, 0),
-        ),
-        (
-            sound,
-            directive,
-            database(Side::New, 3, DbFaultKind::BadDirective),
-            (1, 1),
-        ),
-        (
-            cut,
-            order,
-            database(Side::Old, 4, DbFaultKind::NoEnd),
-            (1, 0),
-        ),
-        (
-            b"",
-            sound,
-            database(Side::Old, 1, DbFaultKind::NoBegin),
-            (1, 0),
-        ),
-        (
-            sound,
-            b"",
-            database(Side::New, 1, DbFaultKind::NoBegin),
-            (1, 1),
-        ),
-    ];
-    for (old, new, wanted, openings) in table {
-        let plans = (SidePlan::plain(old), SidePlan::plain(new));
-        assert_refused(&rt, rt.alloc(), plans, wanted, 24, openings);
+    let trial = Trial {
+        options: options_of(&rt, rt.alloc(), b"report_level=minimal"),
+        old: OLD,
+        new: NEW,
+        report: DIFFERENT,
+        openings: 2,
+    };
+    for row in &UNSOUND {
+        let fault = database(row.side, row.line, row.kind);
+        assert!(rt; fault.status() == 24);
+        let wrong = Wrong {
+            old: SidePlan::plain(row.old),
+            new: SidePlan::plain(row.new),
+            fault,
+            old_openings: 1,
+            new_openings: row.new_openings,
+        };
+        assert_stops(&rt, rt.alloc(), &trial, &wrong);
     }
 }
 
-#[test]
-fn openings_that_fail(rt: HostRuntime) {
-    let table = [
-        (Some(1), None, Side::Old, (1, 0)),
-        (None, Some(1), Side::New, (1, 1)),
-        (Some(2), None, Side::Old, (2, 1)),
-        (None, Some(2), Side::New, (2, 2)),
-    ];
-    for (old_refused, new_refused, side, openings) in table {
-        let old = SidePlan {
-            refused: old_refused,
-            ..SidePlan::plain(OLD)
-        };
-        let new = SidePlan {
-            refused: new_refused,
-            ..SidePlan::plain(NEW)
-        };
-        assert_refused(
-            &rt,
-            rt.alloc(),
-            (old, new),
-            RunFault::Open(side),
-            18,
-            openings,
-        );
-    }
-}
-
-/// The number of newlines in the first bytes of a text, plus one.
-fn line_at(text: &[u8], bytes: u64) -> u64 {
-    let newlines = text
-        .iter()
-        .take(bytes as usize)
-        .filter(|byte| **byte == b'\n')
-        .count();
-    (newlines as u64).saturating_add(1)
-}
-
-#[test]
-fn reels_that_fail(rt: HostRuntime) {
-    for opening in [1, 2] {
-        for sound in 0..66 {
-            let broken = Some(Broken { opening, sound });
-            let old = SidePlan {
-                broken,
-                ..SidePlan::plain(OLD)
+/// Refuses each opening of a run.
+pub(super) fn refuse_openings(rt: &impl Abort, alloc: Global, trial: &Trial<'_>) {
+    for side in &SIDES {
+        for opening in 1..trial.openings.saturating_add(1) {
+            let plan = SidePlan {
+                refused: Some(opening),
+                ..SidePlan::plain(trial.text(*side))
             };
-            let wanted = database(Side::Old, line_at(OLD, sound), DbFaultKind::Read);
-            let openings = if opening == 1 { (1, 0) } else { (2, 2) };
-            assert_refused(
-                &rt,
-                rt.alloc(),
-                (old, SidePlan::plain(NEW)),
-                wanted,
-                18,
-                openings,
-            );
-        }
-        for sound in 0..62 {
-            let broken = Some(Broken { opening, sound });
-            let new = SidePlan {
-                broken,
-                ..SidePlan::plain(NEW)
-            };
-            let wanted = database(Side::New, line_at(NEW, sound), DbFaultKind::Read);
-            assert_refused(
-                &rt,
-                rt.alloc(),
-                (SidePlan::plain(OLD), new),
-                wanted,
-                18,
-                (opening, opening),
-            );
+            let mut wrong = trial
+                .wrong(*side, opening, RunFault::Open(*side))
+                .with(*side, plan);
+            if *side == Side::Old {
+                wrong.new_openings = opening.saturating_sub(1);
+            }
+            assert!(rt; wrong.fault.status() == 18);
+            assert_stops(rt, alloc, trial, &wrong);
         }
     }
 }
 
-#[test]
-fn databases_cut_from_the_second_opening_on(rt: HostRuntime) {
-    for bytes in 0..64 {
-        let Some(cut) = OLD.get(..bytes) else {
-            return;
+/// Lets the reel of each opening fail, at each byte and at the end.
+pub(super) fn break_readings(rt: &impl Abort, alloc: Global, trial: &Trial<'_>) {
+    for side in &SIDES {
+        let text = trial.text(*side);
+        for opening in 1..trial.openings.saturating_add(1) {
+            for sound in 0..text.len().saturating_add(1) {
+                let plan = SidePlan {
+                    broken: Some(Broken {
+                        opening,
+                        sound: sound as u64,
+                    }),
+                    ..SidePlan::plain(text)
+                };
+                let fault = database(*side, line_at(text, sound), Kind::Read);
+                let wrong = trial.wrong(*side, opening, fault).with(*side, plan);
+                assert_stops(rt, alloc, trial, &wrong);
+            }
+        }
+    }
+}
+
+/// Gives another text from each opening but the first on.
+fn change_side(rt: &impl Abort, alloc: Global, trial: &Trial<'_>, side: Side, bytes: &[u8]) {
+    for opening in 2..trial.openings.saturating_add(1) {
+        let plan = SidePlan {
+            change: Some(Change { opening, bytes }),
+            ..SidePlan::plain(trial.text(side))
         };
-        let old = SidePlan {
+        let wrong = trial
+            .wrong(side, opening, RunFault::Changed(side))
+            .with(side, plan);
+        assert_stops(rt, alloc, trial, &wrong);
+    }
+}
+
+/// Cuts each side behind each byte from each opening on, and damages each byte.
+pub(super) fn cut_and_damage(
+    rt: &impl Abort,
+    alloc: Global,
+    trial: &Trial<'_>,
+) -> Result<(), Fail> {
+    for side in &SIDES {
+        let text = trial.text(*side);
+        for bytes in 0..text.len() {
+            let (front, back) = text.split_at(bytes);
+            change_side(rt, alloc, trial, *side, front);
+            let mut damaged = Vec::from_slice(alloc, text)?;
+            if let (Some(place), Some(byte)) = (damaged.get_mut(bytes), back.first()) {
+                *place = *byte ^ 1;
+            }
+            change_side(rt, alloc, trial, *side, &damaged);
+        }
+    }
+    Ok(())
+}
+
+/// A database in place of each of the two: other sizes, the same entries in other bytes, and no entries.
+struct Other {
+    side: Side,
+    bytes: &'static [u8],
+}
+
+const OTHERS: [Other; 6] = [
+    Other {
+        side: Side::Old,
+        bytes: b"@@begin_db\n@@db_spec name attr perm size\n/b 36 40755 4096\n/c 36 100644 11\n@@end_db\n",
+    },
+    Other {
+        side: Side::New,
+        bytes: b"@@begin_db\n@@db_spec name attr perm size\n/a 36 100644 5\n/c 36 100600 11\n@@end_db\n",
+    },
+    Other {
+        side: Side::Old,
+        bytes: b"@@begin_db\n@@db_spec name attr perm size\n/b 36 40755 4096\n# more\n/c 36 100644 10\n@@end_db\n",
+    },
+    Other {
+        side: Side::New,
+        bytes: b"@@begin_db\n@@db_spec name attr perm size\n/a 36 100644 5\n/c 36 100600 7\n@@end_db\n\n",
+    },
+    Other {
+        side: Side::Old,
+        bytes: b"@@begin_db\n@@db_spec name\n@@end_db\n",
+    },
+    Other {
+        side: Side::New,
+        bytes: b"@@begin_db\n@@db_spec name\n@@end_db\n",
+    },
+];
+
+/// The two databases of all tests, at the default level.
+fn whole_trial(rt: &impl Abort, alloc: Global) -> Trial<'static> {
+    Trial {
+        options: options_of(rt, alloc, b""),
+        old: OLD,
+        new: NEW,
+        report: REPORT,
+        openings: 6,
+    }
+}
+
+/// One database on both sides.
+fn same_trial(rt: &impl Abort, alloc: Global) -> Trial<'static> {
+    Trial {
+        options: options_of(rt, alloc, b"report_level=minimal"),
+        old: OLD,
+        new: OLD,
+        report: SAME,
+        openings: 2,
+    }
+}
+
+#[test]
+fn each_opening_refused(rt: HostRuntime) {
+    refuse_openings(&rt, rt.alloc(), &whole_trial(&rt, rt.alloc()));
+}
+
+#[test]
+fn each_reading_broken_at_each_byte(rt: HostRuntime) {
+    break_readings(&rt, rt.alloc(), &whole_trial(&rt, rt.alloc()));
+}
+
+#[test]
+fn databases_replaced(rt: HostRuntime) {
+    let trial = whole_trial(&rt, rt.alloc());
+    for other in &OTHERS {
+        change_side(&rt, rt.alloc(), &trial, other.side, other.bytes);
+    }
+}
+
+#[test]
+fn databases_cut_and_damaged(rt: HostRuntime) -> Result<(), Fail> {
+    cut_and_damage(&rt, rt.alloc(), &whole_trial(&rt, rt.alloc()))
+}
+
+/// Lets both sides fail at the same byte of the same opening: the old one is told, which is read first.
+fn break_both(rt: &impl Abort, alloc: Global, trial: &Trial<'_>, opening: u64, sound: usize) {
+    let broken = Some(Broken {
+        opening,
+        sound: sound as u64,
+    });
+    let fault = database(Side::Old, line_at(OLD, sound), Kind::Read);
+    let wrong = Wrong {
+        old: SidePlan {
+            broken,
+            ..SidePlan::plain(trial.old)
+        },
+        new: SidePlan {
+            broken,
+            ..SidePlan::plain(trial.new)
+        },
+        fault,
+        old_openings: opening,
+        new_openings: opening,
+    };
+    assert_stops(rt, alloc, trial, &wrong);
+}
+
+/// Two databases of the same lines need an entry of each other's by turns, and other ones at least the first one.
+#[test]
+fn the_old_side_is_read_first(rt: HostRuntime) {
+    let trial = same_trial(&rt, rt.alloc());
+    for sound in 0..OLD.len().saturating_add(1) {
+        break_both(&rt, rt.alloc(), &trial, 2, sound);
+    }
+    let trial = whole_trial(&rt, rt.alloc());
+    for opening in 2..7 {
+        for sound in 0..42 {
+            break_both(&rt, rt.alloc(), &trial, opening, sound);
+        }
+    }
+}
+
+/// Both sides change in the same opening.
+#[test]
+fn a_changed_old_side_is_told_first(rt: HostRuntime) {
+    let trial = same_trial(&rt, rt.alloc());
+    for other in &OTHERS {
+        let plan = SidePlan {
             change: Some(Change {
                 opening: 2,
-                bytes: cut,
+                bytes: other.bytes,
             }),
             ..SidePlan::plain(OLD)
         };
-        let plans = (old, SidePlan::plain(NEW));
-        assert_refused(
-            &rt,
-            rt.alloc(),
-            plans,
-            RunFault::Changed(Side::Old),
-            18,
-            (2, 2),
-        );
-    }
-    for bytes in 0..60 {
-        let Some(cut) = NEW.get(..bytes) else {
-            return;
-        };
-        let new = SidePlan {
-            change: Some(Change {
-                opening: 2,
-                bytes: cut,
-            }),
-            ..SidePlan::plain(NEW)
-        };
-        let plans = (SidePlan::plain(OLD), new);
-        assert_refused(
-            &rt,
-            rt.alloc(),
-            plans,
-            RunFault::Changed(Side::New),
-            18,
-            (2, 2),
-        );
+        let wrong = trial.wrong(Side::Old, 2, RunFault::Changed(Side::Old));
+        let wrong = wrong.with(Side::Old, plan).with(Side::New, plan);
+        assert_stops(&rt, rt.alloc(), &trial, &wrong);
     }
 }

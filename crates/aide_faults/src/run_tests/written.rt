@@ -1,106 +1,86 @@
-//! Sinks that fail or have little room, and growths that are refused.
-use super::{ALL_THREE, DIFFERENT, NEW, OLD, minimal, run_over, sources_of};
-use crate::{Pace, PlannedSink, Refusing, SidePlan};
-use aide_conf::Options;
+//! Sinks that fail at each byte, or to flush, or have little room.
+ghost use Rattle.std.specs.Prelude.{◌<◌};
+
+use super::trial::Trial;
+use super::{NEW, OLD, PACES, REPORT, options_of, run_over};
+use crate::{Pace, PlannedSink, PlannedSources, SidePlan};
 use aide_db::Desk;
 use aide_report::{MemorySink, RunFault, WriteSink};
 use arrayvec::ArrayVec;
+use std::alloc::Global;
+use std::process::Abort;
 
-#[test]
-fn sinks_that_fail(rt: HostRuntime) {
-    let mut desk = Desk::new(rt.alloc());
-    for sound in 0..51 {
-        for most in [1, 7, 4096] {
-            let mut sources = sources_of(SidePlan::plain(OLD), SidePlan::plain(NEW));
-            let inner = MemorySink::new(rt.alloc());
-            let mut out = PlannedSink::new(inner, Pace::new(most), sound, false);
-            let answer = run_over(minimal(), &mut desk, &mut sources, &mut out);
-            let wanted = RunFault::Write { written: sound };
-            assert_eq!(rt;
-                answer,
-                Err(wanted),
-                "after {sound} bytes, {most} at a time"
-            );
-            assert_eq!(rt; wanted.status(), 18);
-            assert_eq!(rt; Some(out.inner().bytes()), DIFFERENT.get(..sound as usize));
-            assert_eq!(rt; out.failures(), 1);
-        }
-    }
-    let mut sources = sources_of(SidePlan::plain(OLD), SidePlan::plain(OLD));
-    let inner = MemorySink::new(rt.alloc());
-    let mut out = PlannedSink::new(inner, Pace::new(1), u64::MAX, false);
-    let options = Options {
-        quiet: true,
-        ..minimal()
+/// Runs to a sink that takes so many bytes at a time, and that many in all, or does not flush. All that it could take has gone
+/// out, and no more.
+fn assert_cut(rt: &impl Abort, alloc: Global, trial: &Trial<'_>, most: usize, room: usize)
+    requires { 0 < most }
+{
+    let mut desk = Desk::new(alloc);
+    let pace = Pace::new(4096);
+    let old = SidePlan::plain(trial.old);
+    let mut sources = PlannedSources::new(old, SidePlan::plain(trial.new), pace);
+    let inner = MemorySink::new(alloc);
+    let mut out = PlannedSink::new(inner, Pace::new(most), room as u64, false);
+    let answer = run_over(trial.options, &mut desk, &mut sources, &mut out);
+    let wanted = RunFault::Write {
+        written: room as u64,
     };
+    assert!(rt;
+        answer == Err(wanted),
+        "{answer:?} after {room} bytes, {most} at a time"
+    );
+    assert!(rt; wanted.status() == 18 && out.failures() == 1);
+    let (front, _) = trial.report.split_at(room.min(trial.report.len()));
+    assert!(rt; out.inner().bytes() == front);
+}
+
+/// Cuts the report at each byte, and behind the last one by a flush that fails.
+pub(super) fn cut_report(rt: &impl Abort, alloc: Global, trial: &Trial<'_>) {
+    for most in &PACES {
+        if *most > 0 {
+            for room in 0..trial.report.len().saturating_add(1) {
+                assert_cut(rt, alloc, trial, *most, room);
+            }
+        }
+    }
+}
+
+#[test]
+fn a_sink_that_fails_at_each_byte(rt: HostRuntime) {
+    let trial = Trial {
+        options: options_of(&rt, rt.alloc(), b""),
+        old: OLD,
+        new: NEW,
+        report: REPORT,
+        openings: 6,
+    };
+    cut_report(&rt, rt.alloc(), &trial);
+}
+
+#[test]
+fn a_quiet_run_is_flushed_too(rt: HostRuntime) {
+    let trial = Trial {
+        options: options_of(&rt, rt.alloc(), b"report_quiet=yes"),
+        old: OLD,
+        new: OLD,
+        report: b"",
+        openings: 2,
+    };
+    cut_report(&rt, rt.alloc(), &trial);
+}
+
+#[test]
+fn a_writer_without_room(rt: HostRuntime) {
+    let options = options_of(&rt, rt.alloc(), b"");
+    let mut desk = Desk::new(rt.alloc());
+    let pace = Pace::new(4096);
+    let (old, new) = (SidePlan::plain(OLD), SidePlan::plain(NEW));
+    let mut sources = PlannedSources::new(old, new, pace);
+    let mut out = WriteSink::new(ArrayVec::<u8, 2048>::new());
     let answer = run_over(options, &mut desk, &mut sources, &mut out);
-    assert_eq!(rt;
-        answer,
-        Err(RunFault::Write { written: 0 }),
-        "a quiet run is flushed too"
-    );
-}
-
-#[test]
-fn a_sink_over_an_array(rt: HostRuntime) {
-    let mut desk = Desk::new(rt.alloc());
-    let mut sources = sources_of(SidePlan::plain(OLD), SidePlan::plain(NEW));
-    let mut out = WriteSink::new(ArrayVec::<u8, 50>::new());
-    assert_eq!(rt;
-        run_over(minimal(), &mut desk, &mut sources, &mut out),
-        Ok(ALL_THREE)
-    );
-    assert_eq!(rt; out.into_inner().as_slice(), DIFFERENT);
+    assert!(rt; answer.is_ok() && out.into_inner().as_slice() == REPORT);
     let mut out = WriteSink::new(ArrayVec::<u8, 40>::new());
-    let answer = run_over(minimal(), &mut desk, &mut sources, &mut out);
-    assert_eq!(rt; answer, Err(RunFault::Write { written: 40 }));
-    assert_eq!(rt; Some(out.into_inner().as_slice()), DIFFERENT.get(..40));
-}
-
-#[test]
-fn each_growth_refused_in_turn(rt: HostRuntime) {
-    let mut refusals = 0u64;
-    for growth in 0..1000 {
-        let alloc = Refusing::new(rt.alloc(), growth);
-        let mut desk = Desk::new(&alloc);
-        let mut out = MemorySink::new(rt.alloc());
-        let mut sources = sources_of(SidePlan::plain(OLD), SidePlan::plain(NEW));
-        let answer = run_over(minimal(), &mut desk, &mut sources, &mut out);
-        if !alloc.has_refused() {
-            assert_eq!(rt; answer, Ok(ALL_THREE));
-            break;
-        }
-        let Err(fault) = answer else {
-            assert!(rt; false, "growth {growth} was refused");
-            return;
-        };
-        assert_eq!(rt; fault.status(), 22, "{fault:?}");
-        assert!(rt; out.bytes().is_empty());
-        let answer = run_over(minimal(), &mut desk, &mut sources, &mut out);
-        assert_eq!(rt; answer, Ok(ALL_THREE), "the same desk again");
-        assert_eq!(rt; out.bytes(), DIFFERENT);
-        refusals = refusals.saturating_add(1);
-    }
-    assert!(rt; refusals > 1 && refusals < 1000, "{refusals}");
-}
-
-#[test]
-fn each_growth_of_the_sink_refused_in_turn(rt: HostRuntime) {
-    let mut desk = Desk::new(rt.alloc());
-    let mut refusals = 0u64;
-    for growth in 0..1000 {
-        let alloc = Refusing::new(rt.alloc(), growth);
-        let mut out = MemorySink::new(&alloc);
-        let mut sources = sources_of(SidePlan::plain(OLD), SidePlan::plain(NEW));
-        let answer = run_over(minimal(), &mut desk, &mut sources, &mut out);
-        if !alloc.has_refused() {
-            assert_eq!(rt; answer, Ok(ALL_THREE));
-            break;
-        }
-        let written = out.bytes().len() as u64;
-        assert_eq!(rt; answer, Err(RunFault::Write { written }));
-        assert_eq!(rt; Some(out.bytes()), DIFFERENT.get(..out.bytes().len()));
-        refusals = refusals.saturating_add(1);
-    }
-    assert!(rt; refusals > 0 && refusals < 1000, "{refusals}");
+    let answer = run_over(options, &mut desk, &mut sources, &mut out);
+    assert!(rt; answer == Err(RunFault::Write { written: 40 }));
+    assert!(rt; out.into_inner().as_slice() == REPORT.split_at(40).0);
 }

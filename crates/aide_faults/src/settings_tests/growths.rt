@@ -1,7 +1,7 @@
 //! Each growth refused in turn while a configuration is read.
 use crate::Refusing;
 use aide_attr::{Attr, AttrSet};
-use aide_conf::{ConfFaultKind, ConfText, Need, Settings};
+use aide_conf::{ConfFaultKind, ConfText, Need, Options, Settings, Task};
 use std::alloc::Allocator;
 use std::process::Abort;
 
@@ -27,21 +27,29 @@ fn number_of(text: ConfText) -> u8 {
     }
 }
 
+/// Whether a comparison is given these paths.
+fn has_paths(task: Option<Task<'_>>, reading: &Reading<'_>) -> bool {
+    match task {
+        Some(task) => task.old_path == reading.old_path && task.new_path == reading.new_path,
+        None => false,
+    }
+}
+
+/// Whether the report has these options.
+fn has_options(options: Options, reading: &Reading<'_>) -> bool {
+    options.quiet == reading.quiet
+        && options.ignore.force == reading.force
+        && options.ignore.added == reading.added
+}
+
 /// Whether the three texts are read in full.
 fn is_read<A: Allocator + Copy>(alloc: A, reading: &Reading<'_>) -> bool {
     let [before, file, after] = reading.texts;
-    let Ok(settings) = Settings::read(alloc, before, file, after, Need::Compare) else {
-        return false;
-    };
-    let options = settings.options();
-    let Some(task) = settings.task() else {
-        return false;
-    };
-    task.old_path == reading.old_path
-        && task.new_path == reading.new_path
-        && options.quiet == reading.quiet
-        && options.ignore.force == reading.force
-        && options.ignore.added == reading.added
+    match Settings::read(alloc, before, file, after, Need::Compare) {
+        Ok(settings) => has_paths(settings.task(), reading)
+            && has_options(settings.options(), reading),
+        Err(_) => false,
+    }
 }
 
 /// The place at which a growth is refused, and told as want of memory; none where there is no such growth. After it the

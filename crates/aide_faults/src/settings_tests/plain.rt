@@ -2,12 +2,16 @@
 //!
 //! A block is found by counting over the lines behind its opening line, and a variable by looking back for the last line
 //! that defines it or takes it away. There is no stack and no table of variables. It knows the options that the texts to
-//! compare have, and no limit on how many variables or groups there are.
+//! compare have.
 
-use aide_attr::{AttrSet, ExprFault, Groups, Level, is_group_name};
+use aide_attr::{Groups, Level};
 use aide_conf::{ConfFault, ConfFaultKind as Kind, ConfText, Need};
 use std::alloc::{AllocError, Global};
 use std::test::Fail;
+
+mod effect;
+
+use effect::{Effect, effect_of};
 
 /// What a line is by its first bytes.
 #[derive(Clone, Copy)]
@@ -16,6 +20,8 @@ enum Form<'a> {
     Nothing,
     /// The first line of a block, its variable, and whether its first part is for where this is defined.
     Opens(&'a [u8], bool),
+    /// One whose condition is out of form.
+    OpensOddly,
     Divides,
     Closes,
     /// A definition: a variable and its value as it stands in the line.
@@ -45,19 +51,6 @@ enum Part {
     Outside,
     First,
     Second,
-}
-
-/// What an expanded line sets.
-#[derive(Clone, Copy)]
-enum Effect<'a> {
-    Nothing,
-    Level(Level),
-    Quiet(bool),
-    /// The report options are fixed.
-    Fixes,
-    OldPath,
-    NewPath,
-    Group(&'a [u8], AttrSet),
 }
 
 /// What a configuration without a fault says.
@@ -124,11 +117,23 @@ fn directive<'a>(word: &[u8], rest: &'a [u8]) -> Form<'a> {
         b"undef" => Form::Removes(rest),
         b"ifdef" => Form::Opens(rest, true),
         b"ifndef" => Form::Opens(rest, false),
+        b"if" => condition(rest),
         b"else" => Form::Divides,
         b"endif" => Form::Closes,
         b"include" | b"x_include" => Form::Refused(Kind::LeftOut, false),
         b"ifhost" | b"ifnhost" => Form::Refused(Kind::LeftOut, true),
         _ => Form::Refused(Kind::BadDirective, word.starts_with(b"if")),
+    }
+}
+
+/// The form of `@@if` with this condition.
+fn condition(rest: &[u8]) -> Form<'_> {
+    let (first, rest) = cut_at_blank(rest);
+    let (second, name) = cut_at_blank(stripped(rest));
+    match (first, second) {
+        (b"defined", _) => Form::Opens(stripped(rest), true),
+        (b"not", b"defined") => Form::Opens(stripped(name), false),
+        _ => Form::OpensOddly,
     }
 }
 
@@ -177,7 +182,7 @@ fn part_behind(lines: &[Mark<'_>]) -> Part {
     let mut part = Part::Outside;
     for mark in lines {
         match mark.form {
-            Form::Opens(_, _) => open = open.saturating_add(1),
+            Form::Opens(_, _) | Form::OpensOddly => open = open.saturating_add(1),
             Form::Closes => open = open.saturating_sub(1),
             Form::Divides if open == 1 => part = Part::Second,
             _ => {}
@@ -236,98 +241,57 @@ fn around(lines: &[Mark<'_>]) -> (u64, Part) {
     (depth, innermost)
 }
 
-/// The path of a database URL that is in form, but for its length.
-fn path_of(url: &[u8]) -> Result<&[u8], Kind> {
-    if url == b"stdin".as_slice() {
-        return Err(Kind::LeftOut);
-    }
-    match url.strip_prefix(b"file:") {
-        Some([b'/', b'/', rest @ ..]) if rest.starts_with(b"/") => Ok(rest),
-        Some([b'/', b'/', ..]) => Err(Kind::BadUrl),
-        Some(path) if path.starts_with(b"/") => Ok(path),
-        _ => Err(Kind::BadUrl),
-    }
+/// The groups behind some lines, and how many there are.
+#[derive(Drop)]
+struct Defined {
+    groups: Groups<Global>,
+    count: u64,
 }
 
-/// The level of a name.
-fn level_of(name: &[u8]) -> Result<Level, Kind> {
-    match name {
-        b"minimal" => Ok(Level::Minimal),
-        b"summary" => Ok(Level::Summary),
-        b"changed_attributes" => Ok(Level::ChangedAttributes),
-        _ => Err(Kind::BadValue),
+impl Defined {
+    /// Takes in what one more line defines, which has no fault.
+    fn push(&mut self, mark: &Mark<'_>) -> Result<(), Fail> {
+        if let Ok(Effect::Group(name, set)) = effect_of(mark, &self.groups) {
+            if self.groups.look(name).is_none() {
+                self.count = self.count.saturating_add(1);
+            }
+            self.groups.define(name, set)?;
+        }
+        Ok(())
     }
-}
 
-/// What the value of an option sets, or of any other name as that of a group.
-fn effect_of_value<'a>(
-    name: &'a [u8],
-    value: &'a [u8],
-    groups: &Groups<Global>,
-) -> Result<Effect<'a>, Kind> {
-    match name {
-        b"report_level" => Ok(Effect::Level(level_of(value)?)),
-        b"report_quiet" => match value {
-            b"yes" | b"true" => Ok(Effect::Quiet(true)),
-            b"no" | b"false" => Ok(Effect::Quiet(false)),
-            _ => Err(Kind::BadValue),
-        },
-        b"report_url" | b"grouped" | b"database_in" | b"database_new" if value.is_empty() => Err(
-            Kind::BadValue,
-        ),
-        b"report_url" if value == b"stdout".as_slice() => Ok(Effect::Fixes),
-        b"report_url" => Ok(Effect::Nothing),
-        b"grouped" => Err(Kind::LeftOut),
-        b"database_in" | b"database_new" => match path_of(value)? {
-            path if path.len() > 4096 => Err(Kind::ValueTooLong),
-            _ if name == b"database_in".as_slice() => Ok(Effect::OldPath),
-            _ => Ok(Effect::NewPath),
-        },
-        _ if !is_group_name(name) => Err(Kind::BadName),
-        _ => match groups.eval(value) {
-            Ok(set) => Ok(Effect::Group(name, set)),
-            Err(ExprFault::UnknownName { at: _ }) => Err(Kind::UnknownAttribute),
-            Err(ExprFault::BadExpression { at: _ }) => Err(Kind::BadExpression),
-        },
-    }
-}
-
-/// What a line sets once it is expanded, or why it is refused.
-fn effect_of<'a>(mark: &'a Mark<'_>, groups: &Groups<Global>) -> Result<Effect<'a>, Kind> {
-    let Form::Other = mark.form else {
-        return Ok(Effect::Nothing);
-    };
-    let line = stripped(&mark.expanded);
-    if line.is_empty() || line.starts_with(b"#") {
-        return Ok(Effect::Nothing);
-    }
-    if line.len() > 65_536 {
-        return Err(Kind::LineTooLong);
-    }
-    if let Some(b'/' | b'!' | b'=' | b'-') = line.first() {
-        return Ok(Effect::Nothing);
-    }
-    let equals = line
-        .iter()
-        .position(|byte| *byte == b'=')
-        .ok_or(Kind::BadLine)?;
-    let (name, value) = line.split_at_checked(equals).ok_or(Kind::BadLine)?;
-    effect_of_value(
-        stripped(name),
-        stripped(value.get(1..).unwrap_or(b"")),
-        groups,
-    )
-}
-
-/// The groups behind these lines.
-fn groups_behind(alloc: Global, earlier: &[Mark<'_>]) -> Result<Groups<Global>, Fail> {
-    let mut groups = Groups::new(alloc);
-    for mark in earlier {
-        if let Ok(Effect::Group(name, set)) = effect_of(mark, &groups) {
-            groups.define(name, set)?;
+    /// Why a line that is no directive is refused, where it is.
+    fn fault_of(&self, mark: &Mark<'_>) -> Option<Kind> {
+        match effect_of(mark, &self.groups) {
+            Ok(Effect::Group(name, _)) if self.count >= 1024 && self.groups.look(name).is_none() =>
+                Some(Kind::TooMany),
+            Ok(_) => None,
+            Err(kind) => Some(kind),
         }
     }
-    Ok(groups)
+}
+
+/// Whether a line sets a variable, which no line among the later ones sets or takes away again.
+fn stays_defined(mark: &Mark<'_>, later: &[Mark<'_>]) -> bool {
+    match mark.form {
+        Form::Defines(name, _) if mark.used => !later.iter().any(|other| other.used
+            && matches!(other.form, Form::Defines(again, _) | Form::Removes(again) if again == name)),
+        _ => false,
+    }
+}
+
+/// Whether one more variable of this name is one too many behind these lines.
+fn is_one_too_many(earlier: &[Mark<'_>], name: &[u8]) -> bool {
+    if earlier.len() < 1024 || value_of(earlier, name).is_some() {
+        return false;
+    }
+    let mut count = 0u64;
+    for (place, mark) in earlier.iter().enumerate() {
+        if stays_defined(mark, earlier.get(place.saturating_add(1)..).unwrap_or(&[])) {
+            count = count.saturating_add(1);
+        }
+    }
+    count >= 1024
 }
 
 /// Why a directive is refused, where it is. It stands behind these lines of its text.
@@ -335,7 +299,8 @@ fn fault_of_directive(lines: &[Mark<'_>], mark: &Mark<'_>) -> Option<Kind> {
     let (depth, part) = around(lines);
     match (mark.form, part) {
         (Form::Refused(kind, always), _) if mark.used || always => Some(kind),
-        (Form::Opens(_, _), _) if depth >= 32 => Some(Kind::TooDeep),
+        (Form::OpensOddly, _) if mark.used => Some(Kind::BadDirective),
+        (Form::Opens(_, _) | Form::OpensOddly, _) if depth >= 32 => Some(Kind::TooDeep),
         (Form::Divides, Part::Outside | Part::Second) => Some(Kind::StrayElse),
         (Form::Closes, Part::Outside) => Some(Kind::StrayEndif),
         (Form::Opens(name, _) | Form::Removes(name) | Form::Defines(name, _), _) if mark.used => {
@@ -353,19 +318,20 @@ fn fault_of_directive(lines: &[Mark<'_>], mark: &Mark<'_>) -> Option<Kind> {
 
 /// Why a line is refused, where it is. It stands behind these, and its text begins with the line at `start`.
 fn fault_of(
-    alloc: Global,
     earlier: &[Mark<'_>],
     start: usize,
+    defined: &Defined,
     mark: &Mark<'_>,
-) -> Result<Option<Kind>, Fail> {
+) -> Option<Kind> {
     match mark.form {
-        Form::Nothing => Ok(None),
-        _ if mark.used && mark.bytes.len() > 65_536 => Ok(Some(Kind::LineTooLong)),
-        Form::Other => {
-            let groups = groups_behind(alloc, earlier)?;
-            Ok(effect_of(mark, &groups).err())
+        Form::Nothing => None,
+        _ if mark.used && mark.bytes.len() > 65_536 => Some(Kind::LineTooLong),
+        Form::Other => defined.fault_of(mark),
+        Form::Defines(name, _) if mark.used => {
+            let fault = fault_of_directive(earlier.get(start..).unwrap_or(&[]), mark);
+            fault.or(is_one_too_many(earlier, name).then_some(Kind::TooMany))
         }
-        _ => Ok(fault_of_directive(earlier.get(start..).unwrap_or(&[]), mark)),
+        _ => fault_of_directive(earlier.get(start..).unwrap_or(&[]), mark),
     }
 }
 
@@ -397,6 +363,7 @@ fn mark_of<'a>(
 fn mark_text<'a>(
     alloc: Global,
     marks: &mut Vec<Mark<'a>>,
+    defined: &mut Defined,
     bytes: &'a [u8],
 ) -> Result<(u64, Option<Kind>), Fail> {
     let start = marks.len();
@@ -410,9 +377,10 @@ fn mark_text<'a>(
         .split(|byte| *byte == b'\n')
     {
         let mark = mark_of(alloc, marks, start, line)?;
-        if let Some(kind) = fault_of(alloc, marks, start, &mark)? {
+        if let Some(kind) = fault_of(marks, start, defined, &mark) {
             return Ok((number, Some(kind)));
         }
+        defined.push(&mark)?;
         marks.push(mark)?;
         number = number.saturating_add(1);
     }
@@ -458,10 +426,14 @@ pub(super) fn answer(
     need: Need,
 ) -> Result<Result<Told, ConfFault>, Fail> {
     let mut marks = Vec::new(alloc);
+    let mut defined = Defined {
+        groups: Groups::new(alloc),
+        count: 0,
+    };
     let none = Groups::new(alloc);
     let names = [ConfText::Before, ConfText::File, ConfText::After];
     for (text, bytes) in names.into_iter().zip(texts) {
-        let (line, mut fault) = mark_text(alloc, &mut marks, bytes)?;
+        let (line, mut fault) = mark_text(alloc, &mut marks, &mut defined, bytes)?;
         if fault.is_none() && need == Need::Compare && text == ConfText::After {
             fault = missing(&marks, &none);
         }

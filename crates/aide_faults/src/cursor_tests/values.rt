@@ -1,0 +1,366 @@
+//! Types, names, links and digests of an entry, and what it lacks.
+use super::LIMITS;
+use aide_attr::{Attr, FileType};
+use aide_db::{Cursor, DbFault, Decoded, Desk, Side, Step};
+use std::alloc::{AllocError, Global};
+use std::test::Fail;
+
+/// A database of one entry with a path and one field more.
+fn database(alloc: Global, column: &[u8], field: &[u8]) -> Result<Vec<u8>, AllocError> {
+    let mut text = Vec::from_slice(alloc, b"@@begin_db\n@@db_spec name ")?;
+    text.extend_from_slice(column)?;
+    text.extend_from_slice(b"\n/a ")?;
+    text.extend_from_slice(field)?;
+    text.extend_from_slice(b"\n@@end_db\n")?;
+    Ok(text)
+}
+
+/// The answer to the first line of an entry, which is left on the desk.
+pub(super) fn first(
+    alloc: Global,
+    desk: &mut Desk<Global>,
+    column: &[u8],
+    field: &[u8],
+) -> Result<Result<Step, DbFault>, AllocError> {
+    let text = database(alloc, column, field)?;
+    let mut cursor = Cursor::start(Side::Old, text.as_slice(), LIMITS, desk);
+    let answer = cursor.next(desk);
+    cursor.into_reel();
+    Ok(answer)
+}
+
+/// Whether a text with escapes says these bytes.
+fn says(decoded: Decoded<'_>, bytes: &[u8]) -> bool {
+    let mut left = decoded;
+    for byte in bytes {
+        if left.next() != Some(*byte) {
+            return false;
+        }
+    }
+    left.next().is_none()
+}
+
+/// A mode, and the type that it tells.
+struct Type {
+    field: &'static [u8],
+    kind: Option<FileType>,
+}
+
+const TYPES: [Type; 10] = [
+    Type {
+        field: b"100644",
+        kind: Some(FileType::File),
+    },
+    Type {
+        field: b"40755",
+        kind: Some(FileType::Directory),
+    },
+    Type {
+        field: b"120777",
+        kind: Some(FileType::Link),
+    },
+    Type {
+        field: b"20600",
+        kind: Some(FileType::Char),
+    },
+    Type {
+        field: b"60600",
+        kind: Some(FileType::Block),
+    },
+    Type {
+        field: b"10600",
+        kind: Some(FileType::Fifo),
+    },
+    Type {
+        field: b"140755",
+        kind: Some(FileType::Socket),
+    },
+    Type {
+        field: b"37777777777",
+        kind: Some(FileType::Other(15)),
+    },
+    Type {
+        field: b"110000",
+        kind: Some(FileType::Other(9)),
+    },
+    Type {
+        field: b"0644",
+        kind: None,
+    },
+];
+
+#[test]
+fn types(rt: HostRuntime) -> Result<(), Fail> {
+    let mut desk = Desk::new(rt.alloc());
+    for row in &TYPES {
+        let answer = first(rt.alloc(), &mut desk, b"perm", row.field)?;
+        assert!(rt; answer == Ok(Step::Record), "{answer:?}");
+        if let Some(view) = desk.view(Side::Old) {
+            assert!(rt;
+                view.kind() == row.kind && view.attrs().has(Attr::Ftype) == row.kind.is_some()
+            );
+        }
+    }
+    Ok(())
+}
+
+/// A field that writes a link's name, and the name: `None` is no name.
+struct Link {
+    field: &'static [u8],
+    name: Option<&'static [u8]>,
+}
+
+const LINKS: [Link; 10] = [
+    Link {
+        field: b"0",
+        name: None,
+    },
+    Link {
+        field: b"0-",
+        name: Some(b""),
+    },
+    Link {
+        field: b"00",
+        name: Some(b"0"),
+    },
+    Link {
+        field: b"00-",
+        name: Some(b"0-"),
+    },
+    Link {
+        field: b"000",
+        name: Some(b"00"),
+    },
+    Link {
+        field: b"%30",
+        name: Some(b"0"),
+    },
+    Link {
+        field: b"0x",
+        name: Some(b"0x"),
+    },
+    Link {
+        field: b"0-x",
+        name: Some(b"0-x"),
+    },
+    Link {
+        field: b"../x%20y%zz%",
+        name: Some(b"../x y%zz%"),
+    },
+    Link {
+        field: b"00%41",
+        name: Some(b"0A"),
+    },
+];
+
+#[test]
+fn links(rt: HostRuntime) -> Result<(), Fail> {
+    let mut desk = Desk::new(rt.alloc());
+    for row in &LINKS {
+        let answer = first(rt.alloc(), &mut desk, b"lname", row.field)?;
+        assert!(rt; answer == Ok(Step::Record), "{answer:?}");
+        let link = desk.view(Side::Old).and_then(|view| view.link());
+        let right = match (link, row.name) {
+            (Some(None), None) => true,
+            (Some(Some(decoded)), Some(name)) => says(decoded, name),
+            _ => false,
+        };
+        assert!(rt; right, "{:?}", row.field);
+    }
+    Ok(())
+}
+
+/// A field of a digest: how many bytes it says, the first and the last of them.
+struct Digest {
+    column: &'static [u8],
+    attr: Attr,
+    field: &'static [u8],
+    length: usize,
+    first: u8,
+    last: u8,
+}
+
+const DIGESTS: [Digest; 6] = [
+    Digest {
+        column: b"md5",
+        attr: Attr::Md5,
+        field: b"1B2M2Y8AsgTpgAmY7PhCfg==",
+        length: 16,
+        first: 0xd4,
+        last: 0x7e,
+    },
+    Digest {
+        column: b"sha256",
+        attr: Attr::Sha256,
+        field: b"47DEQpj8HBSa+/TImW+5JCeuQeRkm5NMpJWZG3hSuFU=",
+        length: 32,
+        first: 0xe3,
+        last: 0x55,
+    },
+    Digest {
+        column: b"sha3_256",
+        attr: Attr::Sha3Of256,
+        field: b"47DEQpj8HBSa+/TImW+5JCeuQeRkm5NMpJWZG3hSuFU=",
+        length: 32,
+        first: 0xe3,
+        last: 0x55,
+    },
+    Digest {
+        column: b"crc32",
+        attr: Attr::Crc32,
+        field: b"q6urqw==",
+        length: 4,
+        first: 0xab,
+        last: 0xab,
+    },
+    Digest {
+        column: b"haval",
+        attr: Attr::Haval,
+        field: b"/w==",
+        length: 1,
+        first: 0xff,
+        last: 0xff,
+    },
+    Digest {
+        column: b"tiger",
+        attr: Attr::Tiger,
+        field: b"AAAB",
+        length: 3,
+        first: 0,
+        last: 1,
+    },
+];
+
+#[test]
+fn digests(rt: HostRuntime) -> Result<(), Fail> {
+    let mut desk = Desk::new(rt.alloc());
+    for row in &DIGESTS {
+        let answer = first(rt.alloc(), &mut desk, row.column, row.field)?;
+        assert!(rt; answer == Ok(Step::Record), "{answer:?}");
+        let mut buffer = [0; 64];
+        let length = desk
+            .view(Side::Old)
+            .and_then(|view| view.digest(row.attr, &mut buffer));
+        assert!(rt; length == Some(row.length), "{:?}", row.field);
+        let last = row.length.saturating_sub(1);
+        assert!(rt; buffer.first() == Some(&row.first) && buffer.get(last) == Some(&row.last));
+    }
+    Ok(())
+}
+
+/// A field that writes a path, or another text.
+struct Text {
+    field: &'static [u8],
+    text: &'static [u8],
+}
+
+const NAMES: [Text; 6] = [
+    Text {
+        field: b"/x%2",
+        text: b"/x%2",
+    },
+    Text {
+        field: b"/x%zz",
+        text: b"/x%zz",
+    },
+    Text {
+        field: b"/x%0Ay%zz",
+        text: b"/x\ny%zz",
+    },
+    Text {
+        field: b"%2fa%2Fb",
+        text: b"/a/b",
+    },
+    Text {
+        field: b"/%2541",
+        text: b"/%41",
+    },
+    Text {
+        field: b"/%C3%a9\xff",
+        text: b"/\xc3\xa9\xff",
+    },
+];
+
+#[test]
+fn names(rt: HostRuntime) -> Result<(), Fail> {
+    let mut desk = Desk::new(rt.alloc());
+    for row in &NAMES {
+        let mut text = Vec::from_slice(rt.alloc(), b"@@begin_db\n@@db_spec name\n")?;
+        text.extend_from_slice(row.field)?;
+        let mut cursor = Cursor::start(Side::Old, text.as_slice(), LIMITS, &mut desk);
+        assert!(rt; cursor.next(&mut desk) == Ok(Step::Record));
+        cursor.into_reel();
+        if let Some(view) = desk.view(Side::Old) {
+            let (field, path) = view.name();
+            assert!(rt;
+                field == row.field && says(path, row.text),
+                "{:?}",
+                row.field
+            );
+        }
+    }
+    Ok(())
+}
+
+/// A column and a field that the entry lacks, and whose attribute it has with another field.
+struct Lacking {
+    column: &'static [u8],
+    attr: Attr,
+    without: &'static [u8],
+    with: &'static [u8],
+}
+
+const LACKING: [Lacking; 6] = [
+    Lacking {
+        column: b"md5",
+        attr: Attr::Md5,
+        without: b"0",
+        with: b"1B2M2Y8AsgTpgAmY7PhCfg==",
+    },
+    Lacking {
+        column: b"perm",
+        attr: Attr::Ftype,
+        without: b"7777",
+        with: b"10000",
+    },
+    Lacking {
+        column: b"acl",
+        attr: Attr::Acl,
+        without: b"0",
+        with: b"00",
+    },
+    Lacking {
+        column: b"capabilities",
+        attr: Attr::Caps,
+        without: b"0",
+        with: b"0-",
+    },
+    Lacking {
+        column: b"attr size",
+        attr: Attr::Size,
+        without: b"31 1",
+        with: b"32 1",
+    },
+    Lacking {
+        column: b"lname attr",
+        attr: Attr::Lname,
+        without: b"x 13",
+        with: b"x 2",
+    },
+];
+
+#[test]
+fn attributes_that_an_entry_lacks(rt: HostRuntime) -> Result<(), Fail> {
+    let mut desk = Desk::new(rt.alloc());
+    for row in &LACKING {
+        let answer = first(rt.alloc(), &mut desk, row.column, row.without)?;
+        assert!(rt; answer == Ok(Step::Record), "{answer:?}");
+        let has = desk.view(Side::Old).map(|view| view.attrs().has(row.attr));
+        assert!(rt; has == Some(false), "{:?}", row.without);
+        let answer = first(rt.alloc(), &mut desk, row.column, row.with)?;
+        assert!(rt; answer == Ok(Step::Record), "{answer:?}");
+        let has = desk.view(Side::Old).map(|view| view.attrs().has(row.attr));
+        assert!(rt; has == Some(true), "{:?}", row.with);
+    }
+    Ok(())
+}

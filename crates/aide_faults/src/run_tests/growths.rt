@@ -1,0 +1,143 @@
+//! Runs whose growths are refused, each in turn.
+use super::trial::{Trial, assert_serves, line_at};
+use super::{NEW, OLD, REPORT, SAME, options_of, pair, run_over};
+use crate::{Journal, NotedSources, Pace, PlannedSources, Refusing, SidePlan};
+use aide_db::{DbFault, DbFaultKind, Desk, Side};
+use aide_report::{MemorySink, RunFault};
+use std::alloc::Global;
+use std::process::Abort;
+use std::test::Fail;
+
+/// Sources of two databases that give a byte at a time, so that a growth is refused at the byte that was given last.
+fn slow_sources<'a>(trial: &Trial<'a>) -> PlannedSources<'a> {
+    let old = SidePlan::plain(trial.old);
+    PlannedSources::new(old, SidePlan::plain(trial.new), Pace::new(1))
+}
+
+/// The two databases of all tests.
+fn plain_sources() -> PlannedSources<'static> {
+    PlannedSources::new(SidePlan::plain(OLD), SidePlan::plain(NEW), Pace::new(4096))
+}
+
+/// How many growths were refused in a run, and how many of them behind the first reading of both sides.
+#[derive(Clone, Copy, Debug, PartialEq, Eq)]
+struct Refusals {
+    all: u64,
+    late: u64,
+}
+
+/// Refuses a growth of a run, looks at the side and the line that are told, and runs on the same desk again. How often the new
+/// side was opened, and `None` where there is no such growth.
+fn refuse_one(rt: &impl Abort, alloc: Global, trial: &Trial<'_>, growth: u64) -> Option<u64> {
+    let refusing = Refusing::new(alloc, growth);
+    let mut desk = Desk::new(&refusing);
+    let journal = Journal::new();
+    let mut sources = NotedSources::new(slow_sources(trial), &journal);
+    let mut out = MemorySink::new(alloc);
+    let answer = run_over(trial.options, &mut desk, &mut sources, &mut out);
+    let openings = sources.into_inner().openings(Side::New);
+    if !refusing.has_refused() {
+        assert!(rt; answer.is_ok() && out.bytes() == trial.report);
+        return None;
+    }
+    let side = journal.last().unwrap_or(Side::Old);
+    let wanted = RunFault::Database(DbFault {
+        side,
+        line: line_at(trial.text(side), journal.given(side) as usize),
+        kind: DbFaultKind::Memory,
+    });
+    assert!(rt;
+        answer == Err(wanted),
+        "growth {growth}: {answer:?}, not {wanted:?}"
+    );
+    assert!(rt; wanted.status() == 22 && trial.report.starts_with(out.bytes()));
+    assert!(rt; openings > 2 || out.bytes().is_empty());
+    assert_serves(rt, alloc, trial, &mut desk);
+    Some(openings)
+}
+
+/// Refuses each growth of a run in turn.
+fn refuse_each(rt: &impl Abort, alloc: Global, trial: &Trial<'_>) -> Refusals {
+    let mut refusals = Refusals { all: 0, late: 0 };
+    for growth in 0..1000 {
+        match refuse_one(rt, alloc, trial, growth) {
+            None => return refusals,
+            Some(openings) => {
+                let late = if openings > 1 { 1 } else { 0 };
+                refusals.all = refusals.all.saturating_add(1);
+                refusals.late = refusals.late.saturating_add(late);
+            }
+        }
+    }
+    refusals
+}
+
+#[test]
+fn each_growth_refused_in_turn(rt: HostRuntime) {
+    let trial = Trial {
+        options: options_of(&rt, rt.alloc(), b""),
+        old: OLD,
+        new: NEW,
+        report: REPORT,
+        openings: 6,
+    };
+    let refusals = refuse_each(&rt, rt.alloc(), &trial);
+    assert!(rt; refusals.all > 3 && refusals.all < 1000, "{refusals:?}");
+}
+
+#[test]
+fn each_growth_refused_at_each_level(rt: HostRuntime) -> Result<(), Fail> {
+    for row in &pair::LEVELS {
+        let report = row.report(rt.alloc())?;
+        let trial = Trial {
+            options: options_of(&rt, rt.alloc(), row.options),
+            old: pair::OLD,
+            new: pair::NEW,
+            report: &report,
+            openings: row.openings,
+        };
+        let refusals = refuse_each(&rt, rt.alloc(), &trial);
+        assert!(rt; refusals.all > 3 && refusals.all < 1000, "{refusals:?}");
+    }
+    Ok(())
+}
+
+/// The lists change places at each entry, so that a long line can meet a short list again in the counting pass.
+#[test]
+fn growths_of_the_counting_pass(rt: HostRuntime) -> Result<(), Fail> {
+    let mut text = Vec::from_slice(rt.alloc(), b"@@begin_db\n@@db_spec name size\n/a 1\n/b")?;
+    text.resize(3000, b'b')?;
+    text.extend_from_slice(b" 1\n@@end_db\n")?;
+    let trial = Trial {
+        options: options_of(&rt, rt.alloc(), b"report_level=minimal"),
+        old: &text,
+        new: &text,
+        report: SAME,
+        openings: 2,
+    };
+    let refusals = refuse_each(&rt, rt.alloc(), &trial);
+    assert!(rt; refusals.late > 0 && refusals.all < 1000, "{refusals:?}");
+    Ok(())
+}
+
+#[test]
+fn each_growth_of_the_sink_refused_in_turn(rt: HostRuntime) {
+    let options = options_of(&rt, rt.alloc(), b"");
+    let mut desk = Desk::new(rt.alloc());
+    let mut refusals = 0u64;
+    for growth in 0..1000 {
+        let refusing = Refusing::new(rt.alloc(), growth);
+        let mut out = MemorySink::new(&refusing);
+        let mut sources = plain_sources();
+        let answer = run_over(options, &mut desk, &mut sources, &mut out);
+        if !refusing.has_refused() {
+            assert!(rt; answer.is_ok() && out.bytes() == REPORT);
+            break;
+        }
+        let written = out.bytes().len() as u64;
+        assert!(rt; answer == Err(RunFault::Write { written }), "{answer:?}");
+        assert!(rt; REPORT.starts_with(out.bytes()));
+        refusals = refusals.saturating_add(1);
+    }
+    assert!(rt; refusals > 0 && refusals < 1000, "{refusals}");
+}

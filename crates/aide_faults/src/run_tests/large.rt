@@ -1,0 +1,108 @@
+//! 200,000 entries a side, and two runs over one desk.
+use super::{PACES, SAME, options_of, run_over};
+use crate::{Pace, PlannedSources, SidePlan};
+use aide_conf::Task;
+use aide_db::{Desk, Limits, MemorySources, Side};
+use aide_report::{MemorySink, Outcome, run};
+use std::alloc::{AllocError, Global};
+use std::test::Fail;
+
+/// The last six decimal digits of a number.
+fn digits(number: u32) -> [u8; 6] {
+    let digit = |power: u32| b'0' + (number / power % 10) as u8;
+    [
+        digit(100_000),
+        digit(10_000),
+        digit(1000),
+        digit(100),
+        digit(10),
+        digit(1),
+    ]
+}
+
+/// A database of the entries below 200,200 but those whose number leaves this rest by 1,001. Each is 30 bytes long, and one in
+/// 1,001 tells the size that is given.
+fn database(alloc: Global, rest: u32, size: u8) -> Result<Vec<u8>, AllocError> {
+    let mut text = Vec::from_slice(alloc, b"@@begin_db\n@@db_spec name size\n")?;
+    for number in 0..200_200 {
+        let of = number % 1001;
+        if of != rest {
+            text.extend_from_slice(b"/directory/of/files/")?;
+            text.extend_from_slice(&digits(number))?;
+            text.extend_from_slice(b"/f ")?;
+            text.push(if of == 7 { size } else { b'0' })?;
+            text.push(b'\n')?;
+        }
+    }
+    text.extend_from_slice(b"@@end_db\n")?;
+    Ok(text)
+}
+
+const FRONT: &[u8] = b"AIDE found differences between the two databases.
+
+Summary:
+  Total number of entries: 200000
+  Added entries:           200
+  Removed entries:         200
+  Changed entries:         200
+
+---------------------------------------------------
+Added entries:
+---------------------------------------------------
+
+?+++++++++++++++++: /directory/of/files/000003/f
+?+++++++++++++++++: /directory/of/files/001004/f
+";
+
+#[test]
+fn as_many_entries_as_a_system_has(rt: HostRuntime) -> Result<(), Fail> {
+    let old = database(rt.alloc(), 3, b'1')?;
+    let new = database(rt.alloc(), 5, b'2')?;
+    let mut sources = MemorySources::new(&old, &new);
+    let mut desk = Desk::new(rt.alloc());
+    let mut out = MemorySink::new(rt.alloc());
+    let task = Task {
+        old_path: "/old",
+        new_path: "/new",
+        options: options_of(&rt, rt.alloc(), b""),
+    };
+    let limits = Limits {
+        line: 30,
+        bytes: 1 << 40,
+    };
+    let answer = run(&task, limits, &mut desk, &mut sources, &mut out);
+    let wanted = Outcome {
+        added: 200,
+        removed: 200,
+        changed: 200,
+        total: 200_000,
+        skipped_old: 0,
+        skipped_new: 0,
+    };
+    assert!(rt; answer == Ok(wanted), "{answer:?}");
+    assert!(rt; desk.peak() == 90 && wanted.status() == 7);
+    assert!(rt; sources.openings(Side::Old) == 6 && sources.openings(Side::New) == 6);
+    // The head and the summary have seven lines; each list has five and one an entry, the details have four and three an entry,
+    // and the databases have eleven.
+    let lines = out.bytes().iter().filter(|byte| **byte == b'\n').count();
+    assert!(rt; out.bytes().starts_with(FRONT) && lines == 7 + 3 * (5 + 200) + 4 + 600 + 11);
+    Ok(())
+}
+
+#[test]
+fn the_peak_of_two_runs_over_one_desk(rt: HostRuntime) {
+    let text: &[u8] = b"@@begin_db\n@@db_spec name size\n/aaaaaaaaaaaaaaaaaaaaaaaaaaa 1\n\
+/bbbbbbbbbbbbbbbbbbbbbbbbbbb 1\n@@end_db\n";
+    let options = options_of(&rt, rt.alloc(), b"report_level=minimal");
+    let mut desk = Desk::new(rt.alloc());
+    for most in &PACES {
+        if *most > 0 {
+            let old = SidePlan::plain(text);
+            let mut sources = PlannedSources::new(old, old, Pace::new(*most));
+            let mut out = MemorySink::new(rt.alloc());
+            let answer = run_over(options, &mut desk, &mut sources, &mut out);
+            assert!(rt; answer.is_ok() && out.bytes() == SAME);
+            assert!(rt; desk.peak() == 90);
+        }
+    }
+}

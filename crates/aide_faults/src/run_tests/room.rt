@@ -1,0 +1,132 @@
+//! Runs on a desk with room for the longest line, which ask for no memory.
+use super::{SAME, options_of, pair, run_over};
+use crate::{Pace, PlannedSources, Refusing, SidePlan};
+use aide_conf::Task;
+use aide_db::{DbFault, DbFaultKind, Desk, DeskFault, Limits, Side};
+use aide_report::{RunFault, WriteSink, run};
+use arrayvec::ArrayVec;
+use std::test::Fail;
+
+const TWO: &[u8] = b"@@begin_db\n@@db_spec name size\n/aaaaaaaaaaaaaaaaaaaaaaaaaaa 1\n\
+/bbbbbbbbbbbbbbbbbbbbbbbbbbb 1\n@@end_db\n";
+
+const LONGER: &[u8] = b"@@begin_db\n@@db_spec name size\n/aaaaaaaaaaaaaaaaaaaaaaaaaaa 1\n\
+/bbbbbbbbbbbbbbbbbbbbbbbbbbbb 1\n@@end_db\n";
+
+/// A line limit, the old database, the first growth behind the desk's own that is refused, and whether the old database has a
+/// line too long.
+struct Roomy {
+    line: u32,
+    old: &'static [u8],
+    refused: u64,
+    too_long: bool,
+}
+
+const ROOMY: [Roomy; 5] = [
+    Roomy {
+        line: 30,
+        old: TWO,
+        refused: 3,
+        too_long: false,
+    },
+    Roomy {
+        line: 30,
+        old: TWO,
+        refused: u64::MAX,
+        too_long: false,
+    },
+    Roomy {
+        line: 31,
+        old: LONGER,
+        refused: u64::MAX,
+        too_long: false,
+    },
+    Roomy {
+        line: 30,
+        old: LONGER,
+        refused: u64::MAX,
+        too_long: true,
+    },
+    Roomy {
+        line: 30,
+        old: LONGER,
+        refused: 3,
+        too_long: true,
+    },
+];
+
+#[test]
+fn lines_as_long_as_the_room(rt: HostRuntime) {
+    let task = Task {
+        old_path: "/old",
+        new_path: "/new",
+        options: options_of(&rt, rt.alloc(), b"report_level=minimal"),
+    };
+    let too_long = Err(RunFault::Database(DbFault {
+        side: Side::Old,
+        line: 4,
+        kind: DbFaultKind::LineTooLong,
+    }));
+    for row in &ROOMY {
+        let limits = Limits {
+            line: row.line,
+            bytes: 1000,
+        };
+        let refusing = Refusing::all_from(rt.alloc(), row.refused);
+        let desk = Desk::reserved(&refusing, 30);
+        assert!(rt; desk.is_ok());
+        if let (Ok(mut desk), true) = (desk, limits.line >= 14) {
+            assert!(rt; desk.room() == 30 && desk.held() == 0 && desk.peak() == 0);
+            let (old, new) = (SidePlan::plain(row.old), SidePlan::plain(TWO));
+            let mut sources = PlannedSources::new(old, new, Pace::new(4096));
+            let mut out = WriteSink::new(ArrayVec::<u8, 60>::new());
+            let answer = run(&task, limits, &mut desk, &mut sources, &mut out);
+            assert!(rt;
+                if row.too_long {
+                    answer == too_long
+                } else {
+                    answer.is_ok()
+                },
+                "{answer:?}"
+            );
+            assert!(rt; desk.room() == 30 && (row.old != TWO || desk.peak() == 90));
+            let wanted = if row.too_long {
+                b""
+            } else if row.old == TWO {
+                SAME
+            } else {
+                super::DIFFERENT
+            };
+            assert!(rt; out.into_inner().as_slice() == wanted);
+        }
+    }
+}
+
+#[test]
+fn no_growth_at_any_level(rt: HostRuntime) -> Result<(), Fail> {
+    for row in &pair::LEVELS {
+        let options = options_of(&rt, rt.alloc(), row.options);
+        let refusing = Refusing::all_from(rt.alloc(), 3);
+        let Ok(mut desk) = Desk::reserved(&refusing, 65_536) else {
+            return Err(Fail::from("reserved"));
+        };
+        let (old, new) = (SidePlan::plain(pair::OLD), SidePlan::plain(pair::NEW));
+        let mut sources = PlannedSources::new(old, new, Pace::new(7));
+        let mut out = WriteSink::new(ArrayVec::<u8, 4096>::new());
+        let answer = run_over(options, &mut desk, &mut sources, &mut out);
+        assert!(rt; answer.is_ok(), "{answer:?}");
+        let report = row.report(rt.alloc())?;
+        assert!(rt; out.into_inner().as_slice() == report.as_slice());
+    }
+    Ok(())
+}
+
+#[test]
+fn each_reservation_refused(rt: HostRuntime) {
+    for growth in 0..3 {
+        let refusing = Refusing::new(rt.alloc(), growth);
+        let fault = Desk::reserved(&refusing, 30).err();
+        assert!(rt; fault == Some(DeskFault::Memory), "reservation {growth}");
+    }
+    assert!(rt; Desk::new(rt.alloc()).room() == 0);
+}

@@ -1,0 +1,131 @@
+//! A run over two sound databases, and its right answer.
+ghost use Rattle.std.specs.Prelude.{◌<◌};
+
+use super::trial::Trial;
+use super::{PACES, options_of, run_over};
+use crate::{Pace, PlannedSources, SidePlan};
+use aide_db::{Desk, Side};
+use aide_report::{Outcome, RunFault, WriteSink};
+use std::alloc::{Allocator, Global};
+use std::io::{self, Error, ErrorKind, Write};
+use std::process::Abort;
+
+/// The lines of a configuration, two databases, and what a run over them answers and writes.
+pub(super) struct Row {
+    pub(super) options: &'static [u8],
+    pub(super) old: &'static [u8],
+    pub(super) new: &'static [u8],
+    pub(super) added: u64,
+    pub(super) removed: u64,
+    pub(super) changed: u64,
+    pub(super) total: u64,
+    pub(super) skipped_old: u64,
+    pub(super) skipped_new: u64,
+    pub(super) status: u8,
+    pub(super) openings: u64,
+    pub(super) report: &'static [u8],
+}
+
+/// Takes so many bytes a write, keeps them, and counts how often it is flushed and behind how many bytes.
+#[derive(Drop)]
+pub(super) struct CountingWriter<A: Allocator + Copy> {
+    most: usize,
+    bytes: Vec<u8, A>,
+    flushes: u64,
+    flushed: usize,
+}
+
+impl<A: Allocator + Copy> CountingWriter<A> {
+    pub(super) fn new(alloc: A, most: usize) -> CountingWriter<A> {
+        CountingWriter {
+            most,
+            bytes: Vec::new(alloc),
+            flushes: 0,
+            flushed: 0,
+        }
+    }
+
+    /// Whether it holds these bytes, and was flushed once, behind the last of them.
+    fn is_done_with(&self, bytes: &[u8]) -> bool {
+        self.bytes.as_slice() == bytes && self.flushes == 1 && self.flushed == bytes.len()
+    }
+}
+
+impl<A: Allocator + Copy> Write for CountingWriter<A> {
+    fn write(&mut self, buf: &[u8]) -> io::Result<usize> {
+        let count = buf.len().min(self.most);
+        match self.bytes.extend_from_slice(&buf[..count]) {
+            Ok(()) => Ok(count),
+            Err(_) => Err(Error::from(ErrorKind::OutOfMemory)),
+        }
+    }
+
+    fn flush(&mut self) -> io::Result<()> {
+        self.flushes = self.flushes.saturating_add(1);
+        self.flushed = self.bytes.len();
+        Ok(())
+    }
+}
+
+/// Runs at each pace of reading and writing, and looks at the report, the openings and the flush.
+pub(super) fn assert_written(rt: &impl Abort, alloc: Global, trial: &Trial<'_>) {
+    let mut desk = Desk::new(alloc);
+    for most in &PACES {
+        if *most > 0 {
+            let _ = written_at(rt, alloc, trial, &mut desk, *most);
+        }
+    }
+}
+
+/// Runs at a pace, looks at the report, the openings and the flush, and answers the outcome.
+fn written_at(
+    rt: &impl Abort,
+    alloc: Global,
+    trial: &Trial<'_>,
+    desk: &mut Desk<Global>,
+    most: usize,
+) -> Result<Outcome, RunFault>
+    requires { 0 < most }
+{
+    let old = SidePlan::plain(trial.old);
+    let mut sources = PlannedSources::new(old, SidePlan::plain(trial.new), Pace::new(most));
+    let mut out = WriteSink::new(CountingWriter::new(alloc, most));
+    let answer = run_over(trial.options, desk, &mut sources, &mut out);
+    assert!(rt;
+        out.into_inner().is_done_with(trial.report),
+        "{most} at a time: {answer:?}"
+    );
+    let openings = (sources.openings(Side::Old), sources.openings(Side::New));
+    assert!(rt;
+        openings == (trial.openings, trial.openings),
+        "{openings:?}"
+    );
+    answer
+}
+
+/// Runs at each pace of reading and writing, and looks at the whole answer.
+pub(super) fn assert_reported(rt: &impl Abort, alloc: Global, row: &Row) {
+    let trial = Trial {
+        options: options_of(rt, alloc, row.options),
+        old: row.old,
+        new: row.new,
+        report: row.report,
+        openings: row.openings,
+    };
+    let wanted = Outcome {
+        added: row.added,
+        removed: row.removed,
+        changed: row.changed,
+        total: row.total,
+        skipped_old: row.skipped_old,
+        skipped_new: row.skipped_new,
+    };
+    assert!(rt; wanted.status() == row.status);
+    let mut desk = Desk::new(alloc);
+    for most in &PACES {
+        if *most > 0 {
+            let answer = written_at(rt, alloc, &trial, &mut desk, *most);
+            assert!(rt; answer == Ok(wanted), "{most} at a time: {answer:?}");
+        }
+    }
+}

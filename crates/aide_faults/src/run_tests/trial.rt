@@ -1,0 +1,120 @@
+//! A run over two databases of which something fails or changes, and over the same desk again.
+use super::run_over;
+use crate::{Pace, PlannedSink, PlannedSources, SidePlan};
+use aide_conf::Options;
+use aide_db::{DbFault, DbFaultKind, Desk, Side};
+use aide_report::{MemorySink, RunFault};
+use std::alloc::{Allocator, Global};
+use std::process::Abort;
+
+/// Two sound databases, the options of a run over them, its report, and how often it opens each side.
+#[derive(Clone, Copy)]
+pub(super) struct Trial<'a> {
+    pub(super) options: Options,
+    pub(super) old: &'a [u8],
+    pub(super) new: &'a [u8],
+    pub(super) report: &'a [u8],
+    pub(super) openings: u64,
+}
+
+/// What is wrong with a run: how its databases are given, the fault that it is to answer, and how often each side is opened.
+#[derive(Clone, Copy)]
+pub(super) struct Wrong<'a> {
+    pub(super) old: SidePlan<'a>,
+    pub(super) new: SidePlan<'a>,
+    pub(super) fault: RunFault,
+    pub(super) old_openings: u64,
+    pub(super) new_openings: u64,
+}
+
+impl<'a> Trial<'a> {
+    /// Nothing wrong yet but the fault of a side in an opening.
+    pub(super) fn wrong(self, side: Side, opening: u64, fault: RunFault) -> Wrong<'a> {
+        Wrong {
+            old: SidePlan::plain(self.old),
+            new: SidePlan::plain(self.new),
+            fault,
+            old_openings: opening,
+            new_openings: match side {
+                Side::Old if opening == 1 => 0,
+                _ => opening,
+            },
+        }
+    }
+
+    /// The database of a side.
+    pub(super) fn text(self, side: Side) -> &'a [u8] {
+        match side {
+            Side::Old => self.old,
+            Side::New => self.new,
+        }
+    }
+}
+
+impl<'a> Wrong<'a> {
+    /// The same with another plan for a side.
+    pub(super) fn with(self, side: Side, plan: SidePlan<'a>) -> Wrong<'a> {
+        match side {
+            Side::Old => Wrong { old: plan, ..self },
+            Side::New => Wrong { new: plan, ..self },
+        }
+    }
+}
+
+/// A fault of a database, as a run answers it.
+pub(super) fn database(side: Side, line: u64, kind: DbFaultKind) -> RunFault {
+    RunFault::Database(DbFault { side, line, kind })
+}
+
+/// The number of newlines in the first bytes of a text, plus one.
+pub(super) fn line_at(text: &[u8], bytes: usize) -> u64 {
+    let newlines = text.iter().take(bytes).filter(|byte| **byte == b'\n');
+    (newlines.count() as u64).saturating_add(1)
+}
+
+/// Looks at the fault, the openings, and what went out: before the third opening nothing, not even to a sink that takes nothing,
+/// and later a front of the report, unless a database has changed.
+pub(super) fn assert_stops(rt: &impl Abort, alloc: Global, trial: &Trial<'_>, wrong: &Wrong<'_>) {
+    let mut desk = Desk::new(alloc);
+    let pace = Pace::new(4096);
+    let mut sources = PlannedSources::new(wrong.old, wrong.new, pace);
+    let room = if wrong.old_openings > 2 { u64::MAX } else { 0 };
+    let mut out = PlannedSink::new(MemorySink::new(alloc), pace, room, room > 0);
+    let answer = run_over(trial.options, &mut desk, &mut sources, &mut out);
+    assert!(rt;
+        answer == Err(wrong.fault),
+        "{answer:?} for {:?}",
+        wrong.fault
+    );
+    let is_front = trial.report.starts_with(out.inner().bytes());
+    let is_changed = matches!(wrong.fault, RunFault::Changed(_));
+    assert!(rt; out.failures() == 0 && (is_front || is_changed && room > 0));
+    let openings = (sources.openings(Side::Old), sources.openings(Side::New));
+    assert!(rt;
+        openings == (wrong.old_openings, wrong.new_openings),
+        "{openings:?}"
+    );
+    assert_serves(rt, alloc, trial, &mut desk);
+}
+
+/// Runs over the databases themselves on a desk that was used before, and looks at the report.
+pub(super) fn assert_serves<A: Allocator + Copy>(
+    rt: &impl Abort,
+    alloc: Global,
+    trial: &Trial<'_>,
+    desk: &mut Desk<A>,
+) {
+    let old = SidePlan::plain(trial.old);
+    let mut sources = PlannedSources::new(old, SidePlan::plain(trial.new), Pace::new(4096));
+    let mut out = MemorySink::new(alloc);
+    let answer = run_over(trial.options, desk, &mut sources, &mut out);
+    assert!(rt;
+        answer.is_ok() && out.bytes() == trial.report,
+        "the same desk again: {answer:?}"
+    );
+    let openings = (sources.openings(Side::Old), sources.openings(Side::New));
+    assert!(rt;
+        openings == (trial.openings, trial.openings),
+        "{openings:?}"
+    );
+}

@@ -1,0 +1,471 @@
+//! How deep and how long.
+use super::plain::answer;
+use super::{at, fault_of_file};
+use aide_conf::{ConfFaultKind as Kind, Need};
+use std::alloc::{AllocError, Global};
+use std::process::Abort;
+use std::test::Fail;
+
+mod expanded;
+
+/// A text: a head, a piece so many times, `x` so many times, and a tail; and its first fault.
+struct Long {
+    head: &'static [u8],
+    piece: &'static [u8],
+    times: u32,
+    more: u32,
+    tail: &'static [u8],
+    line: u64,
+    kind: Kind,
+}
+
+/// Such a text without a fault.
+#[derive(Clone, Copy)]
+struct Sound {
+    head: &'static [u8],
+    piece: &'static [u8],
+    times: u32,
+    more: u32,
+    tail: &'static [u8],
+}
+
+const LONG: [Long; 28] = [
+    Long {
+        head: b"",
+        piece: b"@@ifdef A\n",
+        times: 32,
+        more: 0,
+        tail: b"@@ifdef A",
+        line: 33,
+        kind: Kind::TooDeep,
+    },
+    Long {
+        head: b"",
+        piece: b"@@ifndef A\n",
+        times: 32,
+        more: 0,
+        tail: b"@@ifndef A",
+        line: 33,
+        kind: Kind::TooDeep,
+    },
+    Long {
+        head: b"",
+        piece: b"@@if defined A\n",
+        times: 32,
+        more: 0,
+        tail: b"@@if defined A",
+        line: 33,
+        kind: Kind::TooDeep,
+    },
+    Long {
+        head: b"",
+        piece: b"@@if not defined A\n",
+        times: 32,
+        more: 0,
+        tail: b"@@if so",
+        line: 33,
+        kind: Kind::BadDirective,
+    },
+    Long {
+        head: b"",
+        piece: b"@@ifdef A\n",
+        times: 32,
+        more: 0,
+        tail: b"@@if so",
+        line: 33,
+        kind: Kind::TooDeep,
+    },
+    Long {
+        head: b"",
+        piece: b"@@ifdef A\n",
+        times: 32,
+        more: 0,
+        tail: b"@@ifdef",
+        line: 33,
+        kind: Kind::TooDeep,
+    },
+    Long {
+        head: b"",
+        piece: b"@@ifdef A\n",
+        times: 32,
+        more: 0,
+        tail: b"@@ifhost h",
+        line: 33,
+        kind: Kind::LeftOut,
+    },
+    Long {
+        head: b"",
+        piece: b"@@ifdef A\n",
+        times: 32,
+        more: 0,
+        tail: b"@@endif\n@@ifdef A\n@@ifdef A",
+        line: 35,
+        kind: Kind::TooDeep,
+    },
+    Long {
+        head: b"",
+        piece: b"@@ifdef A\n",
+        times: 32,
+        more: 0,
+        tail: b"",
+        line: 33,
+        kind: Kind::MissingEndif,
+    },
+    Long {
+        head: b"@@define A ",
+        piece: b"",
+        times: 0,
+        more: 4097,
+        tail: b"",
+        line: 1,
+        kind: Kind::ValueTooLong,
+    },
+    Long {
+        head: b"@@define A @@{N}",
+        piece: b" ",
+        times: 4097,
+        more: 0,
+        tail: b"@@{N}",
+        line: 1,
+        kind: Kind::ValueTooLong,
+    },
+    Long {
+        head: b"@@define A-B ",
+        piece: b"",
+        times: 0,
+        more: 4097,
+        tail: b"",
+        line: 1,
+        kind: Kind::BadName,
+    },
+    Long {
+        head: b"@@define ",
+        piece: b"",
+        times: 0,
+        more: 65,
+        tail: b" x",
+        line: 1,
+        kind: Kind::BadName,
+    },
+    Long {
+        head: b"@@undef ",
+        piece: b"",
+        times: 0,
+        more: 65,
+        tail: b"",
+        line: 1,
+        kind: Kind::BadName,
+    },
+    Long {
+        head: b"@@ifdef ",
+        piece: b"",
+        times: 0,
+        more: 65,
+        tail: b"\n@@endif",
+        line: 1,
+        kind: Kind::BadName,
+    },
+    Long {
+        head: b"database_in=file:/",
+        piece: b"",
+        times: 0,
+        more: 4096,
+        tail: b"",
+        line: 1,
+        kind: Kind::ValueTooLong,
+    },
+    Long {
+        head: b"@@{",
+        piece: b"",
+        times: 0,
+        more: 65533,
+        tail: b"}",
+        line: 1,
+        kind: Kind::LineTooLong,
+    },
+    Long {
+        head: b"@@{NOPE}#",
+        piece: b"",
+        times: 0,
+        more: 65528,
+        tail: b"",
+        line: 1,
+        kind: Kind::LineTooLong,
+    },
+    Long {
+        head: b"@@nope",
+        piece: b"",
+        times: 0,
+        more: 65530,
+        tail: b"",
+        line: 1,
+        kind: Kind::BadDirective,
+    },
+    Long {
+        head: b"@@nope",
+        piece: b"",
+        times: 0,
+        more: 65531,
+        tail: b"",
+        line: 1,
+        kind: Kind::LineTooLong,
+    },
+    Long {
+        head: b"@@define A ",
+        piece: b"",
+        times: 0,
+        more: 65526,
+        tail: b"",
+        line: 1,
+        kind: Kind::LineTooLong,
+    },
+    Long {
+        head: b"/",
+        piece: b"",
+        times: 0,
+        more: 65536,
+        tail: b"",
+        line: 1,
+        kind: Kind::LineTooLong,
+    },
+    Long {
+        head: b"hello",
+        piece: b"",
+        times: 0,
+        more: 65531,
+        tail: b"\n# behind",
+        line: 1,
+        kind: Kind::BadLine,
+    },
+    Long {
+        head: b"@@ifdef A\n@@ifhost ",
+        piece: b"",
+        times: 0,
+        more: 70000,
+        tail: b"",
+        line: 2,
+        kind: Kind::LeftOut,
+    },
+    Long {
+        head: b"@@ifndef A\n@@endif ",
+        piece: b"",
+        times: 0,
+        more: 65529,
+        tail: b"\n",
+        line: 2,
+        kind: Kind::LineTooLong,
+    },
+    Long {
+        head: b"@@ifndef A\n@@else ",
+        piece: b"",
+        times: 0,
+        more: 65530,
+        tail: b"\n@@endif",
+        line: 2,
+        kind: Kind::LineTooLong,
+    },
+    Long {
+        head: b"@@ifdef A\n@@else\n@@endif ",
+        piece: b"",
+        times: 0,
+        more: 70000,
+        tail: b"",
+        line: 3,
+        kind: Kind::LineTooLong,
+    },
+    Long {
+        head: b"@@ifndef A\n@@else\n@@else ",
+        piece: b"",
+        times: 0,
+        more: 70000,
+        tail: b"",
+        line: 3,
+        kind: Kind::StrayElse,
+    },
+];
+
+const SOUND: [Sound; 14] = [
+    Sound {
+        head: b"",
+        piece: b"@@ifdef A\n@@endif\n",
+        times: 33,
+        more: 0,
+        tail: b"",
+    },
+    Sound {
+        head: b"@@define A ",
+        piece: b"",
+        times: 0,
+        more: 4096,
+        tail: b" ",
+    },
+    Sound {
+        head: b"@@define A ",
+        piece: b"@@{NOPE}",
+        times: 1000,
+        more: 0,
+        tail: b"",
+    },
+    Sound {
+        head: b"@@define A @@{N}",
+        piece: b" ",
+        times: 4096,
+        more: 0,
+        tail: b"@@{N}",
+    },
+    Sound {
+        head: b"@@define ",
+        piece: b"",
+        times: 0,
+        more: 64,
+        tail: b" x",
+    },
+    Sound {
+        head: b"database_in=file:/",
+        piece: b"",
+        times: 0,
+        more: 4095,
+        tail: b"",
+    },
+    Sound {
+        head: b"database_in=file:///",
+        piece: b"",
+        times: 0,
+        more: 4095,
+        tail: b"",
+    },
+    Sound {
+        head: b"@@{",
+        piece: b"",
+        times: 0,
+        more: 65532,
+        tail: b"}",
+    },
+    Sound {
+        head: b"/",
+        piece: b"",
+        times: 0,
+        more: 65535,
+        tail: b"",
+    },
+    Sound {
+        head: b"# ",
+        piece: b"",
+        times: 0,
+        more: 70000,
+        tail: b"",
+    },
+    Sound {
+        head: b"@@ifdef A\n@@ifdef B C\n@@include /x\n",
+        piece: b"",
+        times: 0,
+        more: 70000,
+        tail: b"\n@@endif\n@@endif",
+    },
+    Sound {
+        head: b"@@ifdef A\n@@define ",
+        piece: b"",
+        times: 0,
+        more: 70000,
+        tail: b"\n@@endif",
+    },
+    Sound {
+        head: b"@@ifdef A\n@@else ",
+        piece: b"",
+        times: 0,
+        more: 70000,
+        tail: b"\n@@endif",
+    },
+    Sound {
+        head: b"@@ifndef A\n@@endif ",
+        piece: b"",
+        times: 0,
+        more: 65528,
+        tail: b"\n",
+    },
+];
+
+/// Adds a piece so many times.
+fn repeat(text: &mut Vec<u8>, piece: &[u8], times: u32) -> Result<(), AllocError> {
+    for _ in 0..times {
+        text.extend_from_slice(piece)?;
+    }
+    Ok(())
+}
+
+/// Adds the text of a row.
+fn push_text(text: &mut Vec<u8>, row: Sound) -> Result<(), AllocError> {
+    text.extend_from_slice(row.head)?;
+    repeat(text, row.piece, row.times)?;
+    repeat(text, b"x", row.more)?;
+    text.extend_from_slice(row.tail)?;
+    Ok(())
+}
+
+/// Each text has its fault behind these lines, and the plain program gives the same.
+fn check_long(rt: &impl Abort, alloc: Global, before: &[u8], table: &[Long]) -> Result<(), Fail> {
+    for row in table {
+        let Long {
+            head,
+            piece,
+            times,
+            more,
+            tail,
+            line,
+            kind,
+        } = *row;
+        let mut text = Vec::from_slice(alloc, before)?;
+        push_text(
+            &mut text,
+            Sound {
+                head,
+                piece,
+                times,
+                more,
+                tail,
+            },
+        )?;
+        let wanted = at(line, kind);
+        assert!(rt;
+            fault_of_file(alloc, &text) == Some(wanted),
+            "{head:?} {times} {more} {tail:?}"
+        );
+        let plain = answer(alloc, [b"", &text, b""], Need::Check)?;
+        assert!(rt; plain == Err(wanted), "{head:?} {times} {more} {tail:?}");
+    }
+    Ok(())
+}
+
+/// Each text is read behind these lines, and the plain program reads it.
+fn check_sound(rt: &impl Abort, alloc: Global, before: &[u8], table: &[Sound]) -> Result<(), Fail> {
+    for row in table {
+        let mut text = Vec::from_slice(alloc, before)?;
+        push_text(&mut text, *row)?;
+        assert!(rt;
+            fault_of_file(alloc, &text).is_none(),
+            "{:?} {}",
+            row.head,
+            row.more
+        );
+        let plain = answer(alloc, [b"", &text, b""], Need::Check)?;
+        assert!(rt; plain.is_ok(), "{:?} {}", row.head, row.more);
+    }
+    Ok(())
+}
+
+#[test]
+fn depths_and_lengths(rt: HostRuntime) -> Result<(), Fail> {
+    check_long(&rt, rt.alloc(), b"", &LONG)?;
+    check_sound(&rt, rt.alloc(), b"", &SOUND)
+}
+
+#[test]
+fn a_long_text(rt: HostRuntime) -> Result<(), Fail> {
+    let mut text = Vec::with_capacity(rt.alloc(), 4_194_304)?;
+    repeat(&mut text, b"report_quiet=yes\n", 246_723)?;
+    assert!(rt; fault_of_file(rt.alloc(), &text).is_none());
+    text.clear();
+    repeat(&mut text, b"\n", 4_194_304)?;
+    assert!(rt; fault_of_file(rt.alloc(), &text).is_none());
+    Ok(())
+}
