@@ -1,0 +1,1 @@
+"""Random databases, configurations and command lines, sound and faulty."""

@@ -1,0 +1,143 @@
+"""Limits from outside: memory, descriptors, sizes of files, pipes, devices, files of 2 GB."""
+import os
+import resource
+import subprocess
+import time
+
+from definitions.session import Answer
+from trials import run
+
+from .folder import NEW, OLD, Folder, names
+
+MEGABYTE, GIGABYTE = 2**20, 2**30
+MINIMAL = b'report_level=minimal\n'
+NO_MEMORY, NOT_WRITTEN = b'aide: out of memory\n', b'aide: cannot write the report\n'
+TOO_LARGE = b'aide: the configuration is longer than 4194304 bytes\n'
+DEVICES = [('old', '/dev/zero', b'line too long'), ('new', '/dev/zero', b'line too long'),
+           ('old', '/dev/full', b'line too long'), ('old', '/dev/null', b'no @@begin_db')]
+QUICK = 2
+
+
+def limited(what, most):
+    return lambda: resource.setrlimit(what, (most, most))
+
+
+def is_unborn(answer):
+    """Whether the system could not start the program at all."""
+    return answer.output == b'' and b'aide: ' not in answer.errors and (answer.status < 0 or answer.status == 127)
+
+
+def try_memory(program, tally):
+    """Less and less memory: the right answer, or want of memory with nothing written, or no start at all."""
+    with Folder() as folder:
+        folder.pair()
+        want, answered = folder.wanted(), set()
+        for most in range(64, 32 * 1024, 64):
+            answer = folder.run(program, preexec_fn=limited(resource.RLIMIT_AS, most * 1024))
+            kind = 'right' if answer == want else 'told' if answer == Answer(b'', NO_MEMORY, 22) else 'unborn'
+            is_good = kind != 'unborn' or is_unborn(answer)
+            answered.add(kind)
+            tally.add('little memory', [] if is_good else ['%d KiB gave %r' % (most, answer)])
+        tally.add('little memory, all answers', [] if len(answered) == 3 else ['saw %r alone' % (answered,)])
+
+
+def try_descriptors(program, tally):
+    """So few descriptors that not both databases can be open: of four, three are taken."""
+    with Folder() as folder:
+        folder.pair()
+        few = Answer(b'', b'aide: cannot open the new database %s\n' % folder.at('new'), 18)
+        for most in range(4, 9):
+            want = few if most == 4 else folder.wanted()
+            answer = folder.run(program, preexec_fn=limited(resource.RLIMIT_NOFILE, most))
+            tally.check('few descriptors', answer, want)
+
+
+def try_file_sizes(program, tally):
+    """A report that goes to a file which may not grow over so many bytes."""
+    with Folder() as folder:
+        folder.pair()
+        want = folder.wanted()
+        for most in range(0, len(want.output) + 1):
+            with open(folder.at('out'), 'wb') as out:
+                answer = folder.run(program, stdout=out, restore_signals=False,
+                                    preexec_fn=limited(resource.RLIMIT_FSIZE, most))
+            with open(folder.at('out'), 'rb') as out:
+                given = Answer(out.read(), answer.errors, answer.status)
+            whole = most == len(want.output)
+            tally.check('a file of little room', given, want if whole else Answer(want.output[:most], NOT_WRITTEN, 18))
+
+
+def try_pipes(program, tally):
+    """A reader that goes away after some bytes of a long report."""
+    with Folder() as folder:
+        folder.pair(OLD, names(30000))
+        want = folder.wanted()
+        for most in (1, 100, 4096, 65536, 100000):
+            process = subprocess.Popen([program] + folder.words(), stdin=subprocess.DEVNULL, stdout=subprocess.PIPE,
+                                       stderr=subprocess.PIPE)
+            front = process.stdout.read(most)
+            process.stdout.close()
+            errors = process.stderr.read()
+            process.stderr.close()
+            given = Answer(front, errors, process.wait())
+            tally.check('a pipe whose reader goes', given, Answer(want.output[:most], NOT_WRITTEN, 18))
+
+
+def try_devices(program, tally):
+    """Devices as files: the null device is empty, the others never end a line or give anything."""
+    with Folder() as folder:
+        for name, device, words in DEVICES:
+            folder.pair()
+            os.unlink(folder.at(name))
+            os.symlink(device, folder.at(name))
+            line = b'aide: %s database:1: %s\n' % (name.encode(), words)
+            tally.check('a device as a database', folder.run(program), (b'', line, 24))
+            os.unlink(folder.at(name))
+        folder.pair()
+        answer = run(program, [b'-E', b'-c', b'/dev/zero'])
+        tally.check('a device as a configuration', answer, (b'', TOO_LARGE, 17))
+
+
+def sparse(folder, name, front, size):
+    """A file that begins with some bytes and goes on with NUL bytes that take no room."""
+    folder.write(name, front)
+    os.truncate(folder.at(name), size)
+
+
+def try_large_files(program, tally):
+    """Sparse files of 2 GB."""
+    with Folder() as folder:
+        begun = b'@@begin_db\n@@db_spec name\n'
+        for front, line in ((b'', 1), (begun, 3), (begun + b'/a', 3), (b'@@begin_db\n#', 2)):
+            folder.pair(options=MINIMAL)
+            sparse(folder, 'old', front, 2 * GIGABYTE)
+            started = time.monotonic()
+            answer = folder.run(program)
+            tally.check('a line of 2 GB', answer, (b'', b'aide: old database:%d: line too long\n' % line, 24))
+            tally.add('a line of 2 GB, soon', [] if time.monotonic() - started < QUICK else ['took long'])
+        folder.pair(NEW, NEW, MINIMAL)
+        sparse(folder, 'old', NEW, 2 * GIGABYTE)
+        answer = folder.run(program, preexec_fn=limited(resource.RLIMIT_AS, 64 * MEGABYTE))
+        tally.check('2 GB behind the end', answer, (b'AIDE found NO differences between the two databases.\n', b'', 0))
+        sparse(folder, 'conf', b'', 2 * GIGABYTE)
+        answer = folder.run(program, preexec_fn=limited(resource.RLIMIT_AS, 64 * MEGABYTE))
+        tally.check('a configuration of 2 GB', answer, (b'', TOO_LARGE, 17))
+
+
+def try_surroundings(program, tally):
+    """No environment, no standard input, a working folder that is gone."""
+    with Folder() as folder:
+        folder.pair()
+        gone = folder.at('gone')
+        os.mkdir(gone)
+        tally.check('other surroundings', folder.run(program, env={}), folder.wanted())
+        tally.check('other surroundings', folder.run(program, preexec_fn=lambda: os.close(0)), folder.wanted())
+        tally.check('other surroundings', folder.run(program, cwd=gone, preexec_fn=lambda: os.rmdir(gone)),
+                    folder.wanted())
+
+
+def try_outside(program, tally):
+    for trial in (try_memory, try_descriptors, try_file_sizes, try_pipes):
+        trial(program, tally)
+    for trial in (try_devices, try_large_files, try_surroundings):
+        trial(program, tally)
