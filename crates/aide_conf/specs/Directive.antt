@@ -41,7 +41,7 @@ if_item rest =
     else if same (bytes_before is_blank rest) (codes "not") then not_item (after_blank rest)
     else IfOther
 
--- of a directive's word and the rest of its line
+-- the item of a directive, by its word and the rest of its line
 unfoldable pub item_by : List ℕ → List ℕ → Item
 item_by w rest =
     if same w (codes "define") then Define (bytes_before is_blank rest) (after_blank rest)
@@ -54,11 +54,11 @@ item_by w rest =
     else if is_omitted w then Omitted (begins w (codes "if"))
     else Unknown (begins w (codes "if"))
 
--- of a directive behind its `@@`
+-- the item of a directive, by its bytes behind `@@`
 abbrev pub directive_item : List ℕ → Item
 directive_item bs = item_by (bytes_before is_blank bs) (after_blank bs)
 
--- of a line, stripped
+-- the item of a line, stripped
 unfoldable pub item_of : List ℕ → Item
 item_of line = if is_directive line then directive_item (drop 2 line) else Plain
 

@@ -218,7 +218,7 @@ shape_at (Some line) = shape_of (item_of line)
 abbrev pub seen : Marked → Seen
 seen x = record { shape = shape_at x.place.line; used = x.used; first = x.first }
 
--- those of these places that are in a text
+-- what blocks see of these places, of those in one text
 abbrev pub seen_in : ConfText → List Marked → List Seen
 seen_in text [] = []
 seen_in text (x ∷ xs) = if is_text text x.place.text then seen x ∷ seen_in text xs else seen_in text xs

@@ -7,7 +7,7 @@ use Rattle.aide_db.specs.Count.{one_more}
 use Rattle.aide_db.specs.declared.blocks.Filled.{Filled}
 use Rattle.aide_db.specs.declared.blocks.Filled.TheVariants.{Some, Nothing, Failed}
 
--- of the bytes before and those that are left
+-- A block was read ahead of the bytes that are left, or none was: at the end of the bytes, or where the reel failed.
 abbrev pub IsFilled : List ℕ → List ℕ → List ℕ → Filled → Type 0
 IsFilled bytes left ahead Some = bytes ≡ ahead ++ left
 IsFilled bytes left ahead Nothing = (bytes ≡ []) × (left ≡ [])

@@ -50,12 +50,12 @@ unfoldable pub number_of : List ℕ → Option ℤ
 number_of [] = None
 number_of (first ∷ digits) = if first == 45 then minus_of (natural_of digits) else plain_of (natural_of (first ∷ digits))
 
--- the same form, from 0 to 2^64 - 1
+-- a number that is not below 0
 abbrev pub not_negative : Option ℤ → Option ℕ
 not_negative None = None
 not_negative (Some (pos n)) = Some n
 not_negative (Some (negsuc n)) = None
 
--- a number that is not below 0
+-- the same form, from 0 to 2^64 - 1
 unfoldable pub bits_of : List ℕ → Option ℕ
 bits_of field = not_negative (number_of field)

@@ -8,7 +8,7 @@ use Rattle.aide_db.specs.declared.spans.Spans.{Spans}
 abbrev pub field_at : List ℕ → Span → List ℕ
 field_at line span = take span.len (drop span.start line)
 
--- the first ones, as many as are counted
+-- the first places, as many as are counted
 abbrev pub spans_in : Spans → List Span
 spans_in s = take s.count s.places
 
@@ -20,7 +20,7 @@ fields_at line spans = map (field_at line) spans
 abbrev pub AreSpans : List ℕ → Spans → Type 0
 AreSpans line s = fields_at line (spans_in s) ≡ fields line
 
--- those of a list that is not empty
+-- these are the places of the fields of a list that is not empty
 abbrev pub AreHeldSpans : List ℕ → Spans → Type 0
 AreHeldSpans list s = is_filled list ≡ true → AreSpans list s
 

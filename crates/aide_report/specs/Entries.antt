@@ -89,7 +89,7 @@ abbrev pub type_on : Option Attributes → Option FileType
 type_on None = None
 type_on (Some attributes) = type_in (attributes Ftype)
 
--- by the new entry's type where it has one, otherwise by the old entry's
+-- the word for an entry: by the new one's type where it has one, otherwise by the old one's
 abbrev pub title_of : Pair → List ℕ
 title_of (old, new) = title_word (first_type (type_on new) (type_on old))
 

@@ -26,7 +26,7 @@ pub record Breaks (text : List ℕ) (a b : Sheet) : Type 0 where
   pub adds : Adds front a b
   pub failures : b.failures ≡ counted a.failures
 
--- the same by what the pen was before and is after
+-- what a pen wrote, by whether it had failed before and has failed after
 abbrev pub WroteBy : Bool → Bool → List ℕ → Sheet → Sheet → Type 0
 WroteBy true after text a b = (after ≡ true) × (b ≡ a)
 WroteBy false true text a b = Breaks text a b

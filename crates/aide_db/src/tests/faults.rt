@@ -70,8 +70,8 @@ const REFUSED: [Refused; 23] = [
         kind: DbFaultKind::BadSpec,
     },
     Refused {
-        text: b"@@begin_db\n@@db_spec name \
-          x x x x x x x x x x x x x x x x x x x x x x x x x x x x x x x x x x x x x x x x x x x x x x x x x x x x x x x x x x x x x x x x\n",
+        text: b"@@begin_db\n@@db_spec name x x \
+          x x x x x x x x x x x x x x x x x x x x x x x x x x x x x x x x x x x x x x x x x x x x x x x x x x x x x x x x x x x x x x\n",
         line: 2,
         kind: DbFaultKind::BadSpec,
     },
