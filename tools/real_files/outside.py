@@ -24,7 +24,7 @@ def limited(what, most):
 
 def is_unborn(answer):
     """Whether the system could not start the program at all."""
-    return answer.output == b'' and b'aide: ' not in answer.errors and (answer.status < 0 or answer.status == 127)
+    return answer.output == b'' and not answer.errors.startswith(b'aide: ') and (answer.status < 0 or answer.status == 127)
 
 
 def try_memory(program, tally):
