@@ -1,8 +1,10 @@
 //! The table of attributes: everything that depends on it in the code stands here.
 
 ghost use Rattle.std.specs.Prelude.{◌≡◌, ◌<◌, ◌≤◌, IfSome, None};
-ghost use Rattle.aide_attr.specs.Attr.{number, row_of, name_of, detail_name_of, column_of, bit_of, place_of, form_of};
-ghost use Rattle.aide_attr.specs.Attr.{most_bytes, longest_digest, most_bits, attr_named, attr_of_column, holder_of};
+ghost use Rattle.aide_attr.specs.Attr.{number, row_of, name_of, detail_name_of, column_of, bit_of};
+ghost use Rattle.aide_attr.specs.Attr.{place_of, form_of};
+ghost use Rattle.aide_attr.specs.Attr.{most_bytes, longest_digest, most_bits, attr_named};
+ghost use Rattle.aide_attr.specs.Attr.{attr_of_column, holder_of};
 
 use crate::form::Form;
 
