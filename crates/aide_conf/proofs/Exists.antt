@@ -182,9 +182,7 @@ are_options xs = record { level = refl; switches = by_switch; attrs = by_list }
   where
     by_switch : (s : Switch) → switch_of (options_at xs) s ≡ unwrap_or (last_given (switch_in s) xs) (switch_default s)
     by_switch Grouped = refl
-    by_switch Summarize = refl
-    by_switch Base16 = refl
-    by_switch Quiet = refl
+    by_switch _ = refl
 
     by_list : (l : AttrList) (a : Attr) → has (attrs_of (options_at xs) l) a ≡ has_any (last_given (attrs_in l) xs) a
     by_list IgnoreAdded a = has_list_of IgnoreAdded xs a

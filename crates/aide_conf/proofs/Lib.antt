@@ -17,6 +17,7 @@ pub mod Whole
 pub mod Only
 pub mod SetOf
 pub mod Exists
+pub mod Named
 pub mod Laws
 pub mod MacroExamples
 pub mod Examples

@@ -26,7 +26,7 @@ use Rattle.aide_conf.specs.code.Said.{item}
 use Rattle.aide_conf.specs.Marks.{Marked, value, set_meant, stands_after, is_too_many, line_fault, verdict_fault, IsJudgedWell, expression_in}
 use Rattle.aide_conf.specs.code.Variables.{values_of}
 use Rattle.aide_attr.specs.Table.{HasRoom, IsFull}
-use Rattle.aide_conf.specs.code.Pass.{StandsFor, TakesReading, IsTold, unless_fixed, with_level, with_switch, with_attrs, NamesPath, HasNewGroup, IsMisjudged, HasNoRoom}
+use Rattle.aide_conf.specs.code.Pass.{StandsFor, TakesReading, IsAnswered, unless_fixed, with_level, with_switch, with_attrs, NamesPath, HasNewGroup, IsMisjudged, HasNoRoom}
 use Rattle.aide_conf.proofs.Steps.{options_tell, options_turn, options_list}
 use Rattle.aide_conf.proofs.Stands.{IsQuiet, SetsNone, stands_silent, stands_set, stands_unset, stands_option, stands_fixed, stands_named, stands_defined, few, many, looks}
 use Rattle.aide_conf.proofs.VariableSteps.{room_left, no_room}
@@ -49,8 +49,8 @@ module _ {A : Type 0} (E : Type 0) (earlier : List Marked) (depth : ℕ) (divide
         (record { group = refl; fixing = refl; level = refl; switch = λ t. refl; attrs = λ l v. refl; path = λ d. refl }) (record { value = λ n. refl; name = refl }),
   )
 
-  pub tells : (u : E) (l : Level) → Taken (SetsLevel l) (unless_fixed p (with_level l p.options)) (Ok u)
-  tells u l = (
+  pub sets_level : (u : E) (l : Level) → Taken (SetsLevel l) (unless_fixed p (with_level l p.options)) (Ok u)
+  sets_level u l = (
     None,
     refl,
     refl,
@@ -147,29 +147,29 @@ module _ {A : Type 0} (E : Type 0) (earlier : List Marked) (depth : ℕ) (divide
   silent : (r : Reading) → IsQuiet r → SetsNone r → expression_in r ≡ None → (u : E) → line_fault earlier depth divided r None ≡ None → Taken r p (Ok u)
   silent r q n e u f = (None, subst (λ z. IsJudgedWell (stands_after earlier) z None) (sym e) refl, f, λ x h w. stands_silent earlier x p s r h q n)
 
-  told : (r : Reading) → IsQuiet r → SetsNone r → expression_in r ≡ None → (result : Result E ConfFaultKind) → IsTold (line_fault earlier depth divided r None) result → Taken r p result
-  told r q n e (Ok u) h = silent r q n e u h
-  told r q n e (Err kind) (inl h) = inl (None, subst (λ z. IsJudgedWell (stands_after earlier) z None) (sym e) refl, h)
-  told r q n e (Err kind) (inr h) = inr h
+  answered : (r : Reading) → IsQuiet r → SetsNone r → expression_in r ≡ None → (result : Result E ConfFaultKind) → IsAnswered (line_fault earlier depth divided r None) result → Taken r p result
+  answered r q n e (Ok u) h = silent r q n e u h
+  answered r q n e (Err kind) (inl h) = inl (None, subst (λ z. IsJudgedWell (stands_after earlier) z None) (sym e) refl, h)
+  answered r q n e (Err kind) (inr h) = inr h
 
-  pub told_open : (good : Bool) (result : Result E ConfFaultKind) → IsTold (line_fault [] depth divided (OpensBlock good) None) result → Taken (OpensBlock good) p result
-  told_open good = told (OpensBlock good) (record { group = refl; fixing = refl; level = refl; switch = λ t. refl; attrs = λ l v. refl; path = λ d. refl }) (record { value = λ n. refl; name = refl }) refl
+  pub answered_open : (good : Bool) (result : Result E ConfFaultKind) → IsAnswered (line_fault [] depth divided (OpensBlock good) None) result → Taken (OpensBlock good) p result
+  answered_open good = answered (OpensBlock good) (record { group = refl; fixing = refl; level = refl; switch = λ t. refl; attrs = λ l v. refl; path = λ d. refl }) (record { value = λ n. refl; name = refl }) refl
 
-  pub told_other : (used : Bool) (result : Result E ConfFaultKind) → IsTold (line_fault [] depth divided (if used then Faulty BadDirective else OpensBlock true) None) result
+  pub answered_other : (used : Bool) (result : Result E ConfFaultKind) → IsAnswered (line_fault [] depth divided (if used then Faulty BadDirective else OpensBlock true) None) result
       → Taken (if used then Faulty BadDirective else OpensBlock true) p result
-  told_other true (Ok u) h = let bad : Some BadDirective ≡ None = h in cc
-  told_other true (Err k) (inl h) = let e : BadDirective ≡ k = cc in subst (λ z. Taken (Faulty BadDirective) p (Err z)) e (faulty BadDirective p)
-  told_other true (Err k) (inr h) = inr h
-  told_other false result h = told_open true result h
+  answered_other true (Ok u) h = let bad : Some BadDirective ≡ None = h in cc
+  answered_other true (Err k) (inl h) = let e : BadDirective ≡ k = cc in subst (λ z. Taken (Faulty BadDirective) p (Err z)) e (faulty BadDirective p)
+  answered_other true (Err k) (inr h) = inr h
+  answered_other false result h = answered_open true result h
 
-  pub told_divide : (result : Result E ConfFaultKind) → IsTold (line_fault [] depth divided DividesBlock None) result → Taken DividesBlock p result
-  told_divide = told DividesBlock (record { group = refl; fixing = refl; level = refl; switch = λ t. refl; attrs = λ l v. refl; path = λ d. refl }) (record { value = λ n. refl; name = refl }) refl
+  pub answered_divide : (result : Result E ConfFaultKind) → IsAnswered (line_fault [] depth divided DividesBlock None) result → Taken DividesBlock p result
+  answered_divide = answered DividesBlock (record { group = refl; fixing = refl; level = refl; switch = λ t. refl; attrs = λ l v. refl; path = λ d. refl }) (record { value = λ n. refl; name = refl }) refl
 
-  pub told_close : (result : Result E ConfFaultKind) → IsTold (line_fault [] depth divided ClosesBlock None) result → Taken ClosesBlock p result
-  told_close = told ClosesBlock (record { group = refl; fixing = refl; level = refl; switch = λ t. refl; attrs = λ l v. refl; path = λ d. refl }) (record { value = λ n. refl; name = refl }) refl
+  pub answered_close : (result : Result E ConfFaultKind) → IsAnswered (line_fault [] depth divided ClosesBlock None) result → Taken ClosesBlock p result
+  answered_close = answered ClosesBlock (record { group = refl; fixing = refl; level = refl; switch = λ t. refl; attrs = λ l v. refl; path = λ d. refl }) (record { value = λ n. refl; name = refl }) refl
 
   -- what is refused or has no effect
-  pub refused_if : (b : Bool) (kind : ConfFaultKind) (result : Result E ConfFaultKind) → IsTold (if b then Some kind else None) result → Taken (if b then Faulty kind else Nothing) p result
+  pub refused_if : (b : Bool) (kind : ConfFaultKind) (result : Result E ConfFaultKind) → IsAnswered (if b then Some kind else None) result → Taken (if b then Faulty kind else Nothing) p result
   refused_if true kind (Ok u) h = let bad : Some kind ≡ None = h in cc
   refused_if true kind (Err k) (inl h) = let e : kind ≡ k = cc in subst (λ z. Taken (Faulty kind) p (Err z)) e (faulty kind p)
   refused_if true kind (Err k) (inr h) = inr h

@@ -1,3 +1,4 @@
+-- What the code keeps on its way. No clause of a public call cites it.
 pub mod Variables
 pub mod Replacing
 pub mod Expanded

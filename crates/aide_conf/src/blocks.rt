@@ -1,7 +1,8 @@
 //! The open blocks of a text.
 
 ghost use Rattle.std.specs.Prelude.{◌≡◌, length, [], OnOk};
-ghost use Rattle.aide_conf.specs.code.Stack.{frames_of, top_used, top_divided, opened, divided_at, closed_at};
+ghost use Rattle.aide_conf.specs.code.Stack.{frames_of, top_used, top_divided, opened, divided_at};
+ghost use Rattle.aide_conf.specs.code.Stack.{closed_at};
 
 use std::alloc::{AllocError, Allocator};
 

@@ -61,7 +61,8 @@ fn take_value<A: Allocator + Copy>(
     found: Found<'_>,
     variables: &Table<Vec<u8, A>, A>,
 ) -> Result<(), AllocError>
-    ensures { OnOk result (HasTaken kept.old (found.entry.before.now ++ value_by (values_of variables.now) found.entry.name.now) kept.new) }
+    ensures { OnOk result (HasTaken kept.old (found.entry.before.now
+        ++ value_by (values_of variables.now) found.entry.name.now) kept.new) }
 {
     kept.extend(found.before)?;
     if let Some(value) = variables.look(found.name) {

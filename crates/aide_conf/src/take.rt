@@ -1,6 +1,7 @@
 //! The lines of a configuration, taken one after another.
 
-ghost use Rattle.std.specs.Prelude.{◌≡◌, ◌≢◌, ℕ, List, Bool, [], Some, None, Err, true, false, not, ◌||◌, ◌&&◌};
+ghost use Rattle.std.specs.Prelude.{◌≡◌, ◌≢◌, ℕ, List, Bool, [], Some, None, Err, true, false, not};
+ghost use Rattle.std.specs.Prelude.{◌||◌, ◌&&◌};
 ghost use Rattle.std.specs.Prelude.{nat_lt, length, OnOk, IsSome, is_none, if◌then◌else◌};
 ghost use Rattle.aide_attr.specs.Name.{is_word};
 ghost use Rattle.aide_conf.specs.declared.task.Need.{Need};
@@ -12,13 +13,16 @@ ghost use Rattle.aide_conf.specs.Limits.{deepest};
 ghost use Rattle.aide_conf.specs.Lines.{places_of};
 ghost use Rattle.aide_conf.specs.Reading.{OpensBlock, DividesBlock, ClosesBlock, expanded_reading};
 ghost use Rattle.aide_conf.specs.Lines.{strip};
-ghost use Rattle.aide_conf.specs.Directive.{IfOther, item_chooses, item_grows, item_reading, item_text};
+ghost use Rattle.aide_conf.specs.Directive.{IfOther, item_chooses, item_grows, item_reading};
+ghost use Rattle.aide_conf.specs.Directive.{item_text};
 ghost use Rattle.aide_conf.specs.Directive.{set_reading, shape_of, unset_reading};
 ghost use Rattle.aide_conf.specs.code.Said.{item};
 ghost use Rattle.aide_conf.specs.code.Replacing.{expansion_after};
 ghost use Rattle.aide_conf.specs.Marks.{Marked, is_defined, line_fault, missing, seen_in, value};
-ghost use Rattle.aide_conf.specs.code.Stack.{IsOpen, closed_at, divided_at, frames_after, frames_of, opened, top_divided, top_used};
-ghost use Rattle.aide_conf.specs.code.Pass.{StandsFor, IsTold, TakesAll, TakesOne, TakesReading, fault_of, place_at};
+ghost use Rattle.aide_conf.specs.code.Stack.{IsOpen, closed_at, divided_at, frames_after};
+ghost use Rattle.aide_conf.specs.code.Stack.{frames_of, opened, top_divided, top_used};
+ghost use Rattle.aide_conf.specs.code.Pass.{StandsFor, IsAnswered, TakesAll, TakesOne};
+ghost use Rattle.aide_conf.specs.code.Pass.{TakesReading, fault_of, place_at};
 
 use crate::blocks::Blocks;
 use crate::directive::{Directive, read_directive};
@@ -32,13 +36,14 @@ use aide_attr::{TableFault, is_word};
 use std::alloc::Allocator;
 
 /// How many blocks may be open.
-const MOST_BLOCKS: usize = 32;
+const DEEPEST: usize = 32;
 
 impl<A: Allocator + Copy> Pass<A> {
     /// Takes a line that is no directive, after expansion.
     fn take_plain(&mut self, line: &[u8]) -> Result<(), ConfFaultKind>
         ensures { (earlier : List Marked) (depth : ℕ) (divided : Bool) → StandsFor earlier self.old
-            → TakesReading earlier depth divided (expanded_reading (strip (expansion_after (value earlier) 0 line.now))) self.new result }
+            → TakesReading earlier depth divided (expanded_reading
+            (strip (expansion_after (value earlier) 0 line.now))) self.new result }
     {
         match expand_line(self.alloc, line, &self.variables) {
             Err(_) => Err(ConfFaultKind::Memory),
@@ -54,8 +59,10 @@ impl<A: Allocator + Copy> Pass<A> {
     /// Gives a variable the expansion of a text.
     fn define_variable(&mut self, name: &[u8], text: &[u8]) -> Result<(), ConfFaultKind>
         ensures memory { result ≡ Err Memory → is_word name.now ≡ true }
-        ensures taken { (earlier : List Marked) (depth : ℕ) (divided : Bool) → StandsFor earlier self.old
-            → TakesReading earlier depth divided (set_reading name.now (expansion_after (value earlier) 0 text.now)) self.new result }
+        ensures taken { (earlier : List Marked) (depth : ℕ) (divided : Bool)
+            → StandsFor earlier self.old
+            → TakesReading earlier depth divided (set_reading name.now
+            (expansion_after (value earlier) 0 text.now)) self.new result }
     {
         if !is_word(name) {
             return Err(ConfFaultKind::BadName);
@@ -74,7 +81,8 @@ impl<A: Allocator + Copy> Pass<A> {
     /// Takes a variable away.
     fn drop_variable(&mut self, name: &[u8]) -> Result<(), ConfFaultKind>
         ensures memory { result ≢ Err Memory }
-        ensures taken { (earlier : List Marked) (depth : ℕ) (divided : Bool) → StandsFor earlier self.old
+        ensures taken { (earlier : List Marked) (depth : ℕ) (divided : Bool)
+            → StandsFor earlier self.old
             → TakesReading earlier depth divided (unset_reading name.now) self.new result }
     {
         if !is_word(name) {
@@ -86,7 +94,8 @@ impl<A: Allocator + Copy> Pass<A> {
 
     /// Whether a variable is defined.
     fn is_defined(&self, name: &[u8]) -> bool
-        ensures { (earlier : List Marked) → StandsFor earlier self.now → result ≡ is_defined earlier name.now }
+        ensures { (earlier : List Marked) → StandsFor earlier self.now
+            → result ≡ is_defined earlier name.now }
     {
         self.variables.look(name).is_some()
     }
@@ -98,14 +107,17 @@ impl<A: Allocator + Copy> Pass<A> {
         directive: Directive<'_>,
     ) -> Result<(), ConfFaultKind>
         ensures taken { (earlier : List Marked) → StandsFor earlier self.old
-            → TakesReading earlier (length (frames_of blocks.old)) (top_divided (frames_of blocks.old))
+            → TakesReading earlier (length (frames_of blocks.old))
+            (top_divided (frames_of blocks.old))
             (item_reading (top_used (frames_of blocks.old)) (item directive.entry)
             (expansion_after (value earlier) 0 (item_text [] (item directive.entry))))
             self.new result }
         ensures memory { result ≡ Err Memory
-            → item_grows (top_used (frames_of blocks.old)) (length (frames_of blocks.old)) (item directive.entry) ≡ true }
+            → item_grows (top_used (frames_of blocks.old)) (length (frames_of blocks.old))
+            (item directive.entry) ≡ true }
         ensures blocks { (earlier : List Marked) → StandsFor earlier self.old
-            → OnOk result (frames_of blocks.new ≡ frames_after (shape_of (item directive.entry)) (top_used (frames_of blocks.old))
+            → OnOk result (frames_of blocks.new ≡ frames_after (shape_of (item directive.entry))
+            (top_used (frames_of blocks.old))
             (item_chooses (is_defined earlier) (item directive.entry)) (frames_of blocks.old)) }
     {
         let used = blocks.is_used();
@@ -150,9 +162,11 @@ impl<A: Allocator + Copy> Pass<A> {
 
     /// Takes a line, stripped.
     fn take_line(&mut self, blocks: &mut Blocks<A>, line: &[u8]) -> Result<(), ConfFaultKind>
-        ensures { (need : Need) (earlier : List Marked) (text : ConfText) (n : ℕ) → StandsFor earlier self.old
+        ensures { (need : Need) (earlier : List Marked) (text : ConfText) (n : ℕ)
+            → StandsFor earlier self.old
             → IsOpen (seen_in text earlier) (frames_of blocks.old)
-            → TakesOne need earlier (place_at text n (Some line.now)) self.new (frames_of blocks.new) result }
+            → TakesOne need earlier (place_at text n (Some line.now)) self.new
+            (frames_of blocks.new) result }
     {
         if is_skipped(line) {
             return Ok(());
@@ -175,7 +189,8 @@ impl<A: Allocator + Copy> Pass<A> {
         ensures taken { (earlier : List Marked) (n : ℕ) → StandsFor earlier self.now
             → IsOpen (seen_in text earlier) (frames_of blocks.now)
             → TakesOne need earlier (place_at text n None) self.now (frames_of blocks.now) result }
-        ensures named { need ≡ Compare → text ≡ After → OnOk result (IsSome self.now.old_path × IsSome self.now.new_path) }
+        ensures named { need ≡ Compare → text ≡ After
+            → OnOk result (IsSome self.now.old_path × IsSome self.now.new_path) }
     {
         if blocks.depth() > 0 {
             return Err(ConfFaultKind::MissingEndif);
@@ -192,7 +207,8 @@ impl<A: Allocator + Copy> Pass<A> {
 
     /// Asks for both databases.
     fn need_databases(&self) -> Result<(), ConfFaultKind>
-        ensures lacks { fault_of result ≡ missing (is_none self.now.old_path) (is_none self.now.new_path) }
+        ensures lacks { fault_of result ≡ missing (is_none self.now.old_path)
+            (is_none self.now.new_path) }
         ensures named { OnOk result (IsSome self.now.old_path × IsSome self.now.new_path) }
     {
         if self.old_path.is_none() {
@@ -211,9 +227,11 @@ impl<A: Allocator + Copy> Pass<A> {
         bytes: &[u8],
         need: Need,
     ) -> Result<(), ConfFault>
-        ensures taken { (earlier : List Marked) → seen_in text earlier ≡ [] → StandsFor earlier self.old
+        ensures taken { (earlier : List Marked) → seen_in text earlier ≡ []
+            → StandsFor earlier self.old
             → TakesAll need earlier (places_of text bytes.now) self.new result }
-        ensures named { need ≡ Compare → text ≡ After → OnOk result (IsSome self.new.old_path × IsSome self.new.new_path) }
+        ensures named { need ≡ Compare → text ≡ After
+            → OnOk result (IsSome self.new.old_path × IsSome self.new.new_path) }
     {
         let mut blocks = Blocks::new(self.alloc);
         let mut rest = bytes;
@@ -236,7 +254,7 @@ impl<A: Allocator + Copy> Pass<A> {
 /// Refuses a directive that is used, or whose word begins with `if`.
 fn refuse(used: bool, begins_with_if: bool, kind: ConfFaultKind) -> Result<(), ConfFaultKind>
     ensures memory { kind ≢ Memory → result ≢ Err Memory }
-    ensures told { IsTold (if used || begins_with_if then Some kind else None) result }
+    ensures answered { IsAnswered (if used || begins_with_if then Some kind else None) result }
 {
     if used || begins_with_if {
         return Err(kind);
@@ -250,13 +268,16 @@ fn open_block<A: Allocator + Copy>(
     name: &[u8],
     first: bool,
 ) -> Result<(), ConfFaultKind>
-    ensures told { IsTold (line_fault [] (length (frames_of blocks.old)) (top_divided (frames_of blocks.old))
+    ensures answered { IsAnswered (line_fault [] (length (frames_of blocks.old))
+        (top_divided (frames_of blocks.old))
         (OpensBlock (not (top_used (frames_of blocks.old)) || is_word name.now)) None) result }
     ensures memory { result ≡ Err Memory
-        → (nat_lt (length (frames_of blocks.old)) deepest && (not (top_used (frames_of blocks.old)) || is_word name.now)) ≡ true }
-    ensures opened { OnOk result (frames_of blocks.new ≡ opened (top_used (frames_of blocks.old)) first (frames_of blocks.old)) }
+        → (nat_lt (length (frames_of blocks.old)) deepest
+        && (not (top_used (frames_of blocks.old)) || is_word name.now)) ≡ true }
+    ensures opened { OnOk result (frames_of blocks.new
+        ≡ opened (top_used (frames_of blocks.old)) first (frames_of blocks.old)) }
 {
-    if blocks.depth() >= MOST_BLOCKS {
+    if blocks.depth() >= DEEPEST {
         return Err(ConfFaultKind::TooDeep);
     }
     let used = blocks.is_used();
@@ -271,11 +292,14 @@ fn open_block<A: Allocator + Copy>(
 
 /// Opens a block whose condition is out of form, which only an unused part passes over.
 fn open_other<A: Allocator + Copy>(blocks: &mut Blocks<A>) -> Result<(), ConfFaultKind>
-    ensures told { IsTold (line_fault [] (length (frames_of blocks.old)) (top_divided (frames_of blocks.old))
+    ensures answered { IsAnswered (line_fault [] (length (frames_of blocks.old))
+        (top_divided (frames_of blocks.old))
         (item_reading (top_used (frames_of blocks.old)) IfOther []) None) result }
     ensures memory { result ≡ Err Memory
-        → (nat_lt (length (frames_of blocks.old)) deepest && not (top_used (frames_of blocks.old))) ≡ true }
-    ensures opened { OnOk result (frames_of blocks.new ≡ opened (top_used (frames_of blocks.old)) false (frames_of blocks.old)) }
+        → (nat_lt (length (frames_of blocks.old)) deepest
+        && not (top_used (frames_of blocks.old))) ≡ true }
+    ensures opened { OnOk result (frames_of blocks.new
+        ≡ opened (top_used (frames_of blocks.old)) false (frames_of blocks.old)) }
 {
     if blocks.is_used() {
         return Err(ConfFaultKind::BadDirective);
@@ -285,7 +309,8 @@ fn open_other<A: Allocator + Copy>(blocks: &mut Blocks<A>) -> Result<(), ConfFau
 
 /// Begins the second part of the innermost block.
 fn divide_block<A: Allocator + Copy>(blocks: &mut Blocks<A>) -> Result<(), ConfFaultKind>
-    ensures told { IsTold (line_fault [] (length (frames_of blocks.old)) (top_divided (frames_of blocks.old)) DividesBlock None) result }
+    ensures answered { IsAnswered (line_fault [] (length (frames_of blocks.old))
+        (top_divided (frames_of blocks.old)) DividesBlock None) result }
     ensures memory { result ≢ Err Memory }
     ensures divided { OnOk result (frames_of blocks.new ≡ divided_at (frames_of blocks.old)) }
 {
@@ -298,7 +323,8 @@ fn divide_block<A: Allocator + Copy>(blocks: &mut Blocks<A>) -> Result<(), ConfF
 
 /// Closes the innermost block.
 fn close_block<A: Allocator + Copy>(blocks: &mut Blocks<A>) -> Result<(), ConfFaultKind>
-    ensures told { IsTold (line_fault [] (length (frames_of blocks.old)) (top_divided (frames_of blocks.old)) ClosesBlock None) result }
+    ensures answered { IsAnswered (line_fault [] (length (frames_of blocks.old))
+        (top_divided (frames_of blocks.old)) ClosesBlock None) result }
     ensures memory { result ≢ Err Memory }
     ensures closed { OnOk result (frames_of blocks.new ≡ closed_at (frames_of blocks.old)) }
 {

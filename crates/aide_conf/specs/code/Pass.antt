@@ -28,7 +28,7 @@ use Rattle.std.specs.List.{list_any}
 use Rattle.std.specs.FinMap as finmap
 use Rattle.aide_attr.specs.declared.set.AttrSet.{AttrSet}
 use Rattle.aide_attr.specs.declared.level.Level.{Level}
-use Rattle.aide_attr.specs.Groups.{Table, names_of, IsFull}
+use Rattle.aide_attr.specs.Groups.{Sets, names_of, IsFull}
 use Rattle.aide_attr.specs.declared.attr.Attr.{Attr}
 use Rattle.aide_attr.specs.declared.expression.ExprFault.{ExprFault}
 use Rattle.aide_attr.specs.Expression.{IsFault}
@@ -75,7 +75,7 @@ abbrev pub text_at : {A : Type 0} → Option (String A) → Option (List ℕ)
 text_at o = option_map (λ t. string_bytes t) o
 
 -- the table has the groups that these places define
-pub record HasGroups (xs : List Marked) (table : Table) : Type 0 where
+pub record HasGroups (xs : List Marked) (table : Sets) : Type 0 where
   pub sets : (n : List ℕ) → finmap.get table n ≡ group xs n
   pub known : (n : List ℕ) → list_any (same n) (group_names xs) ≡ finmap.contains_key table n
   pub size : finmap.len table ≡ length (group_names xs)
@@ -140,9 +140,9 @@ fault_of (Ok u) = None
 fault_of (Err kind) = Some kind
 
 -- no fault, or this one, or want of memory
-abbrev pub IsTold : {E : Type 0} → Option ConfFaultKind → Result E ConfFaultKind → Type 0
-IsTold fault (Ok u) = fault ≡ None
-IsTold fault (Err kind) = (fault ≡ Some kind) ⊎ (kind ≡ Memory)
+abbrev pub IsAnswered : {E : Type 0} → Option ConfFaultKind → Result E ConfFaultKind → Type 0
+IsAnswered fault (Ok u) = fault ≡ None
+IsAnswered fault (Err kind) = (fault ≡ Some kind) ⊎ (kind ≡ Memory)
 
 -- What is taken where this is what a line says, so deep in blocks, and in the second part of the innermost or not.
 abbrev pub TakesReading : {A E : Type 0} → List Marked → ℕ → Bool → Reading → Pass A → Result E ConfFaultKind → Type 0

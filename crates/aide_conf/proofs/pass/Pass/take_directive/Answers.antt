@@ -8,7 +8,7 @@ use Rattle.aide_conf.specs.code.Replacing.{expansion_after}
 use Rattle.aide_conf.specs.Marks.{value}
 use Rattle.aide_conf.specs.Reading.{Faulty, Nothing, OpensBlock, DividesBlock, ClosesBlock}
 use Rattle.aide_conf.specs.code.Stack.{frames_of, top_used, top_divided}
-use Rattle.aide_conf.proofs.Takes.{by_item, nothing, told_open, told_other, told_divide, told_close, refused_if}
+use Rattle.aide_conf.proofs.Takes.{by_item, nothing, answered_open, answered_other, answered_divide, answered_close, refused_if}
 use Rattle.aide_conf.proofs.pass.Pass.take_directive.Goals as goal
 
 pub returns-then-used-clause-taken : goal.returns-then-used-clause-taken
@@ -52,32 +52,32 @@ returns-in-IfDef-clause-taken g c =
     let fs = frames_of c.args.blocks.now in
     let good = not (top_used fs) || is_word c.in-IfDef.name.now in
     λ earlier s. by_item earlier fs c.args.directive (code.IfDef c.in-IfDef.name) (OpensBlock good) c.args.self.now c.open_block.result c.in-IfDef.is refl
-    (told_open (Unit {0}) earlier (length fs) (top_divided fs) _ s good c.open_block.result c.open_block.ensures.told)
+    (answered_open (Unit {0}) earlier (length fs) (top_divided fs) _ s good c.open_block.result c.open_block.ensures.answered)
 
 pub returns-in-IfNotDef-clause-taken : goal.returns-in-IfNotDef-clause-taken
 returns-in-IfNotDef-clause-taken g c =
     let fs = frames_of c.args.blocks.now in
     let good = not (top_used fs) || is_word c.in-IfNotDef.name.now in
     λ earlier s. by_item earlier fs c.args.directive (code.IfNotDef c.in-IfNotDef.name) (OpensBlock good) c.args.self.now c.open_block-in-IfNotDef.result c.in-IfNotDef.is refl
-    (told_open (Unit {0}) earlier (length fs) (top_divided fs) _ s good c.open_block-in-IfNotDef.result c.open_block-in-IfNotDef.ensures.told)
+    (answered_open (Unit {0}) earlier (length fs) (top_divided fs) _ s good c.open_block-in-IfNotDef.result c.open_block-in-IfNotDef.ensures.answered)
 
 pub returns-in-IfOther-clause-taken : goal.returns-in-IfOther-clause-taken
 returns-in-IfOther-clause-taken g c =
     let fs = frames_of c.args.blocks.now in
     λ earlier s. by_item earlier fs c.args.directive code.IfOther (if top_used fs then Faulty BadDirective else OpensBlock true) c.args.self.now c.open_other.result c.in-IfOther.is refl
-    (told_other (Unit {0}) earlier (length fs) (top_divided fs) _ s (top_used fs) c.open_other.result c.open_other.ensures.told)
+    (answered_other (Unit {0}) earlier (length fs) (top_divided fs) _ s (top_used fs) c.open_other.result c.open_other.ensures.answered)
 
 pub returns-in-Else-clause-taken : goal.returns-in-Else-clause-taken
 returns-in-Else-clause-taken g c =
     let fs = frames_of c.args.blocks.now in
     λ earlier s. by_item earlier fs c.args.directive code.Else DividesBlock c.args.self.now c.divide_block.result c.in-Else.is refl
-    (told_divide (Unit {0}) earlier (length fs) (top_divided fs) _ s c.divide_block.result c.divide_block.ensures.told)
+    (answered_divide (Unit {0}) earlier (length fs) (top_divided fs) _ s c.divide_block.result c.divide_block.ensures.answered)
 
 pub returns-in-EndIf-clause-taken : goal.returns-in-EndIf-clause-taken
 returns-in-EndIf-clause-taken g c =
     let fs = frames_of c.args.blocks.now in
     λ earlier s. by_item earlier fs c.args.directive code.EndIf ClosesBlock c.args.self.now c.close_block.result c.in-EndIf.is refl
-    (told_close (Unit {0}) earlier (length fs) (top_divided fs) _ s c.close_block.result c.close_block.ensures.told)
+    (answered_close (Unit {0}) earlier (length fs) (top_divided fs) _ s c.close_block.result c.close_block.ensures.answered)
 
 pub returns-in-Omitted-clause-taken : goal.returns-in-Omitted-clause-taken
 returns-in-Omitted-clause-taken g c =
@@ -85,7 +85,7 @@ returns-in-Omitted-clause-taken g c =
     let b = c.is_used-used.result || c.in-Omitted.begins_with_if in
     λ earlier s. by_item earlier fs c.args.directive (code.Omitted c.in-Omitted.begins_with_if) (if b then Faulty LeftOut else Nothing) c.args.self.now c.refuse.result c.in-Omitted.is
     (ap (λ z. if z || c.in-Omitted.begins_with_if then Faulty LeftOut else Nothing) c.is_used-used.ensures)
-    (refused_if (Unit {0}) earlier (length fs) (top_divided fs) _ s b LeftOut c.refuse.result c.refuse.ensures.told)
+    (refused_if (Unit {0}) earlier (length fs) (top_divided fs) _ s b LeftOut c.refuse.result c.refuse.ensures.answered)
 
 pub returns-in-Unknown-clause-taken : goal.returns-in-Unknown-clause-taken
 returns-in-Unknown-clause-taken g c =
@@ -93,4 +93,4 @@ returns-in-Unknown-clause-taken g c =
     let b = c.is_used-used.result || c.in-Unknown.begins_with_if in
     λ earlier s. by_item earlier fs c.args.directive (code.Unknown c.in-Unknown.begins_with_if) (if b then Faulty BadDirective else Nothing) c.args.self.now c.refuse-in-Unknown.result c.in-Unknown.is
     (ap (λ z. if z || c.in-Unknown.begins_with_if then Faulty BadDirective else Nothing) c.is_used-used.ensures)
-    (refused_if (Unit {0}) earlier (length fs) (top_divided fs) _ s b BadDirective c.refuse-in-Unknown.result c.refuse-in-Unknown.ensures.told)
+    (refused_if (Unit {0}) earlier (length fs) (top_divided fs) _ s b BadDirective c.refuse-in-Unknown.result c.refuse-in-Unknown.ensures.answered)
