@@ -2,7 +2,7 @@ mod Examples
 mod DatabaseExamples
 mod ValueExamples
 pub mod LinesLemmas
-pub mod BlocksLemmas
+pub mod BlockReaderLemmas
 pub mod BlankLemmas
 pub mod HashLemmas
 pub mod SpanLemmas

@@ -11,7 +11,7 @@ use Rattle.sha2.specs.declared.Sha256.{Sha256}
 use Rattle.std.proofs.lemmas.List.{length-append}
 use Rattle.std.proofs.lemmas.List.Elements.{All-append}
 use Rattle.aide_db.specs.TakeLine.{HasNoNewline, HaveBegun, Begins}
-use Rattle.aide_db.specs.Blocks.{Gives}
+use Rattle.aide_db.specs.NextBlock.{Gives}
 use Rattle.aide_db.specs.declared.limits.Limits.{Limits}
 use Rattle.aide_db.specs.Piece.{IsPiece}
 

@@ -7,6 +7,7 @@ pub mod Values
 pub mod Lent
 pub mod Entry
 pub mod Database
+pub mod Codes
 pub mod Columns
 pub mod DeskView
 pub mod Desk
@@ -15,7 +16,7 @@ pub mod TakeLine
 pub mod Cause
 pub mod Memory
 pub mod Parts
-pub mod Place
+pub mod Stage
 pub mod Judge
 pub mod Holds
 pub mod Giving
@@ -30,11 +31,11 @@ pub mod Piece
 pub mod Spans
 pub mod Hashed
 pub mod Accept
-pub mod BlocksView
-pub mod Blocks
+pub mod BlockReaderView
+pub mod NextBlock
 pub mod Takes
 pub mod Fault
-pub mod Reading
+pub mod ReaderView
 pub mod Told
 pub mod Side
 pub mod Attributes

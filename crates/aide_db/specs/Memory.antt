@@ -3,10 +3,10 @@ use Rattle.std.specs.Prelude.{◌≡◌, Bool, false, Result, Ok, Err}
 use Rattle.aide_db.specs.Cause.{cause_of, from_memory}
 use Rattle.aide_db.specs.declared.fault.DbFault.{DbFault}
 use Rattle.aide_db.specs.declared.fault.DbFaultKind.{DbFaultKind}
-use Rattle.aide_db.specs.declared.place.Place.{Place}
-use Rattle.aide_db.specs.declared.place.Place.TheVariants as places
-use Rattle.aide_db.specs.declared.place.Progress.{Progress}
-use Rattle.aide_db.specs.declared.place.Progress.TheVariants as steps
+use Rattle.aide_db.specs.declared.stage.Stage.{Stage}
+use Rattle.aide_db.specs.declared.stage.Stage.TheVariants as stages
+use Rattle.aide_db.specs.declared.stage.Progress.{Progress}
+use Rattle.aide_db.specs.declared.stage.Progress.TheVariants as steps
 use Rattle.aide_db.specs.declared.step.Step.{Step}
 use Rattle.aide_db.specs.declared.take_line.Taken.{Taken}
 use Rattle.aide_db.specs.declared.take_line.Taken.TheVariants as takes
@@ -20,13 +20,13 @@ abbrev pub wants_memory : Result Step DbFault → Bool
 wants_memory (Ok step) = false
 wants_memory (Err fault) = is_memory fault.kind
 
--- the cursor at this place has answered want of memory
-abbrev pub wanted_memory : Place → Bool
-wanted_memory places.Start = false
-wanted_memory places.Begun = false
-wanted_memory places.Entries = false
-wanted_memory places.Ended = false
-wanted_memory (places.Failed fault) = is_memory fault.kind
+-- the cursor at this stage has answered want of memory
+abbrev pub wanted_memory : Stage → Bool
+wanted_memory stages.Start = false
+wanted_memory stages.Begun = false
+wanted_memory stages.Entries = false
+wanted_memory stages.Ended = false
+wanted_memory (stages.Failed fault) = is_memory fault.kind
 
 -- a line is read without want of memory
 abbrev pub HasMemory : Taken → Type 0

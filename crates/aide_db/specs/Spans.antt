@@ -1,26 +1,26 @@
--- The places of the fields of a line.
+-- The spans of the fields of a line.
 use Rattle.std.specs.Prelude.{ℕ, ◌≡◌, true, Option, None, Some, List, [], ◌∷◌, map, take, drop}
 use Rattle.aide_db.specs.Text.{fields, is_filled}
 use Rattle.aide_db.specs.declared.spans.Span.{Span}
 use Rattle.aide_db.specs.declared.spans.Spans.{Spans}
 
--- the bytes at a place
+-- the bytes of a span
 abbrev pub field_at : List ℕ → Span → List ℕ
 field_at line span = take span.len (drop span.start line)
 
--- the first places, as many as are counted
+-- the first spans, as many as are counted
 abbrev pub spans_in : Spans → List Span
-spans_in s = take s.count s.places
+spans_in s = take s.count s.spans
 
--- the bytes at these places of a line
+-- the bytes of these spans of a line
 abbrev pub fields_at : List ℕ → List Span → List (List ℕ)
 fields_at line spans = map (field_at line) spans
 
--- these are the places of the line's fields, in their order
+-- these are the spans of the line's fields, in their order
 abbrev pub AreSpans : List ℕ → Spans → Type 0
 AreSpans line s = fields_at line (spans_in s) ≡ fields line
 
--- these are the places of the fields of a list that is not empty
+-- these are the spans of the fields of a list that is not empty
 abbrev pub AreHeldSpans : List ℕ → Spans → Type 0
 AreHeldSpans list s = is_filled list ≡ true → AreSpans list s
 

@@ -1,5 +1,5 @@
 -- What a field means, by its form.
-use Rattle.std.specs.Prelude.{ℕ, ℤ, ◌/◌, ◌%◌, nat_eq, nat_le, ◌==◌, Bool, true, false, ◌&&◌, ◌||◌, if◌then◌else◌, Option, Some}
+use Rattle.std.specs.Prelude.{ℕ, ℤ, ◌≡◌, ◌/◌, ◌%◌, nat_eq, nat_le, ◌==◌, Bool, true, false, ◌&&◌, ◌||◌, if◌then◌else◌, Option, Some}
 use Rattle.std.specs.Prelude.{None, is_some, option_map, List, [], ◌∷◌, length, codes, drop}
 use Rattle.std.specs.List.{starts_with}
 use Rattle.std.specs.Str.{bytes_eq}
@@ -11,6 +11,7 @@ use Rattle.aide_attr.specs.declared.file_type.FileType.TheVariants.{File, Direct
 use Rattle.aide_attr.specs.declared.form.Form.{Form}
 use Rattle.aide_attr.specs.declared.form.Form.TheVariants.{Kind, Mode, Number, Time, Link, Digest, Opaque}
 use Rattle.aide_db.specs.Attributes.{Value, number_value, mode_value, type_value, link_value, digest_value, opaque_value}
+use Rattle.aide_db.specs.Text.{is_filled}
 use Rattle.aide_db.specs.Numbers.{is_digit, mode_of, number_of}
 use Rattle.aide_db.specs.declared.fault.DbFaultKind.{DbFaultKind}
 use Rattle.aide_db.specs.declared.fault.DbFaultKind.TheVariants.{BadNumber, BadTime, BadDigest}
@@ -55,6 +56,10 @@ unfoldable pub time_of : List ℕ → Option ℤ
 time_of field =
     if begins_number field then number_of field else (
     if nat_le (length field) 44 then number_in_text (decoded_of standard field) else None)
+
+-- the field has seconds, or is empty
+abbrev pub IsTimeOrNothing : List ℕ → Type 0
+IsTimeOrNothing field = is_filled field ≡ true → is_some (time_of field) ≡ true
 
 -- ---- digests
 

@@ -1,5 +1,6 @@
 //! The blanks among 32 bytes, as bits.
-ghost use Rattle.std.specs.Prelude.{ℕ, true, ◌≡◌, ◌≢◌, ◌↔◌, ◌+◌, ◌<◌, ◌≤◌, ◌==◌, if◌then◌else◌, length, slice_index, bit_or};
+ghost use Rattle.std.specs.Prelude.{ℕ, true, ◌≡◌, ◌≢◌, ◌↔◌, ◌+◌, ◌<◌, ◌≤◌, ◌==◌, if◌then◌else◌};
+ghost use Rattle.std.specs.Prelude.{length, slice_index, bit_or};
 ghost use Rattle.std.specs.Int.{bit_at};
 ghost use Rattle.memchr.specs.Lanes.{HasLanes};
 ghost use Rattle.aide_db.specs.Text.{is_blank};
@@ -35,7 +36,8 @@ fn high_lanes(v: u8x32) -> u64
 /// Bit k tells whether the byte k places on is blank.
 pub fn blanks_at(line: &[u8], at: usize) -> u64
     requires { at + 32 ≤ length line.now }
-    ensures each { (k : ℕ) → k < 32 → (bit_at result k ≡ 1) ↔ (is_blank (slice_index line.now (at + k)) ≡ true) }
+    ensures each { (k : ℕ) → k < 32 → (bit_at result k ≡ 1)
+        ↔ (is_blank (slice_index line.now (at + k)) ≡ true) }
     ensures within { (k : ℕ) → bit_at result k ≡ 1 → k < 32 }
 {
     let v = next_lanes(line, at);

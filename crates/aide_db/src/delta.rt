@@ -37,7 +37,8 @@ fn differ_at(old: &View<'_>, new: &View<'_>, attr: Attr) -> bool
 
 /// The attributes that both entries have, with other values.
 fn changed(old: &View<'_>, new: &View<'_>) -> AttrSet
-    ensures { (attr : Attr) → has result attr ≡ is_different ((entry_in old.now).1 attr) ((entry_in new.now).1 attr) }
+    ensures { (attr : Attr) → has result attr ≡ is_different ((entry_in old.now).1 attr)
+        ((entry_in new.now).1 attr) }
 {
     let mut set = AttrSet::empty();
     let mut rest: &[Attr] = &Attr::ALL;
@@ -63,15 +64,21 @@ fn order(old: Option<i128>, new: Option<i128>) -> Ordering
     }
 }
 
-/// How two entries of one path differ: the attributes of each, those with other values, the order of their sizes, and their types.
+/// How two entries of one path differ: the attributes of each, those with other values, the order of their sizes, and
+/// their types.
 pub fn delta_of(old: &View<'_>, new: &View<'_>) -> Delta
-    ensures in_old { (attr : Attr) → (sides_of result).in_old attr ≡ (sides_between (entry_in old.now).1 (entry_in new.now).1).in_old attr }
-    ensures in_new { (attr : Attr) → (sides_of result).in_new attr ≡ (sides_between (entry_in old.now).1 (entry_in new.now).1).in_new attr }
+    ensures in_old { (attr : Attr) → (sides_of result).in_old attr
+        ≡ (sides_between (entry_in old.now).1 (entry_in new.now).1).in_old attr }
+    ensures in_new { (attr : Attr) → (sides_of result).in_new attr
+        ≡ (sides_between (entry_in old.now).1 (entry_in new.now).1).in_new attr }
     ensures differs { (attr : Attr) → (sides_of result).differs attr
         ≡ (sides_between (entry_in old.now).1 (entry_in new.now).1).differs attr }
-    ensures size { (sides_of result).size ≡ (sides_between (entry_in old.now).1 (entry_in new.now).1).size }
-    ensures old_type { (sides_of result).old_type ≡ (sides_between (entry_in old.now).1 (entry_in new.now).1).old_type }
-    ensures new_type { (sides_of result).new_type ≡ (sides_between (entry_in old.now).1 (entry_in new.now).1).new_type }
+    ensures size { (sides_of result).size ≡ (sides_between (entry_in old.now).1
+        (entry_in new.now).1).size }
+    ensures old_type { (sides_of result).old_type ≡ (sides_between (entry_in old.now).1
+        (entry_in new.now).1).old_type }
+    ensures new_type { (sides_of result).new_type ≡ (sides_between (entry_in old.now).1
+        (entry_in new.now).1).new_type }
 {
     Delta {
         old: old.attrs(),

@@ -6,12 +6,14 @@ ghost use Rattle.base64.specs.Engines.{standard};
 ghost use Rattle.base64.specs.GeneralPurpose.{decoded_of};
 ghost use Rattle.aide_attr.specs.Attr.{most_bytes};
 ghost use Rattle.aide_db.specs.Numbers.{mode_of};
-ghost use Rattle.aide_db.specs.Values.{is_nought, type_of_bits, type_of_mode, begins_number, time_of, digest_of, link_text};
+ghost use Rattle.aide_db.specs.Values.{is_nought, type_of_bits, type_of_mode, begins_number};
+ghost use Rattle.aide_db.specs.Values.{time_of, digest_of, link_text};
 ghost use Rattle.aide_db.specs.Values.{link_of, value_of, is_field};
 ghost use Rattle.aide_db.specs.Attributes.{number_of_type, is_different};
-ghost use Rattle.aide_db.specs.Lent.{IsDecoded, IsDigest, lent_link, differs_by, same_number, same_mode, same_type, same_link_name};
+ghost use Rattle.aide_db.specs.Lent.{IsDecoded, IsDigest, lent_link, differs_by, same_number};
+ghost use Rattle.aide_db.specs.Lent.{same_mode, same_type, same_link_name};
 
-use crate::number::{is_digit, read_mode, read_number};
+use crate::number::{is_digit, is_mode, is_number, read_mode, read_number};
 use crate::view::Decoded;
 use aide_attr::{FileType, Form};
 use base64::engine::general_purpose::STANDARD;
@@ -78,6 +80,27 @@ pub fn read_time(field: &[u8]) -> Option<i128>
             read_number(front)
         }
         Err(_) => None,
+    }
+}
+
+/// Whether a field has seconds.
+#[tactic(auto, unfolding(crate::specs::Values::time_of))]
+pub fn is_time(field: &[u8]) -> bool
+    ensures { result ≡ is_some (time_of field.now) }
+{
+    if begins_number(field) {
+        return is_number(field);
+    }
+    if field.len() > 44 {
+        return false;
+    }
+    let mut text = [0; 33];
+    match STANDARD.decode_slice_unchecked(field, &mut text) {
+        Ok(len) => {
+            let (front, _) = text.split_at(len);
+            is_number(front)
+        }
+        Err(_) => false,
     }
 }
 
@@ -164,10 +187,10 @@ pub fn is_field(form: Form, field: &[u8]) -> bool
     ensures { result ≡ is_field form field.now }
 {
     match form {
-        Form::Kind => read_mode(field).is_some(),
-        Form::Mode => read_mode(field).is_some(),
-        Form::Number => read_number(field).is_some(),
-        Form::Time => read_time(field).is_some(),
+        Form::Kind => is_mode(field),
+        Form::Mode => is_mode(field),
+        Form::Number => is_number(field),
+        Form::Time => is_time(field),
         Form::Link => true,
         Form::Digest(least, most) => is_nought(field) || is_digest(least, most, field),
         Form::Opaque => true,
@@ -236,7 +259,8 @@ fn same_texts(old: Decoded<'_>, new: Decoded<'_>) -> bool
 }
 
 fn links_differ(old: Option<Decoded<'_>>, new: Option<Decoded<'_>>) -> bool
-    ensures { result ≡ differs_by same_link_name (Some (lent_link old.entry)) (Some (lent_link new.entry)) }
+    ensures { result ≡ differs_by same_link_name (Some (lent_link old.entry))
+        (Some (lent_link new.entry)) }
 {
     match (old, new) {
         (None, None) => false,
@@ -247,7 +271,8 @@ fn links_differ(old: Option<Decoded<'_>>, new: Option<Decoded<'_>>) -> bool
 
 fn digests_differ(least: u8, most: u8, old: &[u8], new: &[u8]) -> bool
     requires { most ≤ 64 }
-    ensures { result ≡ differs_by bytes_eq (digest_of least most old.now) (digest_of least most new.now) }
+    ensures { result ≡ differs_by bytes_eq (digest_of least most old.now)
+        (digest_of least most new.now) }
 {
     let mut left = [0; 64];
     let mut right = [0; 64];

@@ -1,7 +1,7 @@
 //! Entries, as they are lent from the desk.
 ghost use Rattle.aide_db.specs.Spans.{AreSpans};
 
-use crate::column::{Column, Columns, same_columns};
+use crate::column::{Column, Columns};
 use crate::entry::{field_under, is_on, name_of};
 use crate::number::{read_mode, read_number};
 use crate::spans::Spans;
@@ -18,7 +18,7 @@ pub struct View<'a> {
     pub(crate) line: &'a [u8],
     pub(crate) columns: &'a Columns,
     pub(crate) spans: &'a Spans,
-    ghost places: { AreSpans line.now spans.now },
+    ghost spanned: { AreSpans line.now spans.now },
 }
 
 impl<'a> View<'a> {
@@ -44,14 +44,17 @@ impl<'a> View<'a> {
 
     /// Whether two entries are written alike: the same line under the same columns. They have the same values then.
     pub fn is_alike(&self, other: &View<'_>) -> bool
-        ensures { result ≡ true → entry_in self.now ≡ entry_in other.now }
+        ensures only { result ≡ true → entry_in self.now ≡ entry_in other.now }
+        ensures alike { self.now.line.now ≡ other.now.line.now
+            → columns_in self.now.columns.now ≡ columns_in other.now.columns.now → result ≡ true }
     {
-        self.line == other.line && same_columns(self.columns.as_slice(), other.columns.as_slice())
+        self.line == other.line && self.columns.same(other.columns)
     }
 
     /// The field of an attribute's column, where it counts.
     pub(crate) fn field_of(&self, attr: Attr) -> Option<&'a [u8]>
-        ensures { option_copied result ≡ field_of (columns_in self.now.columns.now) self.now.line.now attr }
+        ensures { option_copied result ≡ field_of (columns_in self.now.columns.now)
+            self.now.line.now attr }
     {
         let columns = self.columns.as_slice();
         match attr.bit() {

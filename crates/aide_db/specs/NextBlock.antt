@@ -4,8 +4,8 @@ use Rattle.aide_db.specs.Text.{is_filled}
 use Rattle.sha2.specs.Hashers.{Holds256}
 use Rattle.sha2.specs.declared.Sha256.{Sha256}
 use Rattle.aide_db.specs.Count.{one_more}
-use Rattle.aide_db.specs.declared.blocks.Filled.{Filled}
-use Rattle.aide_db.specs.declared.blocks.Filled.TheVariants.{Some, Nothing, Failed}
+use Rattle.aide_db.specs.declared.block_reader.Filled.{Filled}
+use Rattle.aide_db.specs.declared.block_reader.Filled.TheVariants.{Some, Nothing, Failed}
 
 -- A block was read ahead of the bytes that are left, or none was: at the end of the bytes, or where the reel failed.
 abbrev pub IsFilled : List ℕ → List ℕ → List ℕ → Filled → Type 0

@@ -1,11 +1,12 @@
 //! A reel that is read in blocks.
 ghost use Rattle.sha2.specs.Hashers.{Holds256};
 ghost use Rattle.sha2.specs.Sha256.{sha256};
-ghost use Rattle.std.specs.Prelude.{ℕ, List, true, [], ◌++◌, Some, drop, length, IfOk, OnErr, OnOk, ◌≡◌, ◌<◌, ◌≤◌, ◌==◌};
-ghost use Rattle.aide_db.specs.Blocks.{IsFilled, IsLeft, Gives, IsAhead, IsFront, after_filled};
+ghost use Rattle.std.specs.Prelude.{ℕ, List, true, [], ◌++◌, Some, drop, length, IfOk, OnErr, OnOk};
+ghost use Rattle.std.specs.Prelude.{◌≡◌, ◌<◌, ◌≤◌, ◌==◌};
+ghost use Rattle.aide_db.specs.NextBlock.{IsFilled, IsLeft, Gives, IsAhead, IsFront, after_filled};
 ghost use Rattle.aide_db.specs.Count.{one_more};
 ghost use Rattle.aide_db.specs.Told.{told, tells};
-ghost use Rattle.aide_db.specs.BlocksView.{BlocksView, left_in};
+ghost use Rattle.aide_db.specs.BlockReaderView.{BlockReaderView, left_in};
 
 use crate::fault::DeviceFault;
 use crate::reel::Reel;
@@ -24,7 +25,7 @@ pub enum Filled {
 }
 
 /// A reel, and the block that it gave last. Contracts see the reel and the bytes of the block that were not used yet.
-pub struct Blocks<R: Reel> {
+pub struct BlockReader<R: Reel> {
     reel: R,
     block: [u8; 4096],
     start: usize,
@@ -32,25 +33,29 @@ pub struct Blocks<R: Reel> {
     hash: Sha256,
 }
 
-impl<R: Reel> Model for Blocks<R> {
+impl<R: Reel> Model for BlockReader<R> {
     ghost use Rattle.std.specs.Prelude.{◌≤◌, ◌-◌, take, drop};
-    ghost use Rattle.aide_db.specs.BlocksView.{BlocksView};
+    ghost use Rattle.aide_db.specs.BlockReaderView.{BlockReaderView};
 
-    ghost Value = { BlocksView R };
+    ghost Value = { BlockReaderView R };
 
-    ghost view = { λ b. record { reel = b.reel; ahead = take (b.end - b.start) (drop b.start b.block); hash = b.hash } };
+    ghost view = { λ b. record {
+      reel = b.reel;
+      ahead = take (b.end - b.start) (drop b.start b.block);
+      hash = b.hash;
+    } };
 
     ghost invariant = { λ b. (b.start ≤ b.end) × (b.end ≤ 4096) };
 }
 
-impl<R: Reel> Blocks<R> {
+impl<R: Reel> BlockReader<R> {
     /// A reel of which nothing was asked yet.
-    pub fn new(reel: R) -> Blocks<R>
+    pub fn new(reel: R) -> BlockReader<R>
         ensures reel { result.reel ≡ reel }
         ensures ahead { result.ahead ≡ [] }
         ensures hash { Holds256 result.hash [] }
     {
-        Blocks {
+        BlockReader {
             reel,
             block: [0; 4096],
             start: 0,
@@ -63,7 +68,7 @@ impl<R: Reel> Blocks<R> {
     pub fn into_reel(self) -> R
         ensures { result ≡ self.reel }
     {
-        let Blocks {
+        let BlockReader {
             reel,
             block: _,
             start: _,
@@ -82,7 +87,7 @@ impl<R: Reel> Blocks<R> {
     }
 
     /// The SHA-256 of all bytes that the reel gave.
-    pub fn sum(&self) -> Option<[u8; 32]>
+    pub fn digest(&self) -> Option<[u8; 32]>
         ensures { (text : List ℕ) → Holds256 self.now.hash text → result ≡ Some (sha256 text) }
     {
         match self.hash.clone() {
@@ -104,13 +109,17 @@ impl<R: Reel> Blocks<R> {
     /// Sees to it that bytes are ahead. Where none is, the reel is asked for so many at most.
     pub fn more(&mut self, most: u64) -> Filled
         requires some { 0 < most }
-        ensures left { tells (R.to_come self.old.reel) ≡ true → IsLeft (left_in R.to_come self.old) (left_in R.to_come self.new) result }
+        ensures left { tells (R.to_come self.old.reel) ≡ true
+            → IsLeft (left_in R.to_come self.old) (left_in R.to_come self.new) result }
         ensures gives { tells (R.to_come self.old.reel) ≡ true
-            → Gives (told (R.to_come self.old.reel)) (told (R.to_come self.new.reel)) self.old.hash self.new.hash }
+            → Gives (told (R.to_come self.old.reel)) (told (R.to_come self.new.reel)) self.old.hash
+            self.new.hash }
         ensures ahead { IsAhead self.new.ahead result }
         ensures most { length self.old.ahead ≤ most → length self.new.ahead ≤ most }
-        ensures tells { tells (R.to_come self.old.reel) ≡ true → tells (R.to_come self.new.reel) ≡ true }
-        ensures failures { R.failures self.new.reel ≡ after_filled result (R.failures self.old.reel) }
+        ensures tells { tells (R.to_come self.old.reel) ≡ true
+            → tells (R.to_come self.new.reel) ≡ true }
+        ensures failures { R.failures self.new.reel
+            ≡ after_filled result (R.failures self.old.reel) }
     {
         if self.start < self.end {
             return Filled::Some;
@@ -123,12 +132,16 @@ impl<R: Reel> Blocks<R> {
         requires used { self.old.ahead ≡ [] }
         requires some { 0 < most }
         ensures filled { tells (R.to_come self.old.reel) ≡ true
-            → IsFilled (told (R.to_come self.old.reel)) (told (R.to_come self.new.reel)) self.new.ahead result }
-        ensures hashed { (before : List ℕ) → Holds256 self.old.hash before → Holds256 self.new.hash (before ++ self.new.ahead) }
+            → IsFilled (told (R.to_come self.old.reel)) (told (R.to_come self.new.reel))
+            self.new.ahead result }
+        ensures hashed { (before : List ℕ) → Holds256 self.old.hash before
+            → Holds256 self.new.hash (before ++ self.new.ahead) }
         ensures ahead { IsAhead self.new.ahead result }
         ensures most { length self.new.ahead ≤ most }
-        ensures tells { tells (R.to_come self.old.reel) ≡ true → tells (R.to_come self.new.reel) ≡ true }
-        ensures failures { R.failures self.new.reel ≡ after_filled result (R.failures self.old.reel) }
+        ensures tells { tells (R.to_come self.old.reel) ≡ true
+            → tells (R.to_come self.new.reel) ≡ true }
+        ensures failures { R.failures self.new.reel
+            ≡ after_filled result (R.failures self.old.reel) }
     {
         let size = if most < 4096 { most as usize } else { 4096 };
         self.start = 0;
@@ -153,8 +166,10 @@ fn take_front<R: Reel>(reel: &mut R, block: &mut [u8], size: usize) -> Result<us
     ensures most { IfOk result (λ count. count ≤ size) }
     ensures front { IfOk result (λ count. tells (R.to_come reel.old) ≡ true
         → IsFront count block.new (told (R.to_come reel.old)) (told (R.to_come reel.new))) }
-    ensures end { IfOk result (λ count. count ≡ 0 → tells (R.to_come reel.old) ≡ true → told (R.to_come reel.old) ≡ []) }
-    ensures kept { OnErr result (tells (R.to_come reel.old) ≡ true → told (R.to_come reel.new) ≡ told (R.to_come reel.old)) }
+    ensures end { IfOk result (λ count. count ≡ 0 → tells (R.to_come reel.old) ≡ true
+        → told (R.to_come reel.old) ≡ []) }
+    ensures kept { OnErr result (tells (R.to_come reel.old) ≡ true
+        → told (R.to_come reel.new) ≡ told (R.to_come reel.old)) }
     ensures tells { tells (R.to_come reel.old) ≡ true → tells (R.to_come reel.new) ≡ true }
     ensures fault { OnErr result (R.failures reel.new ≡ one_more (R.failures reel.old)) }
     ensures ok { OnOk result (R.failures reel.new ≡ R.failures reel.old) }
