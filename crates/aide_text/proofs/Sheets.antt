@@ -5,9 +5,9 @@ use Rattle.std.proofs.lemmas.Grind.{flat_map-append}
 use Rattle.std.specs.Io.KnownBytes.{Appends}
 use Rattle.aide_db.specs.Count.{sum_of}
 use Rattle.aide_text.specs.Printed.{printed, printed_byte}
-use Rattle.aide_text.specs.Failures.{counted}
+use Rattle.aide_text.specs.Failures.{one_more}
 use Rattle.aide_text.specs.Sent.{SendsPart}
-use Rattle.aide_text.specs.Source.{Taken}
+use Rattle.aide_text.specs.Feed.{Taken}
 use Rattle.aide_text.specs.Sheet.{Sheet, Adds, WroteBy, Wrote, Writing, WritesPart, WritesSome}
 use Rattle.aide_text.proofs.Sending.{Appends-Appends, Appends-nothing}
 
@@ -36,7 +36,7 @@ more_by x y a b c false false true p q = record {
   rest = q.rest;
   whole = ap (λ l. x ++ l) q.whole ∙ sym (append_assoc x q.front q.rest);
   adds = adds_more x q.front a b c p.0 q.adds;
-  failures = q.failures ∙ ap counted p.1;
+  failures = q.failures ∙ ap one_more p.1;
 }
 more_by x y a b c false false false p q = (adds_more x y a b c p.0 q.0, q.1 ∙ p.1)
 
@@ -59,7 +59,7 @@ by_flags text a b f h is_f is_h unflushed p = record {
 
 -- the sink has failed within the text
 pub wrote_cut : (text : List ℕ) (a b : Sheet) (n : ℕ) → a.failed ≡ false → b.failed ≡ true → n ≤ length text
-    → Appends a.bytes b.bytes (take n text) → b.failures ≡ counted a.failures → b.sent ≡ sum_of a.sent n → b.flushes ≡ a.flushes → Wrote text a b
+    → Appends a.bytes b.bytes (take n text) → b.failures ≡ one_more a.failures → b.sent ≡ sum_of a.sent n → b.flushes ≡ a.flushes → Wrote text a b
 wrote_cut text a b n fresh broken short bytes failures count unflushed = by_flags text a b false true fresh broken unflushed (record {
   front = take n text;
   rest = drop n text;
@@ -78,7 +78,7 @@ wrote_as {x} {y} {a} {b} e p = subst (λ l. Wrote l a b) e p
 pub printed_more : (bytes : List ℕ) (i : ℕ) → i < length bytes → printed (take i bytes) ++ printed_byte (get_or bytes i 0) ≡ printed (take (i + 1) bytes)
 printed_more bytes i h = sym (ap printed (take_more bytes i 0 h) ∙ flat_map-append printed_byte (take i bytes) (get_or bytes i 0 ∷ []) ∙ ap (λ l. printed (take i bytes) ++ l) (append-nil (printed_byte (get_or bytes i 0))))
 
--- a source that gives no byte has none
+-- a feed that gives no byte has none
 pub none_left : (o : Option ℕ) (before after : List ℕ) → ((c : ℕ) → o ≡ Some c → ⊥) → Taken o before after → before ≡ []
 none_left None before after none taken = taken.0
 none_left (Some c) before after none taken = absurd (none c refl)
@@ -151,14 +151,14 @@ writing_as {text} {rest} {more} {a} {b} e p = subst (λ l. Writing text l a b) e
 -- ---- from a pen to its sink
 
 some_by : (text : List ℕ) (a b : Sheet) (f h : Bool) → a.failed ≡ f → b.failed ≡ h → f ≡ false → WroteBy f h text a b
-    → (sent : List ℕ) × Appends a.bytes b.bytes sent × (b.sent ≡ sum_of a.sent (length sent)) × (a.failures ≤ b.failures) × (h ≡ true → b.failures ≡ counted a.failures)
+    → (sent : List ℕ) × Appends a.bytes b.bytes sent × (b.sent ≡ sum_of a.sent (length sent)) × (a.failures ≤ b.failures) × (h ≡ true → b.failures ≡ one_more a.failures)
 some_by text a b true h is_f is_h fresh p = absurd (true_false fresh)
 some_by text a b false true is_f is_h fresh p = (p.front, p.adds.bytes, p.adds.count, omega (arith, p.failures), λ e. p.failures)
 some_by text a b false false is_f is_h fresh p = (text, p.0.bytes, p.0.count, omega (arith, p.1), λ e. absurd (true_false (sym e)))
 
 -- what a fresh pen has written: some bytes, which it counts, and its sink's failures
 pub from_fresh : {a b : Sheet} → a.failed ≡ false → WritesSome a b
-    → (sent : List ℕ) × Appends a.bytes b.bytes sent × (b.sent ≡ sum_of a.sent (length sent)) × (a.failures ≤ b.failures) × (b.failed ≡ true → b.failures ≡ counted a.failures)
+    → (sent : List ℕ) × Appends a.bytes b.bytes sent × (b.sent ≡ sum_of a.sent (length sent)) × (a.failures ≤ b.failures) × (b.failed ≡ true → b.failures ≡ one_more a.failures)
 from_fresh {a} {b} fresh p = some_by p.text a b a.failed b.failed refl refl fresh p.wrote.as_flags
 
 whole_by : (text : List ℕ) (a b : Sheet) (f h : Bool) → f ≡ false → h ≡ false → WroteBy f h text a b → Appends a.bytes b.bytes text

@@ -4,7 +4,7 @@ pub mod Printed
 pub mod Sent
 pub mod Text
 pub mod Values
-pub mod Source
+pub mod Feed
 pub mod PieceText
 pub mod ReadyRest
 pub mod PrintedRest
@@ -13,5 +13,5 @@ pub mod DecodedRest
 pub mod TextRest
 pub mod Sheet
 pub mod PenSheet
-pub mod Front
+pub mod Overview
 pub mod Titles

@@ -2,7 +2,7 @@
 use Rattle.std.specs.Prelude.{◌≡◌, ℕ, Bool, true, false, Option, List, [], ◌++◌, length}
 use Rattle.std.specs.Io.KnownBytes.{Appends}
 use Rattle.aide_db.specs.Count.{sum_of}
-use Rattle.aide_text.specs.Failures.{counted}
+use Rattle.aide_text.specs.Failures.{one_more}
 
 -- The bytes that the sink has taken, how often it has failed and was flushed, how many bytes are counted, and whether the
 -- pen writes no more.
@@ -24,7 +24,7 @@ pub record Breaks (text : List ℕ) (a b : Sheet) : Type 0 where
   pub rest : List ℕ
   pub whole : text ≡ front ++ rest
   pub adds : Adds front a b
-  pub failures : b.failures ≡ counted a.failures
+  pub failures : b.failures ≡ one_more a.failures
 
 -- what a pen wrote, by whether it had failed before and has failed after
 abbrev pub WroteBy : Bool → Bool → List ℕ → Sheet → Sheet → Type 0

@@ -1,6 +1,6 @@
 //! How many entries were added, removed and changed.
 ghost use Rattle.std.specs.Prelude.{◌≡◌};
-ghost use Rattle.aide_text.specs.Front.{differs};
+ghost use Rattle.aide_text.specs.Overview.{differs};
 
 /// The numbers of entries of two databases.
 #[derive(Clone, Copy, Debug, PartialEq, Eq)]

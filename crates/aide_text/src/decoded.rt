@@ -1,29 +1,29 @@
-//! A lent text with escapes as a source.
+//! A lent text with escapes as a feed.
 
 ghost use Rattle.std.specs.Prelude.{◌≡◌, ℕ, List};
 ghost use Rattle.percent_encoding.specs.Iter.{decoded_bytes};
 
-use crate::source::Source;
+use crate::feed::Feed;
 use aide_db::Decoded;
 
 /// The bytes of a text with escapes.
 #[derive(Clone, Copy, Drop)]
-pub struct DecodedSource<'a> {
+pub struct DecodedFeed<'a> {
     bytes: Decoded<'a>,
 }
 
-impl<'a> DecodedSource<'a> {
+impl<'a> DecodedFeed<'a> {
     /// All bytes of a decoded text.
-    pub fn of(bytes: Decoded<'a>) -> DecodedSource<'a>
+    pub fn of(bytes: Decoded<'a>) -> DecodedFeed<'a>
         ensures { decoded_rest result ≡ decoded_bytes bytes.entry }
     {
-        DecodedSource { bytes }
+        DecodedFeed { bytes }
     }
 }
 
 ghost use Rattle.aide_text.specs.DecodedRest.{decoded_rest};
 
-impl<'a> Source for DecodedSource<'a> {
+impl<'a> Feed for DecodedFeed<'a> {
     ghost rest = { decoded_rest };
 
     fn next_byte(&mut self) -> Option<u8> {

@@ -14,7 +14,8 @@ use base64::engine::general_purpose::STANDARD;
 #[tactic(auto, unfolding(crate::specs::Values::digest_text))]
 pub fn put_digest<W: Sink>(out: &mut W, pen: &mut Pen, base16: bool, digest: &[u8; 32])
     ensures { Wrote (alone (codes "SHA256") (digest_text base16 digest.now))
-        (sheet W.delivered W.failures W.flushes out.old pen.old) (sheet W.delivered W.failures W.flushes out.new pen.new) }
+        (sheet W.delivered W.failures W.flushes out.old pen.old)
+        (sheet W.delivered W.failures W.flushes out.new pen.new) }
 {
     if base16 {
         let mut text = [0; 64];

@@ -12,7 +12,8 @@ use crate::sink::Sink;
 pub fn emit<W: Sink>(out: &mut W, bytes: &[u8]) -> Result<(), u64>
     ensures ok { OnOk result (Appends (W.delivered out.old) (W.delivered out.new) bytes.now) }
     ensures fewer { IfErr result (λ n. n < length bytes.now) }
-    ensures cut { IfErr result (λ n. Appends (W.delivered out.old) (W.delivered out.new) (take n bytes.now)) }
+    ensures cut { IfErr result (λ n. Appends (W.delivered out.old) (W.delivered out.new)
+        (take n bytes.now)) }
     ensures fault { CountsFault (W.failures out.old) (W.failures out.new) result }
     ensures flushes { W.flushes out.new ≡ W.flushes out.old }
 {
@@ -29,8 +30,10 @@ pub fn emit<W: Sink>(out: &mut W, bytes: &[u8]) -> Result<(), u64>
 /// Writes these bytes as a path is printed: a control byte or a backslash as a backslash and three octal digits.
 /// Where the sink fails, it answers how many printed bytes went out, `u64::MAX` where there were more.
 pub fn emit_path<W: Sink>(out: &mut W, bytes: &[u8]) -> Result<(), u64>
-    ensures ok { OnOk result (Appends (W.delivered out.old) (W.delivered out.new) (printed bytes.now)) }
-    ensures cut { IfErr result (IsCut (printed bytes.now) (W.delivered out.old) (W.delivered out.new)) }
+    ensures ok { OnOk result (Appends (W.delivered out.old) (W.delivered out.new)
+        (printed bytes.now)) }
+    ensures cut { IfErr result (IsCut (printed bytes.now) (W.delivered out.old)
+        (W.delivered out.new)) }
     ensures fault { CountsFault (W.failures out.old) (W.failures out.new) result }
     ensures flushes { W.flushes out.new ≡ W.flushes out.old }
 {
@@ -45,9 +48,11 @@ pub fn emit_path<W: Sink>(out: &mut W, bytes: &[u8]) -> Result<(), u64>
 }
 
 fn emit_byte<W: Sink>(out: &mut W, c: u8) -> Result<(), u64>
-    ensures ok { OnOk result (Appends (W.delivered out.old) (W.delivered out.new) (printed_byte c)) }
+    ensures ok { OnOk result (Appends (W.delivered out.old) (W.delivered out.new)
+        (printed_byte c)) }
     ensures fewer { IfErr result (λ n. n < length (printed_byte c)) }
-    ensures cut { IfErr result (λ n. Appends (W.delivered out.old) (W.delivered out.new) (take n (printed_byte c))) }
+    ensures cut { IfErr result (λ n. Appends (W.delivered out.old) (W.delivered out.new)
+        (take n (printed_byte c))) }
     ensures fault { CountsFault (W.failures out.old) (W.failures out.new) result }
     ensures flushes { W.flushes out.new ≡ W.flushes out.old }
 {

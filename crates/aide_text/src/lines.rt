@@ -2,14 +2,15 @@
 ghost use Rattle.std.specs.Prelude.{◌≡◌, ◌≤◌, replicate, take, drop, if◌then◌else◌, []};
 ghost use Rattle.aide_text.specs.PenSheet.{sheet};
 ghost use Rattle.aide_text.specs.Sheet.{Wrote};
-ghost use Rattle.aide_text.specs.Text.{padded, margin, indent, colon, heading, single_line, alone, bar, left_part, pair_body, pair_line};
+ghost use Rattle.aide_text.specs.Text.{padded, margin, indent, colon, heading, single_line, alone};
+ghost use Rattle.aide_text.specs.Text.{bar, left_part, pair_body, pair_line};
 ghost use Rattle.aide_text.specs.Text.{next_line, has_lines, side_by_side};
 ghost use Rattle.aide_text.specs.PieceText.{piece_text};
 
+use crate::feed::Feed;
 use crate::pen::{Pen, put, put_ended};
 use crate::piece::Piece;
 use crate::sink::Sink;
-use crate::source::Source;
 
 const BLANKS: [u8; 32] = [b' '; 32];
 
@@ -25,7 +26,8 @@ fn blanks(count: usize) -> &'static [u8]
 fn put_padded<W: Sink>(out: &mut W, pen: &mut Pen, width: usize, text: &[u8])
     requires { width ≤ 32 }
     ensures { Wrote (padded width text.now)
-        (sheet W.delivered W.failures W.flushes out.old pen.old) (sheet W.delivered W.failures W.flushes out.new pen.new) }
+        (sheet W.delivered W.failures W.flushes out.old pen.old)
+        (sheet W.delivered W.failures W.flushes out.new pen.new) }
 {
     put(out, pen, text);
     put(out, pen, blanks(width.saturating_sub(text.len())));
@@ -34,7 +36,8 @@ fn put_padded<W: Sink>(out: &mut W, pen: &mut Pen, width: usize, text: &[u8])
 #[tactic(auto, unfolding(crate::specs::Text::margin))]
 fn put_margin<W: Sink>(out: &mut W, pen: &mut Pen)
     ensures { Wrote margin
-        (sheet W.delivered W.failures W.flushes out.old pen.old) (sheet W.delivered W.failures W.flushes out.new pen.new) }
+        (sheet W.delivered W.failures W.flushes out.old pen.old)
+        (sheet W.delivered W.failures W.flushes out.new pen.new) }
 {
     put(out, pen, b"              ");
 }
@@ -42,7 +45,8 @@ fn put_margin<W: Sink>(out: &mut W, pen: &mut Pen)
 #[tactic(auto, unfolding(crate::specs::Text::indent))]
 fn put_indent<W: Sink>(out: &mut W, pen: &mut Pen)
     ensures { Wrote indent
-        (sheet W.delivered W.failures W.flushes out.old pen.old) (sheet W.delivered W.failures W.flushes out.new pen.new) }
+        (sheet W.delivered W.failures W.flushes out.old pen.old)
+        (sheet W.delivered W.failures W.flushes out.new pen.new) }
 {
     put(out, pen, b"  ");
 }
@@ -50,7 +54,8 @@ fn put_indent<W: Sink>(out: &mut W, pen: &mut Pen)
 #[tactic(auto, unfolding(crate::specs::Text::colon))]
 fn put_separator<W: Sink>(out: &mut W, pen: &mut Pen)
     ensures { Wrote colon
-        (sheet W.delivered W.failures W.flushes out.old pen.old) (sheet W.delivered W.failures W.flushes out.new pen.new) }
+        (sheet W.delivered W.failures W.flushes out.old pen.old)
+        (sheet W.delivered W.failures W.flushes out.new pen.new) }
 {
     put(out, pen, b": ");
 }
@@ -58,7 +63,8 @@ fn put_separator<W: Sink>(out: &mut W, pen: &mut Pen)
 /// The head of a line: a name left in ten columns.
 fn put_heading<W: Sink>(out: &mut W, pen: &mut Pen, name: &[u8])
     ensures { Wrote (heading name.now)
-        (sheet W.delivered W.failures W.flushes out.old pen.old) (sheet W.delivered W.failures W.flushes out.new pen.new) }
+        (sheet W.delivered W.failures W.flushes out.old pen.old)
+        (sheet W.delivered W.failures W.flushes out.new pen.new) }
 {
     put_indent(out, pen);
     put_padded(out, pen, 10, name);
@@ -81,7 +87,8 @@ fn behind(text: &[u8]) -> &[u8]
 
 fn put_first<W: Sink>(out: &mut W, pen: &mut Pen, name: &[u8], text: &[u8])
     ensures { Wrote (single_line (heading name.now) (take 32 text.now))
-        (sheet W.delivered W.failures W.flushes out.old pen.old) (sheet W.delivered W.failures W.flushes out.new pen.new) }
+        (sheet W.delivered W.failures W.flushes out.old pen.old)
+        (sheet W.delivered W.failures W.flushes out.new pen.new) }
 {
     put_heading(out, pen, name);
     put_ended(out, pen, piece(text));
@@ -89,7 +96,8 @@ fn put_first<W: Sink>(out: &mut W, pen: &mut Pen, name: &[u8], text: &[u8])
 
 fn put_more<W: Sink>(out: &mut W, pen: &mut Pen, text: &[u8])
     ensures { Wrote (single_line margin (take 32 text.now))
-        (sheet W.delivered W.failures W.flushes out.old pen.old) (sheet W.delivered W.failures W.flushes out.new pen.new) }
+        (sheet W.delivered W.failures W.flushes out.old pen.old)
+        (sheet W.delivered W.failures W.flushes out.new pen.new) }
 {
     put_margin(out, pen);
     put_ended(out, pen, piece(text));
@@ -98,7 +106,8 @@ fn put_more<W: Sink>(out: &mut W, pen: &mut Pen, text: &[u8])
 /// A text cut into pieces, below a name.
 pub(crate) fn put_alone<W: Sink>(out: &mut W, pen: &mut Pen, name: &[u8], text: &[u8])
     ensures { Wrote (alone name.now text.now)
-        (sheet W.delivered W.failures W.flushes out.old pen.old) (sheet W.delivered W.failures W.flushes out.new pen.new) }
+        (sheet W.delivered W.failures W.flushes out.old pen.old)
+        (sheet W.delivered W.failures W.flushes out.new pen.new) }
 {
     put_first(out, pen, name, text);
     let mut rest = behind(text);
@@ -111,7 +120,8 @@ pub(crate) fn put_alone<W: Sink>(out: &mut W, pen: &mut Pen, name: &[u8], text: 
 #[tactic(auto, unfolding(crate::specs::Text::bar))]
 fn put_bar<W: Sink>(out: &mut W, pen: &mut Pen)
     ensures { Wrote bar
-        (sheet W.delivered W.failures W.flushes out.old pen.old) (sheet W.delivered W.failures W.flushes out.new pen.new) }
+        (sheet W.delivered W.failures W.flushes out.old pen.old)
+        (sheet W.delivered W.failures W.flushes out.new pen.new) }
 {
     put(out, pen, b" | ");
 }
@@ -119,7 +129,8 @@ fn put_bar<W: Sink>(out: &mut W, pen: &mut Pen)
 /// The old piece left in 32 columns, and what parts it from the new one.
 fn put_left<W: Sink>(out: &mut W, pen: &mut Pen, text: &[u8])
     ensures { Wrote (left_part text.now)
-        (sheet W.delivered W.failures W.flushes out.old pen.old) (sheet W.delivered W.failures W.flushes out.new pen.new) }
+        (sheet W.delivered W.failures W.flushes out.old pen.old)
+        (sheet W.delivered W.failures W.flushes out.new pen.new) }
 {
     put_padded(out, pen, 32, text);
     put_bar(out, pen);
@@ -127,7 +138,8 @@ fn put_left<W: Sink>(out: &mut W, pen: &mut Pen, text: &[u8])
 
 fn put_pair<W: Sink>(out: &mut W, pen: &mut Pen, old_piece: &[u8], new_piece: &[u8])
     ensures { Wrote (pair_body old_piece.now new_piece.now)
-        (sheet W.delivered W.failures W.flushes out.old pen.old) (sheet W.delivered W.failures W.flushes out.new pen.new) }
+        (sheet W.delivered W.failures W.flushes out.old pen.old)
+        (sheet W.delivered W.failures W.flushes out.new pen.new) }
 {
     put_left(out, pen, old_piece);
     put_ended(out, pen, new_piece);
@@ -141,7 +153,8 @@ fn put_first_line<W: Sink>(
     new_piece: &[u8],
 )
     ensures { Wrote (pair_line (heading name.now) old_piece.now new_piece.now)
-        (sheet W.delivered W.failures W.flushes out.old pen.old) (sheet W.delivered W.failures W.flushes out.new pen.new) }
+        (sheet W.delivered W.failures W.flushes out.old pen.old)
+        (sheet W.delivered W.failures W.flushes out.new pen.new) }
 {
     put_heading(out, pen, name);
     put_pair(out, pen, old_piece, new_piece);
@@ -149,7 +162,8 @@ fn put_first_line<W: Sink>(
 
 fn put_more_line<W: Sink>(out: &mut W, pen: &mut Pen, old_piece: &[u8], new_piece: &[u8])
     ensures { Wrote (pair_line margin old_piece.now new_piece.now)
-        (sheet W.delivered W.failures W.flushes out.old pen.old) (sheet W.delivered W.failures W.flushes out.new pen.new) }
+        (sheet W.delivered W.failures W.flushes out.old pen.old)
+        (sheet W.delivered W.failures W.flushes out.new pen.new) }
 {
     put_margin(out, pen);
     put_pair(out, pen, old_piece, new_piece);
@@ -163,15 +177,17 @@ fn has_more(old_piece: &Piece, new_piece: &Piece) -> bool
 }
 
 /// The line with the name.
-fn put_name_line<W: Sink, B: Source, C: Source>(
+fn put_name_line<W: Sink, B: Feed, C: Feed>(
     out: &mut W,
     pen: &mut Pen,
     name: &[u8],
     old_text: &mut B,
     new_text: &mut C,
 )
-    ensures wrote { Wrote (pair_line (heading name.now) (take 32 (B.rest old_text.old)) (take 32 (C.rest new_text.old)))
-        (sheet W.delivered W.failures W.flushes out.old pen.old) (sheet W.delivered W.failures W.flushes out.new pen.new) }
+    ensures wrote { Wrote (pair_line (heading name.now) (take 32 (B.rest old_text.old))
+        (take 32 (C.rest new_text.old)))
+        (sheet W.delivered W.failures W.flushes out.old pen.old)
+        (sheet W.delivered W.failures W.flushes out.new pen.new) }
     ensures old_rest { B.rest old_text.new ≡ drop 32 (B.rest old_text.old) }
     ensures new_rest { C.rest new_text.new ≡ drop 32 (C.rest new_text.old) }
 {
@@ -181,8 +197,10 @@ fn put_name_line<W: Sink, B: Source, C: Source>(
 }
 
 fn put_pieces<W: Sink>(out: &mut W, pen: &mut Pen, more: bool, old_piece: &Piece, new_piece: &Piece)
-    ensures { Wrote (if more then pair_line margin (piece_text old_piece.now) (piece_text new_piece.now) else [])
-        (sheet W.delivered W.failures W.flushes out.old pen.old) (sheet W.delivered W.failures W.flushes out.new pen.new) }
+    ensures { Wrote (if more then pair_line margin (piece_text old_piece.now)
+        (piece_text new_piece.now) else [])
+        (sheet W.delivered W.failures W.flushes out.old pen.old)
+        (sheet W.delivered W.failures W.flushes out.new pen.new) }
 {
     if more {
         put_more_line(out, pen, old_piece.bytes(), new_piece.bytes());
@@ -190,14 +208,15 @@ fn put_pieces<W: Sink>(out: &mut W, pen: &mut Pen, more: bool, old_piece: &Piece
 }
 
 /// The next line below the first, where a text has one; whether there was one.
-fn put_next_line<W: Sink, B: Source, C: Source>(
+fn put_next_line<W: Sink, B: Feed, C: Feed>(
     out: &mut W,
     pen: &mut Pen,
     old_text: &mut B,
     new_text: &mut C,
 ) -> bool
     ensures wrote { Wrote (next_line (B.rest old_text.old) (C.rest new_text.old))
-        (sheet W.delivered W.failures W.flushes out.old pen.old) (sheet W.delivered W.failures W.flushes out.new pen.new) }
+        (sheet W.delivered W.failures W.flushes out.old pen.old)
+        (sheet W.delivered W.failures W.flushes out.new pen.new) }
     ensures old_rest { B.rest old_text.new ≡ drop 32 (B.rest old_text.old) }
     ensures new_rest { C.rest new_text.new ≡ drop 32 (C.rest new_text.old) }
     ensures more { result ≡ has_lines (B.rest old_text.old) (C.rest new_text.old) }
@@ -210,7 +229,7 @@ fn put_next_line<W: Sink, B: Source, C: Source>(
 }
 
 /// Two texts side by side, cut into pieces, below a name of at most ten bytes.
-pub fn put_side_by_side<W: Sink, B: Source, C: Source>(
+pub fn put_side_by_side<W: Sink, B: Feed, C: Feed>(
     out: &mut W,
     pen: &mut Pen,
     name: &[u8],
@@ -218,7 +237,8 @@ pub fn put_side_by_side<W: Sink, B: Source, C: Source>(
     mut new_text: C,
 )
     ensures { Wrote (side_by_side name.now (B.rest old_text) (C.rest new_text))
-        (sheet W.delivered W.failures W.flushes out.old pen.old) (sheet W.delivered W.failures W.flushes out.new pen.new) }
+        (sheet W.delivered W.failures W.flushes out.old pen.old)
+        (sheet W.delivered W.failures W.flushes out.new pen.new) }
 {
     put_name_line(out, pen, name, &mut old_text, &mut new_text);
     'lines: loop {

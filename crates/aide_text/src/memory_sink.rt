@@ -19,7 +19,11 @@ impl<A: Allocator + Copy> Model for MemorySink<A> {
 
     ghost Value = { Kept };
 
-    ghost view = { λ sink. record { bytes = sink.bytes.items; failures = sink.failures; flushes = sink.flushes } };
+    ghost view = { λ sink. record {
+      bytes = sink.bytes.items;
+      failures = sink.failures;
+      flushes = sink.flushes;
+    } };
 }
 
 impl<A: Allocator + Copy> MemorySink<A> {

@@ -6,8 +6,8 @@ ghost use Rattle.aide_text.specs.Printed.{printed, printed_byte};
 ghost use Rattle.aide_text.specs.Sheet.{Wrote};
 
 use crate::emitting::{emit, needs_escape, octal_escape};
+use crate::feed::Feed;
 use crate::sink::Sink;
-use crate::source::Source;
 use itoa::Buffer;
 
 /// Counts the bytes of a report that have gone out. Once the sink has failed it writes nothing more.
@@ -34,7 +34,8 @@ impl Pen {
 /// Writes these bytes.
 pub fn put<W: Sink>(out: &mut W, pen: &mut Pen, bytes: &[u8])
     ensures { Wrote bytes.now
-        (sheet W.delivered W.failures W.flushes out.old pen.old) (sheet W.delivered W.failures W.flushes out.new pen.new) }
+        (sheet W.delivered W.failures W.flushes out.old pen.old)
+        (sheet W.delivered W.failures W.flushes out.new pen.new) }
 {
     if pen.failed {
         return;
@@ -51,7 +52,8 @@ pub fn put<W: Sink>(out: &mut W, pen: &mut Pen, bytes: &[u8])
 /// Writes a byte as it is printed in a path.
 fn put_byte<W: Sink>(out: &mut W, pen: &mut Pen, c: u8)
     ensures { Wrote (printed_byte c)
-        (sheet W.delivered W.failures W.flushes out.old pen.old) (sheet W.delivered W.failures W.flushes out.new pen.new) }
+        (sheet W.delivered W.failures W.flushes out.old pen.old)
+        (sheet W.delivered W.failures W.flushes out.new pen.new) }
 {
     if needs_escape(c) {
         put(out, pen, &octal_escape(c));
@@ -60,10 +62,11 @@ fn put_byte<W: Sink>(out: &mut W, pen: &mut Pen, c: u8)
     }
 }
 
-/// Writes the bytes of a source as a path is printed.
-fn put_path<W: Sink, B: Source>(out: &mut W, pen: &mut Pen, mut path: B)
+/// Writes the bytes of a feed as a path is printed.
+fn put_path<W: Sink, B: Feed>(out: &mut W, pen: &mut Pen, mut path: B)
     ensures { Wrote (printed (B.rest path))
-        (sheet W.delivered W.failures W.flushes out.old pen.old) (sheet W.delivered W.failures W.flushes out.new pen.new) }
+        (sheet W.delivered W.failures W.flushes out.old pen.old)
+        (sheet W.delivered W.failures W.flushes out.new pen.new) }
 {
     'bytes: while let Some(c) = path.next_byte() {
         put_byte(out, pen, c);
@@ -73,7 +76,8 @@ fn put_path<W: Sink, B: Source>(out: &mut W, pen: &mut Pen, mut path: B)
 /// Writes a number in decimal.
 pub(crate) fn put_number<W: Sink>(out: &mut W, pen: &mut Pen, number: u64)
     ensures { Wrote (decimal number)
-        (sheet W.delivered W.failures W.flushes out.old pen.old) (sheet W.delivered W.failures W.flushes out.new pen.new) }
+        (sheet W.delivered W.failures W.flushes out.old pen.old)
+        (sheet W.delivered W.failures W.flushes out.new pen.new) }
 {
     let mut buffer = Buffer::new();
     put(out, pen, buffer.format(number).as_bytes());
@@ -83,7 +87,8 @@ pub(crate) fn put_number<W: Sink>(out: &mut W, pen: &mut Pen, number: u64)
 #[tactic(auto, unfolding(crate::specs::Text::empty_line))]
 pub fn put_newline<W: Sink>(out: &mut W, pen: &mut Pen)
     ensures { Wrote empty_line
-        (sheet W.delivered W.failures W.flushes out.old pen.old) (sheet W.delivered W.failures W.flushes out.new pen.new) }
+        (sheet W.delivered W.failures W.flushes out.old pen.old)
+        (sheet W.delivered W.failures W.flushes out.new pen.new) }
 {
     put(out, pen, b"\n");
 }
@@ -91,7 +96,8 @@ pub fn put_newline<W: Sink>(out: &mut W, pen: &mut Pen)
 /// Writes these bytes and the end of the line.
 pub(crate) fn put_ended<W: Sink>(out: &mut W, pen: &mut Pen, bytes: &[u8])
     ensures { Wrote (ended bytes.now)
-        (sheet W.delivered W.failures W.flushes out.old pen.old) (sheet W.delivered W.failures W.flushes out.new pen.new) }
+        (sheet W.delivered W.failures W.flushes out.old pen.old)
+        (sheet W.delivered W.failures W.flushes out.new pen.new) }
 {
     put(out, pen, bytes);
     put_newline(out, pen);
@@ -100,15 +106,17 @@ pub(crate) fn put_ended<W: Sink>(out: &mut W, pen: &mut Pen, bytes: &[u8])
 #[tactic(auto, unfolding(crate::specs::Text::colon))]
 fn put_colon<W: Sink>(out: &mut W, pen: &mut Pen)
     ensures { Wrote colon
-        (sheet W.delivered W.failures W.flushes out.old pen.old) (sheet W.delivered W.failures W.flushes out.new pen.new) }
+        (sheet W.delivered W.failures W.flushes out.old pen.old)
+        (sheet W.delivered W.failures W.flushes out.new pen.new) }
 {
     put(out, pen, b": ");
 }
 
 /// Writes a colon, a path and the end of the line.
-pub fn put_path_end<W: Sink, B: Source>(out: &mut W, pen: &mut Pen, path: B)
+pub fn put_path_end<W: Sink, B: Feed>(out: &mut W, pen: &mut Pen, path: B)
     ensures { Wrote (colon ++ ended (printed (B.rest path)))
-        (sheet W.delivered W.failures W.flushes out.old pen.old) (sheet W.delivered W.failures W.flushes out.new pen.new) }
+        (sheet W.delivered W.failures W.flushes out.old pen.old)
+        (sheet W.delivered W.failures W.flushes out.new pen.new) }
 {
     put_colon(out, pen);
     put_path(out, pen, path);

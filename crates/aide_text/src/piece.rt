@@ -2,7 +2,7 @@
 
 ghost use Rattle.std.specs.Prelude.{◌≡◌, ◌<◌, ◌≤◌, ◌++◌, ◌∷◌, [], ◌-◌, ℕ, List, length, take, drop};
 
-use crate::source::Source;
+use crate::feed::Feed;
 
 /// At most 32 bytes of a text.
 #[derive(Clone, Copy, Debug)]
@@ -16,7 +16,7 @@ impl Piece {
     ghost use Rattle.aide_text.specs.PieceText.{piece_text};
 
     /// The next piece of a text.
-    pub(crate) fn of<T: Source>(text: &mut T) -> Piece
+    pub(crate) fn of<T: Feed>(text: &mut T) -> Piece
         ensures piece { piece_text result ≡ take 32 (T.rest text.old) }
         ensures rest { T.rest text.new ≡ drop 32 (T.rest text.old) }
     {

@@ -2,7 +2,7 @@
 
 ghost use Rattle.std.specs.Prelude.{◌≡◌, ◌<◌, ◌≤◌, ◌++◌, ◌∷◌, [], ◌-◌, ℕ, List, length, take, drop};
 
-use crate::source::Source;
+use crate::feed::Feed;
 
 /// A short text.
 #[derive(Clone, Copy, Debug)]
@@ -31,7 +31,7 @@ impl Ready {
     }
 }
 
-impl Source for Ready {
+impl Feed for Ready {
     ghost use Rattle.aide_text.specs.ReadyRest.{ready_rest};
 
     ghost rest = { ready_rest };

@@ -1,5 +1,6 @@
 //! Where a report goes: devices that take bytes.
-ghost use Rattle.std.specs.Prelude.{◌≡◌, ◌<◌, ◌≤◌, ℕ, List, Option, length, IfOk, OnOk, Bool, true, false};
+ghost use Rattle.std.specs.Prelude.{◌≡◌, ◌<◌, ◌≤◌, ℕ, List, Option, length, IfOk, OnOk, Bool, true};
+ghost use Rattle.std.specs.Prelude.{false};
 ghost use Rattle.std.specs.Io.KnownBytes.{WriteAppends, Keeps};
 ghost use Rattle.aide_text.specs.Failures.{CountsFault, CountsFlush};
 
@@ -63,7 +64,12 @@ impl<W> Model for WriteSink<W> {
 impl<W: Write> WriteSink<W> {
     /// A sink that has counted no failure. It takes no memory.
     pub fn new(writer: W) -> WriteSink<W>
-        ensures { result ≡ record { device = writer; failures = 0; flushes = 0; is_flushed = false } }
+        ensures { result ≡ record {
+          device = writer;
+          failures = 0;
+          flushes = 0;
+          is_flushed = false;
+        } }
     {
         WriteSink {
             writer,

@@ -1,27 +1,27 @@
-//! A slice as a source.
+//! A slice as a feed.
 
 ghost use Rattle.std.specs.Prelude.{◌≡◌, ℕ, List};
 
-use crate::source::Source;
+use crate::feed::Feed;
 
 /// The bytes of a slice.
 #[derive(Clone, Copy, Debug, Drop)]
-pub struct SliceSource<'a> {
+pub struct SliceFeed<'a> {
     bytes: &'a [u8],
 }
 
-impl<'a> SliceSource<'a> {
+impl<'a> SliceFeed<'a> {
     /// All bytes of a slice.
-    pub fn of(bytes: &'a [u8]) -> SliceSource<'a>
+    pub fn of(bytes: &'a [u8]) -> SliceFeed<'a>
         ensures { slice_rest result ≡ bytes.now }
     {
-        SliceSource { bytes }
+        SliceFeed { bytes }
     }
 }
 
 ghost use Rattle.aide_text.specs.SliceRest.{slice_rest};
 
-impl<'a> Source for SliceSource<'a> {
+impl<'a> Feed for SliceFeed<'a> {
     ghost rest = { slice_rest };
 
     fn next_byte(&mut self) -> Option<u8> {

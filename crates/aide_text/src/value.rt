@@ -1,18 +1,21 @@
 //! The text of an attribute's value.
 
-ghost use Rattle.std.specs.Prelude.{◌≡◌, ◌<◌, ◌≤◌, ◌++◌, ◌∷◌, [], ◌-◌, ℕ, ℤ, List, length, take, drop, nat_abs};
+ghost use Rattle.std.specs.Prelude.{◌≡◌, ◌<◌, ◌≤◌, ◌++◌, ◌∷◌, [], ◌-◌, ℕ, ℤ, List, length, take};
+ghost use Rattle.std.specs.Prelude.{drop, nat_abs};
 ghost use Rattle.std.specs.Fmt.{signed_decimal};
 ghost use Rattle.aide_text.specs.ReadyRest.{ready_rest};
 ghost use Rattle.aide_text.specs.TextRest.{text_rest};
-ghost use Rattle.aide_text.specs.Values.{type_text, mode_text, digest_text, option_text, octal_text};
+ghost use Rattle.aide_text.specs.Values.{type_text, mode_text, digest_text, option_text};
+ghost use Rattle.aide_text.specs.Values.{octal_text};
 
+use crate::feed::{Feed, Printed};
 use crate::ready::Ready;
-use crate::source::{Printed, Source};
 use aide_attr::FileType;
 use base64::engine::general_purpose::STANDARD;
 use itoa::Buffer;
 
-/// The text of a value, as it is handed out: a short one that is kept in place, or a link name or a field as a path is printed.
+/// The text of a value, as it is handed out: a short one that is kept in place, or a link name or a field as a path is
+/// printed.
 #[derive(Clone, Copy, Drop)]
 pub enum ValueText<S, L, F> {
     /// A text that is kept in place.
@@ -23,7 +26,7 @@ pub enum ValueText<S, L, F> {
     Field(Printed<F>),
 }
 
-impl<S: Source, L: Source, F: Source> Source for ValueText<S, L, F> {
+impl<S: Feed, L: Feed, F: Feed> Feed for ValueText<S, L, F> {
     ghost rest = { text_rest S.rest L.rest F.rest };
 
     fn next_byte(&mut self) -> Option<u8> {

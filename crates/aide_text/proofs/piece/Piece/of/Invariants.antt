@@ -5,7 +5,7 @@ abbrev pub invariant-bytes : goal.invariant-bytes
 invariant-bytes g l = record {
   fits : l.len ≤ 32;
   size : length l.bytes ≡ 32;
-  whole : take l.len l.bytes ++ g.T.Source.rest l.text ≡ g.T.Source.rest l.fn.text;
+  whole : take l.len l.bytes ++ g.T.Feed.rest l.text ≡ g.T.Feed.rest l.fn.text;
 }
 
 abbrev pub decreases-bytes : goal.decreases-bytes

@@ -1,6 +1,6 @@
-use Rattle.aide_text.specs.Front.{first_numbers}
+use Rattle.aide_text.specs.Overview.{first_numbers}
 use Rattle.aide_text.proofs.Sheets.{wrote_more}
-use Rattle.aide_text.proofs.front.put_first_numbers.Goals as goal
+use Rattle.aide_text.proofs.overview.put_first_numbers.Goals as goal
 
 pub returns : goal.returns
 unfolding first_numbers

@@ -1,6 +1,6 @@
-use Rattle.aide_text.specs.Front.{last_numbers}
+use Rattle.aide_text.specs.Overview.{last_numbers}
 use Rattle.aide_text.proofs.Sheets.{wrote_more}
-use Rattle.aide_text.proofs.front.put_last_numbers.Goals as goal
+use Rattle.aide_text.proofs.overview.put_last_numbers.Goals as goal
 
 pub returns : goal.returns
 unfolding last_numbers

@@ -1,6 +1,6 @@
-use Rattle.aide_text.specs.Front.{summary_of}
+use Rattle.aide_text.specs.Overview.{summary_of}
 use Rattle.aide_text.proofs.Sheets.{wrote_more}
-use Rattle.aide_text.proofs.front.put_summary.Goals as goal
+use Rattle.aide_text.proofs.overview.put_summary.Goals as goal
 
 pub returns : goal.returns
 unfolding summary_of

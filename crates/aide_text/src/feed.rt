@@ -1,13 +1,14 @@
 //! Texts that are handed out byte by byte, and cut into pieces.
 
-ghost use Rattle.std.specs.Prelude.{◌≡◌, ◌<◌, ◌≤◌, ◌++◌, ◌∷◌, [], ◌-◌, ℕ, List, length, take, drop, Some, None};
-ghost use Rattle.aide_text.specs.Source.{Taken};
+ghost use Rattle.std.specs.Prelude.{◌≡◌, ◌<◌, ◌≤◌, ◌++◌, ◌∷◌, [], ◌-◌, ℕ, List, length, take, drop};
+ghost use Rattle.std.specs.Prelude.{Some, None};
+ghost use Rattle.aide_text.specs.Feed.{Taken};
 ghost use Rattle.aide_text.specs.Printed.{printed};
 
 use crate::emitting::{needs_escape, octal_escape};
 
 /// Bytes that are handed out one after another.
-pub trait Source: Drop {
+pub trait Feed: Drop {
     /// The bytes that are still to come.
     ghost rest: { Self → List ℕ };
 
@@ -24,10 +25,10 @@ pub struct Printed<B> {
     at: usize,
 }
 
-impl<B: Source> Printed<B> {
+impl<B: Feed> Printed<B> {
     ghost use Rattle.aide_text.specs.PrintedRest.{printed_rest};
 
-    /// The bytes of a source, printed: a control byte or a backslash as a backslash and three octal digits.
+    /// The bytes of a feed, printed: a control byte or a backslash as a backslash and three octal digits.
     pub fn of(bytes: B) -> Printed<B>
         ensures { printed_rest B.rest result ≡ printed (B.rest bytes) }
     {
@@ -39,7 +40,7 @@ impl<B: Source> Printed<B> {
     }
 }
 
-impl<B: Source> Source for Printed<B> {
+impl<B: Feed> Feed for Printed<B> {
     ghost use Rattle.aide_text.specs.PrintedRest.{printed_rest};
 
     ghost rest = { printed_rest B.rest };

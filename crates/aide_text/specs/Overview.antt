@@ -47,10 +47,10 @@ unfoldable pub summary_of : (total added removed changed : ℕ) → List ℕ
 summary_of total added removed changed = summary_title ++ (first_numbers total added ++ last_numbers removed changed)
 
 -- the head, and the summary from its level on
-unfoldable pub front_of : Level → (total added removed changed : ℕ) → List ℕ
-front_of level total added removed changed =
+unfoldable pub overview_of : Level → (total added removed changed : ℕ) → List ℕ
+overview_of level total added removed changed =
     head_of (is_different added removed changed) ++ when (reaches level Summary) (summary_of total added removed changed)
 
 -- the same of counts
-abbrev pub front_by : Level → Counts → List ℕ
-front_by level counts = front_of level counts.total counts.added counts.removed counts.changed
+abbrev pub overview_by : Level → Counts → List ℕ
+overview_by level counts = overview_of level counts.total counts.added counts.removed counts.changed

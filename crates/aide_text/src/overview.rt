@@ -1,7 +1,8 @@
 //! What stands first in a report: whether the databases differ, and the numbers of entries.
 ghost use Rattle.std.specs.Prelude.{◌≡◌, ◌++◌};
 ghost use Rattle.aide_attr.specs.declared.level.Level.{Level as AnyLevel};
-ghost use Rattle.aide_text.specs.Front.{head_of, summary_title, number_line, first_numbers, last_numbers, summary_of, front_by, when};
+ghost use Rattle.aide_text.specs.Overview.{head_of, summary_title, number_line, first_numbers};
+ghost use Rattle.aide_text.specs.Overview.{last_numbers, summary_of, overview_by, when};
 ghost use Rattle.aide_attr.specs.Level.{reaches};
 ghost use Rattle.aide_text.specs.PenSheet.{sheet};
 ghost use Rattle.aide_text.specs.Sheet.{Wrote};
@@ -12,10 +13,11 @@ use crate::sink::Sink;
 use aide_attr::Level;
 
 /// The first line: whether the databases differ.
-#[tactic(auto, unfolding(crate::specs::Front::head_of))]
+#[tactic(auto, unfolding(crate::specs::Overview::head_of))]
 fn put_head<W: Sink>(out: &mut W, pen: &mut Pen, differ: bool)
     ensures { Wrote (head_of differ)
-        (sheet W.delivered W.failures W.flushes out.old pen.old) (sheet W.delivered W.failures W.flushes out.new pen.new) }
+        (sheet W.delivered W.failures W.flushes out.old pen.old)
+        (sheet W.delivered W.failures W.flushes out.new pen.new) }
 {
     if differ {
         put(
@@ -32,17 +34,19 @@ fn put_head<W: Sink>(out: &mut W, pen: &mut Pen, differ: bool)
     }
 }
 
-#[tactic(auto, unfolding(crate::specs::Front::summary_title))]
+#[tactic(auto, unfolding(crate::specs::Overview::summary_title))]
 fn put_summary_title<W: Sink>(out: &mut W, pen: &mut Pen)
     ensures { Wrote summary_title
-        (sheet W.delivered W.failures W.flushes out.old pen.old) (sheet W.delivered W.failures W.flushes out.new pen.new) }
+        (sheet W.delivered W.failures W.flushes out.old pen.old)
+        (sheet W.delivered W.failures W.flushes out.new pen.new) }
 {
     put(out, pen, b"\nSummary:\n");
 }
 
 fn put_number_line<W: Sink>(out: &mut W, pen: &mut Pen, label: &[u8], number: u64)
     ensures { Wrote (number_line label.now number)
-        (sheet W.delivered W.failures W.flushes out.old pen.old) (sheet W.delivered W.failures W.flushes out.new pen.new) }
+        (sheet W.delivered W.failures W.flushes out.old pen.old)
+        (sheet W.delivered W.failures W.flushes out.new pen.new) }
 {
     put(out, pen, label);
     put_number(out, pen, number);
@@ -51,7 +55,8 @@ fn put_number_line<W: Sink>(out: &mut W, pen: &mut Pen, label: &[u8], number: u6
 
 fn put_first_numbers<W: Sink>(out: &mut W, pen: &mut Pen, total: u64, added: u64)
     ensures { Wrote (first_numbers total added)
-        (sheet W.delivered W.failures W.flushes out.old pen.old) (sheet W.delivered W.failures W.flushes out.new pen.new) }
+        (sheet W.delivered W.failures W.flushes out.old pen.old)
+        (sheet W.delivered W.failures W.flushes out.new pen.new) }
 {
     put_number_line(out, pen, b"  Total number of entries: ", total);
     put_number_line(out, pen, b"  Added entries:           ", added);
@@ -59,7 +64,8 @@ fn put_first_numbers<W: Sink>(out: &mut W, pen: &mut Pen, total: u64, added: u64
 
 fn put_last_numbers<W: Sink>(out: &mut W, pen: &mut Pen, removed: u64, changed: u64)
     ensures { Wrote (last_numbers removed changed)
-        (sheet W.delivered W.failures W.flushes out.old pen.old) (sheet W.delivered W.failures W.flushes out.new pen.new) }
+        (sheet W.delivered W.failures W.flushes out.old pen.old)
+        (sheet W.delivered W.failures W.flushes out.new pen.new) }
 {
     put_number_line(out, pen, b"  Removed entries:         ", removed);
     put_number_line(out, pen, b"  Changed entries:         ", changed);
@@ -67,8 +73,10 @@ fn put_last_numbers<W: Sink>(out: &mut W, pen: &mut Pen, removed: u64, changed: 
 
 /// The numbers of entries.
 fn put_summary<W: Sink>(out: &mut W, pen: &mut Pen, counts: &Counts)
-    ensures { Wrote (summary_of counts.now.total counts.now.added counts.now.removed counts.now.changed)
-        (sheet W.delivered W.failures W.flushes out.old pen.old) (sheet W.delivered W.failures W.flushes out.new pen.new) }
+    ensures { Wrote (summary_of counts.now.total counts.now.added counts.now.removed
+        counts.now.changed)
+        (sheet W.delivered W.failures W.flushes out.old pen.old)
+        (sheet W.delivered W.failures W.flushes out.new pen.new) }
 {
     put_summary_title(out, pen);
     put_first_numbers(out, pen, counts.total, counts.added);
@@ -78,7 +86,8 @@ fn put_summary<W: Sink>(out: &mut W, pen: &mut Pen, counts: &Counts)
 fn put_wanted_summary<W: Sink>(out: &mut W, pen: &mut Pen, level: Level, counts: &Counts)
     ensures { Wrote (when (reaches level AnyLevel.Summary)
         (summary_of counts.now.total counts.now.added counts.now.removed counts.now.changed))
-        (sheet W.delivered W.failures W.flushes out.old pen.old) (sheet W.delivered W.failures W.flushes out.new pen.new) }
+        (sheet W.delivered W.failures W.flushes out.old pen.old)
+        (sheet W.delivered W.failures W.flushes out.new pen.new) }
 {
     if level.reaches(Level::Summary) {
         put_summary(out, pen, counts);
@@ -86,9 +95,10 @@ fn put_wanted_summary<W: Sink>(out: &mut W, pen: &mut Pen, level: Level, counts:
 }
 
 /// The head and the summary.
-pub fn put_front<W: Sink>(out: &mut W, pen: &mut Pen, level: Level, counts: &Counts)
-    ensures { Wrote (front_by level counts.now)
-        (sheet W.delivered W.failures W.flushes out.old pen.old) (sheet W.delivered W.failures W.flushes out.new pen.new) }
+pub fn put_overview<W: Sink>(out: &mut W, pen: &mut Pen, level: Level, counts: &Counts)
+    ensures { Wrote (overview_by level counts.now)
+        (sheet W.delivered W.failures W.flushes out.old pen.old)
+        (sheet W.delivered W.failures W.flushes out.new pen.new) }
 {
     put_head(out, pen, counts.is_different());
     put_wanted_summary(out, pen, level, counts);

@@ -1,8 +1,8 @@
 use Rattle.std.proofs.Common.{ap}
-use Rattle.aide_text.specs.Front.{head_of, front_of}
+use Rattle.aide_text.specs.Overview.{head_of, overview_of}
 use Rattle.aide_text.proofs.Sheets.{wrote_more, wrote_as}
-use Rattle.aide_text.proofs.front.put_front.Goals as goal
+use Rattle.aide_text.proofs.overview.put_overview.Goals as goal
 
 pub returns : goal.returns
-unfolding front_of
+unfolding overview_of
 returns g c = wrote_more (wrote_as (ap head_of c.is_different.ensures) c.put_head.ensures) c.put_wanted_summary.ensures

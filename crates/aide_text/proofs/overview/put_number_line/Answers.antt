@@ -1,7 +1,7 @@
 use Rattle.aide_text.specs.Text.{empty_line, ended}
-use Rattle.aide_text.specs.Front.{number_line}
+use Rattle.aide_text.specs.Overview.{number_line}
 use Rattle.aide_text.proofs.Sheets.{wrote_more}
-use Rattle.aide_text.proofs.front.put_number_line.Goals as goal
+use Rattle.aide_text.proofs.overview.put_number_line.Goals as goal
 
 pub returns : goal.returns
 unfolding empty_line ended number_line
