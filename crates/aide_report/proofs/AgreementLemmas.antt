@@ -1,34 +1,34 @@
 -- What a report says first.
-use Rattle.std.proofs.Common.{◌≡◌, ◌∙◌, ℕ, Bool, true, false, if◌then◌else◌, List, [], ◌∷◌, ◌++◌, length, Option, refl, sym, ap, subst}
+use Rattle.std.proofs.Common.{◌≡◌, ◌≤◌, ◌<◌, ◌∙◌, ℕ, Bool, true, false, if◌then◌else◌, List, [], ◌∷◌, ◌++◌, length, Option, refl, sym, ap, subst, arith}
+use Rattle.std.proofs.lemmas.Bool.{leb-false, lt-leb}
 use Rattle.std.specs.Prelude.{◌&&◌, not}
 use Rattle.std.specs.Io.KnownBytes.{Keeps}
 use Rattle.aide_attr.specs.declared.level.Level.{Level}
-use Rattle.aide_attr.specs.declared.level.Level.TheVariants.{Minimal, Summary, DatabaseAttributes, ListEntries, ChangedAttributes, AddedRemovedAttributes, AddedRemovedEntries}
+use Rattle.aide_attr.specs.declared.level.Level.TheVariants.{DatabaseAttributes, ListEntries, ChangedAttributes}
 use Rattle.aide_conf.specs.declared.options.Options.{Options}
 use Rattle.aide_report.specs.Agreement.{BeginsWith, beginning_of, goes_on}
 use Rattle.aide_report.specs.Report.{Origin, databases_of, databases_text, is_silent}
-use Rattle.aide_text.specs.Front.{front_of, when, is_different}
+use Rattle.aide_text.specs.Overview.{overview_of, when, is_different}
 use Rattle.aide_report.specs.Sections.{asked_sections, list_sections}
-use Rattle.aide_attr.specs.Level.{reaches}
+use Rattle.aide_attr.specs.Level.{rank, reaches}
 use Rattle.aide_text.specs.Sheet.{Sheet, Wrote, WritesFirst, WritesSome}
 use Rattle.aide_text.specs.declared.section.Section.TheVariants.{Details}
 use Rattle.aide_report.proofs.ReportLemmas.{flushed_whole}
 use Rattle.aide_text.proofs.Sheets.{wrote_more, wrote_nothing}
 
-none_at : (level : Level) (grouped : Bool) → reaches level DatabaseAttributes ≡ false
-    → length ((if reaches level ListEntries then list_sections grouped else []) ++ (if reaches level ChangedAttributes then Details ∷ [] else [])) ≡ 0
-none_at Minimal grouped below = refl
-none_at Summary grouped below = refl
-none_at DatabaseAttributes grouped below = cc
-none_at ListEntries grouped below = cc
-none_at ChangedAttributes grouped below = cc
-none_at AddedRemovedAttributes grouped below = cc
-none_at AddedRemovedEntries grouped below = cc
+-- below a level, and so below each level behind it
+none_behind : (level first later : Level) → rank first ≤ rank later → reaches level first ≡ false → reaches level later ≡ false
+none_behind level first later behind below =
+    let less : rank level < rank first = leb-false (rank first) (rank level) below in
+    lt-leb (rank later) (rank level) (omega (arith, behind, less))
 
 -- below the level of the databases no section is asked for
 pub none_asked : (options : Options) → reaches options.level DatabaseAttributes ≡ false → length (asked_sections options) ≡ 0
 unfolding asked_sections
-none_asked options below = none_at options.level options.grouped below
+none_asked options below =
+    ap (λ b. length ((if b then list_sections options.grouped else []) ++ (if reaches options.level ChangedAttributes then Details ∷ [] else [])))
+    (none_behind options.level DatabaseAttributes ListEntries (omega arith) below)
+    ∙ ap (λ b. length (if b then Details ∷ [] else [])) (none_behind options.level DatabaseAttributes ChangedAttributes (omega arith) below)
 
 -- nor the databases
 pub no_databases : (options : Options) (old_origin new_origin : Origin) → reaches options.level DatabaseAttributes ≡ false → databases_text options old_origin new_origin ≡ []
@@ -52,17 +52,17 @@ first_then {text} {last} {a} {b} {c} {d} wants_more none p q r = record {
 }
 
 first_by : (options : Options) (total added removed changed : ℕ) (wants_more silent : Bool) (a b : Sheet) → is_silent options (is_different added removed changed) ≡ silent
-    → WritesFirst (if silent then [] else front_of options.level total added removed changed) (not silent && reaches options.level DatabaseAttributes) a b
+    → WritesFirst (if silent then [] else overview_of options.level total added removed changed) (not silent && reaches options.level DatabaseAttributes) a b
     → WritesFirst (beginning_of options total added removed changed) (goes_on options added removed changed) a b
 first_by options total added removed changed wants_more silent a b is p =
-    subst (λ x. WritesFirst (if x then [] else front_of options.level total added removed changed) (not x && reaches options.level DatabaseAttributes) a b) (sym is) p
+    subst (λ x. WritesFirst (if x then [] else overview_of options.level total added removed changed) (not x && reaches options.level DatabaseAttributes) a b) (sym is) p
 
 pub first_silent : (options : Options) (total added removed changed : ℕ) (a : Sheet) → is_silent options (is_different added removed changed) ≡ true
     → WritesFirst (beginning_of options total added removed changed) (goes_on options added removed changed) a a
 first_silent options total added removed changed a is = first_by options total added removed changed false true a a is (first_nothing false a)
 
 pub first_full : (options : Options) (total added removed changed : ℕ) (a b : Sheet) → is_silent options (is_different added removed changed) ≡ false
-    → WritesFirst (front_of options.level total added removed changed) (reaches options.level DatabaseAttributes) a b
+    → WritesFirst (overview_of options.level total added removed changed) (reaches options.level DatabaseAttributes) a b
     → WritesFirst (beginning_of options total added removed changed) (goes_on options added removed changed) a b
 first_full options total added removed changed a b is p = first_by options total added removed changed (reaches options.level DatabaseAttributes) false a b is p
 

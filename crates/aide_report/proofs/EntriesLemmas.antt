@@ -4,11 +4,11 @@ use Rattle.std.specs.List.{flat_map, filter}
 use Rattle.std.proofs.lemmas.List.{drop_more, drop_all}
 use Rattle.aide_attr.specs.declared.attr.Attr.{Attr}
 use Rattle.aide_conf.specs.declared.options.Options.{Options}
-use Rattle.aide_report.specs.Entries.{Entry, Pair, attribute_text, attributes_text, shown_text}
+use Rattle.aide_report.specs.Entries.{PathChange, Pair, attribute_text, attributes_text, shown_text}
 use Rattle.aide_report.specs.Sections.{is_in, entry_text, one_text, entries_text}
 use Rattle.aide_text.specs.declared.section.Section.{Section}
 
-pub entries_first : (options : Options) (section : Section) (entry : Entry) (more : List Entry)
+pub entries_first : (options : Options) (section : Section) (entry : PathChange) (more : List PathChange)
     → entries_text options section (entry ∷ more) ≡ one_text options section entry ++ entries_text options section more
 unfolding entries_text one_text
 entries_first options section entry more = by_test (is_in options section entry)
@@ -18,16 +18,16 @@ entries_first options section entry more = by_test (is_in options section entry)
     by_test true = refl
     by_test false = refl
 
-pub entries_step : (options : Options) (section : Section) (entry : Entry) (rest changes more : List Entry) → rest ≡ changes ++ more → changes ≡ entry ∷ []
+pub entries_step : (options : Options) (section : Section) (entry : PathChange) (rest changes more : List PathChange) → rest ≡ changes ++ more → changes ≡ entry ∷ []
     → entries_text options section rest ≡ one_text options section entry ++ entries_text options section more
 entries_step options section entry rest changes more is one =
     ap (entries_text options section) (is ∙ ap (λ l. l ++ more) one) ∙ entries_first options section entry more
 
-pub entries_same : (options : Options) (section : Section) (rest changes more : List Entry) → rest ≡ changes ++ more → changes ≡ []
+pub entries_same : (options : Options) (section : Section) (rest changes more : List PathChange) → rest ≡ changes ++ more → changes ≡ []
     → entries_text options section rest ≡ entries_text options section more
 entries_same options section rest changes more is none = ap (entries_text options section) (is ∙ ap (λ l. l ++ more) none)
 
-pub entries_end : (options : Options) (section : Section) (rest : List Entry) → rest ≡ [] → entries_text options section rest ≡ []
+pub entries_end : (options : Options) (section : Section) (rest : List PathChange) → rest ≡ [] → entries_text options section rest ≡ []
 unfolding entries_text
 entries_end options section rest none = ap (entries_text options section) none
 

@@ -14,8 +14,8 @@ use Rattle.aide_db.proofs.MapLaws.{first_fault_unsound}
 use Rattle.aide_report.specs.LaterFault.{later_by, later_of}
 use Rattle.aide_report.specs.PassFaults.{IfDatabase, IfWrite, pass_fault_of}
 use Rattle.aide_report.specs.Openings.{OpensFirst}
-use Rattle.aide_report.specs.Reading.{IsFaultOf}
-use Rattle.aide_report.specs.RunFaults.{IsCaused, IsLater, IsRight, TellsPen}
+use Rattle.aide_report.specs.Standing.{IsFaultOf}
+use Rattle.aide_report.specs.RunFaults.{IsCaused, IsLater, IsRight, HasPenWritten}
 use Rattle.aide_report.specs.declared.entries.PassFault.{PassFault}
 use Rattle.aide_report.specs.declared.entries.PassFault.TheVariants as passes
 use Rattle.aide_text.specs.declared.pen.Pen.{Pen}
@@ -127,26 +127,26 @@ pub pass_caused : (sources sink : Type 0) (fault : PassFault) (sent : ℕ) → I
 pass_caused sources sink (passes.Database fault) sent read write = caused_at sources sink fault read fault.kind
 pass_caused sources sink passes.Write sent read write = write
 
-tells_at : (pen : Pen) (fault : DbFault) (kind : DbFaultKind) → TellsPen pen (later_by kind fault)
-tells_at pen fault LineTooLong = tt
-tells_at pen fault NoBegin = tt
-tells_at pen fault BadDirective = tt
-tells_at pen fault BadSpec = tt
-tells_at pen fault NoSpec = tt
-tells_at pen fault FieldCount = tt
-tells_at pen fault BadName = tt
-tells_at pen fault OutOfOrder = tt
-tells_at pen fault (BadNumber column) = tt
-tells_at pen fault (BadTime column) = tt
-tells_at pen fault (BadDigest column) = tt
-tells_at pen fault NoEnd = tt
-tells_at pen fault Memory = tt
-tells_at pen fault Read = tt
-tells_at pen fault TooManyBytes = tt
+written_at : (pen : Pen) (fault : DbFault) (kind : DbFaultKind) → HasPenWritten pen (later_by kind fault)
+written_at pen fault LineTooLong = tt
+written_at pen fault NoBegin = tt
+written_at pen fault BadDirective = tt
+written_at pen fault BadSpec = tt
+written_at pen fault NoSpec = tt
+written_at pen fault FieldCount = tt
+written_at pen fault BadName = tt
+written_at pen fault OutOfOrder = tt
+written_at pen fault (BadNumber column) = tt
+written_at pen fault (BadTime column) = tt
+written_at pen fault (BadDigest column) = tt
+written_at pen fault NoEnd = tt
+written_at pen fault Memory = tt
+written_at pen fault Read = tt
+written_at pen fault TooManyBytes = tt
 
-pub pass_tells : (pen : Pen) (fault : PassFault) → IfWrite (pen.failed ≡ true) fault → TellsPen pen (pass_fault_of fault pen.sent)
-pass_tells pen (passes.Database fault) write = tells_at pen fault fault.kind
-pass_tells pen passes.Write write = (write, refl)
+pub pass_written : (pen : Pen) (fault : PassFault) → IfWrite (pen.failed ≡ true) fault → HasPenWritten pen (pass_fault_of fault pen.sent)
+pass_written pen (passes.Database fault) write = written_at pen fault fault.kind
+pass_written pen passes.Write write = (write, refl)
 
 -- ---- a fault after the first readings is no fault of a text
 

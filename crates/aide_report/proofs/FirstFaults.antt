@@ -113,7 +113,7 @@ one_fault limits text m j n k f g = elim f [
   ]
 ]
 
-same_fault : (limits : Limits) (side : Side) (text : List ℕ) (f g : DbFault) → IsFirstFaultOf limits side text f → IsFirstFaultOf limits side text g → f ≡ g
+pub same_fault : (limits : Limits) (side : Side) (text : List ℕ) (f g : DbFault) → IsFirstFaultOf limits side text f → IsFirstFaultOf limits side text g → f ≡ g
 same_fault limits side text f g a b =
     let same = one_fault limits text f.line f.kind g.line g.kind a.1 b.1 in
     let sides : f.side ≡ g.side = a.0 ∙ sym b.0 in

@@ -7,7 +7,7 @@ pub mod ReportLemmas
 pub mod MergeLemmas
 pub mod Laws
 pub mod Steps
-pub mod ReadingLemmas
+pub mod StandingLemmas
 pub mod DifferenceLemmas
 pub mod SameEntries
 pub mod SideLemmas
@@ -20,3 +20,4 @@ pub mod OpeningLemmas
 pub mod RoomLemmas
 pub mod AgreementLemmas
 pub mod Examples
+pub mod MissingLemmas

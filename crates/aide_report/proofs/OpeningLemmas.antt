@@ -64,10 +64,10 @@ refused_by before after fault Memory = tt
 refused_by before after fault Read = tt
 refused_by before after fault TooManyBytes = tt
 
--- the end of a walk refuses no side
-pub refused_walk : (before after : Side → ℕ) (fault : PassFault) (sent : ℕ) → IsRefusedThere before after (pass_fault_of fault sent)
-refused_walk before after (passes.Database fault) sent = refused_by before after fault fault.kind
-refused_walk before after passes.Write sent = tt
+-- the end of a pass refuses no side
+pub refused_pass : (before after : Side → ℕ) (fault : PassFault) (sent : ℕ) → IsRefusedThere before after (pass_fault_of fault sent)
+refused_pass before after (passes.Database fault) sent = refused_by before after fault fault.kind
+refused_pass before after passes.Write sent = tt
 
 -- the old side was opened
 pub comes_opened : (before after : ℕ) (fault : RunFault) → after ≡ one_more before → ComesOpened before after fault

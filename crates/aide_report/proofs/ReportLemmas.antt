@@ -4,11 +4,11 @@ use Rattle.std.specs.Prelude.{Option}
 use Rattle.std.specs.Io.KnownBytes.{Appends, Keeps}
 use Rattle.std.proofs.lemmas.List.{append-nil}
 use Rattle.aide_conf.specs.declared.options.Options.{Options}
-use Rattle.aide_report.specs.Entries.{Entry}
+use Rattle.aide_report.specs.Entries.{PathChange}
 use Rattle.aide_text.specs.Failures.{Rose}
 use Rattle.aide_report.specs.Report.{Origin, is_silent, parts_of, text_of}
-use Rattle.aide_text.specs.Front.{differs}
-use Rattle.aide_report.specs.RunFaults.{IsCaused, TellsPen, TellsIfWritten}
+use Rattle.aide_text.specs.Overview.{differs}
+use Rattle.aide_report.specs.RunFaults.{IsCaused, HasPenWritten, HasWrittenIfAny}
 use Rattle.aide_text.specs.Sent.{SendsPart, IsCounted}
 use Rattle.aide_text.specs.Sheet.{Sheet, Wrote, WritesSome}
 use Rattle.aide_text.specs.declared.counts.Counts.{Counts}
@@ -18,12 +18,12 @@ use Rattle.aide_report.specs.declared.run_fault.RunFault.TheVariants.{Open, Data
 use Rattle.aide_text.proofs.Sending.{Appends-Keeps}
 use Rattle.aide_text.proofs.Sheets.{from_fresh, wrote_whole}
 
-pub silent_text : (options : Options) (old_origin new_origin : Origin) (counts : Counts) (entries : List Entry) → is_silent options (differs counts) ≡ true
+pub silent_text : (options : Options) (old_origin new_origin : Origin) (counts : Counts) (entries : List PathChange) → is_silent options (differs counts) ≡ true
     → text_of options old_origin new_origin counts entries ≡ []
 unfolding text_of
 silent_text options old_origin new_origin counts entries e = ap (λ b. if b then [] else parts_of options old_origin new_origin counts entries) e
 
-pub full_text : (options : Options) (old_origin new_origin : Origin) (counts : Counts) (entries : List Entry) → is_silent options (differs counts) ≡ false
+pub full_text : (options : Options) (old_origin new_origin : Origin) (counts : Counts) (entries : List PathChange) → is_silent options (differs counts) ≡ false
     → text_of options old_origin new_origin counts entries ≡ parts_of options old_origin new_origin counts entries
 unfolding text_of
 full_text options old_origin new_origin counts entries e = ap (λ b. if b then [] else parts_of options old_origin new_origin counts entries) e
@@ -49,11 +49,11 @@ never_falls {a} {b} fresh p = (from_fresh fresh p).3
 pub count_of_pen : {a b : Sheet} → a.failed ≡ false → a.sent ≡ 0 → WritesSome a b → IsCounted a.bytes b.bytes 0 b.sent
 count_of_pen {a} {b} fresh start p = let sent = from_fresh fresh p in record { sent = sent.0; bytes = sent.1; count = omega (arith, sent.2, start) }
 
-pub tells_of_pen : (pen : Pen) (before after : Option (List ℕ)) (fault : RunFault) → IsCounted before after 0 pen.sent → TellsPen pen fault → TellsIfWritten before after fault
-tells_of_pen pen before after (Open side) is tells = tt
-tells_of_pen pen before after (Database fault) is tells = tt
-tells_of_pen pen before after (Changed side) is tells = tt
-tells_of_pen pen before after (Write written) is tells = subst (λ n. IsCounted before after 0 n) (sym tells.1) is
+pub written_of_pen : (pen : Pen) (before after : Option (List ℕ)) (fault : RunFault) → IsCounted before after 0 pen.sent → HasPenWritten pen fault → HasWrittenIfAny before after fault
+written_of_pen pen before after (Open side) is counts = tt
+written_of_pen pen before after (Database fault) is counts = tt
+written_of_pen pen before after (Changed side) is counts = tt
+written_of_pen pen before after (Write written) is counts = subst (λ n. IsCounted before after 0 n) (sym counts.1) is
 
 pub rose_of_pen : {a b : Sheet} → a.failed ≡ false → WritesSome a b → b.failed ≡ true → Rose a.failures b.failures
 rose_of_pen {a} {b} fresh p failed below = let e = (from_fresh fresh p).4 failed in omega (arith, e)

@@ -5,11 +5,11 @@ use Rattle.aide_db.specs.declared.fault.DbFault.{DbFault}
 use Rattle.aide_db.specs.declared.fault.DbFaultKind.{DbFaultKind}
 use Rattle.aide_db.specs.declared.fault.DbFaultKind.TheVariants.{LineTooLong, NoBegin, BadDirective, BadSpec, NoSpec, FieldCount, BadName, OutOfOrder, BadNumber, BadTime, BadDigest, NoEnd, Memory, Read, TooManyBytes}
 use Rattle.aide_db.specs.declared.limits.Limits.{Limits}
-use Rattle.aide_db.specs.declared.place.Place.{Place}
-use Rattle.aide_db.specs.declared.place.Place.TheVariants.{Start, Begun, Entries, Ended, Failed}
+use Rattle.aide_db.specs.declared.stage.Stage.{Stage}
+use Rattle.aide_db.specs.declared.stage.Stage.TheVariants.{Start, Begun, Entries, Ended, Failed}
 use Rattle.aide_report.specs.LaterFault.{later_by, later_of}
 use Rattle.aide_report.specs.PassFaults.{IfDatabase, pass_fault_of}
-use Rattle.aide_report.specs.Reading.{IsUnfailed}
+use Rattle.aide_report.specs.Standing.{IsUnfailed}
 use Rattle.aide_report.specs.Room.{IsNotMemory, IsNotOfMemory}
 use Rattle.aide_report.specs.declared.entries.PassFault.{PassFault}
 use Rattle.aide_report.specs.declared.entries.PassFault.TheVariants as passes
@@ -19,7 +19,7 @@ not_true false h = refl
 not_true true h = sym (h refl)
 
 -- a cursor that has not failed wants no memory
-pub not_memory : (place : Place) (fault : DbFault) → IsUnfailed place → (is_memory fault.kind ≡ true → wanted_memory place ≡ true) → IsNotMemory fault
+pub not_memory : (stage : Stage) (fault : DbFault) → IsUnfailed stage → (is_memory fault.kind ≡ true → wanted_memory stage ≡ true) → IsNotMemory fault
 not_memory Start fault unfailed h = not_true (is_memory fault.kind) h
 not_memory Begun fault unfailed h = not_true (is_memory fault.kind) h
 not_memory Entries fault unfailed h = not_true (is_memory fault.kind) h
@@ -51,7 +51,7 @@ later_at fault is TooManyBytes = tt
 pub later_room : (fault : DbFault) → IsNotMemory fault → IsNotOfMemory (later_of fault)
 later_room fault is = later_at fault is fault.kind
 
--- nor the end of a walk
+-- nor the end of a pass
 pub pass_room : (fault : PassFault) (sent : ℕ) → IfDatabase IsNotMemory fault → IsNotOfMemory (pass_fault_of fault sent)
 pass_room (passes.Database fault) sent is = later_room fault is
 pass_room passes.Write sent is = tt

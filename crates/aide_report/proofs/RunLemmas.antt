@@ -1,4 +1,4 @@
--- From the walk over two texts to the report over their maps.
+-- From the pass over two texts to the report over their maps.
 use Rattle.std.specs.Prelude.{◌≡◌, ℕ, Option, Result, Ok, Err, List, [], length, count_by}
 use Rattle.std.proofs.Common.{refl, sym, ap, subst, ◌∙◌, arith}
 use Rattle.std.specs.FinMap.{len}
@@ -20,7 +20,7 @@ use Rattle.aide_report.specs.Compare.{changes, added, removed, changed}
 use Rattle.aide_report.specs.Counts.{Completes}
 use Rattle.aide_report.specs.Merged.{merged}
 use Rattle.aide_report.specs.Entries.{is_shown_entry}
-use Rattle.aide_report.specs.Finding.{IsFinding, old_origin, new_origin, walk_of}
+use Rattle.aide_report.specs.Finding.{IsFinding, old_origin, new_origin, pass_of}
 use Rattle.aide_report.specs.Report.{text_of, counts_of, outcome_by, section_count}
 use Rattle.aide_report.specs.declared.comparison.Finding.{Finding}
 use Rattle.aide_report.specs.Runs.{Report, report_over, sections_over, Runs, EndsWell, EndsEarly}
@@ -31,28 +31,28 @@ use Rattle.aide_report.proofs.Laws.{added_count, removed_count, changed_count, t
 use Rattle.aide_report.proofs.MergeLemmas.{changes-merged}
 use Rattle.aide_text.proofs.Sending.{Appends-nothing}
 
--- of sound texts, the walk goes over the comparison of the maps
-pub walk_is_changes : (limits : Limits) (old new : List ℕ) → IsSound limits old → IsSound limits new
+-- of sound texts, the pass goes over the comparison of the maps
+pub pass_is_changes : (limits : Limits) (old new : List ℕ) → IsSound limits old → IsSound limits new
     → changes (database_of old) (database_of new) ≡ merged path_cmp (entries_of old) (entries_of new)
-walk_is_changes limits old new sound_old sound_new =
+pass_is_changes limits old new sound_old sound_new =
     changes-merged path_cmp path_cmp_total path_cmp-IsAntisymmetric (database_of old) (database_of new)
     ∙ (λ i. merged path_cmp (entries-database_of limits old sound_old i) (entries-database_of limits new sound_new i))
 
--- the counts of a whole walk are those of the maps
+-- the counts of a whole pass are those of the maps
 pub counts_are : (limits : Limits) (options : Options) (counts : Counts) (old new : List ℕ) → IsSound limits old → IsSound limits new
-    → Completes options counts [] (walk_of old new) → counts ≡ counts_of options (database_of old) (database_of new)
+    → Completes options counts [] (pass_of old new) → counts ≡ counts_of options (database_of old) (database_of new)
 counts_are limits options counts old new sound_old sound_new done =
-    let walk = walk_is_changes limits old new sound_old sound_new in
+    let pass = pass_is_changes limits old new sound_old sound_new in
     let a : length (added (database_of old) (database_of new)) ≡ counts.added =
-    sym (added_count path_cmp path_cmp_total path_cmp-IsAntisymmetric (database_of old) (database_of new)) ∙ ap (count_by is_added) walk ∙ omega (arith, done.added) in
+    sym (added_count path_cmp path_cmp_total path_cmp-IsAntisymmetric (database_of old) (database_of new)) ∙ ap (count_by is_added) pass ∙ omega (arith, done.added) in
     let r : length (removed (database_of old) (database_of new)) ≡ counts.removed =
-    sym (removed_count path_cmp path_cmp_total path_cmp-IsAntisymmetric (database_of old) (database_of new)) ∙ ap (count_by is_removed) walk ∙ omega (arith, done.removed) in
+    sym (removed_count path_cmp path_cmp_total path_cmp-IsAntisymmetric (database_of old) (database_of new)) ∙ ap (count_by is_removed) pass ∙ omega (arith, done.removed) in
     let c : length (changed (differ_by options.ignore) (database_of old) (database_of new)) ≡ counts.changed =
-    sym (changed_count path_cmp path_cmp_total (differ_by options.ignore) path_cmp-IsAntisymmetric (database_of old) (database_of new)) ∙ ap (count_by (is_changed (differ_by options.ignore))) walk ∙ omega (arith, done.changed) in
+    sym (changed_count path_cmp path_cmp_total (differ_by options.ignore) path_cmp-IsAntisymmetric (database_of old) (database_of new)) ∙ ap (count_by (is_changed (differ_by options.ignore))) pass ∙ omega (arith, done.changed) in
     let t : len (database_of new) ≡ counts.total =
-    sym (total_count path_cmp path_cmp_total path_cmp-IsAntisymmetric (database_of old) (database_of new)) ∙ ap (count_by is_of_new) walk ∙ omega (arith, done.total) in
+    sym (total_count path_cmp path_cmp_total path_cmp-IsAntisymmetric (database_of old) (database_of new)) ∙ ap (count_by is_of_new) pass ∙ omega (arith, done.total) in
     let s : count_by (is_shown_entry options) (changes (database_of old) (database_of new)) ≡ counts.shown =
-    ap (count_by (is_shown_entry options)) walk ∙ omega (arith, done.shown) in
+    ap (count_by (is_shown_entry options)) pass ∙ omega (arith, done.shown) in
     λ i. record { added = sym a i; removed = sym r i; changed = sym c i; total = sym t i; shown = sym s i }
 
 -- the digests of the finding are those of the texts
@@ -63,11 +63,11 @@ pub record HasDigests (finding : Finding) (old new : List ℕ) : Type 0 where
 -- the text that the finding calls for is the report
 pub text_is : (limits : Limits) (task : Task) (finding : Finding) (old new : List ℕ) → IsSound limits old → IsSound limits new
     → IsFinding task.options finding old new → HasDigests finding old new
-    → text_of task.options (old_origin task finding) (new_origin task finding) finding.counts (walk_of old new) ≡ (report_over (asked task) old new).text
+    → text_of task.options (old_origin task finding) (new_origin task finding) finding.counts (pass_of old new) ≡ (report_over (asked task) old new).text
 unfolding report_over
 text_is limits task finding old new sound_old sound_new is digests =
-    let walk = sym (walk_is_changes limits old new sound_old sound_new) in
-    λ i. text_of task.options (record { path = task.old_path.now; digest = digests.of_old i }) (record { path = task.new_path.now; digest = digests.of_new i }) (is.counts i) (walk i)
+    let pass = sym (pass_is_changes limits old new sound_old sound_new) in
+    λ i. text_of task.options (record { path = task.old_path.now; digest = digests.of_old i }) (record { path = task.new_path.now; digest = digests.of_new i }) (is.counts i) (pass i)
 
 -- its outcome is the one that is told
 pub outcome_is : (task : Task) (finding : Finding) (old new : List ℕ) → IsFinding task.options finding old new
@@ -88,7 +88,7 @@ right_report limits task old new sound_old sound_new r runs =
 
 pub ends_well : (limits : Limits) (task : Task) (finding : Finding) (old new : List ℕ) (before after : Option (List ℕ)) → IsSound limits old → IsSound limits new
     → IsFinding task.options finding old new → HasDigests finding old new
-    → Appends before after (text_of task.options (old_origin task finding) (new_origin task finding) finding.counts (walk_of old new))
+    → Appends before after (text_of task.options (old_origin task finding) (new_origin task finding) finding.counts (pass_of old new))
     → (r : Result Report DbFault) → Runs limits (asked task) old new r → EndsWell r (outcome_by finding.counts finding.skipped_old finding.skipped_new) before after
 ends_well limits task finding old new before after sound_old sound_new is digests sent r runs =
     subst (λ answer. EndsWell answer (outcome_by finding.counts finding.skipped_old finding.skipped_new) before after) (right_report limits task old new sound_old sound_new r runs)
@@ -96,7 +96,7 @@ ends_well limits task finding old new before after sound_old sound_new is digest
 
 pub ends_early : (limits : Limits) (task : Task) (finding : Finding) (old new : List ℕ) (before after : Option (List ℕ)) → IsSound limits old → IsSound limits new
     → IsFinding task.options finding old new → HasDigests finding old new
-    → SendsPart (text_of task.options (old_origin task finding) (new_origin task finding) finding.counts (walk_of old new)) before after
+    → SendsPart (text_of task.options (old_origin task finding) (new_origin task finding) finding.counts (pass_of old new)) before after
     → (r : Result Report DbFault) → Runs limits (asked task) old new r → EndsEarly r before after
 ends_early limits task finding old new before after sound_old sound_new is digests sent r runs =
     subst (λ answer. EndsEarly answer before after) (right_report limits task old new sound_old sound_new r runs)

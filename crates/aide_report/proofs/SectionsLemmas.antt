@@ -9,7 +9,7 @@ use Rattle.aide_conf.specs.declared.options.Options.{Options}
 use Rattle.std.proofs.lemmas.List.Sums.{length-filter, count_by-le-length}
 use Rattle.aide_db.specs.declared.side.Side.{Side}
 use Rattle.aide_report.specs.Openings.{OpensExactly, OpensAtMost}
-use Rattle.aide_text.specs.Front.{differs}
+use Rattle.aide_text.specs.Overview.{differs}
 use Rattle.aide_report.specs.Report.{is_silent, section_count}
 use Rattle.aide_report.specs.Sections.{asked_sections, list_sections, has_entry, sections_of}
 use Rattle.aide_attr.specs.Level.{reaches}
@@ -86,13 +86,9 @@ count_filter h xs = omega (arith, length-filter h xs, count_by-le-length h xs)
 
 asked_few : (grouped : Bool) (listed detailed : Bool) → length ((if listed then list_sections grouped else []) ++ (if detailed then Details ∷ [] else [])) ≤ 4
 asked_few true true true = omega arith
-asked_few true true false = omega arith
-asked_few true false true = omega arith
-asked_few true false false = omega arith
-asked_few false true true = omega arith
-asked_few false true false = omega arith
-asked_few false false true = omega arith
-asked_few false false false = omega arith
+asked_few _ true true = omega arith
+asked_few _ _ true = omega arith
+asked_few _ _ _ = omega arith
 
 by_silent : (options : Options) (counts : Counts) (silent : Bool) → (if silent then 0 else length (sections_of options counts)) ≤ 4
 unfolding asked_sections

@@ -4,7 +4,7 @@ use Rattle.std.specs.Io.KnownBytes.{Appends}
 use Rattle.aide_attr.specs.declared.level.Level.TheVariants.{DatabaseAttributes}
 use Rattle.aide_conf.specs.declared.options.Options.{Options}
 use Rattle.aide_report.specs.Report.{is_silent}
-use Rattle.aide_text.specs.Front.{front_of, is_different}
+use Rattle.aide_text.specs.Overview.{overview_of, is_different}
 use Rattle.aide_attr.specs.Level.{reaches}
 use Rattle.aide_text.specs.declared.counts.Counts.{Counts}
 use Rattle.aide_report.specs.declared.outcome.Outcome.{Outcome}
@@ -12,7 +12,7 @@ use Rattle.aide_report.specs.declared.outcome.Outcome.{Outcome}
 -- the head and the summary, nothing in a silent report
 abbrev pub beginning_of : Options → (total added removed changed : ℕ) → List ℕ
 beginning_of options total added removed changed =
-    if is_silent options (is_different added removed changed) then [] else front_of options.level total added removed changed
+    if is_silent options (is_different added removed changed) then [] else overview_of options.level total added removed changed
 
 -- whether anything follows: in no silent report, and at no level below that of the databases
 abbrev pub goes_on : Options → (added removed changed : ℕ) → Bool

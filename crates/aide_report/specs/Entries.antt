@@ -23,8 +23,8 @@ abbrev pub Pair : Type 0
 Pair = Found Attributes
 
 -- a path, and that pair
-abbrev pub Entry : Type 0
-Entry = Change (List ℕ) Attributes
+abbrev pub PathChange : Type 0
+PathChange = Change (List ℕ) Attributes
 
 -- ---- lines
 
@@ -47,7 +47,7 @@ abbrev pub label_of : Options → Pair → List ℕ
 label_of options pair = if options.summarize then letters_of options.ignore pair else word_of pair
 
 -- the line of a change
-abbrev pub list_line : Options → Entry → List ℕ
+abbrev pub list_line : Options → PathChange → List ℕ
 list_line options entry = path_line (label_of options entry.1) entry.0
 
 -- ---- details
@@ -69,7 +69,7 @@ unfoldable pub shows_any : Options → Pair → Bool
 shows_any options pair = list_any (shows_at options pair) all_attrs
 
 -- the same of a change
-abbrev pub is_shown_entry : Options → Entry → Bool
+abbrev pub is_shown_entry : Options → PathChange → Bool
 is_shown_entry options entry = shows_any options entry.1
 
 -- the word for a type
@@ -106,6 +106,6 @@ unfoldable pub attributes_text : Bool → Pair → (Attr → Bool) → List Attr
 attributes_text base16 pair shows attrs = flat_map (attribute_text base16 pair) (filter shows attrs)
 
 -- an empty line, the title and the path, and the attributes that are shown
-unfoldable pub entry_details : Options → Entry → List ℕ
+unfoldable pub entry_details : Options → PathChange → List ℕ
 entry_details options entry =
     empty_line ++ (path_line (title_of entry.1) entry.0 ++ attributes_text options.base16 entry.1 (shows_at options entry.1) all_attrs)

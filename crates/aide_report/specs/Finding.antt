@@ -6,7 +6,7 @@ use Rattle.aide_db.specs.Giving.{columns_of_text}
 use Rattle.aide_db.specs.Map.{database_of, entries_of}
 use Rattle.aide_db.specs.Path.{path_cmp}
 use Rattle.aide_db.specs.Skipped.{skipped_in}
-use Rattle.aide_report.specs.Entries.{Entry}
+use Rattle.aide_report.specs.Entries.{PathChange}
 use Rattle.aide_report.specs.Merged.{merged}
 use Rattle.aide_report.specs.Report.{Origin, counts_of}
 use Rattle.aide_report.specs.declared.comparison.Finding.{Finding}
@@ -25,6 +25,6 @@ old_origin task finding = record { path = task.old_path.now; digest = finding.di
 abbrev pub new_origin : Task → Finding → Origin
 new_origin task finding = record { path = task.new_path.now; digest = finding.digests.of_new }
 
--- the changes that a walk over two texts passes on
-abbrev pub walk_of : List ℕ → List ℕ → List Entry
-walk_of old new = merged path_cmp (entries_of old) (entries_of new)
+-- the changes that a pass over two texts meets
+abbrev pub pass_of : List ℕ → List ℕ → List PathChange
+pass_of old new = merged path_cmp (entries_of old) (entries_of new)

@@ -6,16 +6,16 @@ pub use Rattle.aide_text.specs.Text
 pub use Rattle.aide_text.specs.Values
 pub use Rattle.aide_text.specs.Sheet
 pub use Rattle.aide_text.specs.PenSheet
-pub use Rattle.aide_text.specs.Front
+pub use Rattle.aide_text.specs.Overview
 pub use Rattle.aide_text.specs.Titles
 pub mod Compare
 pub mod Changes
 pub mod Merged
-pub mod Reading
+pub mod Standing
 pub mod Bound
 pub mod Held
-pub mod Place
-pub mod Walk
+pub mod Turn
+pub mod Merging
 pub mod Changed
 pub mod ChangeView
 pub mod Counts
@@ -33,3 +33,4 @@ pub mod LaterFault
 pub mod Room
 pub mod Runs
 pub mod Agreement
+pub mod Missing

@@ -1,4 +1,4 @@
--- Why the walk of a pass ended.
+-- Why a pass ended.
 use Rattle.std.specs.Prelude.{ℕ, Result, Ok, Err, List, ⊤}
 use Rattle.aide_db.specs.declared.fault.DbFault.{DbFault}
 use Rattle.aide_report.specs.LaterFault.{later_of}

@@ -6,9 +6,9 @@ use Rattle.aide_attr.specs.declared.level.Level.TheVariants.{DatabaseAttributes}
 use Rattle.aide_conf.specs.declared.options.Options.{Options}
 use Rattle.aide_report.specs.Changed.{differ_by}
 use Rattle.aide_report.specs.Compare.{added, removed, changed, changes}
-use Rattle.aide_report.specs.Entries.{Entry, is_shown_entry}
+use Rattle.aide_report.specs.Entries.{PathChange, is_shown_entry}
 use Rattle.aide_report.specs.Sections.{sections_of, section_text}
-use Rattle.aide_text.specs.Front.{differs, front_by, when}
+use Rattle.aide_text.specs.Overview.{differs, overview_by, when}
 use Rattle.aide_attr.specs.Level.{reaches}
 use Rattle.aide_text.specs.Text.{alone, path_line}
 use Rattle.aide_text.specs.Titles.{titled}
@@ -54,7 +54,7 @@ counts_of options old new = record {
 }
 
 -- the sections of entries
-unfoldable pub sections_text : Options → Counts → List Entry → List ℕ
+unfoldable pub sections_text : Options → Counts → List PathChange → List ℕ
 sections_text options counts entries = flat_map (section_text options entries) (sections_of options counts)
 
 -- the databases from their level on
@@ -63,16 +63,16 @@ databases_text options old_origin new_origin =
     when (reaches options.level DatabaseAttributes) (databases_of options.base16 old_origin new_origin)
 
 -- the head and the summary, the sections, the databases
-unfoldable pub parts_of : Options → Origin → Origin → Counts → List Entry → List ℕ
+unfoldable pub parts_of : Options → Origin → Origin → Counts → List PathChange → List ℕ
 parts_of options old_origin new_origin counts entries =
-    front_by options.level counts ++ (sections_text options counts entries ++ databases_text options old_origin new_origin)
+    overview_by options.level counts ++ (sections_text options counts entries ++ databases_text options old_origin new_origin)
 
 -- a quiet report of no differences is empty
 abbrev pub is_silent : Options → Bool → Bool
 is_silent options differ = options.quiet && not differ
 
 -- all parts, unless the report is silent
-unfoldable pub text_of : Options → Origin → Origin → Counts → List Entry → List ℕ
+unfoldable pub text_of : Options → Origin → Origin → Counts → List PathChange → List ℕ
 text_of options old_origin new_origin counts entries =
     if is_silent options (differs counts) then [] else parts_of options old_origin new_origin counts entries
 

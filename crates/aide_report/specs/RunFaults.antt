@@ -6,21 +6,21 @@ use Rattle.aide_db.specs.Failures.{is_outside}
 use Rattle.aide_db.specs.declared.fault.DbFaultKind.TheVariants.{Read}
 use Rattle.aide_db.specs.declared.limits.Limits.{Limits}
 use Rattle.aide_db.specs.declared.side.Side.{Side}
-use Rattle.aide_report.specs.Reading.{IsFaultOf}
+use Rattle.aide_report.specs.Standing.{IsFaultOf}
 use Rattle.aide_text.specs.Sent.{IsCounted}
 use Rattle.aide_text.specs.declared.pen.Pen.{Pen}
 use Rattle.aide_report.specs.declared.run_fault.RunFault.{RunFault}
 use Rattle.aide_report.specs.declared.run_fault.RunFault.TheVariants.{Open, Database, Changed, Write}
 
--- a write failed, and the number of bytes that went out is told
-abbrev pub TellsWritten : Option (List ℕ) → Option (List ℕ) → RunFault → Type 0
-TellsWritten old new (Write written) = IsCounted old new 0 written
-TellsWritten old new _ = ⊥
+-- a write failed, and the fault has the number of bytes that went out
+abbrev pub HasWritten : Option (List ℕ) → Option (List ℕ) → RunFault → Type 0
+HasWritten old new (Write written) = IsCounted old new 0 written
+HasWritten old new _ = ⊥
 
 -- the same, where a write failed
-abbrev pub TellsIfWritten : Option (List ℕ) → Option (List ℕ) → RunFault → Type 0
-TellsIfWritten old new (Write written) = IsCounted old new 0 written
-TellsIfWritten old new _ = ⊤
+abbrev pub HasWrittenIfAny : Option (List ℕ) → Option (List ℕ) → RunFault → Type 0
+HasWrittenIfAny old new (Write written) = IsCounted old new 0 written
+HasWrittenIfAny old new _ = ⊤
 
 -- Where no write failed and the old side was opened at most twice, which is before the report is begun, nothing has gone out. This
 -- speaks of runs in which the count of openings stays below its last value.
@@ -50,9 +50,9 @@ IsLater limits bytes_of (Changed side) = (text : List ℕ) → bytes_of side ≡
 IsLater limits bytes_of (Write written) = ⊤
 
 -- a write failed, and the pen has the number of bytes that went out
-abbrev pub TellsPen : Pen → RunFault → Type 0
-TellsPen pen (Write written) = (pen.failed ≡ true) × (written ≡ pen.sent)
-TellsPen pen _ = ⊤
+abbrev pub HasPenWritten : Pen → RunFault → Type 0
+HasPenWritten pen (Write written) = (pen.failed ≡ true) × (written ≡ pen.sent)
+HasPenWritten pen _ = ⊤
 
 -- a fault of the first reading of this side
 abbrev pub IsFirst : Limits → (Side → Option (List ℕ)) → Side → RunFault → Type 0

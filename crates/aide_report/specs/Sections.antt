@@ -5,8 +5,8 @@ use Rattle.aide_attr.specs.declared.level.Level.TheVariants.{ListEntries, Change
 use Rattle.aide_conf.specs.declared.options.Options.{Options}
 use Rattle.aide_report.specs.Changed.{differ_by}
 use Rattle.aide_report.specs.Changes.{is_added, is_removed, is_changed}
-use Rattle.aide_report.specs.Entries.{Entry, list_line, entry_details, shows_any}
-use Rattle.aide_text.specs.Front.{is_different}
+use Rattle.aide_report.specs.Entries.{PathChange, list_line, entry_details, shows_any}
+use Rattle.aide_text.specs.Overview.{is_different}
 use Rattle.aide_attr.specs.Level.{reaches}
 use Rattle.aide_text.specs.Titles.{section_head}
 use Rattle.aide_text.specs.declared.counts.Counts.{Counts}
@@ -40,7 +40,7 @@ sections_of options counts = filter (has_entry counts) (asked_sections options)
 -- ---- their texts
 
 -- whether the section has the change
-abbrev pub is_in : Options → Section → Entry → Bool
+abbrev pub is_in : Options → Section → PathChange → Bool
 is_in options AddedEntries entry = is_added entry
 is_in options RemovedEntries entry = is_removed entry
 is_in options ChangedEntries entry = is_changed (differ_by options.ignore) entry
@@ -48,7 +48,7 @@ is_in options AllEntries entry = is_added entry || (is_removed entry || is_chang
 is_in options Details entry = shows_any options entry.1
 
 -- what it says of a change that it has
-abbrev pub entry_text : Options → Section → Entry → List ℕ
+abbrev pub entry_text : Options → Section → PathChange → List ℕ
 entry_text options AddedEntries entry = list_line options entry
 entry_text options RemovedEntries entry = list_line options entry
 entry_text options ChangedEntries entry = list_line options entry
@@ -56,13 +56,13 @@ entry_text options AllEntries entry = list_line options entry
 entry_text options Details entry = entry_details options entry
 
 -- the same, nothing of a change that it has not
-unfoldable pub one_text : Options → Section → Entry → List ℕ
+unfoldable pub one_text : Options → Section → PathChange → List ℕ
 one_text options section entry = if is_in options section entry then entry_text options section entry else []
 
 -- what it says of all changes, in their order
-unfoldable pub entries_text : Options → Section → List Entry → List ℕ
+unfoldable pub entries_text : Options → Section → List PathChange → List ℕ
 entries_text options section entries = flat_map (entry_text options section) (filter (is_in options section) entries)
 
 -- its title lines, and what it says of all changes
-unfoldable pub section_text : Options → List Entry → Section → List ℕ
+unfoldable pub section_text : Options → List PathChange → Section → List ℕ
 section_text options entries section = section_head section ++ entries_text options section entries

@@ -1,5 +1,6 @@
 //! A whole run.
-ghost use Rattle.std.specs.Prelude.{◌≡◌, ◌≤◌, ◌+◌, ◌*◌, ◌^◌, [], ℕ, List, Option, Some, Result, Ok, Err, IfOk, IfErr, OnOk, OnErr, true};
+ghost use Rattle.std.specs.Prelude.{◌≡◌, ◌≤◌, ◌+◌, ◌*◌, ◌^◌, [], ℕ, List, Option, Some, Result, Ok};
+ghost use Rattle.std.specs.Prelude.{Err, IfOk, IfErr, OnOk, OnErr, true};
 ghost use Rattle.std.specs.Prelude.{false, max};
 ghost use Rattle.std.specs.Io.KnownBytes.{Appends};
 ghost use Rattle.aide_db.specs.Database.{IsSound};
@@ -12,11 +13,14 @@ ghost use Rattle.aide_report.specs.Bound.{Fits, OpensWithin, three_lines};
 ghost use Rattle.aide_report.specs.Digests.{AreDigests};
 ghost use Rattle.aide_text.specs.Failures.{CountsFlush, Rose};
 ghost use Rattle.aide_report.specs.Finding.{IsFinding};
+ghost use Rattle.aide_report.specs.Missing.{EndsOver, HasAnswerOver, IsHindered, IsOfReliable};
+ghost use Rattle.aide_report.specs.Missing.{RunsOver, StopsFor, TellsSide};
 ghost use Rattle.aide_report.specs.Openings.{OpensExactly, OpensAtMost, OpensFirst, IsRefusedThere};
 ghost use Rattle.aide_report.specs.Report.{outcome_by};
 ghost use Rattle.aide_report.specs.Room.{IsNotOfMemory};
-ghost use Rattle.aide_report.specs.RunFaults.{IsCaused, IsRight, IsSilent, TellsIfWritten};
-ghost use Rattle.aide_report.specs.Runs.{Report, Runs, report_over, openings_over, HasAnswer, IsAnswer, EndsWell, EndsEarly, HasCause};
+ghost use Rattle.aide_report.specs.RunFaults.{IsCaused, IsRight, IsSilent, HasWrittenIfAny};
+ghost use Rattle.aide_report.specs.Runs.{Report, Runs, report_over, openings_over, HasAnswer};
+ghost use Rattle.aide_report.specs.Runs.{IsAnswer, EndsWell, EndsEarly, HasCause};
 
 use crate::digests::Digests;
 use crate::outcome::Outcome;
@@ -52,7 +56,7 @@ impl Finding {
     }
 }
 
-/// Reads both databases whole, the old one first, and then counts their differences in one walk over both.
+/// Reads both databases whole, the old one first, and then counts their differences in one pass over both.
 fn compare<S: Sources, A: Allocator + Copy>(
     options: &Options,
     limits: Limits,
@@ -61,24 +65,40 @@ fn compare<S: Sources, A: Allocator + Copy>(
 ) -> Result<Finding, RunFault>
     requires line { 14 ≤ limits.line }
     requires bytes { limits.bytes ≤ 2 ^ 60 }
-    ensures sound { OnOk result ((side : Side) (text : List ℕ) → S.bytes_of sources.old side ≡ Some text → IsSound limits text) }
+    ensures sound { OnOk result ((side : Side) (text : List ℕ)
+        → S.bytes_of sources.old side ≡ Some text → IsSound limits text) }
     ensures same { S.bytes_of sources.new ≡ S.bytes_of sources.old }
-    ensures finding { IfOk result (λ finding. (old new : List ℕ) → S.bytes_of sources.old Side.Old ≡ Some old
+    ensures finding { IfOk result (λ finding. (old new : List ℕ)
+        → S.bytes_of sources.old Side.Old ≡ Some old
         → S.bytes_of sources.old Side.New ≡ Some new
         → IsFinding options.now finding old new) }
     ensures digests { IfOk result (λ finding. AreDigests (S.bytes_of sources.old) finding.digests) }
     ensures right { IfErr result (IsRight limits (S.bytes_of sources.old)) }
     ensures first { (wish : Asked) → IfErr result (IsAnswer limits wish (S.bytes_of sources.old)) }
-    ensures caused { IfErr result (IsCaused (Rose (S.failures sources.old) (S.failures sources.new)) ⊥) }
+    ensures caused { IfErr result (IsCaused (Rose (S.failures sources.old)
+        (S.failures sources.new)) ⊥) }
     ensures opens { OnOk result (OpensExactly (S.openings sources.old) (S.openings sources.new) 2) }
     ensures opens_some { OpensAtMost (S.openings sources.old) (S.openings sources.new) 2 }
-    ensures opens_first { IfErr result (OpensFirst (S.openings sources.old) (S.openings sources.new)) }
-    ensures refused { IfErr result (IsRefusedThere (S.openings sources.old) (S.openings sources.new)) }
+    ensures opens_first { IfErr result (OpensFirst (S.openings sources.old)
+        (S.openings sources.new)) }
+    ensures refused { IfErr result (IsRefusedThere (S.openings sources.old)
+        (S.openings sources.new)) }
+    ensures reliable_same { S.is_reliable sources.new ≡ S.is_reliable sources.old }
+    ensures there { OnOk result ((side : Side) → S.is_missing sources.old side ≡ false) }
+    ensures over { (wish : Asked) (old new : Option (List ℕ))
+        → TellsSide (S.bytes_of sources.old Side.Old) (S.is_missing sources.old Side.Old) old
+        → TellsSide (S.bytes_of sources.old Side.New) (S.is_missing sources.old Side.New) new
+        → (r : Result Report RunFault) → RunsOver limits wish old new r
+        → IfErr result (StopsFor r (IsHindered old new
+        (Rose (S.failures sources.old) (S.failures sources.new)) ⊥)) }
+    ensures reliable { S.is_reliable sources.old ≡ true
+        → IfErr result (IsOfReliable (S.bytes_of sources.old)) }
     ensures never_falls { S.failures sources.old ≤ S.failures sources.new }
     ensures room { desk.new.room ≡ desk.old.room }
     ensures memory { limits.line ≤ desk.old.room → IfErr result IsNotOfMemory }
     ensures fits { (old_line new_line : ℕ)
-        → OpensWithin (S.bytes_of sources.old) limits Side.Old old_line → OpensWithin (S.bytes_of sources.old) limits Side.New new_line
+        → OpensWithin (S.bytes_of sources.old) limits Side.Old old_line
+        → OpensWithin (S.bytes_of sources.old) limits Side.New new_line
         → Fits old_line new_line desk.old.peak desk.new }
 {
     clear(limits, desk);
@@ -106,21 +126,26 @@ fn compare<S: Sources, A: Allocator + Copy>(
 
 /// Compares two databases and writes the report.
 ///
-/// The old database is opened and read whole, then the new one; then both are walked together and their differences are
-/// counted; then the report is written, in a further walk for each of its sections of entries, and flushed once, also
-/// where it is empty. In each walk the old side is opened first. Every reel that was opened is closed.
+/// The old database is opened and read whole, then the new one; then both are read together and their differences are
+/// counted; then the report is written, in a further pass for each of its sections of entries, and flushed once, also
+/// where it is empty. In each pass the old side is opened first. Every reel that was opened is closed.
 ///
-/// - After `Ok` both texts are sound, and exactly the report has gone out: the one function of the options, the configured
-///   paths, the digests and the two maps of entries. It was flushed behind its last byte, and the outcome is its own.
-/// - After a fault a front of the report has gone out, of which [`RunFault::Write`] tells the length, and nothing where a
-///   text is not sound. As long as a side has not been opened a third time, only a failed write can have let bytes out.
+/// - After `Ok` both texts are sound, and exactly the report has gone out: the one function of the options, the
+///   configured paths, the digests and the two maps of entries. It was flushed behind its last byte, and the outcome is
+///   its own.
+/// - After a fault a front of the report has gone out, of which [`RunFault::Write`] tells the length, and nothing where
+///   a text is not sound. As long as a side has not been opened a third time, only a failed write can have let bytes
+///   out.
+/// - Where it is told that a side is not there, nothing goes out, and the answer is [`RunFault::Open`]: of the old
+///   side, or of the new one behind a sound old text. The first fault of the old text comes before a new side that is
+///   not there.
 /// - A fault has a cause: a device that failed, want of memory, the first fault of a text (the old one's before the new
-///   one's), or a side that no longer gives what it first gave. After its first reading a fault of a text is answered as
-///   [`RunFault::Changed`], and so is another digest. A side whose openings all agree is never called changed.
+///   one's), or a side that no longer gives what it first gave. After its first reading a fault of a text is answered
+///   as [`RunFault::Changed`], and so is another digest. A side whose openings all agree is never called changed.
 /// - Each side is opened twice, and once more for each section of entries: at most six times.
-/// - What an earlier run left on the desk is let go before anything is read. At no moment does the desk hold more than the
-///   entry line of each side and the line that is read, also where the answer is a fault. A moment is between two calls of
-///   the desk; its peak tells the most that it ever held.
+/// - What an earlier run left on the desk is let go before anything is read. At no moment does the desk hold more than
+///   the entry line of each side and the line that is read, also where the answer is a fault. A moment is between two
+///   calls of the desk; its peak tells the most that it ever held.
 /// - Where `limits.line` is at most the room that was reserved on the desk, memory is never wanted.
 pub fn run<S: Sources, W: Sink, A: Allocator + Copy>(
     task: &Task<'_>,
@@ -132,61 +157,90 @@ pub fn run<S: Sources, W: Sink, A: Allocator + Copy>(
     requires line { 14 ≤ limits.line }
     requires bytes { limits.bytes ≤ 2 ^ 60 }
 
-    // Two texts have a right answer.
+    // Two texts have a right answer, and so has what stands at both sides, where a side may not be there.
     ensures answered { (old new : List ℕ) → HasAnswer limits (asked task.now) old new }
+    ensures answered_over { (old new : Option (List ℕ))
+        → HasAnswerOver limits (asked task.now) old new }
 
     // After a good run both texts are sound, the right report has gone out and no other byte, and its outcome is told.
-    ensures sound { OnOk result ((side : Side) (text : List ℕ) → S.bytes_of sources.old side ≡ Some text → IsSound limits text) }
-    ensures ok { IfOk result (λ outcome. (old new : List ℕ) → S.bytes_of sources.old Side.Old ≡ Some old
+    ensures sound { OnOk result ((side : Side) (text : List ℕ)
+        → S.bytes_of sources.old side ≡ Some text → IsSound limits text) }
+    ensures ok { IfOk result (λ outcome. (old new : List ℕ)
+        → S.bytes_of sources.old Side.Old ≡ Some old
         → S.bytes_of sources.old Side.New ≡ Some new
-        → (r : Result Report DbFault) → Runs limits (asked task.now) old new r → EndsWell r outcome (W.delivered out.old)
-        (W.delivered out.new)) }
+        → (r : Result Report DbFault) → Runs limits (asked task.now) old new r
+        → EndsWell r outcome (W.delivered out.old) (W.delivered out.new)) }
 
     // After a fault a front of the right report has gone out, and nothing where a text is not sound.
     ensures part { OnErr result ((old new : List ℕ) → S.bytes_of sources.old Side.Old ≡ Some old
         → S.bytes_of sources.old Side.New ≡ Some new
-        → (r : Result Report DbFault) → Runs limits (asked task.now) old new r → EndsEarly r (W.delivered out.old) (W.delivered out.new)) }
-    ensures nothing { (side : Side) (text : List ℕ) → S.bytes_of sources.old side ≡ Some text → (IsSound limits text → ⊥)
+        → (r : Result Report DbFault) → Runs limits (asked task.now) old new r
+        → EndsEarly r (W.delivered out.old) (W.delivered out.new)) }
+    ensures nothing { (side : Side) (text : List ℕ) → S.bytes_of sources.old side ≡ Some text
+        → (IsSound limits text → ⊥)
         → Appends (W.delivered out.old) (W.delivered out.new) [] }
-    ensures tells { IfErr result (TellsIfWritten (W.delivered out.old) (W.delivered out.new)) }
+    ensures written { IfErr result (HasWrittenIfAny (W.delivered out.old) (W.delivered out.new)) }
 
-    // For any sources, also such as tell no bytes: the report begins with the head and the summary of the very outcome that is told, and
-    // is these alone where nothing more is wanted. It is flushed once, after its last byte, and after a fault not at all. Before both
-    // databases have been read and counted nothing goes out.
-    ensures consistent { IfOk result (λ outcome. IsOfOutcome task.now.options outcome (W.delivered out.old) (W.delivered out.new)) }
+    // Where it is told of each side what stands there, a text or nothing: the run ends with the right answer, but where
+    // memory was wanted, or a side that is there or the sink has failed. Over reliable sources no side that is there
+    // fails.
+    ensures over { (old new : Option (List ℕ))
+        → TellsSide (S.bytes_of sources.old Side.Old) (S.is_missing sources.old Side.Old) old
+        → TellsSide (S.bytes_of sources.old Side.New) (S.is_missing sources.old Side.New) new
+        → (r : Result Report RunFault) → RunsOver limits (asked task.now) old new r
+        → EndsOver r (IsHindered old new (Rose (S.failures sources.old) (S.failures sources.new))
+        (Rose (W.failures out.old) (W.failures out.new))) result (W.delivered out.old)
+        (W.delivered out.new) }
+    ensures reliable { S.is_reliable sources.old ≡ true
+        → IfErr result (IsOfReliable (S.bytes_of sources.old)) }
+
+    // For any sources, also such as tell no bytes: the report begins with the head and the summary of the very outcome
+    // that is told, and is these alone where nothing more is wanted. It is flushed once, after its last byte, and after
+    // a fault not at all. Before both databases have been read and counted nothing goes out.
+    ensures consistent { IfOk result (λ outcome. IsOfOutcome task.now.options outcome
+        (W.delivered out.old) (W.delivered out.new)) }
     ensures flushed { OnOk result (W.is_flushed out.new ≡ true) }
     ensures flushes { CountsFlush (W.flushes out.old) (W.flushes out.new) result }
-    ensures silent { IfErr result (IsSilent (S.openings sources.old Side.Old) (S.openings sources.new Side.Old)
-        (W.delivered out.old) (W.delivered out.new)) }
+    ensures silent { IfErr result (IsSilent (S.openings sources.old Side.Old)
+        (S.openings sources.new Side.Old) (W.delivered out.old) (W.delivered out.new)) }
 
     // Why a fault comes. A side whose openings agree is never called changed, and a fault of its text is its first one.
-    ensures cause { IfErr result (λ fault. HasCause fault (Rose (S.failures sources.old) (S.failures sources.new))
+    ensures cause { IfErr result (λ fault. HasCause fault
+        (Rose (S.failures sources.old) (S.failures sources.new))
         (Rose (W.failures out.old) (W.failures out.new))
-        (λ first. (old new : List ℕ) → S.bytes_of sources.old Side.Old ≡ Some old → S.bytes_of sources.old Side.New ≡ Some new
+        (λ first. (old new : List ℕ) → S.bytes_of sources.old Side.Old ≡ Some old
+        → S.bytes_of sources.old Side.New ≡ Some new
         → (r : Result Report DbFault) → Runs limits (asked task.now) old new r → r ≡ Err first)
         (λ side. (text : List ℕ) → S.bytes_of sources.old side ≡ Some text → ⊥)) }
     ensures right { IfErr result (IsRight limits (S.bytes_of sources.old)) }
     ensures first { IfErr result (IsAnswer limits (asked task.now) (S.bytes_of sources.old)) }
-    ensures refused { IfErr result (IsRefusedThere (S.openings sources.old) (S.openings sources.new)) }
+    ensures refused { IfErr result (IsRefusedThere (S.openings sources.old)
+        (S.openings sources.new)) }
     ensures sources_never_fall { S.failures sources.old ≤ S.failures sources.new }
     ensures sink_never_falls { W.failures out.old ≤ W.failures out.new }
 
     // Each side is opened once to be read whole, once to count, and once for each section of entries.
     ensures opens { OnOk result ((old new : List ℕ) → S.bytes_of sources.old Side.Old ≡ Some old
         → S.bytes_of sources.old Side.New ≡ Some new
-        → OpensExactly (S.openings sources.old) (S.openings sources.new) (openings_over (asked task.now) old new)) }
-    ensures opens_within { (old new : List ℕ) → S.bytes_of sources.old Side.Old ≡ Some old → S.bytes_of sources.old Side.New ≡ Some new
-        → IsSound limits old → IsSound limits new → OpensAtMost (S.openings sources.old) (S.openings sources.new)
-        (openings_over (asked task.now) old new) }
+        → OpensExactly (S.openings sources.old) (S.openings sources.new)
+        (openings_over (asked task.now) old new)) }
+    ensures opens_within { (old new : List ℕ) → S.bytes_of sources.old Side.Old ≡ Some old
+        → S.bytes_of sources.old Side.New ≡ Some new
+        → IsSound limits old → IsSound limits new → OpensAtMost (S.openings sources.old)
+        (S.openings sources.new) (openings_over (asked task.now) old new) }
     ensures opens_some { OpensAtMost (S.openings sources.old) (S.openings sources.new) 6 }
-    ensures opens_first { IfErr result (OpensFirst (S.openings sources.old) (S.openings sources.new)) }
+    ensures opens_first { IfErr result (OpensFirst (S.openings sources.old)
+        (S.openings sources.new)) }
 
-    // The greatest number of bytes ever held on the desk does not fall, and rises at most to three lines as long as the limit. Where
-    // each opening gives the same bytes, it rises at most to the longest line of each text and one further line no longer than these.
+    // The greatest number of bytes ever held on the desk does not fall, and rises at most to three lines as long as the
+    // limit. Where each opening gives the same bytes, it rises at most to the longest line of each text and one further
+    // line no longer than these.
     ensures peak { desk.old.peak ≤ desk.new.peak }
     ensures below { desk.new.peak ≤ max desk.old.peak (3 * limits.line) }
-    ensures bound { (old new : List ℕ) → S.bytes_of sources.old Side.Old ≡ Some old → S.bytes_of sources.old Side.New ≡ Some new
-        → desk.new.peak ≤ max desk.old.peak (three_lines (longest_line limits old) (longest_line limits new)) }
+    ensures bound { (old new : List ℕ) → S.bytes_of sources.old Side.Old ≡ Some old
+        → S.bytes_of sources.old Side.New ≡ Some new
+        → desk.new.peak ≤ max desk.old.peak (three_lines (longest_line limits old)
+        (longest_line limits new)) }
 
     // Where a line fits into the room that was reserved on the desk, memory is never wanted.
     ensures room { desk.new.room ≡ desk.old.room }

@@ -1,5 +1,6 @@
 //! How many entries were added, removed and changed.
-ghost use Rattle.std.specs.Prelude.{◌≡◌, ◌+◌, ◌^◌, ◌<◌, ◌≤◌, [], ◌∷◌, ℕ, List, IfOk, IfErr, OnOk, count_by};
+ghost use Rattle.std.specs.Prelude.{◌≡◌, ◌+◌, ◌^◌, ◌<◌, ◌≤◌, [], ◌∷◌, ℕ, List, IfOk, IfErr, OnOk};
+ghost use Rattle.std.specs.Prelude.{count_by};
 ghost use Rattle.aide_db.specs.Desk.{desk_entry};
 ghost use Rattle.aide_report.specs.Bound.{FitsAfterBoth};
 ghost use Rattle.aide_report.specs.Changed.{differ_by};
@@ -7,13 +8,14 @@ ghost use Rattle.aide_report.specs.Changes.{is_added, is_removed, is_changed, is
 ghost use Rattle.aide_report.specs.ChangeView.{change_of, ShowsChange};
 ghost use Rattle.aide_report.specs.Counts.{Completes, AreBelow};
 ghost use Rattle.aide_report.specs.Entries.{is_shown_entry};
-ghost use Rattle.aide_report.specs.Place.{change_at};
-ghost use Rattle.aide_report.specs.Reading.{IsFaultOf};
+ghost use Rattle.aide_report.specs.Turn.{change_at};
+ghost use Rattle.aide_report.specs.Standing.{IsFaultOf};
 ghost use Rattle.aide_report.specs.Room.{IsNotMemory};
-ghost use Rattle.aide_report.specs.Walk.{remaining, IsReady, IsEnded, StandsAt, limits_at, total_work, reels_failed};
+ghost use Rattle.aide_report.specs.Merging.{remaining, IsReady, IsEnded, StandsAt, limits_at};
+ghost use Rattle.aide_report.specs.Merging.{total_work, reels_failed};
 
 use crate::difference::{differ, shows};
-use crate::merge::{Merge, Place};
+use crate::merge::{Merge, Turn};
 use aide_conf::Options;
 use aide_db::{DbFault, DbFaultKind, Desk, Reel, Side, View};
 use aide_text::Counts;
@@ -27,14 +29,15 @@ pub(crate) enum Change<'a> {
     Common(View<'a>, View<'a>),
 }
 
-/// The change at this place, as the desk shows it.
-pub(crate) fn change_on<A: Allocator + Copy>(desk: &Desk<A>, place: Place) -> Option<Change<'_>>
-    ensures { ShowsChange result (change_at place (desk_entry Side.Old desk.now) (desk_entry Side.New desk.now)) }
+/// The change at this turn, as the desk shows it.
+pub(crate) fn change_on<A: Allocator + Copy>(desk: &Desk<A>, turn: Turn) -> Option<Change<'_>>
+    ensures { ShowsChange result (change_at turn (desk_entry Side.Old desk.now)
+        (desk_entry Side.New desk.now)) }
 {
-    match (place, desk.view(Side::Old), desk.view(Side::New)) {
-        (Place::Added, _, Some(new)) => Some(Change::Added(new)),
-        (Place::Removed, Some(old), _) => Some(Change::Removed(old)),
-        (Place::Both, Some(old), Some(new)) => Some(Change::Common(old, new)),
+    match (turn, desk.view(Side::Old), desk.view(Side::New)) {
+        (Turn::Added, _, Some(new)) => Some(Change::Added(new)),
+        (Turn::Removed, Some(old), _) => Some(Change::Removed(old)),
+        (Turn::Both, Some(old), Some(new)) => Some(Change::Common(old, new)),
         _ => None,
     }
 }
@@ -42,12 +45,16 @@ pub(crate) fn change_on<A: Allocator + Copy>(desk: &Desk<A>, place: Place) -> Op
 /// Counts a change.
 fn add(counts: &mut Counts, change: Change<'_>, options: &Options)
     requires { AreBelow counts.old (2 ^ 63) }
-    ensures added { counts.new.added ≡ counts.old.added + count_by is_added (change_of change.entry ∷ []) }
-    ensures removed { counts.new.removed ≡ counts.old.removed + count_by is_removed (change_of change.entry ∷ []) }
-    ensures changed { counts.new.changed ≡ counts.old.changed + count_by (is_changed (differ_by options.now.ignore))
+    ensures added { counts.new.added ≡ counts.old.added + count_by is_added
         (change_of change.entry ∷ []) }
-    ensures total { counts.new.total ≡ counts.old.total + count_by is_of_new (change_of change.entry ∷ []) }
-    ensures shown { counts.new.shown ≡ counts.old.shown + count_by (is_shown_entry options.now) (change_of change.entry ∷ []) }
+    ensures removed { counts.new.removed ≡ counts.old.removed + count_by is_removed
+        (change_of change.entry ∷ []) }
+    ensures changed { counts.new.changed ≡ counts.old.changed + count_by
+        (is_changed (differ_by options.now.ignore)) (change_of change.entry ∷ []) }
+    ensures total { counts.new.total ≡ counts.old.total + count_by is_of_new
+        (change_of change.entry ∷ []) }
+    ensures shown { counts.new.shown ≡ counts.old.shown + count_by (is_shown_entry options.now)
+        (change_of change.entry ∷ []) }
 {
     if shows(change, options) {
         counts.shown += 1;
@@ -67,7 +74,7 @@ fn add(counts: &mut Counts, change: Change<'_>, options: &Options)
     }
 }
 
-/// The counting pass: a walk over both databases, to their ends.
+/// The counting pass: over both databases, to their ends.
 pub(crate) fn count<R: Reel, A: Allocator + Copy>(
     merge: &mut Merge<R>,
     desk: &mut Desk<A>,
@@ -76,28 +83,32 @@ pub(crate) fn count<R: Reel, A: Allocator + Copy>(
     requires ready { IsReady merge.old desk.old }
     requires short { total_work merge.old < 2 ^ 62 }
     ensures counts { IfOk result (λ counts. (old new : List ℕ)
-        → StandsAt R.to_come merge.old desk.old Side.Old old → StandsAt R.to_come merge.old desk.old Side.New new
+        → StandsAt R.to_come merge.old desk.old Side.Old old
+        → StandsAt R.to_come merge.old desk.old Side.New new
         → Completes options.now counts [] (remaining merge.old desk.old old new)) }
-    ensures fault { IfErr result (λ fault. (text : List ℕ) → StandsAt R.to_come merge.old desk.old fault.side text
+    ensures fault { IfErr result (λ fault. (text : List ℕ)
+        → StandsAt R.to_come merge.old desk.old fault.side text
         → IsFaultOf (limits_at merge.old fault.side) text fault) }
-    ensures read { IfErr result (λ fault. fault.kind ≡ DbFaultKind.Read → 0 < reels_failed R.failures merge.new) }
+    ensures read { IfErr result (λ fault. fault.kind ≡ DbFaultKind.Read
+        → 0 < reels_failed R.failures merge.new) }
     ensures stands { (side : Side) (text : List ℕ) → StandsAt R.to_come merge.old desk.old side text
         → StandsAt R.to_come merge.new desk.new side text }
     ensures ended { OnOk result (IsEnded merge.new) }
     ensures room { desk.new.room ≡ desk.old.room }
-    ensures memory { ((side : Side) → (limits_at merge.old side).line ≤ desk.old.room) → IfErr result IsNotMemory }
+    ensures memory { ((side : Side) → (limits_at merge.old side).line ≤ desk.old.room)
+        → IfErr result IsNotMemory }
     ensures fits { FitsAfterBoth R.to_come merge.old desk.old desk.new }
 {
     let mut counts = Counts::new();
-    'walk: loop {
-        let place = match merge.next(desk) {
-            Ok(place) => place,
+    'pass: loop {
+        let turn = match merge.next(desk) {
+            Ok(turn) => turn,
             Err(fault) => return Err(fault),
         };
-        if let Place::End = place {
+        if let Turn::End = turn {
             return Ok(counts);
         }
-        if let Some(change) = change_on(desk, place) {
+        if let Some(change) = change_on(desk, turn) {
             add(&mut counts, change, options);
         }
     }

@@ -2,13 +2,14 @@
 ghost use Rattle.std.specs.Prelude.{◌≡◌, codes};
 ghost use Rattle.aide_report.specs.Finding.{old_origin, new_origin};
 ghost use Rattle.aide_text.specs.PenSheet.{sheet};
-ghost use Rattle.aide_report.specs.Report.{databases_of, origin_lines, databases_title, databases_text};
+ghost use Rattle.aide_report.specs.Report.{databases_of, origin_lines, databases_title};
+ghost use Rattle.aide_report.specs.Report.{databases_text};
 ghost use Rattle.aide_text.specs.Sheet.{Wrote};
 
 use crate::comparison::Finding;
 use aide_attr::Level;
 use aide_conf::Task;
-use aide_text::{Pen, Sink, SliceSource, put_digest, put_newline, put_path_line, put_titled};
+use aide_text::{Pen, Sink, SliceFeed, put_digest, put_newline, put_path_line, put_titled};
 
 /// A database's path and the digest of its bytes.
 fn put_origin<W: Sink>(
@@ -20,23 +21,27 @@ fn put_origin<W: Sink>(
     digest: &[u8; 32],
 )
     ensures { Wrote (origin_lines base16 word.now path.now digest.now)
-        (sheet W.delivered W.failures W.flushes out.old pen.old) (sheet W.delivered W.failures W.flushes out.new pen.new) }
+        (sheet W.delivered W.failures W.flushes out.old pen.old)
+        (sheet W.delivered W.failures W.flushes out.new pen.new) }
 {
-    put_path_line(out, pen, word, SliceSource::of(path.as_bytes()));
+    put_path_line(out, pen, word, SliceFeed::of(path.as_bytes()));
     put_digest(out, pen, base16, digest);
 }
 
 fn put_databases_title<W: Sink>(out: &mut W, pen: &mut Pen)
     ensures { Wrote databases_title
-        (sheet W.delivered W.failures W.flushes out.old pen.old) (sheet W.delivered W.failures W.flushes out.new pen.new) }
+        (sheet W.delivered W.failures W.flushes out.old pen.old)
+        (sheet W.delivered W.failures W.flushes out.new pen.new) }
 {
     put_titled(out, pen, b"The attributes of the databases:");
     put_newline(out, pen);
 }
 
 fn put_origins<W: Sink>(out: &mut W, pen: &mut Pen, task: &Task<'_>, finding: &Finding)
-    ensures { Wrote (databases_of task.now.options.base16 (old_origin task.now finding.now) (new_origin task.now finding.now))
-        (sheet W.delivered W.failures W.flushes out.old pen.old) (sheet W.delivered W.failures W.flushes out.new pen.new) }
+    ensures { Wrote (databases_of task.now.options.base16 (old_origin task.now finding.now)
+        (new_origin task.now finding.now))
+        (sheet W.delivered W.failures W.flushes out.old pen.old)
+        (sheet W.delivered W.failures W.flushes out.new pen.new) }
 {
     put_databases_title(out, pen);
     put_origin(
@@ -60,8 +65,10 @@ fn put_origins<W: Sink>(out: &mut W, pen: &mut Pen, task: &Task<'_>, finding: &F
 /// The databases' part, where the level has it.
 #[tactic(auto, unfolding(crate::specs::Report::databases_text))]
 pub(crate) fn put_databases<W: Sink>(out: &mut W, pen: &mut Pen, task: &Task<'_>, finding: &Finding)
-    ensures { Wrote (databases_text task.now.options (old_origin task.now finding.now) (new_origin task.now finding.now))
-        (sheet W.delivered W.failures W.flushes out.old pen.old) (sheet W.delivered W.failures W.flushes out.new pen.new) }
+    ensures { Wrote (databases_text task.now.options (old_origin task.now finding.now)
+        (new_origin task.now finding.now))
+        (sheet W.delivered W.failures W.flushes out.old pen.old)
+        (sheet W.delivered W.failures W.flushes out.new pen.new) }
 {
     if task.options.level.reaches(Level::DatabaseAttributes) {
         put_origins(out, pen, task, finding);

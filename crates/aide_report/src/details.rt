@@ -8,7 +8,8 @@ ghost use Rattle.aide_db.specs.Attributes.{type_in};
 ghost use Rattle.aide_db.specs.View.{entry_in};
 ghost use Rattle.aide_report.specs.ChangeView.{change_of};
 ghost use Rattle.aide_text.specs.DecodedRest.{decoded_rest};
-ghost use Rattle.aide_report.specs.Entries.{entry_details, attribute_text, attributes_text, shown_text, title_of, title_word, type_on};
+ghost use Rattle.aide_report.specs.Entries.{entry_details, attribute_text, attributes_text};
+ghost use Rattle.aide_report.specs.Entries.{shown_text, title_of, title_word, type_on};
 ghost use Rattle.aide_text.specs.Text.{path_line};
 ghost use Rattle.aide_text.specs.PenSheet.{sheet};
 ghost use Rattle.aide_text.specs.Printed.{printed};
@@ -27,34 +28,34 @@ use aide_attr::{Attr, AttrSet, FileType, Form};
 use aide_conf::Options;
 use aide_db::View;
 use aide_text::{
-    DecodedSource, Pen, Printed, Ready, Sink, SliceSource, ValueText, digest_of, kind_text,
-    mode_of, number_of, put_newline, put_path_line, put_side_by_side,
+    DecodedFeed, Pen, Printed, Ready, Sink, SliceFeed, ValueText, digest_of, kind_text, mode_of,
+    number_of, put_newline, put_path_line, put_side_by_side,
 };
 
-fn link_value<'a>(view: &View<'a>) -> ValueText<Ready, DecodedSource<'a>, SliceSource<'a>>
-    ensures { text_rest ready_rest decoded_rest slice_rest result ≡ option_text link_text (link_in ((entry_in view.now).1 AnyAttr.Lname)) }
+fn link_value<'a>(view: &View<'a>) -> ValueText<Ready, DecodedFeed<'a>, SliceFeed<'a>>
+    ensures { text_rest ready_rest decoded_rest slice_rest result
+        ≡ option_text link_text (link_in ((entry_in view.now).1 AnyAttr.Lname)) }
 {
     match view.link() {
         None => ValueText::Short(Ready::of(b"")),
         Some(None) => ValueText::Short(Ready::of(b"")),
-        Some(Some(name)) => ValueText::Link(Printed::of(DecodedSource::of(name))),
+        Some(Some(name)) => ValueText::Link(Printed::of(DecodedFeed::of(name))),
     }
 }
 
-fn field_value<'a>(
-    view: &View<'a>,
-    attr: Attr,
-) -> ValueText<Ready, DecodedSource<'a>, SliceSource<'a>>
-    ensures { text_rest ready_rest decoded_rest slice_rest result ≡ option_text printed (opaque_in ((entry_in view.now).1 attr)) }
+fn field_value<'a>(view: &View<'a>, attr: Attr) -> ValueText<Ready, DecodedFeed<'a>, SliceFeed<'a>>
+    ensures { text_rest ready_rest decoded_rest slice_rest result
+        ≡ option_text printed (opaque_in ((entry_in view.now).1 attr)) }
 {
     match view.field(attr) {
         None => ValueText::Short(Ready::of(b"")),
-        Some(bytes) => ValueText::Field(Printed::of(SliceSource::of(bytes))),
+        Some(bytes) => ValueText::Field(Printed::of(SliceFeed::of(bytes))),
     }
 }
 
 fn digest_value(view: &View<'_>, attr: Attr, base16: bool) -> Ready
-    ensures { ready_rest result ≡ option_text (digest_text base16) (digest_in ((entry_in view.now).1 attr)) }
+    ensures { ready_rest result ≡ option_text (digest_text base16)
+        (digest_in ((entry_in view.now).1 attr)) }
 {
     let mut buffer = [0; 64];
     match view.digest(attr, &mut buffer) {
@@ -68,8 +69,9 @@ fn value<'a>(
     view: &View<'a>,
     attr: Attr,
     base16: bool,
-) -> ValueText<Ready, DecodedSource<'a>, SliceSource<'a>>
-    ensures { text_rest ready_rest decoded_rest slice_rest result ≡ text_at base16 attr ((entry_in view.now).1 attr) }
+) -> ValueText<Ready, DecodedFeed<'a>, SliceFeed<'a>>
+    ensures { text_rest ready_rest decoded_rest slice_rest result
+        ≡ text_at base16 attr ((entry_in view.now).1 attr) }
 {
     match attr.form() {
         Form::Kind => ValueText::Short(kind_text(view.kind())),
@@ -87,8 +89,9 @@ fn old_value<'a>(
     change: Change<'a>,
     attr: Attr,
     base16: bool,
-) -> ValueText<Ready, DecodedSource<'a>, SliceSource<'a>>
-    ensures { text_rest ready_rest decoded_rest slice_rest result ≡ side_text base16 attr (change_of change.entry).1.0 }
+) -> ValueText<Ready, DecodedFeed<'a>, SliceFeed<'a>>
+    ensures { text_rest ready_rest decoded_rest slice_rest result
+        ≡ side_text base16 attr (change_of change.entry).1.0 }
 {
     match change {
         Change::Added(_) => ValueText::Short(Ready::of(b"")),
@@ -102,8 +105,9 @@ fn new_value<'a>(
     change: Change<'a>,
     attr: Attr,
     base16: bool,
-) -> ValueText<Ready, DecodedSource<'a>, SliceSource<'a>>
-    ensures { text_rest ready_rest decoded_rest slice_rest result ≡ side_text base16 attr (change_of change.entry).1.1 }
+) -> ValueText<Ready, DecodedFeed<'a>, SliceFeed<'a>>
+    ensures { text_rest ready_rest decoded_rest slice_rest result
+        ≡ side_text base16 attr (change_of change.entry).1.1 }
 {
     match change {
         Change::Added(new) => value(&new, attr, base16),
@@ -115,7 +119,8 @@ fn new_value<'a>(
 /// An attribute: the old value beside the new one.
 fn put_attribute<W: Sink>(out: &mut W, pen: &mut Pen, change: Change<'_>, attr: Attr, base16: bool)
     ensures { Wrote (attribute_text base16 (change_of change.entry).1 attr)
-        (sheet W.delivered W.failures W.flushes out.old pen.old) (sheet W.delivered W.failures W.flushes out.new pen.new) }
+        (sheet W.delivered W.failures W.flushes out.old pen.old)
+        (sheet W.delivered W.failures W.flushes out.new pen.new) }
 {
     put_side_by_side(
         out,
@@ -136,7 +141,8 @@ fn put_if_shown<W: Sink>(
     shown: AttrSet,
 )
     ensures { Wrote (shown_text base16 (change_of change.entry).1 (has shown) attr)
-        (sheet W.delivered W.failures W.flushes out.old pen.old) (sheet W.delivered W.failures W.flushes out.new pen.new) }
+        (sheet W.delivered W.failures W.flushes out.old pen.old)
+        (sheet W.delivered W.failures W.flushes out.new pen.new) }
 {
     if shown.has(attr) {
         put_attribute(out, pen, change, attr, base16);
@@ -153,7 +159,8 @@ fn put_attributes<W: Sink>(
     attrs: &[Attr],
 )
     ensures { Wrote (attributes_text base16 (change_of change.entry).1 (has shown) attrs.now)
-        (sheet W.delivered W.failures W.flushes out.old pen.old) (sheet W.delivered W.failures W.flushes out.new pen.new) }
+        (sheet W.delivered W.failures W.flushes out.old pen.old)
+        (sheet W.delivered W.failures W.flushes out.new pen.new) }
 {
     for attr in attrs {
         put_if_shown(out, pen, change, *attr, base16, shown);
@@ -198,7 +205,8 @@ pub(crate) fn put_details<W: Sink>(
     change: Change<'_>,
 )
     ensures { Wrote (entry_details options.now (change_of change.entry))
-        (sheet W.delivered W.failures W.flushes out.old pen.old) (sheet W.delivered W.failures W.flushes out.new pen.new) }
+        (sheet W.delivered W.failures W.flushes out.old pen.old)
+        (sheet W.delivered W.failures W.flushes out.new pen.new) }
 {
     let shown = shown_in(change, options);
     put_newline(out, pen);

@@ -36,7 +36,8 @@ fn shows_alone(level: Level) -> bool
 }
 
 fn alone_in(view: &View<'_>, level: Level) -> AttrSet
-    ensures { (attr : Attr) → has result attr ≡ (shows_alone level && is_some ((entry_in view.now).1 attr)) }
+    ensures { (attr : Attr) → has result attr ≡ (shows_alone level
+        && is_some ((entry_in view.now).1 attr)) }
 {
     if shows_alone(level) {
         view.attrs()
@@ -48,7 +49,8 @@ fn alone_in(view: &View<'_>, level: Level) -> AttrSet
 /// The attributes that the details of two entries of one path show.
 fn shown_between(old: &View<'_>, new: &View<'_>, options: &Options) -> AttrSet
     ensures { (attr : Attr) → has result attr ≡
-        is_shown (sides_between (entry_in old.now).1 (entry_in new.now).1) options.now.ignore options.now.level attr }
+        is_shown (sides_between (entry_in old.now).1 (entry_in new.now).1) options.now.ignore
+        options.now.level attr }
 {
     if old.is_alike(new) {
         return AttrSet::empty();
@@ -58,7 +60,8 @@ fn shown_between(old: &View<'_>, new: &View<'_>, options: &Options) -> AttrSet
 
 /// The attributes that the details of a change show.
 pub(crate) fn shown_in(change: Change<'_>, options: &Options) -> AttrSet
-    ensures { (attr : Attr) → has result attr ≡ shows_at options.now (change_of change.entry).1 attr }
+    ensures { (attr : Attr) → has result attr ≡ shows_at options.now
+        (change_of change.entry).1 attr }
 {
     match change {
         Change::Added(new) => alone_in(&new, options.level),

@@ -2,9 +2,9 @@
 ghost use Rattle.std.specs.Prelude.{◌≡◌, ℕ, List, IfSome, IfNone};
 ghost use Rattle.aide_db.specs.Answer.{StandsFor};
 ghost use Rattle.aide_db.specs.declared.column.Column.{Column};
-ghost use Rattle.aide_db.specs.declared.place.Place.TheVariants.{Ended as AtEnd};
+ghost use Rattle.aide_db.specs.declared.stage.Stage.TheVariants.{Ended as AtEnd};
 ghost use Rattle.aide_report.specs.Digests.{digest_on};
-ghost use Rattle.aide_report.specs.Walk.{IsEnded, cursor_at};
+ghost use Rattle.aide_report.specs.Merging.{IsEnded, cursor_at};
 ghost use Rattle.sha2.specs.Sha256.{sha256};
 
 use crate::merge::Merge;
@@ -19,15 +19,16 @@ pub(crate) struct Digests {
 
 /// What the reading of a whole database tells.
 #[derive(Clone, Copy, Debug, PartialEq, Eq)]
-pub(crate) struct Reading {
+pub(crate) struct WholeReading {
     pub(crate) skipped: u64,
     pub(crate) digest: [u8; 32],
 }
 
 /// The SHA-256 of all bytes that a cursor has read, at its end.
 pub(crate) fn digest_of<R: Reel>(cursor: &Cursor<R>) -> [u8; 32]
-    requires { cursor.now.place ≡ AtEnd }
-    ensures { (list : List ℕ) (held : List Column) (text : List ℕ) → StandsFor R.to_come cursor.now list held text → result ≡ sha256 text }
+    requires { cursor.now.stage ≡ AtEnd }
+    ensures { (list : List ℕ) (held : List Column) (text : List ℕ)
+        → StandsFor R.to_come cursor.now list held text → result ≡ sha256 text }
 {
     match cursor.digest() {
         Some(digest) => digest,
@@ -35,14 +36,15 @@ pub(crate) fn digest_of<R: Reel>(cursor: &Cursor<R>) -> [u8; 32]
     }
 }
 
-/// The first side, the old one before the new one, whose digest at the end of a walk is not the one that it had before.
+/// The first side, the old one before the new one, whose digest at the end of a pass is not the one that it had before.
 pub(crate) fn changed_side<R: Reel>(merge: &Merge<R>, digests: &Digests) -> Option<Side>
     requires { IsEnded merge.now }
     ensures changed { IfSome result (λ side. (list : List ℕ) (held : List Column) (text : List ℕ)
         → StandsFor R.to_come (cursor_at merge.now side) list held text
         → digest_on digests.now side ≡ sha256 text → ⊥) }
     ensures same { IfNone result ((side : Side) (list : List ℕ) (held : List Column) (text : List ℕ)
-        → StandsFor R.to_come (cursor_at merge.now side) list held text → digest_on digests.now side ≡ sha256 text) }
+        → StandsFor R.to_come (cursor_at merge.now side) list held text
+        → digest_on digests.now side ≡ sha256 text) }
 {
     if digest_of(&merge.old_cursor) != digests.of_old {
         return Some(Side::Old);

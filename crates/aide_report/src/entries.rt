@@ -1,5 +1,6 @@
-//! The entries of a section, in one walk over both databases.
-ghost use Rattle.std.specs.Prelude.{◌≡◌, ◌<◌, ◌≤◌, ℕ, List, IfErr, OnOk, if◌then◌else◌, [], false, true};
+//! The entries of a section, in one pass over both databases.
+ghost use Rattle.std.specs.Prelude.{◌≡◌, ◌<◌, ◌≤◌, ℕ, List, IfErr, OnOk, if◌then◌else◌, [], false};
+ghost use Rattle.std.specs.Prelude.{true};
 ghost use Rattle.aide_report.specs.Bound.{FitsAfterBoth};
 ghost use Rattle.aide_report.specs.ChangeView.{change_of};
 ghost use Rattle.aide_report.specs.Changes.{is_added, is_removed, is_changed};
@@ -9,22 +10,23 @@ ghost use Rattle.aide_text.specs.Text.{path_line};
 ghost use Rattle.aide_report.specs.PassFaults.{IfDatabase, IfWrite, Writes};
 ghost use Rattle.aide_text.specs.PenSheet.{sheet};
 ghost use Rattle.aide_text.specs.Printed.{printed};
-ghost use Rattle.aide_report.specs.Reading.{IsFaultOf};
+ghost use Rattle.aide_report.specs.Standing.{IsFaultOf};
 ghost use Rattle.aide_report.specs.Sections.{is_in, entry_text, entries_text, one_text};
 ghost use Rattle.aide_text.specs.Sheet.{Wrote, WritesSome};
 ghost use Rattle.aide_report.specs.Room.{IsNotMemory};
-ghost use Rattle.aide_report.specs.Walk.{remaining, IsReady, IsEnded, StandsAt, limits_at, total_work, reels_failed};
+ghost use Rattle.aide_report.specs.Merging.{remaining, IsReady, IsEnded, StandsAt, limits_at};
+ghost use Rattle.aide_report.specs.Merging.{total_work, reels_failed};
 
 use crate::count::{Change, change_on};
 use crate::details::put_details;
 use crate::difference::{differ, letters, shows};
-use crate::merge::{Merge, Place};
+use crate::merge::{Merge, Turn};
 use aide_conf::Options;
 use aide_db::{DbFault, DbFaultKind, Desk, Reel, Side};
-use aide_text::{DecodedSource, Pen, Section, Sink, put, put_path_end};
+use aide_text::{DecodedFeed, Pen, Section, Sink, put, put_path_end};
 use std::alloc::Allocator;
 
-/// Why a walk was broken off.
+/// Why a pass was broken off.
 #[derive(Clone, Copy, Debug, PartialEq, Eq)]
 pub(crate) enum PassFault {
     Database(DbFault),
@@ -32,7 +34,7 @@ pub(crate) enum PassFault {
 }
 
 /// The path of a change.
-pub(crate) fn path_of<'a>(change: Change<'a>) -> DecodedSource<'a>
+pub(crate) fn path_of<'a>(change: Change<'a>) -> DecodedFeed<'a>
     ensures { decoded_rest result ≡ (change_of change.entry).0 }
 {
     let (_, path) = match change {
@@ -40,7 +42,7 @@ pub(crate) fn path_of<'a>(change: Change<'a>) -> DecodedSource<'a>
         Change::Removed(view) => view.name(),
         Change::Common(view, _) => view.name(),
     };
-    DecodedSource::of(path)
+    DecodedFeed::of(path)
 }
 
 fn word(change: Change<'_>) -> &'static [u8]
@@ -56,7 +58,8 @@ fn word(change: Change<'_>) -> &'static [u8]
 /// What stands before the path: the summary string, or a word.
 fn put_label<W: Sink>(out: &mut W, pen: &mut Pen, options: &Options, change: Change<'_>)
     ensures { Wrote (label_of options.now (change_of change.entry).1)
-        (sheet W.delivered W.failures W.flushes out.old pen.old) (sheet W.delivered W.failures W.flushes out.new pen.new) }
+        (sheet W.delivered W.failures W.flushes out.old pen.old)
+        (sheet W.delivered W.failures W.flushes out.new pen.new) }
 {
     if options.summarize {
         put(out, pen, &letters(change, &options.ignore));
@@ -68,7 +71,8 @@ fn put_label<W: Sink>(out: &mut W, pen: &mut Pen, options: &Options, change: Cha
 /// The line of a change in a list.
 fn put_line<W: Sink>(out: &mut W, pen: &mut Pen, options: &Options, change: Change<'_>)
     ensures { Wrote (list_line options.now (change_of change.entry))
-        (sheet W.delivered W.failures W.flushes out.old pen.old) (sheet W.delivered W.failures W.flushes out.new pen.new) }
+        (sheet W.delivered W.failures W.flushes out.old pen.old)
+        (sheet W.delivered W.failures W.flushes out.new pen.new) }
 {
     put_label(out, pen, options, change);
     put_path_end(out, pen, path_of(change));
@@ -116,7 +120,8 @@ fn put_entry<W: Sink>(
     change: Change<'_>,
 )
     ensures { Wrote (entry_text options.now section (change_of change.entry))
-        (sheet W.delivered W.failures W.flushes out.old pen.old) (sheet W.delivered W.failures W.flushes out.new pen.new) }
+        (sheet W.delivered W.failures W.flushes out.old pen.old)
+        (sheet W.delivered W.failures W.flushes out.new pen.new) }
 {
     match section {
         Section::AddedEntries => put_line(out, pen, options, change),
@@ -137,14 +142,15 @@ fn put_change<W: Sink>(
     change: Change<'_>,
 )
     ensures { Wrote (one_text options.now section (change_of change.entry))
-        (sheet W.delivered W.failures W.flushes out.old pen.old) (sheet W.delivered W.failures W.flushes out.new pen.new) }
+        (sheet W.delivered W.failures W.flushes out.old pen.old)
+        (sheet W.delivered W.failures W.flushes out.new pen.new) }
 {
     if has_change(section, change, options) {
         put_entry(out, pen, options, section, change);
     }
 }
 
-/// The walk of a section: over both databases, to their ends.
+/// The pass of a section: over both databases, to their ends.
 pub(crate) fn put_entries<R: Reel, W: Sink, A: Allocator + Copy>(
     merge: &mut Merge<R>,
     desk: &mut Desk<A>,
@@ -156,32 +162,38 @@ pub(crate) fn put_entries<R: Reel, W: Sink, A: Allocator + Copy>(
     requires ready { IsReady merge.old desk.old }
     requires writes_on { pen.old.failed ≡ false }
     ensures writes { (old new : List ℕ)
-        → StandsAt R.to_come merge.old desk.old Side.Old old → StandsAt R.to_come merge.old desk.old Side.New new
+        → StandsAt R.to_come merge.old desk.old Side.Old old
+        → StandsAt R.to_come merge.old desk.old Side.New new
         → Writes result (entries_text options.now section (remaining merge.old desk.old old new))
-        (sheet W.delivered W.failures W.flushes out.old pen.old) (sheet W.delivered W.failures W.flushes out.new pen.new) }
+        (sheet W.delivered W.failures W.flushes out.old pen.old)
+        (sheet W.delivered W.failures W.flushes out.new pen.new) }
     ensures some { WritesSome
-        (sheet W.delivered W.failures W.flushes out.old pen.old) (sheet W.delivered W.failures W.flushes out.new pen.new) }
+        (sheet W.delivered W.failures W.flushes out.old pen.old)
+        (sheet W.delivered W.failures W.flushes out.new pen.new) }
     ensures writes_on { OnOk result (pen.new.failed ≡ false) }
     ensures write { IfErr result (IfWrite (pen.new.failed ≡ true)) }
-    ensures fault { IfErr result (IfDatabase (λ fault. (text : List ℕ) → StandsAt R.to_come merge.old desk.old fault.side text
+    ensures fault { IfErr result (IfDatabase (λ fault. (text : List ℕ)
+        → StandsAt R.to_come merge.old desk.old fault.side text
         → IsFaultOf (limits_at merge.old fault.side) text fault)) }
-    ensures read { IfErr result (IfDatabase (λ fault. fault.kind ≡ DbFaultKind.Read → 0 < reels_failed R.failures merge.new)) }
+    ensures read { IfErr result (IfDatabase (λ fault. fault.kind ≡ DbFaultKind.Read
+        → 0 < reels_failed R.failures merge.new)) }
     ensures stands { (side : Side) (text : List ℕ) → StandsAt R.to_come merge.old desk.old side text
         → StandsAt R.to_come merge.new desk.new side text }
     ensures ended { OnOk result (IsEnded merge.new) }
     ensures room { desk.new.room ≡ desk.old.room }
-    ensures memory { ((side : Side) → (limits_at merge.old side).line ≤ desk.old.room) → IfErr result (IfDatabase IsNotMemory) }
+    ensures memory { ((side : Side) → (limits_at merge.old side).line ≤ desk.old.room)
+        → IfErr result (IfDatabase IsNotMemory) }
     ensures fits { FitsAfterBoth R.to_come merge.old desk.old desk.new }
 {
-    'walk: loop {
-        let place = match merge.next(desk) {
-            Ok(place) => place,
+    'pass: loop {
+        let turn = match merge.next(desk) {
+            Ok(turn) => turn,
             Err(fault) => return Err(PassFault::Database(fault)),
         };
-        if let Place::End = place {
+        if let Turn::End = turn {
             return Ok(());
         }
-        if let Some(change) = change_on(desk, place) {
+        if let Some(change) = change_on(desk, turn) {
             put_change(out, pen, options, section, change);
             if pen.failed {
                 return Err(PassFault::Write);

@@ -1,16 +1,18 @@
-//! Two databases walked in lock step: one path after another, in path order.
-ghost use Rattle.std.specs.Prelude.{◌≡◌, ◌≢◌, ◌+◌, ◌<◌, ◌≤◌, ◌++◌, [], ℕ, List, Option, IfOk, IfErr, OnOk, OnErr, IsSome};
+//! Two databases read in lock step: one path after another, in path order.
+ghost use Rattle.std.specs.Prelude.{◌≡◌, ◌≢◌, ◌+◌, ◌<◌, ◌≤◌, ◌++◌, [], ℕ, List, Option, IfOk};
+ghost use Rattle.std.specs.Prelude.{IfErr, OnOk, OnErr, IsSome};
 ghost use Rattle.aide_db.specs.Attributes.{Entry};
 ghost use Rattle.aide_db.specs.Desk.{desk_entry, Shows};
 ghost use Rattle.aide_db.specs.Kept.{IsKept};
 ghost use Rattle.aide_db.specs.Side.{other_side};
-ghost use Rattle.aide_db.specs.declared.place.Place.TheVariants.{Ended as AtEnd};
+ghost use Rattle.aide_db.specs.declared.stage.Stage.TheVariants.{Ended as AtEnd};
 ghost use Rattle.aide_report.specs.Bound.{FitsAfter, FitsAfterBoth};
-ghost use Rattle.aide_report.specs.Held.{ahead, front, work};
-ghost use Rattle.aide_report.specs.Place.{place_of, change_at, old_after, new_after};
-ghost use Rattle.aide_report.specs.Reading.{Stands, rest_of, left_of, IsUnfailed, IsFaultOf};
+ghost use Rattle.aide_report.specs.Held.{ahead, held_entry, work};
+ghost use Rattle.aide_report.specs.Turn.{turn_of, change_at, old_after, new_after};
+ghost use Rattle.aide_report.specs.Standing.{Stands, rest_of, left_of, IsUnfailed, IsFaultOf};
 ghost use Rattle.aide_report.specs.Room.{IsNotMemory};
-ghost use Rattle.aide_report.specs.Walk.{remaining, IsReady, IsEnded, StandsAt, limits_at, total_work, reels_failed};
+ghost use Rattle.aide_report.specs.Merging.{remaining, IsReady, IsEnded, StandsAt, limits_at};
+ghost use Rattle.aide_report.specs.Merging.{total_work, reels_failed};
 
 use aide_db::{Cursor, DbFault, DbFaultKind, Desk, Reel, Side, Step, View, cmp_names};
 use std::alloc::Allocator;
@@ -27,7 +29,7 @@ pub(crate) enum Held {
 
 /// Which side has the path that comes next.
 #[derive(Clone, Copy, Debug, PartialEq, Eq)]
-pub(crate) enum Place {
+pub(crate) enum Turn {
     Added,
     Removed,
     Both,
@@ -45,7 +47,12 @@ pub(crate) struct Merge<R: Reel> {
 impl<R: Reel> Merge<R> {
     /// A merge that has read nothing yet.
     pub(crate) fn start(old_cursor: Cursor<R>, new_cursor: Cursor<R>) -> Merge<R>
-        ensures { result ≡ record { old_cursor = old_cursor; new_cursor = new_cursor; old_held = Held.Due; new_held = Held.Due } }
+        ensures { result ≡ record {
+          old_cursor = old_cursor;
+          new_cursor = new_cursor;
+          old_held = Held.Due;
+          new_held = Held.Due;
+        } }
     {
         Merge {
             old_cursor,
@@ -75,23 +82,28 @@ fn advance<R: Reel, A: Allocator + Copy>(
     held: Held,
     desk: &mut Desk<A>,
 ) -> Result<Held, DbFault>
-    requires unfailed { IsUnfailed cursor.old.place }
+    requires unfailed { IsUnfailed cursor.old.stage }
     ensures side { cursor.new.side ≡ cursor.old.side }
     ensures limits { cursor.new.limits ≡ cursor.old.limits }
     ensures other { IsKept (other_side cursor.old.side) desk.old desk.new }
-    ensures unfailed { OnOk result (IsUnfailed cursor.new.place) }
+    ensures unfailed { OnOk result (IsUnfailed cursor.new.stage) }
     ensures not_due { IfOk result (λ now. now ≢ Held.Due) }
     ensures here { (held ≡ Held.Here → IsSome (desk_entry cursor.old.side desk.old))
         → IfOk result (λ now. now ≡ Held.Here → IsSome (desk_entry cursor.old.side desk.new)) }
-    ensures ended { (held ≡ Held.Ended → cursor.old.place ≡ AtEnd) → IfOk result (λ now. now ≡ Held.Ended → cursor.new.place ≡ AtEnd) }
-    ensures falls { IfOk result (λ now. work now (left_of cursor.new) ≤ work held (left_of cursor.old)) }
+    ensures ended { (held ≡ Held.Ended → cursor.old.stage ≡ AtEnd)
+        → IfOk result (λ now. now ≡ Held.Ended → cursor.new.stage ≡ AtEnd) }
+    ensures falls { IfOk result (λ now. work now (left_of cursor.new)
+        ≤ work held (left_of cursor.old)) }
     ensures fault_side { IfErr result (λ fault. fault.side ≡ cursor.old.side) }
-    ensures read { IfErr result (λ fault. fault.kind ≡ DbFaultKind.Read → 0 < R.failures cursor.new.reel) }
-    ensures stands { (text : List ℕ) → Stands R.to_come cursor.old desk.old text → Stands R.to_come cursor.new desk.new text }
+    ensures read { IfErr result (λ fault. fault.kind ≡ DbFaultKind.Read
+        → 0 < R.failures cursor.new.reel) }
+    ensures stands { (text : List ℕ) → Stands R.to_come cursor.old desk.old text
+        → Stands R.to_come cursor.new desk.new text }
     ensures ahead { IfOk result (λ now. (text : List ℕ) → Stands R.to_come cursor.old desk.old text
         → ahead now (desk_entry cursor.old.side desk.new) (rest_of cursor.new text)
         ≡ ahead held (desk_entry cursor.old.side desk.old) (rest_of cursor.old text)) }
-    ensures fault { IfErr result (λ fault. (text : List ℕ) → Stands R.to_come cursor.old desk.old text
+    ensures fault { IfErr result (λ fault. (text : List ℕ)
+        → Stands R.to_come cursor.old desk.old text
         → IsFaultOf cursor.old.limits text fault) }
     ensures room { desk.new.room ≡ desk.old.room }
     ensures memory { cursor.old.limits.line ≤ desk.old.room → IfErr result IsNotMemory }
@@ -109,23 +121,23 @@ fn advance<R: Reel, A: Allocator + Copy>(
 }
 
 /// Which side has the next path, of the entries that are held.
-fn next_place(old: Option<View<'_>>, new: Option<View<'_>>) -> Place
-    ensures { (d e : Option Entry) → Shows old.entry d → Shows new.entry e → result ≡ place_of d e }
+fn next_turn(old: Option<View<'_>>, new: Option<View<'_>>) -> Turn
+    ensures { (d e : Option Entry) → Shows old.entry d → Shows new.entry e → result ≡ turn_of d e }
 {
     match (old, new) {
         (Some(old), Some(new)) => match cmp_names(&old, &new) {
-            Ordering::Less => Place::Removed,
-            Ordering::Equal => Place::Both,
-            Ordering::Greater => Place::Added,
+            Ordering::Less => Turn::Removed,
+            Ordering::Equal => Turn::Both,
+            Ordering::Greater => Turn::Added,
         },
-        (Some(_), None) => Place::Removed,
-        (None, Some(_)) => Place::Added,
-        (None, None) => Place::End,
+        (Some(_), None) => Turn::Removed,
+        (None, Some(_)) => Turn::Added,
+        (None, None) => Turn::End,
     }
 }
 
 fn held_view<A: Allocator + Copy>(held: Held, desk: &Desk<A>, side: Side) -> Option<View<'_>>
-    ensures { Shows result (front held (desk_entry side desk.now)) }
+    ensures { Shows result (held_entry held (desk_entry side desk.now)) }
 {
     match held {
         Held::Here => desk.view(side),
@@ -135,54 +147,61 @@ fn held_view<A: Allocator + Copy>(held: Held, desk: &Desk<A>, side: Side) -> Opt
 }
 
 impl<R: Reel> Merge<R> {
-    /// Passes on the next path: at its place the desk shows what each side has there.
-    pub(crate) fn next<A: Allocator + Copy>(&mut self, desk: &mut Desk<A>) -> Result<Place, DbFault>
+    /// Passes on the next path: at its turn the desk shows what each side has there.
+    pub(crate) fn next<A: Allocator + Copy>(&mut self, desk: &mut Desk<A>) -> Result<Turn, DbFault>
         requires { IsReady self.old desk.old }
         ensures ready { OnOk result (IsReady self.new desk.new) }
         ensures limits { (side : Side) → limits_at self.new side ≡ limits_at self.old side }
-        ensures falls { IfOk result (λ place. place ≢ Place.End → total_work self.new < total_work self.old) }
+        ensures falls { IfOk result (λ turn. turn ≢ Turn.End
+            → total_work self.new < total_work self.old) }
         ensures stands_old { (text : List ℕ) → StandsAt R.to_come self.old desk.old Side.Old text
             → StandsAt R.to_come self.new desk.new Side.Old text }
         ensures stands_new { (text : List ℕ) → StandsAt R.to_come self.old desk.old Side.New text
             → StandsAt R.to_come self.new desk.new Side.New text }
-        ensures gives { IfOk result (λ place. (old new : List ℕ)
-            → StandsAt R.to_come self.old desk.old Side.Old old → StandsAt R.to_come self.old desk.old Side.New new
+        ensures gives { IfOk result (λ turn. (old new : List ℕ)
+            → StandsAt R.to_come self.old desk.old Side.Old old
+            → StandsAt R.to_come self.old desk.old Side.New new
             → remaining self.old desk.old old new
-            ≡ change_at place (desk_entry Side.Old desk.new) (desk_entry Side.New desk.new) ++ remaining self.new desk.new old new) }
-        ensures end { IfOk result (λ place. (old new : List ℕ)
-            → StandsAt R.to_come self.old desk.old Side.Old old → StandsAt R.to_come self.old desk.old Side.New new
-            → place ≡ Place.End → remaining self.old desk.old old new ≡ []) }
-        ensures ended { IfOk result (λ place. place ≡ Place.End → IsEnded self.new) }
-        ensures fault { IfErr result (λ fault. (text : List ℕ) → StandsAt R.to_come self.old desk.old fault.side text
+            ≡ change_at turn (desk_entry Side.Old desk.new) (desk_entry Side.New desk.new)
+            ++ remaining self.new desk.new old new) }
+        ensures end { IfOk result (λ turn. (old new : List ℕ)
+            → StandsAt R.to_come self.old desk.old Side.Old old
+            → StandsAt R.to_come self.old desk.old Side.New new
+            → turn ≡ Turn.End → remaining self.old desk.old old new ≡ []) }
+        ensures ended { IfOk result (λ turn. turn ≡ Turn.End → IsEnded self.new) }
+        ensures fault { IfErr result (λ fault. (text : List ℕ)
+            → StandsAt R.to_come self.old desk.old fault.side text
             → IsFaultOf (limits_at self.old fault.side) text fault) }
-        ensures read { IfErr result (λ fault. fault.kind ≡ DbFaultKind.Read → 0 < reels_failed R.failures self.new) }
+        ensures read { IfErr result (λ fault. fault.kind ≡ DbFaultKind.Read
+            → 0 < reels_failed R.failures self.new) }
         ensures room { desk.new.room ≡ desk.old.room }
-        ensures memory { ((side : Side) → (limits_at self.old side).line ≤ desk.old.room) → IfErr result IsNotMemory }
+        ensures memory { ((side : Side) → (limits_at self.old side).line ≤ desk.old.room)
+            → IfErr result IsNotMemory }
         ensures fits { FitsAfterBoth R.to_come self.old desk.old desk.new }
     {
         self.old_held = advance(&mut self.old_cursor, self.old_held, desk)?;
         self.new_held = advance(&mut self.new_cursor, self.new_held, desk)?;
         let old = held_view(self.old_held, desk, Side::Old);
         let new = held_view(self.new_held, desk, Side::New);
-        let place = next_place(old, new);
-        self.pass(place);
-        Ok(place)
+        let turn = next_turn(old, new);
+        self.pass(turn);
+        Ok(turn)
     }
 
-    fn pass(&mut self, place: Place)
+    fn pass(&mut self, turn: Turn)
         ensures { self.new ≡ record self.old {
-          old_held = old_after place self.old.old_held;
-          new_held = new_after place self.old.new_held;
+          old_held = old_after turn self.old.old_held;
+          new_held = new_after turn self.old.new_held;
         } }
     {
-        match place {
-            Place::Added => self.new_held = Held::Due,
-            Place::Removed => self.old_held = Held::Due,
-            Place::Both => {
+        match turn {
+            Turn::Added => self.new_held = Held::Due,
+            Turn::Removed => self.old_held = Held::Due,
+            Turn::Both => {
                 self.old_held = Held::Due;
                 self.new_held = Held::Due;
             }
-            Place::End => {}
+            Turn::End => {}
         }
     }
 }

@@ -1,5 +1,6 @@
 //! Readings of databases: each whole, or both in lock step.
-ghost use Rattle.std.specs.Prelude.{◌≡◌, ◌<◌, ◌≤◌, ◌+◌, ◌^◌, [], false, true, ℕ, List, Option, Some, IfOk, IfErr, OnOk, OnErr};
+ghost use Rattle.std.specs.Prelude.{◌≡◌, ◌<◌, ◌≤◌, ◌+◌, ◌^◌, [], false, true, ℕ, List, Option};
+ghost use Rattle.std.specs.Prelude.{Some, None, IfOk, IfErr, OnOk, OnErr};
 ghost use Rattle.aide_db.specs.Count.{one_more};
 ghost use Rattle.aide_db.specs.Database.{IsSound};
 ghost use Rattle.aide_db.specs.Desk.{list_of};
@@ -10,7 +11,7 @@ ghost use Rattle.aide_db.specs.Map.{entries_of};
 ghost use Rattle.aide_db.specs.Path.{path_cmp};
 ghost use Rattle.aide_db.specs.Side.{by_side, other_side};
 ghost use Rattle.aide_db.specs.Skipped.{skipped_in};
-ghost use Rattle.aide_db.specs.declared.place.Place.TheVariants.{Ended as AtEnd};
+ghost use Rattle.aide_db.specs.declared.stage.Stage.TheVariants.{Ended as AtEnd};
 ghost use Rattle.sha2.specs.Sha256.{sha256};
 ghost use Rattle.aide_report.specs.Bound.{Fits, FitsAfter, TakesWithin, OpensWithin};
 ghost use Rattle.aide_report.specs.Counts.{Completes};
@@ -18,18 +19,20 @@ ghost use Rattle.aide_report.specs.Digests.{AreDigests};
 ghost use Rattle.aide_text.specs.Failures.{CountsFault, Rose};
 ghost use Rattle.aide_report.specs.LaterFault.{later_of};
 ghost use Rattle.aide_report.specs.Merged.{merged};
+ghost use Rattle.aide_report.specs.Missing.{IsOfReliable};
 ghost use Rattle.aide_report.specs.Openings.{OpensExactly, OpensAtMost, IsRefusedThere};
 ghost use Rattle.aide_report.specs.PassFaults.{Writes, pass_fault_of};
 ghost use Rattle.aide_text.specs.PenSheet.{sheet};
-ghost use Rattle.aide_report.specs.Reading.{Stands, rest_of, IsUnfailed, IsFaultOf};
+ghost use Rattle.aide_report.specs.Standing.{Stands, rest_of, IsUnfailed, IsFaultOf};
 ghost use Rattle.aide_report.specs.Room.{IsNotMemory, IsNotOfMemory};
-ghost use Rattle.aide_report.specs.RunFaults.{IsCaused, IsLater, IsFirst, TellsPen};
+ghost use Rattle.aide_report.specs.RunFaults.{IsCaused, IsLater, IsFirst, HasPenWritten};
 ghost use Rattle.aide_report.specs.Sections.{entries_text};
 ghost use Rattle.aide_text.specs.Sheet.{WritesSome};
-ghost use Rattle.aide_report.specs.Walk.{remaining, IsReady, StandsAt, limits_at, total_work, reels_failed};
+ghost use Rattle.aide_report.specs.Merging.{remaining, IsReady, StandsAt, limits_at, total_work};
+ghost use Rattle.aide_report.specs.Merging.{reels_failed};
 
 use crate::count::count;
-use crate::digests::{Digests, Reading, changed_side, digest_of};
+use crate::digests::{Digests, WholeReading, changed_side, digest_of};
 use crate::entries::{PassFault, put_entries};
 use crate::merge::Merge;
 use crate::run_fault::RunFault;
@@ -62,19 +65,28 @@ fn open_cursor<S: Sources, A: Allocator + Copy>(
     requires line { 14 ≤ limits.line }
     requires bytes { limits.bytes ≤ 2 ^ 60 }
     ensures same { S.bytes_of sources.new ≡ S.bytes_of sources.old }
+    ensures missing_same { S.is_missing sources.new ≡ S.is_missing sources.old }
+    ensures reliable_same { S.is_reliable sources.new ≡ S.is_reliable sources.old }
     ensures opens { S.openings sources.new side ≡ one_more (S.openings sources.old side) }
-    ensures others { S.openings sources.new (other_side side) ≡ S.openings sources.old (other_side side) }
+    ensures others { S.openings sources.new (other_side side)
+        ≡ S.openings sources.old (other_side side) }
     ensures fault { CountsFault (S.failures sources.old) (S.failures sources.new) result }
+    ensures refuses { OnOk result (S.is_missing sources.old side ≡ false) }
+    ensures gives_none { S.is_reliable sources.old ≡ true
+        → OnErr result (S.bytes_of sources.old side ≡ None) }
     ensures side { IfOk result (λ cursor. cursor.side ≡ side) }
     ensures limits { IfOk result (λ cursor. cursor.limits ≡ limits) }
-    ensures unfailed { IfOk result (λ cursor. IsUnfailed cursor.place) }
-    ensures stands { IfOk result (λ cursor. (text : List ℕ) → S.bytes_of sources.old side ≡ Some text
+    ensures unfailed { IfOk result (λ cursor. IsUnfailed cursor.stage) }
+    ensures stands { IfOk result (λ cursor. (text : List ℕ)
+        → S.bytes_of sources.old side ≡ Some text
         → Stands S.R.to_come cursor desk.new text) }
     ensures rest { IfOk result (λ cursor. (text : List ℕ) → rest_of cursor text ≡ entries_of text) }
     ensures other { IsKept (other_side side) desk.old desk.new }
     ensures room { desk.new.room ≡ desk.old.room }
-    ensures fits { (old_line new_line before : ℕ) → Fits old_line new_line before desk.old → Fits old_line new_line before desk.new }
-    ensures within { IfOk result (λ cursor. (longest : ℕ) → OpensWithin (S.bytes_of sources.old) limits side longest
+    ensures fits { (old_line new_line before : ℕ) → Fits old_line new_line before desk.old
+        → Fits old_line new_line before desk.new }
+    ensures within { IfOk result (λ cursor. (longest : ℕ)
+        → OpensWithin (S.bytes_of sources.old) limits side longest
         → TakesWithin S.R.to_come cursor desk.new longest) }
 {
     match sources.open(side) {
@@ -92,28 +104,39 @@ fn open_both<S: Sources, A: Allocator + Copy>(
     requires line { 14 ≤ limits.line }
     requires bytes { limits.bytes ≤ 2 ^ 60 }
     ensures same { S.bytes_of sources.new ≡ S.bytes_of sources.old }
+    ensures reliable_same { S.is_reliable sources.new ≡ S.is_reliable sources.old }
     ensures opens { OnOk result (OpensExactly (S.openings sources.old) (S.openings sources.new) 1) }
     ensures opens_some { OpensAtMost (S.openings sources.old) (S.openings sources.new) 1 }
     ensures ready { IfOk result (λ merge. IsReady merge desk.new) }
     ensures limits { IfOk result (λ merge. (side : Side) → limits_at merge side ≡ limits) }
     ensures short { IfOk result (λ merge. total_work merge < 2 ^ 62) }
-    ensures stands_old { IfOk result (λ merge. (text : List ℕ) → S.bytes_of sources.old Side.Old ≡ Some text
+    ensures stands_old { IfOk result (λ merge. (text : List ℕ)
+        → S.bytes_of sources.old Side.Old ≡ Some text
         → StandsAt S.R.to_come merge desk.new Side.Old text) }
-    ensures stands_new { IfOk result (λ merge. (text : List ℕ) → S.bytes_of sources.old Side.New ≡ Some text
+    ensures stands_new { IfOk result (λ merge. (text : List ℕ)
+        → S.bytes_of sources.old Side.New ≡ Some text
         → StandsAt S.R.to_come merge desk.new Side.New text) }
-    ensures rest { IfOk result (λ merge. (old new : List ℕ) → remaining merge desk.new old new ≡ merged path_cmp (entries_of old)
-        (entries_of new)) }
-    ensures caused { IfErr result (IsCaused (Rose (S.failures sources.old) (S.failures sources.new)) ⊥) }
-    ensures old_opened { S.openings sources.new Side.Old ≡ one_more (S.openings sources.old Side.Old) }
-    ensures refused { IfErr result (IsRefusedThere (S.openings sources.old) (S.openings sources.new)) }
+    ensures rest { IfOk result (λ merge. (old new : List ℕ)
+        → remaining merge desk.new old new ≡ merged path_cmp (entries_of old) (entries_of new)) }
+    ensures caused { IfErr result (IsCaused (Rose (S.failures sources.old)
+        (S.failures sources.new)) ⊥) }
+    ensures old_opened { S.openings sources.new Side.Old
+        ≡ one_more (S.openings sources.old Side.Old) }
+    ensures refused { IfErr result (IsRefusedThere (S.openings sources.old)
+        (S.openings sources.new)) }
     ensures later { IfErr result (IsLater limits (S.bytes_of sources.old)) }
+    ensures reliable { S.is_reliable sources.old ≡ true
+        → IfErr result (IsOfReliable (S.bytes_of sources.old)) }
     ensures never_falls { S.failures sources.old ≤ S.failures sources.new }
     ensures room { desk.new.room ≡ desk.old.room }
     ensures memory { IfErr result IsNotOfMemory }
-    ensures fits { (old_line new_line before : ℕ) → Fits old_line new_line before desk.old → Fits old_line new_line before desk.new }
-    ensures within_old { IfOk result (λ merge. (longest : ℕ) → OpensWithin (S.bytes_of sources.old) limits Side.Old longest
+    ensures fits { (old_line new_line before : ℕ) → Fits old_line new_line before desk.old
+        → Fits old_line new_line before desk.new }
+    ensures within_old { IfOk result (λ merge. (longest : ℕ)
+        → OpensWithin (S.bytes_of sources.old) limits Side.Old longest
         → TakesWithin S.R.to_come merge.old_cursor desk.new longest) }
-    ensures within_new { IfOk result (λ merge. (longest : ℕ) → OpensWithin (S.bytes_of sources.old) limits Side.New longest
+    ensures within_new { IfOk result (λ merge. (longest : ℕ)
+        → OpensWithin (S.bytes_of sources.old) limits Side.New longest
         → TakesWithin S.R.to_come merge.new_cursor desk.new longest) }
 {
     let old_cursor = match open_cursor(sources, Side::Old, limits, desk) {
@@ -132,8 +155,11 @@ fn open_both<S: Sources, A: Allocator + Copy>(
 
 fn close_both<S: Sources>(sources: &mut S, merge: Merge<S::R>)
     ensures same { S.bytes_of sources.new ≡ S.bytes_of sources.old }
+    ensures reliable_same { S.is_reliable sources.new ≡ S.is_reliable sources.old }
     ensures openings { S.openings sources.new ≡ S.openings sources.old }
-    ensures rose { 0 < reels_failed S.R.failures merge → Rose (S.failures sources.old) (S.failures sources.new) }
+    ensures rose { 0 < reels_failed S.R.failures merge
+        → Rose (S.failures sources.old) (S.failures sources.new) }
+    ensures unfailed { S.is_reliable sources.old ≡ true → reels_failed S.R.failures merge ≡ 0 }
     ensures never_falls { S.failures sources.old ≤ S.failures sources.new }
 {
     let (old_reel, new_reel) = merge.into_reels();
@@ -152,7 +178,7 @@ fn later_fault(fault: DbFault) -> RunFault
     }
 }
 
-/// How the end of a walk is answered, with the number of bytes that have gone out.
+/// How the end of a pass is answered, with the number of bytes that have gone out.
 fn pass_fault(fault: PassFault, sent: u64) -> RunFault
     ensures { result ≡ pass_fault_of fault sent }
 {
@@ -167,15 +193,18 @@ fn read_to_end<R: Reel, A: Allocator + Copy>(
     cursor: &mut Cursor<R>,
     desk: &mut Desk<A>,
 ) -> Result<(), DbFault>
-    requires { IsUnfailed cursor.old.place }
+    requires { IsUnfailed cursor.old.stage }
     ensures sound { OnOk result ((text : List ℕ) → Stands R.to_come cursor.old desk.old text
         → IsSound cursor.old.limits text × (cursor.new.columns ≡ columns_of_text text)) }
-    ensures ended { OnOk result (cursor.new.place ≡ AtEnd) }
-    ensures stands { (text : List ℕ) → Stands R.to_come cursor.old desk.old text → Stands R.to_come cursor.new desk.new text }
-    ensures fault { IfErr result (λ fault. (text : List ℕ) → Stands R.to_come cursor.old desk.old text
+    ensures ended { OnOk result (cursor.new.stage ≡ AtEnd) }
+    ensures stands { (text : List ℕ) → Stands R.to_come cursor.old desk.old text
+        → Stands R.to_come cursor.new desk.new text }
+    ensures fault { IfErr result (λ fault. (text : List ℕ)
+        → Stands R.to_come cursor.old desk.old text
         → IsFaultOf cursor.old.limits text fault) }
     ensures fault_side { IfErr result (λ fault. fault.side ≡ cursor.old.side) }
-    ensures read { IfErr result (λ fault. fault.kind ≡ DbFaultKind.Read → 0 < R.failures cursor.new.reel) }
+    ensures read { IfErr result (λ fault. fault.kind ≡ DbFaultKind.Read
+        → 0 < R.failures cursor.new.reel) }
     ensures room { desk.new.room ≡ desk.old.room }
     ensures memory { cursor.old.limits.line ≤ desk.old.room → IfErr result IsNotMemory }
     ensures fits { FitsAfter R.to_come cursor.old desk.old desk.new }
@@ -195,20 +224,32 @@ pub(crate) fn read_whole<S: Sources, A: Allocator + Copy>(
     side: Side,
     limits: Limits,
     desk: &mut Desk<A>,
-) -> Result<Reading, RunFault>
+) -> Result<WholeReading, RunFault>
     requires line { 14 ≤ limits.line }
     requires bytes { limits.bytes ≤ 2 ^ 60 }
     ensures same { S.bytes_of sources.new ≡ S.bytes_of sources.old }
+    ensures missing_same { S.is_missing sources.new ≡ S.is_missing sources.old }
+    ensures reliable_same { S.is_reliable sources.new ≡ S.is_reliable sources.old }
     ensures opens { S.openings sources.new side ≡ one_more (S.openings sources.old side) }
-    ensures others { S.openings sources.new (other_side side) ≡ S.openings sources.old (other_side side) }
-    ensures sound { IfOk result (λ reading. (text : List ℕ) → S.bytes_of sources.old side ≡ Some text
-        → IsSound limits text × (reading.skipped ≡ skipped_in (columns_of_text text)) × (reading.digest ≡ sha256 text)) }
+    ensures others { S.openings sources.new (other_side side)
+        ≡ S.openings sources.old (other_side side) }
+    ensures sound { IfOk result (λ reading. (text : List ℕ)
+        → S.bytes_of sources.old side ≡ Some text
+        → IsSound limits text × (reading.skipped ≡ skipped_in (columns_of_text text))
+        × (reading.digest ≡ sha256 text)) }
     ensures first { IfErr result (IsFirst limits (S.bytes_of sources.old) side) }
-    ensures caused { IfErr result (IsCaused (Rose (S.failures sources.old) (S.failures sources.new)) ⊥) }
+    ensures caused { IfErr result (IsCaused (Rose (S.failures sources.old)
+        (S.failures sources.new)) ⊥) }
+    ensures refuses { OnOk result (S.is_missing sources.old side ≡ false) }
+    ensures missing { S.is_missing sources.old side ≡ true
+        → IfErr result (λ fault. fault ≡ RunFault.Open side) }
+    ensures reliable { S.is_reliable sources.old ≡ true
+        → IfErr result (IsOfReliable (S.bytes_of sources.old)) }
     ensures never_falls { S.failures sources.old ≤ S.failures sources.new }
     ensures room { desk.new.room ≡ desk.old.room }
     ensures memory { limits.line ≤ desk.old.room → IfErr result IsNotOfMemory }
-    ensures fits { (old_line new_line before : ℕ) → OpensWithin (S.bytes_of sources.old) limits side (by_side old_line new_line side)
+    ensures fits { (old_line new_line before : ℕ) → OpensWithin (S.bytes_of sources.old) limits side
+        (by_side old_line new_line side)
         → Fits old_line new_line before desk.old → Fits old_line new_line before desk.new }
 {
     let mut cursor = match open_cursor(sources, side, limits, desk) {
@@ -217,7 +258,7 @@ pub(crate) fn read_whole<S: Sources, A: Allocator + Copy>(
     };
     match read_to_end(&mut cursor, desk) {
         Ok(()) => {
-            let reading = Reading {
+            let reading = WholeReading {
                 skipped: cursor.skipped(),
                 digest: digest_of(&cursor),
             };
@@ -243,19 +284,26 @@ pub(crate) fn count_pass<S: Sources, A: Allocator + Copy>(
     requires bytes { limits.bytes ≤ 2 ^ 60 }
     requires digests { AreDigests (S.bytes_of sources.old) digests.now }
     ensures same { S.bytes_of sources.new ≡ S.bytes_of sources.old }
+    ensures reliable_same { S.is_reliable sources.new ≡ S.is_reliable sources.old }
     ensures opens { OnOk result (OpensExactly (S.openings sources.old) (S.openings sources.new) 1) }
     ensures opens_some { OpensAtMost (S.openings sources.old) (S.openings sources.new) 1 }
-    ensures counts { IfOk result (λ counts. (old new : List ℕ) → S.bytes_of sources.old Side.Old ≡ Some old
+    ensures counts { IfOk result (λ counts. (old new : List ℕ)
+        → S.bytes_of sources.old Side.Old ≡ Some old
         → S.bytes_of sources.old Side.New ≡ Some new
         → Completes options.now counts [] (merged path_cmp (entries_of old) (entries_of new))) }
-    ensures refused { IfErr result (IsRefusedThere (S.openings sources.old) (S.openings sources.new)) }
+    ensures refused { IfErr result (IsRefusedThere (S.openings sources.old)
+        (S.openings sources.new)) }
     ensures later { IfErr result (IsLater limits (S.bytes_of sources.old)) }
-    ensures caused { IfErr result (IsCaused (Rose (S.failures sources.old) (S.failures sources.new)) ⊥) }
+    ensures caused { IfErr result (IsCaused (Rose (S.failures sources.old)
+        (S.failures sources.new)) ⊥) }
+    ensures reliable { S.is_reliable sources.old ≡ true
+        → IfErr result (IsOfReliable (S.bytes_of sources.old)) }
     ensures never_falls { S.failures sources.old ≤ S.failures sources.new }
     ensures room { desk.new.room ≡ desk.old.room }
     ensures memory { limits.line ≤ desk.old.room → IfErr result IsNotOfMemory }
     ensures fits { (old_line new_line before : ℕ)
-        → OpensWithin (S.bytes_of sources.old) limits Side.Old old_line → OpensWithin (S.bytes_of sources.old) limits Side.New new_line
+        → OpensWithin (S.bytes_of sources.old) limits Side.Old old_line
+        → OpensWithin (S.bytes_of sources.old) limits Side.New new_line
         → Fits old_line new_line before desk.old → Fits old_line new_line before desk.new }
 {
     let mut merge = match open_both(sources, limits, desk) {
@@ -294,24 +342,35 @@ pub(crate) fn entries_pass<S: Sources, W: Sink, A: Allocator + Copy>(
     requires digests { AreDigests (S.bytes_of sources.old) digests.now }
     requires writes_on { pen.old.failed ≡ false }
     ensures same { S.bytes_of sources.new ≡ S.bytes_of sources.old }
+    ensures reliable_same { S.is_reliable sources.new ≡ S.is_reliable sources.old }
     ensures opens { OnOk result (OpensExactly (S.openings sources.old) (S.openings sources.new) 1) }
     ensures opens_some { OpensAtMost (S.openings sources.old) (S.openings sources.new) 1 }
-    ensures writes { (old new : List ℕ) → S.bytes_of sources.old Side.Old ≡ Some old → S.bytes_of sources.old Side.New ≡ Some new
-        → Writes result (entries_text options.now section (merged path_cmp (entries_of old) (entries_of new)))
-        (sheet W.delivered W.failures W.flushes out.old pen.old) (sheet W.delivered W.failures W.flushes out.new pen.new) }
+    ensures writes { (old new : List ℕ) → S.bytes_of sources.old Side.Old ≡ Some old
+        → S.bytes_of sources.old Side.New ≡ Some new
+        → Writes result (entries_text options.now section
+        (merged path_cmp (entries_of old) (entries_of new)))
+        (sheet W.delivered W.failures W.flushes out.old pen.old)
+        (sheet W.delivered W.failures W.flushes out.new pen.new) }
     ensures some { WritesSome
-        (sheet W.delivered W.failures W.flushes out.old pen.old) (sheet W.delivered W.failures W.flushes out.new pen.new) }
+        (sheet W.delivered W.failures W.flushes out.old pen.old)
+        (sheet W.delivered W.failures W.flushes out.new pen.new) }
     ensures writes_on { OnOk result (pen.new.failed ≡ false) }
-    ensures tells { IfErr result (TellsPen pen.new) }
-    ensures old_opened { S.openings sources.new Side.Old ≡ one_more (S.openings sources.old Side.Old) }
-    ensures refused { IfErr result (IsRefusedThere (S.openings sources.old) (S.openings sources.new)) }
+    ensures written { IfErr result (HasPenWritten pen.new) }
+    ensures old_opened { S.openings sources.new Side.Old
+        ≡ one_more (S.openings sources.old Side.Old) }
+    ensures refused { IfErr result (IsRefusedThere (S.openings sources.old)
+        (S.openings sources.new)) }
     ensures later { IfErr result (IsLater limits (S.bytes_of sources.old)) }
-    ensures caused { IfErr result (IsCaused (Rose (S.failures sources.old) (S.failures sources.new)) (pen.new.failed ≡ true)) }
+    ensures caused { IfErr result (IsCaused (Rose (S.failures sources.old) (S.failures sources.new))
+        (pen.new.failed ≡ true)) }
+    ensures reliable { S.is_reliable sources.old ≡ true
+        → IfErr result (IsOfReliable (S.bytes_of sources.old)) }
     ensures never_falls { S.failures sources.old ≤ S.failures sources.new }
     ensures room { desk.new.room ≡ desk.old.room }
     ensures memory { limits.line ≤ desk.old.room → IfErr result IsNotOfMemory }
     ensures fits { (old_line new_line before : ℕ)
-        → OpensWithin (S.bytes_of sources.old) limits Side.Old old_line → OpensWithin (S.bytes_of sources.old) limits Side.New new_line
+        → OpensWithin (S.bytes_of sources.old) limits Side.Old old_line
+        → OpensWithin (S.bytes_of sources.old) limits Side.New new_line
         → Fits old_line new_line before desk.old → Fits old_line new_line before desk.new }
 {
     let mut merge = match open_both(sources, limits, desk) {

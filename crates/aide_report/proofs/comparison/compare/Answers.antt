@@ -3,10 +3,14 @@ use Rattle.std.specs.Prelude.{Some}
 use Rattle.aide_db.specs.Database.{IsSound}
 use Rattle.aide_db.specs.declared.side.Side.TheVariants.{Old, New}
 use Rattle.aide_report.specs.Bound.{OpensWithin}
+use Rattle.aide_report.specs.Missing.{IsHindered}
+use Rattle.aide_report.specs.RunFaults.{IsFirst, IsLater}
+use Rattle.aide_text.specs.Failures.{Rose}
 use Rattle.aide_report.proofs.BoundLemmas.{fits_cleared}
-use Rattle.aide_report.proofs.FaultLemmas.{right_later}
+use Rattle.aide_report.proofs.FaultLemmas.{right_later, rose_later}
 use Rattle.aide_report.specs.Digests.{digest_on}
 use Rattle.sha2.specs.Sha256.{sha256}
+use Rattle.aide_report.proofs.MissingLemmas.{both_there, first_over, later_over, second_over, stops_hindered}
 use Rattle.aide_report.proofs.OpeningLemmas.{refused_first, refused_later}
 use Rattle.aide_report.proofs.RunLemmas.{counts_are}
 use Rattle.aide_report.proofs.SideLemmas.{of_sides}
@@ -108,3 +112,39 @@ returns-in-Err-count_pass-clause-refused g c =
       of_new = omega (arith, c.read_whole-2.ensures.opens, c.read_whole.ensures.others);
     })
     c.in-Err-count_pass.ensures.refused
+
+pub returns-in-Err-clause-over : goal.returns-in-Err-clause-over
+returns-in-Err-clause-over g c = λ wish old new told_old told_new r runs.
+    first_over c.args.limits wish (g.S.Sources.bytes_of c.args.sources.now) (g.S.Sources.is_missing c.args.sources.now) old new
+    (Rose (g.S.Sources.failures c.args.sources.now) (g.S.Sources.failures c.read_whole.new.sources)) c.in-Err.fault
+    told_old c.in-Err.ensures.first c.in-Err.ensures.caused c.in-Err.ensures.missing r runs
+
+pub returns-in-Err-read_whole-clause-over : goal.returns-in-Err-read_whole-clause-over
+returns-in-Err-read_whole-clause-over g c = λ wish old new told_old told_new r runs.
+    let before = g.S.Sources.failures c.args.sources.now in
+    let after = g.S.Sources.failures c.read_whole-2.new.sources in
+    let fault = c.in-Err-read_whole.fault in
+    second_over c.args.limits wish (g.S.Sources.bytes_of c.args.sources.now) (g.S.Sources.is_missing c.args.sources.now) old new (Rose before after) fault
+    told_old told_new c.in-Ok.ensures.refuses (λ text told. (c.in-Ok.ensures.sound text told).0)
+    (subst (λ bytes. IsFirst c.args.limits bytes New fault) c.read_whole.ensures.same c.in-Err-read_whole.ensures.first)
+    (rose_later (Rose (g.S.Sources.failures c.read_whole.new.sources) after) (Rose before after) ⊥ fault
+    (λ rose below. let later = rose below in omega (arith, later, c.read_whole.ensures.never_falls)) c.in-Err-read_whole.ensures.caused)
+    (λ gone. c.in-Err-read_whole.ensures.missing (ap (λ missing. missing New) c.read_whole.ensures.missing_same ∙ gone)) r runs
+
+pub returns-in-Err-count_pass-clause-over : goal.returns-in-Err-count_pass-clause-over
+returns-in-Err-count_pass-clause-over g c = λ wish old new told_old told_new r runs.
+    let before = g.S.Sources.failures c.args.sources.now in
+    let middle = g.S.Sources.failures c.read_whole-2.new.sources in
+    let after = g.S.Sources.failures c.count_pass.new.sources in
+    let fault = c.in-Err-count_pass.fault in
+    let same = c.read_whole.ensures.same in
+    let is_missing = g.S.Sources.is_missing c.args.sources.now in
+    stops_hindered r (IsHindered old new (Rose before after) ⊥) fault
+    (later_over c.args.limits (g.S.Sources.bytes_of c.args.sources.now) is_missing old new (Rose before after) ⊥ fault told_old told_new
+    (both_there is_missing c.in-Ok.ensures.refuses (sym (ap (λ missing. missing New) c.read_whole.ensures.missing_same) ∙ c.in-Ok-read_whole.ensures.refuses))
+    (of_sides (λ side text. g.S.Sources.bytes_of c.args.sources.now side ≡ Some text) (λ side text. IsSound c.args.limits text)
+    (λ text told. (c.in-Ok.ensures.sound text told).0)
+    (λ text told. (c.in-Ok-read_whole.ensures.sound text (ap (λ bytes. bytes New) same ∙ told)).0))
+    (subst (λ bytes. IsLater c.args.limits bytes fault) (c.read_whole-2.ensures.same ∙ same) c.in-Err-count_pass.ensures.later)
+    (rose_later (Rose middle after) (Rose before after) ⊥ fault
+    (λ rose below. let later = rose below in omega (arith, later, c.read_whole.ensures.never_falls, c.read_whole-2.ensures.never_falls)) c.in-Err-count_pass.ensures.caused))

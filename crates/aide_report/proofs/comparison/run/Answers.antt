@@ -1,11 +1,14 @@
-use Rattle.std.proofs.Common.{◌∙◌, ◌+◌, ap, sym, arith}
+use Rattle.std.proofs.Common.{◌∙◌, ◌+◌, ap, sym, subst, arith}
 use Rattle.aide_db.specs.declared.side.Side.TheVariants.{Old, New}
 use Rattle.aide_report.specs.Asked.{asked}
 use Rattle.aide_text.specs.Failures.{Rose}
+use Rattle.aide_report.specs.Missing.{IsHindered}
 use Rattle.aide_report.specs.Report.{section_count}
+use Rattle.aide_report.specs.RunFaults.{IsLater}
 use Rattle.aide_report.proofs.BoundLemmas.{fits_limit, fits_within, fits_later}
 use Rattle.aide_report.proofs.FaultLemmas.{has_cause, right_later, answer_later, first_later, rose_later}
 use Rattle.aide_report.proofs.FirstFaults.{Runs-exists}
+use Rattle.aide_report.proofs.MissingLemmas.{RunsOver-exists, front_over, hindered_by, later_over, nothing_front, stops_by, stops_hindered, whole_over}
 use Rattle.aide_report.proofs.OpeningLemmas.{refused_later, silent_nothing, silent_begun}
 use Rattle.aide_report.proofs.ReportLemmas.{caused_as}
 use Rattle.aide_report.proofs.RunLemmas.{ends_well, ends_early, nothing_early, sections_are}
@@ -174,3 +177,44 @@ returns-in-Ok-write_report-clause-answered g c old new = Runs-exists c.args.limi
 
 pub returns-in-Err-write_report-clause-answered : goal.returns-in-Err-write_report-clause-answered
 returns-in-Err-write_report-clause-answered g c old new = Runs-exists c.args.limits (asked c.args.task.now) old new c.requires.line
+
+pub returns-in-Err-clause-answered_over : goal.returns-in-Err-clause-answered_over
+returns-in-Err-clause-answered_over g c old new = RunsOver-exists c.args.limits (asked c.args.task.now) old new c.requires.line
+
+pub returns-in-Ok-write_report-clause-answered_over : goal.returns-in-Ok-write_report-clause-answered_over
+returns-in-Ok-write_report-clause-answered_over g c old new = RunsOver-exists c.args.limits (asked c.args.task.now) old new c.requires.line
+
+pub returns-in-Err-write_report-clause-answered_over : goal.returns-in-Err-write_report-clause-answered_over
+returns-in-Err-write_report-clause-answered_over g c old new = RunsOver-exists c.args.limits (asked c.args.task.now) old new c.requires.line
+
+pub returns-in-Err-clause-over : goal.returns-in-Err-clause-over
+returns-in-Err-clause-over g c = λ old new told_old told_new r runs.
+    let sources = Rose (g.S.Sources.failures c.args.sources.now) (g.S.Sources.failures c.compare.new.sources) in
+    let sink = Rose (g.W.Sink.failures c.args.out.now) (g.W.Sink.failures c.args.out.now) in (
+      stops_by r (IsHindered old new sources ⊥) (IsHindered old new sources sink) c.in-Err.fault (hindered_by old new sources sink c.in-Err.fault)
+          (c.in-Err.ensures.over (asked c.args.task.now) old new told_old told_new r runs),
+      nothing_front r (g.W.Sink.delivered c.args.out.now),
+    )
+
+pub returns-in-Ok-write_report-clause-over : goal.returns-in-Ok-write_report-clause-over
+returns-in-Ok-write_report-clause-over g c = λ old new told_old told_new r runs.
+    whole_over c.args.limits (asked c.args.task.now) (g.S.Sources.bytes_of c.args.sources.now) (g.S.Sources.is_missing c.args.sources.now) old new c.outcome.result
+    (g.W.Sink.delivered c.args.out.now) (g.W.Sink.delivered c.write_report.new.out) told_old told_new c.in-Ok.ensures.there
+    (returns-in-Ok-write_report-clause-ok g c) r runs
+
+pub returns-in-Err-write_report-clause-over : goal.returns-in-Err-write_report-clause-over
+returns-in-Err-write_report-clause-over g c = λ old new told_old told_new r runs.
+    let before = g.S.Sources.failures c.args.sources.now in
+    let after = g.S.Sources.failures c.write_report.new.sources in
+    let sink = Rose (g.W.Sink.failures c.args.out.now) (g.W.Sink.failures c.write_report.new.out) in
+    let fault = c.in-Err-write_report.fault in
+    let bytes_of = g.S.Sources.bytes_of c.args.sources.now in
+    let is_missing = g.S.Sources.is_missing c.args.sources.now in (
+      stops_hindered r (IsHindered old new (Rose before after) sink) fault
+          (later_over c.args.limits bytes_of is_missing old new (Rose before after) sink fault told_old told_new c.in-Ok.ensures.there c.in-Ok.ensures.sound
+          (subst (λ bytes. IsLater c.args.limits bytes fault) c.compare.ensures.same c.in-Err-write_report.ensures.later)
+          (rose_later (Rose (g.S.Sources.failures c.compare.new.sources) after) (Rose before after) sink fault
+          (λ rose below. let later = rose below in omega (arith, later, c.in-Ok.ensures.never_falls)) c.in-Err-write_report.ensures.caused)),
+      front_over c.args.limits (asked c.args.task.now) bytes_of is_missing old new (g.W.Sink.delivered c.args.out.now) (g.W.Sink.delivered c.write_report.new.out)
+          told_old told_new c.in-Ok.ensures.there (returns-in-Err-write_report-clause-part g c) r runs,
+    )

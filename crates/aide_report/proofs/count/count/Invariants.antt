@@ -4,11 +4,11 @@ use Rattle.aide_db.specs.declared.side.Side.{Side}
 use Rattle.aide_db.specs.declared.side.Side.TheVariants.{Old, New}
 use Rattle.aide_report.specs.Bound.{FitsAfterBoth}
 use Rattle.aide_report.specs.Counts.{Completes, AreBelow}
-use Rattle.aide_report.specs.Walk.{remaining, IsReady, StandsAt, limits_at, total_work}
+use Rattle.aide_report.specs.Merging.{remaining, IsReady, StandsAt, limits_at, total_work}
 use Rattle.aide_report.proofs.count.count.Given as goal
 
-abbrev pub invariant-walk : goal.invariant-walk
-invariant-walk g l = record {
+abbrev pub invariant-pass : goal.invariant-pass
+invariant-pass g l = record {
   ready : IsReady l.merge l.desk;
   small : AreBelow l.counts (2 ^ 62 - total_work l.merge);
   limits : (side : Side) → limits_at l.merge side ≡ limits_at l.fn.merge side;
@@ -19,5 +19,5 @@ invariant-walk g l = record {
   fits : FitsAfterBoth g.R.Reel.to_come l.fn.merge l.fn.desk l.desk;
 }
 
-abbrev pub decreases-walk : goal.decreases-walk
-decreases-walk g l = total_work l.merge
+abbrev pub decreases-pass : goal.decreases-pass
+decreases-pass g l = total_work l.merge

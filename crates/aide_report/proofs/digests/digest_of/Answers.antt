@@ -4,8 +4,8 @@ use Rattle.aide_report.proofs.digests.digest_of.Goals as goal
 
 pub returns-in-Some : goal.returns-in-Some
 returns-in-Some g c list held text stands =
-    let is = c.digest.ensures.whole list held text stands ∙ ap (λ place. digest_at place text) c.requires in cc
+    let is = c.digest.ensures.whole list held text stands ∙ ap (λ stage. digest_at stage text) c.requires in cc
 
 pub returns-in-None : goal.returns-in-None
 returns-in-None g c list held text stands =
-    let is = c.digest.ensures.whole list held text stands ∙ ap (λ place. digest_at place text) c.requires in cc
+    let is = c.digest.ensures.whole list held text stands ∙ ap (λ stage. digest_at stage text) c.requires in cc

@@ -6,11 +6,11 @@ use Rattle.aide_report.specs.Bound.{FitsAfterBoth}
 use Rattle.aide_text.specs.PenSheet.{sheet}
 use Rattle.aide_report.specs.Sections.{entries_text}
 use Rattle.aide_text.specs.Sheet.{Writing, WritesSome}
-use Rattle.aide_report.specs.Walk.{remaining, IsReady, StandsAt, limits_at, total_work}
+use Rattle.aide_report.specs.Merging.{remaining, IsReady, StandsAt, limits_at, total_work}
 use Rattle.aide_report.proofs.entries.put_entries.Given as goal
 
-abbrev pub invariant-walk : goal.invariant-walk
-invariant-walk g l = record {
+abbrev pub invariant-pass : goal.invariant-pass
+invariant-pass g l = record {
   ready : IsReady l.merge l.desk;
   writes_on : l.pen.failed ≡ false;
   limits : (side : Side) → limits_at l.merge side ≡ limits_at l.fn.merge side;
@@ -23,5 +23,5 @@ invariant-walk g l = record {
   fits : FitsAfterBoth g.R.Reel.to_come l.fn.merge l.fn.desk l.desk;
 }
 
-abbrev pub decreases-walk : goal.decreases-walk
-decreases-walk g l = total_work l.merge
+abbrev pub decreases-pass : goal.decreases-pass
+decreases-pass g l = total_work l.merge

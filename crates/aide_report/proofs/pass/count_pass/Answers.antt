@@ -3,8 +3,8 @@ use Rattle.std.specs.Prelude.{Some}
 use Rattle.aide_db.specs.Desk.{list_of, columns_of_side}
 use Rattle.aide_db.specs.declared.limits.Limits.{Limits}
 use Rattle.aide_report.specs.Counts.{Completes}
-use Rattle.aide_report.specs.Reading.{IsFaultOf}
-use Rattle.aide_report.specs.Walk.{StandsAt, cursor_at, limits_at}
+use Rattle.aide_report.specs.Standing.{IsFaultOf}
+use Rattle.aide_report.specs.Merging.{StandsAt, cursor_at, limits_at}
 use Rattle.aide_report.proofs.FaultLemmas.{later_fault}
 use Rattle.aide_report.proofs.RoomLemmas.{later_room, still_fits}
 use Rattle.aide_report.proofs.SideLemmas.{of_sides}

@@ -6,12 +6,12 @@ use Rattle.aide_db.specs.Path.{path_cmp}
 use Rattle.aide_db.specs.declared.limits.Limits.{Limits}
 use Rattle.aide_report.specs.Merged.{merged}
 use Rattle.aide_text.specs.PenSheet.{sheet}
-use Rattle.aide_report.specs.Reading.{IsFaultOf}
+use Rattle.aide_report.specs.Standing.{IsFaultOf}
 use Rattle.aide_report.specs.Sections.{entries_text}
 use Rattle.aide_text.specs.Sheet.{Wrote, WritesPart}
-use Rattle.aide_report.specs.Walk.{StandsAt, cursor_at, limits_at}
+use Rattle.aide_report.specs.Merging.{StandsAt, cursor_at, limits_at}
 use Rattle.aide_report.proofs.FaultLemmas.{if_database, pass_later, HasFault}
-use Rattle.aide_report.proofs.OpeningLemmas.{refused_walk}
+use Rattle.aide_report.proofs.OpeningLemmas.{refused_pass}
 use Rattle.aide_report.proofs.RoomLemmas.{pass_room, still_fits}
 use Rattle.aide_report.proofs.SideLemmas.{of_sides}
 use Rattle.aide_text.proofs.Sheets.{part_whole, part_nothing}
@@ -73,7 +73,7 @@ returns-in-Err-put_entries-clause-fits g c old_line new_line before within_old w
 
 pub returns-in-Err-put_entries-clause-refused : goal.returns-in-Err-put_entries-clause-refused
 returns-in-Err-put_entries-clause-refused g c =
-    rw c.pass_fault.ensures (refused_walk (g.S.Sources.openings c.args.sources.now) (g.S.Sources.openings c.close_both-in-Err-put_entries.new.sources) c.in-Err-put_entries.fault c.put_entries.new.pen.sent)
+    rw c.pass_fault.ensures (refused_pass (g.S.Sources.openings c.args.sources.now) (g.S.Sources.openings c.close_both-in-Err-put_entries.new.sources) c.in-Err-put_entries.fault c.put_entries.new.pen.sent)
 
 pub returns-in-Err-put_entries-clause-memory : goal.returns-in-Err-put_entries-clause-memory
 returns-in-Err-put_entries-clause-memory g c le =

@@ -1,7 +1,7 @@
 use Rattle.std.proofs.Common.{◌≡◌, ◌∙◌, ap, true, arith}
-use Rattle.aide_text.specs.Failures.{counted, Rose}
+use Rattle.aide_text.specs.Failures.{one_more, Rose}
 use Rattle.aide_report.proofs.AgreementLemmas.{begins, unflushed}
-use Rattle.aide_report.proofs.ReportLemmas.{flushed_whole, flushed_part, flushed_count, never_falls, count_of_pen, tells_of_pen, rose_of_pen, caused_as}
+use Rattle.aide_report.proofs.ReportLemmas.{flushed_whole, flushed_part, flushed_count, never_falls, count_of_pen, written_of_pen, rose_of_pen, caused_as}
 use Rattle.aide_text.proofs.Sheets.{wrote_part}
 use Rattle.aide_report.proofs.report.write_report.Goals as goal
 
@@ -20,8 +20,8 @@ returns-in-Err-flush-clause-sends g c old new told_old told_new =
     let fresh = ap (λ pen. pen.failed) c.new-pen.ensures in
     flushed_part (g.W.Sink.delivered c.flush.new.self) fresh c.in-Ok.ensures.writes_on (c.in-Ok.ensures.writes old new told_old told_new) c.flush.ensures.bytes
 
-pub returns-in-Err-flush-clause-tells : goal.returns-in-Err-flush-clause-tells
-returns-in-Err-flush-clause-tells g c =
+pub returns-in-Err-flush-clause-written : goal.returns-in-Err-flush-clause-written
+returns-in-Err-flush-clause-written g c =
     let fresh = ap (λ pen. pen.failed) c.new-pen.ensures in
     let start = ap (λ pen. pen.sent) c.new-pen.ensures in
     flushed_count (g.W.Sink.delivered c.flush.new.self) fresh start c.in-Ok.ensures.some c.flush.ensures.bytes
@@ -41,11 +41,11 @@ returns-in-Err-clause-sends g c old new told_old told_new =
     let fresh = ap (λ pen. pen.failed) c.new-pen.ensures in
     wrote_part fresh (c.in-Err.ensures.writes old new told_old told_new)
 
-pub returns-in-Err-clause-tells : goal.returns-in-Err-clause-tells
-returns-in-Err-clause-tells g c =
+pub returns-in-Err-clause-written : goal.returns-in-Err-clause-written
+returns-in-Err-clause-written g c =
     let fresh = ap (λ pen. pen.failed) c.new-pen.ensures in
     let start = ap (λ pen. pen.sent) c.new-pen.ensures in
-    tells_of_pen c.put_report.new.pen (g.W.Sink.delivered c.args.out.now) (g.W.Sink.delivered c.put_report.new.out) c.in-Err.fault (count_of_pen fresh start c.in-Err.ensures.some) c.in-Err.ensures.tells
+    written_of_pen c.put_report.new.pen (g.W.Sink.delivered c.args.out.now) (g.W.Sink.delivered c.put_report.new.out) c.in-Err.fault (count_of_pen fresh start c.in-Err.ensures.some) c.in-Err.ensures.written
 
 pub returns-in-Err-clause-caused : goal.returns-in-Err-clause-caused
 returns-in-Err-clause-caused g c =
@@ -64,7 +64,7 @@ returns-clause-first g c =
     begins (g.W.Sink.delivered c.flush.new.self) fresh c.in-Ok.ensures.writes_on c.in-Ok.ensures.first c.flush.ensures.bytes
 
 pub returns-clause-flushes : goal.returns-clause-flushes
-returns-clause-flushes g c = c.in_default.ensures.flushes ∙ ap counted (unflushed c.in-Ok.ensures.some)
+returns-clause-flushes g c = c.in_default.ensures.flushes ∙ ap one_more (unflushed c.in-Ok.ensures.some)
 
 pub returns-in-Err-flush-clause-flushes : goal.returns-in-Err-flush-clause-flushes
 returns-in-Err-flush-clause-flushes g c = c.in-Err-flush.ensures.flushes ∙ unflushed c.in-Ok.ensures.some

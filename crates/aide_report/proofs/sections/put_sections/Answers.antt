@@ -2,7 +2,8 @@ use Rattle.std.proofs.Common.{◌∙◌, ◌+◌, ap, sym, subst, arith, refl, d
 use Rattle.std.specs.List.{flat_map, filter}
 use Rattle.aide_db.specs.declared.side.Side.TheVariants.{Old, New}
 use Rattle.aide_report.specs.Bound.{OpensWithin}
-use Rattle.aide_report.specs.Finding.{walk_of}
+use Rattle.aide_report.specs.Finding.{pass_of}
+use Rattle.aide_report.specs.Missing.{IsOfReliable}
 use Rattle.aide_text.specs.PenSheet.{sheet}
 use Rattle.aide_report.specs.Report.{sections_text}
 use Rattle.aide_report.specs.Sections.{has_entry, section_text}
@@ -19,9 +20,10 @@ use Rattle.aide_report.proofs.sections.put_sections.Goals as goal
 pub loop-section-init : goal.loop-section-init
 loop-section-init g c = record {
   same = refl;
+  reliable_same = refl;
   writes_on = c.requires.writes_on;
   opens = opens_none (g.S.Sources.openings c.args.sources.now) (passed (has_entry c.args.counts.now) c.asked_sections-asked.result.now 0) (passed_none (has_entry c.args.counts.now) c.asked_sections-asked.result.now);
-  writes = λ old new told_old told_new. writing_start (flat_map (section_text c.args.options.now (walk_of old new)) (filter (has_entry c.args.counts.now) c.asked_sections-asked.result.now))
+  writes = λ old new told_old told_new. writing_start (flat_map (section_text c.args.options.now (pass_of old new)) (filter (has_entry c.args.counts.now) c.asked_sections-asked.result.now))
       (sheet g.W.Sink.delivered g.W.Sink.failures g.W.Sink.flushes c.args.out.now c.args.pen.now);
   first = first_nothing (reaches c.args.options.now.level DatabaseAttributes) (sheet g.W.Sink.delivered g.W.Sink.failures g.W.Sink.flushes c.args.out.now c.args.pen.now);
   some = some_nothing (sheet g.W.Sink.delivered g.W.Sink.failures g.W.Sink.flushes c.args.out.now c.args.pen.now);
@@ -47,7 +49,7 @@ returns-in-Err-clause-writes g c old new told_old told_new =
     let asked = c.asked_sections-asked.result.now in
     let i = c.loop-section.section-index in
     let same = c.loop-section.invariant.same in
-    let f = section_text c.args.options.now (walk_of old new) in
+    let f = section_text c.args.options.now (pass_of old new) in
     subst (λ xs. WritesPart (flat_map f (filter h xs)) (sheet g.W.Sink.delivered g.W.Sink.failures g.W.Sink.flushes c.args.out.now c.args.pen.now)
     (sheet g.W.Sink.delivered g.W.Sink.failures g.W.Sink.flushes c.section_pass.new.out c.section_pass.new.pen)) c.asked_sections-asked.ensures
     (writing_part (flat_map f (filter h (drop (i + 1) asked))) (rest_yes h f asked i AddedEntries (omega arith) (sym c.if-not-has_entry.ensures))
@@ -80,7 +82,7 @@ returns-clause-writes g c old new told_old told_new =
     let h = has_entry c.args.counts.now in
     let asked = c.asked_sections-asked.result.now in
     let i = c.loop-section.section-index in
-    let f = section_text c.args.options.now (walk_of old new) in
+    let f = section_text c.args.options.now (pass_of old new) in
     subst (λ xs. Wrote (flat_map f (filter h xs)) (sheet g.W.Sink.delivered g.W.Sink.failures g.W.Sink.flushes c.args.out.now c.args.pen.now)
     (sheet g.W.Sink.delivered g.W.Sink.failures g.W.Sink.flushes c.loop-section.out c.loop-section.pen)) c.asked_sections-asked.ensures
     (writing_done (rest_end h f asked i (omega arith)) (c.loop-section.invariant.writes old new told_old told_new))
@@ -95,9 +97,10 @@ loop-section-preserved g c =
     let one = passed_yes h asked i AddedEntries (omega arith) is in
     record {
       same = c.in-Ok.ensures.same ∙ same;
+      reliable_same = c.in-Ok.ensures.reliable_same ∙ c.loop-section.invariant.reliable_same;
       writes_on = c.in-Ok.ensures.writes_on;
       opens = opens_more _ _ _ (passed h asked i) 1 _ one c.loop-section.invariant.opens c.in-Ok.ensures.opens;
-      writes = λ old new told_old told_new. writing_more (rest_yes h (section_text c.args.options.now (walk_of old new)) asked i AddedEntries (omega arith) is)
+      writes = λ old new told_old told_new. writing_more (rest_yes h (section_text c.args.options.now (pass_of old new)) asked i AddedEntries (omega arith) is)
           (c.loop-section.invariant.writes old new told_old told_new)
           (c.in-Ok.ensures.writes old new (ap (λ bytes. bytes Old) same ∙ told_old) (ap (λ bytes. bytes New) same ∙ told_new));
       some = some_more c.loop-section.invariant.some c.in-Ok.ensures.some;
@@ -121,9 +124,10 @@ loop-section-preserved-then-not-has_entry g c =
     let none = passed_no h asked i AddedEntries (omega arith) is in
     record {
       same = same.same;
+      reliable_same = same.reliable_same;
       writes_on = same.writes_on;
       opens = opens_more _ _ _ (passed h asked i) 0 _ (omega (arith, none)) same.opens (opens_none _ 0 refl);
-      writes = λ old new told_old told_new. writing_as (rest_no h (section_text c.args.options.now (walk_of old new)) asked i AddedEntries (omega arith) is) (same.writes old new told_old told_new);
+      writes = λ old new told_old told_new. writing_as (rest_no h (section_text c.args.options.now (pass_of old new)) asked i AddedEntries (omega arith) is) (same.writes old new told_old told_new);
       some = same.some;
       first = same.first;
       never_falls = same.never_falls;
@@ -147,3 +151,13 @@ returns-in-Err-clause-fits g c old_line new_line before within_old within_new fi
     c.section_pass.ensures.fits old_line new_line before
     (subst (λ bytes. OpensWithin bytes c.args.limits Old old_line) (sym same) within_old) (subst (λ bytes. OpensWithin bytes c.args.limits New new_line) (sym same) within_new)
     (c.loop-section.invariant.fits old_line new_line before within_old within_new fits)
+
+pub returns-in-Err-clause-reliable_same : goal.returns-in-Err-clause-reliable_same
+returns-in-Err-clause-reliable_same g c = c.section_pass.ensures.reliable_same ∙ c.loop-section.invariant.reliable_same
+
+pub returns-in-Err-clause-reliable : goal.returns-in-Err-clause-reliable
+returns-in-Err-clause-reliable g c = λ reliable.
+    subst (λ bytes. IsOfReliable bytes c.in-Err.fault) c.loop-section.invariant.same (c.in-Err.ensures.reliable (c.loop-section.invariant.reliable_same ∙ reliable))
+
+pub returns-clause-reliable_same : goal.returns-clause-reliable_same
+returns-clause-reliable_same g c = c.loop-section.invariant.reliable_same

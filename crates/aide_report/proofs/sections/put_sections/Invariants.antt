@@ -5,7 +5,7 @@ use Rattle.aide_attr.specs.declared.level.Level.TheVariants.{DatabaseAttributes}
 use Rattle.std.specs.List.{flat_map, filter}
 use Rattle.aide_db.specs.declared.side.Side.TheVariants.{Old, New}
 use Rattle.aide_report.specs.Bound.{Fits, OpensWithin}
-use Rattle.aide_report.specs.Finding.{walk_of}
+use Rattle.aide_report.specs.Finding.{pass_of}
 use Rattle.aide_report.specs.Openings.{OpensExactly}
 use Rattle.aide_text.specs.PenSheet.{sheet}
 use Rattle.aide_report.specs.Sections.{has_entry, section_text}
@@ -17,11 +17,12 @@ use Rattle.aide_report.proofs.sections.put_sections.Given as goal
 abbrev pub invariant-loop-section : goal.invariant-loop-section
 invariant-loop-section g l = record {
   same : g.S.Sources.bytes_of l.sources ≡ g.S.Sources.bytes_of l.fn.sources;
+  reliable_same : g.S.Sources.is_reliable l.sources ≡ g.S.Sources.is_reliable l.fn.sources;
   writes_on : l.pen.failed ≡ false;
   opens : OpensExactly (g.S.Sources.openings l.fn.sources) (g.S.Sources.openings l.sources) (passed (has_entry l.counts) l.asked l.section-index);
   writes : (old new : List ℕ) → g.S.Sources.bytes_of l.fn.sources Old ≡ Some old → g.S.Sources.bytes_of l.fn.sources New ≡ Some new
-      → Writing (flat_map (section_text l.options (walk_of old new)) (filter (has_entry l.counts) l.asked))
-      (flat_map (section_text l.options (walk_of old new)) (filter (has_entry l.counts) (drop l.section-index l.asked)))
+      → Writing (flat_map (section_text l.options (pass_of old new)) (filter (has_entry l.counts) l.asked))
+      (flat_map (section_text l.options (pass_of old new)) (filter (has_entry l.counts) (drop l.section-index l.asked)))
       (sheet g.W.Sink.delivered g.W.Sink.failures g.W.Sink.flushes l.fn.out l.fn.pen) (sheet g.W.Sink.delivered g.W.Sink.failures g.W.Sink.flushes l.out l.pen);
   some : WritesSome (sheet g.W.Sink.delivered g.W.Sink.failures g.W.Sink.flushes l.fn.out l.fn.pen) (sheet g.W.Sink.delivered g.W.Sink.failures g.W.Sink.flushes l.out l.pen);
   first : WritesFirst [] (reaches l.options.level DatabaseAttributes) (sheet g.W.Sink.delivered g.W.Sink.failures g.W.Sink.flushes l.fn.out l.fn.pen) (sheet g.W.Sink.delivered g.W.Sink.failures g.W.Sink.flushes l.out l.pen);

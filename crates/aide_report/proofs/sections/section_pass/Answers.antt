@@ -1,4 +1,4 @@
-use Rattle.aide_report.specs.Finding.{walk_of}
+use Rattle.aide_report.specs.Finding.{pass_of}
 use Rattle.aide_report.specs.Sections.{section_text, entries_text}
 use Rattle.aide_db.specs.declared.side.Side.TheVariants.{Old}
 use Rattle.aide_report.proofs.OpeningLemmas.{comes_opened}
@@ -7,7 +7,7 @@ use Rattle.aide_report.proofs.sections.section_pass.Goals as goal
 
 pub returns-then-pen-clause-writes : goal.returns-then-pen-clause-writes
 unfolding section_text
-returns-then-pen-clause-writes g c old new told_old told_new = part_of_wrote (entries_text c.args.options.now c.args.section (walk_of old new)) c.put_section_head.ensures
+returns-then-pen-clause-writes g c old new told_old told_new = part_of_wrote (entries_text c.args.options.now c.args.section (pass_of old new)) c.put_section_head.ensures
 
 pub returns-in-Ok-clause-writes : goal.returns-in-Ok-clause-writes
 unfolding section_text

@@ -11,8 +11,8 @@ use Rattle.aide_db.specs.declared.side.Side.TheVariants.{Old, New}
 use Rattle.aide_report.specs.Compare.{Change}
 use Rattle.aide_report.specs.Held.{ahead, work}
 use Rattle.aide_report.specs.Merged.{merged}
-use Rattle.aide_report.specs.Reading.{Stands, rest_of, left_of, IsUnfailed}
-use Rattle.aide_db.specs.declared.place.Place.TheVariants.{Ended as AtEnd}
+use Rattle.aide_report.specs.Standing.{Stands, rest_of, left_of, IsUnfailed}
+use Rattle.aide_db.specs.declared.stage.Stage.TheVariants.{Ended as AtEnd}
 use Rattle.aide_report.specs.declared.merge.Held.TheVariants.{Here, Ended}
 use Rattle.aide_report.specs.declared.merge.Merge.{Merge}
 
@@ -25,17 +25,17 @@ remaining m desk old new = merged path_cmp (ahead m.old_held (desk_entry Old des
 pub record IsReady {R : Type 0} (m : Merge R) (desk : DeskView) : Type 0 where
   pub old_side : m.old_cursor.side ≡ Old
   pub new_side : m.new_cursor.side ≡ New
-  pub old_unfailed : IsUnfailed m.old_cursor.place
-  pub new_unfailed : IsUnfailed m.new_cursor.place
+  pub old_unfailed : IsUnfailed m.old_cursor.stage
+  pub new_unfailed : IsUnfailed m.new_cursor.stage
   pub old_here : m.old_held ≡ Here → IsSome (desk_entry Old desk)
   pub new_here : m.new_held ≡ Here → IsSome (desk_entry New desk)
-  pub old_ended : m.old_held ≡ Ended → m.old_cursor.place ≡ AtEnd
-  pub new_ended : m.new_held ≡ Ended → m.new_cursor.place ≡ AtEnd
+  pub old_ended : m.old_held ≡ Ended → m.old_cursor.stage ≡ AtEnd
+  pub new_ended : m.new_held ≡ Ended → m.new_cursor.stage ≡ AtEnd
 
 -- both databases have been read to their ends
 pub record IsEnded {R : Type 0} (m : Merge R) : Type 0 where
-  pub old_ended : m.old_cursor.place ≡ AtEnd
-  pub new_ended : m.new_cursor.place ≡ AtEnd
+  pub old_ended : m.old_cursor.stage ≡ AtEnd
+  pub new_ended : m.new_cursor.stage ≡ AtEnd
 
 -- the cursor of a side
 abbrev pub cursor_at : {R : Type 0} → Merge R → Side → CursorView R
