@@ -17,5 +17,5 @@ abbrev pub gives : PlannedSources → Side → Option (List ℕ)
 gives sources side = steady (by_side sources.old_plan sources.new_plan side)
 
 -- how often a side was opened
-abbrev pub opened : PlannedSources → Side → ℕ
-opened sources side = by_side sources.old_openings sources.new_openings side
+abbrev pub openings_of : PlannedSources → Side → ℕ
+openings_of sources side = by_side sources.old_openings sources.new_openings side

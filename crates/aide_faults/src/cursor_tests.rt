@@ -1,5 +1,5 @@
-//! Databases read by a cursor: sound and faulty ones, cut, too long, from reels that give few bytes, fail or never end, and
-//! on a desk that is refused memory.
+//! Databases read by a cursor: sound and faulty ones, cut, too long, from reels that give few bytes, fail or never end,
+//! and on a desk that is refused memory.
 ghost use Rattle.std.specs.Prelude.{◌≤◌, ◌<◌, ◌^◌};
 
 use crate::{Pace, PlannedReel, Refusing};

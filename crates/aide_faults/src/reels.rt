@@ -14,8 +14,8 @@ pub struct PlannedReel<'a> {
 }
 
 impl<'a> PlannedReel<'a> {
-    /// A reel over these bytes, which gives them at this pace and fails after `sound` of them. Where there are fewer, it
-    /// never fails.
+    /// A reel over these bytes, which gives them at this pace and fails after `sound` of them. Where there are fewer,
+    /// it never fails.
     pub fn new(bytes: &'a [u8], pace: Pace, sound: u64) -> PlannedReel<'a>
         ensures bytes { result.bytes.now ≡ bytes.now }
         ensures pace { result.pace ≡ pace }

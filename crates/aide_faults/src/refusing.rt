@@ -49,8 +49,8 @@ impl Drop for Plan {
 /// `Allocator + Copy`.
 ///
 /// Growths are counted from 0, so that a loop over 0, 1, 2 and so on refuses each in turn, and ends where
-/// [`Refusing::has_refused`] answers that the chosen growth was never asked for. The growths before it succeed. The count is
-/// no part of a contract, since it changes behind a shared reference.
+/// [`Refusing::has_refused`] answers that the chosen growth was never asked for. The growths before it succeed. The
+/// count is no part of a contract, since it changes behind a shared reference.
 pub struct Refusing<B: Allocator> {
     inner: B,
     plan: Plan,

@@ -1,6 +1,6 @@
 //! Sinks that take few bytes at a time, or fail at a chosen place.
 ghost use Rattle.std.specs.Prelude.{◌≡◌};
-ghost use Rattle.aide_report.specs.Failures.{counted};
+ghost use Rattle.aide_report.specs.Failures.{one_more};
 
 use crate::pace::Pace;
 use aide_db::DeviceFault;
@@ -51,7 +51,7 @@ impl<W> PlannedSink<W> {
 
     /// Counts a failure.
     fn fail(&mut self) -> DeviceFault
-        ensures failures { self.new.failures ≡ counted self.old.failures }
+        ensures failures { self.new.failures ≡ one_more self.old.failures }
         ensures inner { self.new.inner ≡ self.old.inner }
     {
         self.failures = self.failures.saturating_add(1);

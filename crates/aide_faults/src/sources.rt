@@ -83,12 +83,13 @@ pub struct PlannedSources<'a> {
 }
 
 impl<'a> PlannedSources<'a> {
-    ghost use Rattle.aide_faults.specs.Plan.{gives, opened};
+    ghost use Rattle.aide_faults.specs.Plan.{gives, openings_of};
 
     /// These two plans, neither database opened yet.
     pub fn new(old_plan: SidePlan<'a>, new_plan: SidePlan<'a>, pace: Pace) -> PlannedSources<'a>
-        ensures bytes { (side : Side) → gives result side ≡ steady (by_side old_plan.entry new_plan.entry side) }
-        ensures openings { (side : Side) → opened result side ≡ 0 }
+        ensures bytes { (side : Side) → gives result side
+            ≡ steady (by_side old_plan.entry new_plan.entry side) }
+        ensures openings { (side : Side) → openings_of result side ≡ 0 }
         ensures failures { result.failures ≡ 0 }
         ensures pace { result.pace ≡ pace }
     {
@@ -104,7 +105,7 @@ impl<'a> PlannedSources<'a> {
 
     /// How often a side was opened, refused openings too. The count stops at its last value.
     pub fn openings(&self, side: Side) -> u64
-        ensures { result ≡ opened self.now side }
+        ensures { result ≡ openings_of self.now side }
     {
         match side {
             Side::Old => self.old_openings,
@@ -122,9 +123,11 @@ impl<'a> PlannedSources<'a> {
     /// Counts an opening, and answers its number.
     fn count(&mut self, side: Side) -> u64
         ensures bytes { gives self.new ≡ gives self.old }
-        ensures plans { (self.new.old_plan ≡ self.old.old_plan) × (self.new.new_plan ≡ self.old.new_plan) }
-        ensures counts { opened self.new side ≡ one_more (opened self.old side) }
-        ensures others { opened self.new (other_side side) ≡ opened self.old (other_side side) }
+        ensures plans { (self.new.old_plan ≡ self.old.old_plan)
+            × (self.new.new_plan ≡ self.old.new_plan) }
+        ensures counts { openings_of self.new side ≡ one_more (openings_of self.old side) }
+        ensures others { openings_of self.new (other_side side)
+            ≡ openings_of self.old (other_side side) }
         ensures failures { self.new.failures ≡ self.old.failures }
     {
         match side {
@@ -141,13 +144,13 @@ impl<'a> PlannedSources<'a> {
 }
 
 impl<'a> Sources for PlannedSources<'a> {
-    ghost use Rattle.aide_faults.specs.Plan.{gives, opened};
+    ghost use Rattle.aide_faults.specs.Plan.{gives, openings_of};
 
     type R = PlannedReel<'a>;
 
     ghost bytes_of = { gives };
 
-    ghost openings = { opened };
+    ghost openings = { openings_of };
 
     ghost failures = { λ sources. sources.failures };
 

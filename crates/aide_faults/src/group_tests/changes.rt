@@ -5,8 +5,8 @@ use std::cmp::Ordering;
 use std::process::Abort;
 use std::test::Fail;
 
-/// Two entries of one path by the names of their attributes, what is passed over, and the level: what is reported, what the
-/// details show, and the summary string.
+/// Two entries of one path by the names of their attributes, what is passed over, and the level: what is reported, what
+/// the details show, and the summary string.
 struct Change {
     old: &'static [u8],
     new: &'static [u8],

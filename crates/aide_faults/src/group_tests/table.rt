@@ -4,8 +4,8 @@ use std::cmp::Ordering;
 use std::process::Abort;
 use std::test::Fail;
 
-/// A line of the table: the names, the bit or 64 where there is none, how the column writes the value, and the letter that a
-/// summary string has where this attribute alone is changed.
+/// A line of the table: the names, the bit or 64 where there is none, how the column writes the value, and the letter
+/// that a summary string has where this attribute alone is changed.
 struct Line {
     name: &'static [u8],
     detail_name: &'static [u8],

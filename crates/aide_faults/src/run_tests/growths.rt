@@ -26,8 +26,8 @@ struct Refusals {
     late: u64,
 }
 
-/// Refuses a growth of a run, looks at the side and the line that are told, and runs on the same desk again. How often the new
-/// side was opened, and `None` where there is no such growth.
+/// Refuses a growth of a run, looks at the side and the line that are told, and runs on the same desk again. How often
+/// the new side was opened, and `None` where there is no such growth.
 fn refuse_one(rt: &impl Abort, alloc: Global, trial: &Trial<'_>, growth: u64) -> Option<u64> {
     let refusing = Refusing::new(alloc, growth);
     let mut desk = Desk::new(&refusing);

@@ -20,8 +20,8 @@ fn digits(number: u32) -> [u8; 6] {
     ]
 }
 
-/// A database of the entries below 200,200 but those whose number leaves this rest by 1,001. Each is 30 bytes long, and one in
-/// 1,001 tells the size that is given.
+/// A database of the entries below 200,200 but those whose number leaves this rest by 1,001. Each is 30 bytes long, and
+/// one in 1,001 tells the size that is given.
 fn database(alloc: Global, rest: u32, size: u8) -> Result<Vec<u8>, AllocError> {
     let mut text = Vec::from_slice(alloc, b"@@begin_db\n@@db_spec name size\n")?;
     for number in 0..200_200 {
@@ -82,8 +82,8 @@ fn as_many_entries_as_a_system_has(rt: HostRuntime) -> Result<(), Fail> {
     assert!(rt; answer == Ok(wanted), "{answer:?}");
     assert!(rt; desk.peak() == 90 && wanted.status() == 7);
     assert!(rt; sources.openings(Side::Old) == 6 && sources.openings(Side::New) == 6);
-    // The head and the summary have seven lines; each list has five and one an entry, the details have four and three an entry,
-    // and the databases have eleven.
+    // The head and the summary have seven lines; each list has five and one an entry, the details have four and three
+    // an entry, and the databases have eleven.
     let lines = out.bytes().iter().filter(|byte| **byte == b'\n').count();
     assert!(rt; out.bytes().starts_with(FRONT) && lines == 7 + 3 * (5 + 200) + 4 + 600 + 11);
     Ok(())

@@ -13,8 +13,8 @@ const TWO: &[u8] = b"@@begin_db\n@@db_spec name size\n/aaaaaaaaaaaaaaaaaaaaaaaaa
 const LONGER: &[u8] = b"@@begin_db\n@@db_spec name size\n/aaaaaaaaaaaaaaaaaaaaaaaaaaa 1\n\
 /bbbbbbbbbbbbbbbbbbbbbbbbbbbb 1\n@@end_db\n";
 
-/// A line limit, the old database, the first growth behind the desk's own that is refused, and whether the old database has a
-/// line too long.
+/// A line limit, the old database, the first growth behind the desk's own that is refused, and whether the old database
+/// has a line too long.
 struct Roomy {
     line: u32,
     old: &'static [u8],

@@ -17,7 +17,8 @@ pub(super) struct Trial<'a> {
     pub(super) openings: u64,
 }
 
-/// What is wrong with a run: how its databases are given, the fault that it is to answer, and how often each side is opened.
+/// What is wrong with a run: how its databases are given, the fault that it is to answer, and how often each side is
+/// opened.
 #[derive(Clone, Copy)]
 pub(super) struct Wrong<'a> {
     pub(super) old: SidePlan<'a>,
@@ -72,8 +73,8 @@ pub(super) fn line_at(text: &[u8], bytes: usize) -> u64 {
     (newlines.count() as u64).saturating_add(1)
 }
 
-/// Looks at the fault, the openings, and what went out: before the third opening nothing, not even to a sink that takes nothing,
-/// and later a front of the report, unless a database has changed.
+/// Looks at the fault, the openings, and what went out: before the third opening nothing, not even to a sink that takes
+/// nothing, and later a front of the report, unless a database has changed.
 pub(super) fn assert_stops(rt: &impl Abort, alloc: Global, trial: &Trial<'_>, wrong: &Wrong<'_>) {
     let mut desk = Desk::new(alloc);
     let pace = Pace::new(4096);

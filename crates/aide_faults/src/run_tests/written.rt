@@ -10,8 +10,8 @@ use arrayvec::ArrayVec;
 use std::alloc::Global;
 use std::process::Abort;
 
-/// Runs to a sink that takes so many bytes at a time, and that many in all, or does not flush. All that it could take has gone
-/// out, and no more.
+/// Runs to a sink that takes so many bytes at a time, and that many in all, or does not flush. All that it could take
+/// has gone out, and no more.
 fn assert_cut(rt: &impl Abort, alloc: Global, trial: &Trial<'_>, most: usize, room: usize)
     requires { 0 < most }
 {

@@ -1,8 +1,8 @@
 //! What a configuration with blocks and variables says, found slowly from its whole texts.
 //!
-//! A block is found by counting over the lines behind its opening line, and a variable by looking back for the last line
-//! that defines it or takes it away. There is no stack and no table of variables. It knows the options that the texts to
-//! compare have.
+//! A block is found by counting over the lines behind its opening line, and a variable by looking back for the last
+//! line that defines it or takes it away. There is no stack and no table of variables. It knows the options that the
+//! texts to compare have.
 
 use aide_attr::{Groups, Level};
 use aide_conf::{ConfFault, ConfFaultKind as Kind, ConfText, Need};
