@@ -17,6 +17,7 @@ use Rattle.aide_db.specs.declared.side.Side.TheVariants.{Old, New}
 use Rattle.aide_report.specs.Failures.{Rose}
 use Rattle.aide_report.specs.Room.{IsNotOfMemory}
 use Rattle.aide_report.specs.RunFaults.{IsRight}
+use Rattle.aide_report.specs.Missing.{TellsSide}
 use Rattle.aide_report.specs.Runs.{HasCause, StandsOn}
 use Rattle.aide_report.specs.declared.run_fault.RunFault.{RunFault}
 use Rattle.aide_report.specs.declared.run_fault.RunFault.TheVariants.{Open, Database, Changed, Write}
@@ -27,9 +28,9 @@ use Rattle.aide_session.specs.Ends.{Sinks}
 use Rattle.aide_session.specs.Files.{Files, IsLarge, is_too_large}
 use Rattle.aide_session.specs.Job.{JobText, job_of}
 use Rattle.aide_session.specs.Lines.{usage_line, memory_line, unread_line, too_large_line, conf_line}
-use Rattle.aide_session.specs.Told.{Told}
+use Rattle.aide_session.specs.Put.{Put}
 use Rattle.aide_session.proofs.Endings.{rose_later, sinks}
-use Rattle.aide_session.proofs.Tellings.{appends_none, told_none, told_passed}
+use Rattle.aide_session.proofs.PutLemmas.{appends_none, put_none, put_passed}
 
 abbrev course_of : (opened_before opened_after : Side → ℕ) → (flushes_before flushes_after : ℕ) → Bool → Course
 course_of opened_before opened_after flushes_before flushes_after is_flushed =
@@ -39,28 +40,28 @@ course_of opened_before opened_after flushes_before flushes_after is_flushed =
 abbrev pub only_config : List ℕ → Named
 only_config config = record { config = config; old_path = []; new_path = [] }
 
-pub closes_misused : (files : Files) (words : List (List ℕ)) (d e f : Option (List ℕ)) (m n : ℕ) (course : Course) (site out : Type 0) → job_of words ≡ None → Told usage_line e f m n
+pub closes_misused : (files : Files) (words : List (List ℕ)) (d e f : Option (List ℕ)) (m n : ℕ) (course : Course) (site out : Type 0) → job_of words ≡ None → Put usage_line e f m n
     → course.opened_after ≡ course.opened_before → course.flushes_after ≡ course.flushes_before → Closes files words 15 (sinks d d e f m n) course site out
-closes_misused files words d e f m n course site out none told unopened unflushed =
-    record { closing = no_job; named = only_config []; cause = none; status_is = refl; output = (appends_none d, unopened, unflushed); told = told }
+closes_misused files words d e f m n course site out none put unopened unflushed =
+    record { closing = no_job; named = only_config []; cause = none; status_is = refl; output = (appends_none d, unopened, unflushed); put = put }
 
-pub closes_starved : (files : Files) (words : List (List ℕ)) (d e f : Option (List ℕ)) (m n : ℕ) (course : Course) (site out : Type 0) → Told memory_line e f m n
+pub closes_starved : (files : Files) (words : List (List ℕ)) (d e f : Option (List ℕ)) (m n : ℕ) (course : Course) (site out : Type 0) → Put memory_line e f m n
     → course.opened_after ≡ course.opened_before → course.flushes_after ≡ course.flushes_before → Closes files words 22 (sinks d d e f m n) course site out
-closes_starved files words d e f m n course site out told unopened unflushed =
-    record { closing = no_memory; named = only_config []; cause = tt; status_is = refl; output = (appends_none d, unopened, unflushed); told = told }
+closes_starved files words d e f m n course site out put unopened unflushed =
+    record { closing = no_memory; named = only_config []; cause = tt; status_is = refl; output = (appends_none d, unopened, unflushed); put = put }
 
 asks : (words : List (List ℕ)) (job : JobText) → job_of words ≡ Some job → Asks words (only_config job.config)
 asks words job is = record { job = job; job_is = is; config_is = refl }
 
 pub closes_unread : (files : Files) (words : List (List ℕ)) (job : JobText) (d e f : Option (List ℕ)) (m n : ℕ) (course : Course) (site out : Type 0) → job_of words ≡ Some job → site
-    → Told (unread_line job.config) e f m n → course.opened_after ≡ course.opened_before → course.flushes_after ≡ course.flushes_before → Closes files words 18 (sinks d d e f m n) course site out
-closes_unread files words job d e f m n course site out is failed told unopened unflushed =
-    record { closing = no_config; named = only_config job.config; cause = (asks words job is, failed); status_is = refl; output = (appends_none d, unopened, unflushed); told = told }
+    → Put (unread_line job.config) e f m n → course.opened_after ≡ course.opened_before → course.flushes_after ≡ course.flushes_before → Closes files words 18 (sinks d d e f m n) course site out
+closes_unread files words job d e f m n course site out is failed put unopened unflushed =
+    record { closing = no_config; named = only_config job.config; cause = (asks words job is, failed); status_is = refl; output = (appends_none d, unopened, unflushed); put = put }
 
 pub closes_large : (files : Files) (words : List (List ℕ)) (job : JobText) (d e f : Option (List ℕ)) (m n : ℕ) (course : Course) (site out : Type 0) → job_of words ≡ Some job
-    → ((file : Option (List ℕ)) → files job.config ≡ Some file → IsLarge file) → Told too_large_line e f m n → course.opened_after ≡ course.opened_before → course.flushes_after ≡ course.flushes_before → Closes files words 17 (sinks d d e f m n) course site out
-closes_large files words job d e f m n course site out is large told unopened unflushed =
-    record { closing = large_config; named = only_config job.config; cause = (asks words job is, large); status_is = refl; output = (appends_none d, unopened, unflushed); told = told }
+    → ((file : Option (List ℕ)) → files job.config ≡ Some file → IsLarge file) → Put too_large_line e f m n → course.opened_after ≡ course.opened_before → course.flushes_after ≡ course.flushes_before → Closes files words 17 (sinks d d e f m n) course site out
+closes_large files words job d e f m n course site out is large put unopened unflushed =
+    record { closing = large_config; named = only_config job.config; cause = (asks words job is, large); status_is = refl; output = (appends_none d, unopened, unflushed); put = put }
 
 -- the configuration of a job was read, and reads as this
 pub asks_and_reads : (files : Files) (words : List (List ℕ)) (job : JobText) (text : List ℕ) (compare : Bool) (read : Result Configured ConfFault) → job_of words ≡ Some job
@@ -78,14 +79,14 @@ asks_and_reads files words job text compare read is small text_is compare_is rea
 }
 
 pub closes_bad_config : (files : Files) (words : List (List ℕ)) (config : List ℕ) (compare : Bool) (fault : ConfFault) (d e f : Option (List ℕ)) (m n : ℕ) (course : Course) (site out : Type 0)
-    → AsksAndReads files words config compare (Err fault) → Told (conf_line fault) e f m n → course.opened_after ≡ course.opened_before → course.flushes_after ≡ course.flushes_before → Closes files words 17 (sinks d d e f m n) course site out
-closes_bad_config files words config compare fault d e f m n course site out read told unopened unflushed =
-    record { closing = bad_config fault; named = only_config config; cause = (compare, read); status_is = refl; output = (appends_none d, unopened, unflushed); told = told }
+    → AsksAndReads files words config compare (Err fault) → Put (conf_line fault) e f m n → course.opened_after ≡ course.opened_before → course.flushes_after ≡ course.flushes_before → Closes files words 17 (sinks d d e f m n) course site out
+closes_bad_config files words config compare fault d e f m n course site out read put unopened unflushed =
+    record { closing = bad_config fault; named = only_config config; cause = (compare, read); status_is = refl; output = (appends_none d, unopened, unflushed); put = put }
 
 pub closes_good_config : (files : Files) (words : List (List ℕ)) (config : List ℕ) (s : Configured) (d e : Option (List ℕ)) (m : ℕ) (course : Course) (site out : Type 0)
     → AsksAndReads files words config false (Ok s) → course.opened_after ≡ course.opened_before → course.flushes_after ≡ course.flushes_before → Closes files words 0 (sinks d d e e m m) course site out
 closes_good_config files words config s d e m course site out read unopened unflushed =
-    record { closing = good_config; named = only_config config; cause = (s, read); status_is = refl; output = (appends_none d, unopened, unflushed); told = told_none e m }
+    record { closing = good_config; named = only_config config; cause = (s, read); status_is = refl; output = (appends_none d, unopened, unflushed); put = put_none e m }
 
 read_cause : (kind : DbFaultKind) (site first : Type 0) → StandsOn kind site first → kind ≡ Read → site
 read_cause kind site first stands is = subst (λ (k : DbFaultKind). StandsOn k site first) is stands
@@ -126,7 +127,7 @@ closes_by files words status s course site more out then closes = record {
   cause = cause_by files words closes.named closes.closing site more out then closes.cause;
   status_is = closes.status_is;
   output = closes.output;
-  told = closes.told;
+  put = closes.put;
 }
 
 abbrev denies_old : Side → Type 0
@@ -151,6 +152,12 @@ pub pointed_texts : (files middle : Files) (named : Named) (old_pointed both_poi
     → both_pointed Old ≡ old_pointed Old → (side : Side) (text : List ℕ) → HasText files named side text → both_pointed side ≡ Some text
 pointed_texts files middle named old_pointed both_pointed same old_is new_is kept Old text has = kept ∙ old_is text has
 pointed_texts files middle named old_pointed both_pointed same old_is new_is kept New text has = new_is text (subst (λ (f : Files). f named.new_path ≡ Some (Some text)) (sym same) has)
+
+-- a side that was pointed at a path is told as what stands there
+pub told_side : (there : Option (Option (List ℕ))) (bytes : Option (List ℕ)) (is_missing : Bool) (file : Option (List ℕ))
+    → ((text : List ℕ) → there ≡ Some (Some text) → bytes ≡ Some text) → (there ≡ Some None → is_missing ≡ true) → there ≡ Some file → TellsSide bytes is_missing file
+told_side there bytes is_missing None pointed gone is = gone is
+told_side there bytes is_missing (Some text) pointed gone is = pointed text is
 
 -- a comparison that closes over the same files, the same openings and the same count of failures
 pub closes_over : (files later : Files) (words : List (List ℕ)) (status : ℕ) (s : Sinks) (course later_course : Course) (count later_count end : ℕ) (out : Type 0)
@@ -207,5 +214,5 @@ closes_passed files words status c d e f g m n k course site out kept more close
   cause = closes.cause;
   status_is = closes.status_is;
   output = closes.output;
-  told = told_passed (closing_line closes.named closes.closing) e f g m n k kept more closes.told;
+  put = put_passed (closing_line closes.named closes.closing) e f g m n k kept more closes.put;
 }

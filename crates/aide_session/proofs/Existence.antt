@@ -1,105 +1,123 @@
--- There is an answer, where the files that are named are told.
-use Rattle.std.proofs.Common.{◌≡◌, ◌∙◌, ℕ, List, [], Option, Some, None, refl, sym, arith, Bool, true, false, Ok, Err}
-use Rattle.std.specs.Prelude.{Result}
+-- There is an answer, where it is told what stands at the paths that are named.
+use Rattle.std.proofs.Common.{◌≡◌, ℕ, List, [], Option, Some, None, refl, sym, arith, Bool, true, false, Ok, Err, inl, inr}
+use Rattle.std.specs.Prelude.{Result, IsSome}
 use Rattle.std.proofs.Math.Path.{subst}
 use Rattle.aide_conf.specs.Answer.{ReadsAs}
 use Rattle.aide_conf.specs.Settings.{Configured}
 use Rattle.aide_conf.specs.declared.fault.ConfFault.{ConfFault}
+use Rattle.aide_conf.specs.declared.options.Options.{Options}
+use Rattle.aide_conf.specs.declared.task.Need.TheVariants.{Compare}
+use Rattle.aide_conf.proofs.Laws.{every_configuration_has_an_answer, what_is_compared_is_named}
+use Rattle.aide_db.specs.declared.fault.DbFault.{DbFault}
 use Rattle.aide_db.specs.declared.side.Side.TheVariants.{Old, New}
+use Rattle.aide_db.proofs.FaultExists.{sound_or_fault}
 use Rattle.aide_report.proofs.FirstFaults.{Runs-exists}
-use Rattle.aide_session.specs.Answer.{Answer, Named, IsAnswer, IsFileAnswer, IsJobAnswer, IsReadAnswer, IsSizedAnswer, IsTextAnswer, IsWordsAnswer, answer_of_run, asked_by, checked, limits, need_of, refused}
-use Rattle.aide_session.specs.Closing.{AsksAndReads, AsksToCompare, Closes, Closing, ClosingCause, Course, closing_status}
-use Rattle.aide_session.specs.Closing.{no_job, no_memory, no_config, large_config, bad_config, good_config, bad_run, good_run}
-use Rattle.aide_session.specs.Ends.{Sinks}
+use Rattle.aide_session.specs.Answer.{Answer, Named, Compares, IsCompared, IsFileAnswer, IsJobAnswer, IsReadAnswer, IsSizedAnswer, IsWordsAnswer, answer_of_run, asked_by, checked, limits, need_of, refused}
+use Rattle.aide_session.specs.Closing.{AsksToCompare}
 use Rattle.aide_session.specs.Existence.{HasAnswer, TellsNamed}
-use Rattle.aide_session.specs.Files.{Files, IsLarge}
+use Rattle.aide_session.specs.Files.{Files, is_too_large}
 use Rattle.aide_session.specs.Job.{JobText, job_of}
-use Rattle.aide_session.specs.Lines.{usage_line, too_large_line, conf_line}
+use Rattle.aide_session.specs.Lines.{usage_line, too_large_line, unread_line, conf_line, open_line, database_line}
 use Rattle.aide_session.proofs.Closings.{only_config}
 
-of_words : (files : Files) (words : List (List ℕ)) (job : JobText) (named : Named) (a : Answer) → job_of words ≡ Some job → IsJobAnswer files job named a → IsAnswer files words named a
-of_words files words job named a is answer = subst (λ (o : Option JobText). IsWordsAnswer files o named a) (sym is) answer
+-- what stands at both paths has an answer
+compared : (options : Options) (named : Named) (old new : Option (List ℕ)) → (a : Answer) × IsCompared options named old new a
+compared options named None new = (refused (open_line Old named.old_path) 18, refl)
+compared options named (Some old) None = elim (sound_or_fault limits old (omega arith)) [
+  | inr bad ↦
+      let fault : DbFault = record { side = Old; line = bad.0; kind = bad.1 } in
+      (refused (database_line fault) 24, inr (fault, (refl, bad.2), refl))
+  | inl sound ↦ (refused (open_line New named.new_path) 18, inl (sound, refl))
+]
+compared options named (Some old) (Some new) =
+    let run = Runs-exists limits (asked_by options named) old new (omega arith) in (answer_of_run run.0, (run.0, run.1, refl))
 
-large_answer : (files : Files) (job : JobText) (file : Option (List ℕ)) (named : Named) → IsLarge file → IsFileAnswer files job file named (refused too_large_line 17)
-large_answer files job None named large = absurd large
-large_answer files job (Some text) named large = subst (λ (b : Bool). IsSizedAnswer files job b text named (refused too_large_line 17)) (sym large) refl
+value_of : (path : Option (List ℕ)) → IsSome path → (value : List ℕ) × (path ≡ Some value)
+value_of None some = cc
+value_of (Some value) some = (value, refl)
 
--- the answer to a job, from what its configuration reads as
-of_reading : (files : Files) (words : List (List ℕ)) (named : Named) (compare : Bool) (read : Result Configured ConfFault) (a : Answer) → TellsNamed files words
-    → AsksAndReads files words named.config compare read → IsReadAnswer files compare read named a → IsAnswer files words named a
-of_reading files words named compare read a tells asks answer =
-    let job = asks.job in
-    let config = tells.config job asks.job_is in
-    let is : config.0 ≡ Some asks.text = asks.text_is config.0 config.1 in
-    let of_text : IsTextAnswer files job asks.text named a = record {
-      read = read;
-      reads = subst (λ (b : Bool). ReadsAs (need_of b) job.before asks.text job.after read) (sym asks.compare_is) asks.reads;
-      then_is = subst (λ (b : Bool). IsReadAnswer files b read named a) (sym asks.compare_is) answer;
-    } in
-    let of_size : IsFileAnswer files job (Some asks.text) named a = subst (λ (b : Bool). IsSizedAnswer files job b asks.text named a) (sym asks.small) of_text in
-    of_words files words job named a asks.job_is (record {
-      config_is = asks.config_is;
-      file = config.0;
-      known = config.1;
-      then_is = subst (λ (o : Option (List ℕ)). IsFileAnswer files job o named a) (sym is) of_size;
-    })
+-- what is known of a file is one thing
+one_file : (there : Option (Option (List ℕ))) (one other : Option (List ℕ)) → there ≡ Some one → there ≡ Some other → other ≡ one
+one_file there one other p q = cc
 
-bad_reading : (files : Files) (compare : Bool) (fault : ConfFault) (named : Named) → IsReadAnswer files compare (Err fault) named (refused (conf_line fault) 17)
-bad_reading files true fault named = refl
-bad_reading files false fault named = refl
+-- an answer to a job, and the paths that are named on the way there
+abbrev Answered : Files → JobText → Type 0
+Answered files job = (named : Named) × (a : Answer) × IsJobAnswer files job named a
 
-of_run : (files : Files) (words : List (List ℕ)) (named : Named) → TellsNamed files words → AsksToCompare files words named → HasAnswer files words
-of_run files words named tells asks =
-    let old = tells.databases named asks Old in
-    let new = tells.databases named asks New in
-    let run = Runs-exists limits (asked_by asks.settings.options named) old.0 new.0 (omega arith) in (
-      named,
-      answer_of_run run.0,
-      of_reading files words named true (Ok asks.settings) (answer_of_run run.0) tells asks.asks (record {
-        old_is = asks.old_is;
-        new_is = asks.new_is;
-        old_bytes = old.0;
-        new_bytes = new.0;
-        old_there = old.1;
-        new_there = new.1;
-        run = run.0;
-        runs = run.1;
-        is = refl;
-      }),
-    )
+module _ (files : Files) (words : List (List ℕ)) (tells : TellsNamed files words) (job : JobText) (job_is : job_of words ≡ Some job) where
+  module _ (text : List ℕ) (known : files job.config ≡ Some (Some text)) (small : is_too_large text ≡ false) where
+    abbrev Read : Bool → Result Configured ConfFault → Type 0
+    Read compare read = (named : Named) × (a : Answer) × (named.config ≡ job.config) × IsReadAnswer files compare read named a
 
--- words that ask for nothing
-pub unasked : (files : Files) (words : List (List ℕ)) → job_of words ≡ None → HasAnswer files words
-unasked files words none = (only_config [], refused usage_line 15, subst (λ (o : Option JobText). IsWordsAnswer files o (only_config []) (refused usage_line 15)) (sym none) refl)
+    of_settings : (s : Configured) → job.compare ≡ true → ReadsAs Compare job.before text job.after (Ok s) → Read true (Ok s)
+    of_settings s compare_is reads =
+        let both = what_is_compared_is_named job.before text job.after s reads in
+        let old_path = value_of s.old_path both.0 in
+        let new_path = value_of s.new_path both.1 in
+        let named : Named = record { config = job.config; old_path = old_path.0; new_path = new_path.0 } in
+        let asks : AsksToCompare files words named = record {
+          settings = s;
+          asks = record {
+            job = job;
+            job_is = job_is;
+            config_is = refl;
+            compare_is = compare_is;
+            text = text;
+            text_is = λ file is. one_file (files job.config) (Some text) file known is;
+            small = small;
+            reads = reads;
+          };
+          old_is = old_path.1;
+          new_is = new_path.1;
+        } in
+        let old = tells.databases named asks Old in
+        let new = tells.databases named asks New in
+        let answer = compared s.options named old.0 new.0 in
+        let compares : Compares files s named answer.0 = record {
+          old_is = old_path.1;
+          new_is = new_path.1;
+          old_file = old.0;
+          new_file = new.0;
+          old_told = old.1;
+          new_told = new.1;
+          then_is = answer.1;
+        } in
+        (named, answer.0, refl, compares)
 
-of_closing : (files : Files) (words : List (List ℕ)) (named : Named) (closing : Closing) (site out : Type 0) → TellsNamed files words → (site → ⊥) → (closing_status closing ≡ 22 → ⊥)
-    → ClosingCause files words named closing site out → HasAnswer files words
-of_closing files words named no_job site out tells quiet fed cause =
-    unasked files words cause
-of_closing files words named no_memory site out tells quiet fed cause = absurd (fed refl)
-of_closing files words named no_config site out tells quiet fed cause = absurd (quiet cause.1)
-of_closing files words named large_config site out tells quiet fed cause =
-    let asks = cause.0 in
-    let config = tells.config asks.job asks.job_is in
-    let large = cause.1 config.0 (subst (λ (path : List ℕ). files path ≡ Some config.0) (sym asks.config_is) config.1) in (
-      named,
-      refused too_large_line 17,
-      of_words files words asks.job named (refused too_large_line 17) asks.job_is (record {
-        config_is = asks.config_is;
-        file = config.0;
-        known = config.1;
-        then_is = large_answer files asks.job config.0 named large;
-      }),
-    )
-of_closing files words named (bad_config fault) site out tells quiet fed cause =
-    (named, refused (conf_line fault) 17, of_reading files words named cause.0 (Err fault) (refused (conf_line fault) 17) tells cause.1 (bad_reading files cause.0 fault named))
-of_closing files words named good_config site out tells quiet fed cause =
-    (named, checked, of_reading files words named false (Ok cause.0) checked tells cause.1 refl)
-of_closing files words named (bad_run fault) site out tells quiet fed cause = of_run files words named tells cause.0
-of_closing files words named (good_run options outcome) site out tells quiet fed cause = of_run files words named tells cause.0.0
+    of_read : (compare : Bool) (read : Result Configured ConfFault) → job.compare ≡ compare → ReadsAs (need_of compare) job.before text job.after read → Read compare read
+    of_read true (Ok s) compare_is reads = of_settings s compare_is reads
+    of_read false (Ok s) compare_is reads = (only_config job.config, checked, refl, refl)
+    of_read true (Err fault) compare_is reads = (only_config job.config, refused (conf_line fault) 17, refl, refl)
+    of_read false (Err fault) compare_is reads = (only_config job.config, refused (conf_line fault) 17, refl, refl)
 
--- a session that closes without a failure of the site and without want of memory has an answer
-pub answered : (files : Files) (words : List (List ℕ)) (status : ℕ) (s : Sinks) (course : Course) (site out : Type 0) → (site → ⊥) → Closes files words status s course site out
-    → TellsNamed files words → (status ≡ 22 → ⊥) → HasAnswer files words
-answered files words status s course site out quiet closes tells fed =
-    of_closing files words closes.named closes.closing site out tells quiet (λ e. fed (closes.status_is ∙ e)) closes.cause
+    of_text : Answered files job
+    of_text =
+        let read = every_configuration_has_an_answer (need_of job.compare) job.before text job.after in
+        let answer = of_read job.compare read.0 refl read.1 in
+        let of_size : IsFileAnswer files job (Some text) answer.0 answer.1 =
+        subst (λ (b : Bool). IsSizedAnswer files job b text answer.0 answer.1) (sym small) (record { read = read.0; reads = read.1; then_is = answer.3 }) in
+        (answer.0, answer.1, record { config_is = answer.2; file = Some text; known = known; then_is = of_size })
+
+  of_size : (text : List ℕ) → files job.config ≡ Some (Some text) → (large : Bool) → is_too_large text ≡ large → Answered files job
+  of_size text known true large =
+      let answer = refused too_large_line 17 in
+      let named = only_config job.config in
+      let of_large : IsFileAnswer files job (Some text) named answer = subst (λ (b : Bool). IsSizedAnswer files job b text named answer) (sym large) refl in
+      (named, answer, record { config_is = refl; file = Some text; known = known; then_is = of_large })
+  of_size text known false small = of_text text known small
+
+  of_file : (file : Option (List ℕ)) → files job.config ≡ Some file → Answered files job
+  of_file None known = (only_config job.config, refused (unread_line job.config) 18, record { config_is = refl; file = None; known = known; then_is = refl })
+  of_file (Some text) known = of_size text known (is_too_large text) refl
+
+of_words : (files : Files) (words : List (List ℕ)) → TellsNamed files words → (job : Option JobText) → job_of words ≡ job → HasAnswer files words
+of_words files words tells None is =
+    (only_config [], refused usage_line 15, subst (λ (o : Option JobText). IsWordsAnswer files o (only_config []) (refused usage_line 15)) (sym is) refl)
+of_words files words tells (Some job) is =
+    let config = tells.config job is in
+    let answer = of_file files words tells job is config.0 config.1 in
+    (answer.0, answer.1, subst (λ (o : Option JobText). IsWordsAnswer files o answer.0 answer.1) (sym is) answer.2)
+
+-- words have an answer where it is told what stands at the paths that are named
+pub answered : (files : Files) (words : List (List ℕ)) → TellsNamed files words → HasAnswer files words
+answered files words tells = of_words files words tells (job_of words) refl

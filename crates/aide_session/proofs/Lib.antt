@@ -1,9 +1,9 @@
 mod Endings
-mod HeldLemmas
+mod SiteLemmas
 mod JobLemmas
 mod Readings
-mod Stages
-mod Tellings
+mod AnswerSteps
+mod PutLemmas
 mod Closings
 mod Existence
 mod Pages

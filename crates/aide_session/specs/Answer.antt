@@ -1,5 +1,5 @@
 -- The answer of a session: its output, its error lines and its status, as the words and the files give them.
-use Rattle.std.specs.Prelude.{◌≡◌, ℕ, ◌^◌, Bool, true, false, List, [], Ok, Err, Result, Option, Some, None}
+use Rattle.std.specs.Prelude.{◌≡◌, ◌⊎◌, ℕ, ◌^◌, Bool, true, false, List, [], Ok, Err, Result, Option, Some, None}
 use Rattle.aide_conf.specs.Settings.{Configured}
 use Rattle.aide_conf.specs.Answer.{ReadsAs}
 use Rattle.aide_conf.specs.declared.fault.ConfFault.{ConfFault}
@@ -7,13 +7,15 @@ use Rattle.aide_conf.specs.declared.options.Options.{Options}
 use Rattle.aide_conf.specs.declared.task.Need.{Need}
 use Rattle.aide_conf.specs.declared.task.Need.TheVariants.{Compare, Check}
 use Rattle.aide_db.specs.declared.fault.DbFault.{DbFault}
+use Rattle.aide_db.specs.Database.{IsSound}
 use Rattle.aide_db.specs.declared.limits.Limits.{Limits}
+use Rattle.aide_db.specs.declared.side.Side.TheVariants.{Old, New}
 use Rattle.aide_report.specs.Asked.{Asked}
-use Rattle.aide_report.specs.Runs.{Report, Runs}
+use Rattle.aide_report.specs.Runs.{Report, Runs, IsFirstFaultOf}
 use Rattle.aide_report.specs.Report.{status_of}
 use Rattle.aide_session.specs.Files.{Files, is_too_large}
 use Rattle.aide_session.specs.Job.{JobText, job_of}
-use Rattle.aide_session.specs.Lines.{usage_line, unread_line, too_large_line, conf_line, database_line, outcome_lines}
+use Rattle.aide_session.specs.Lines.{usage_line, unread_line, too_large_line, conf_line, open_line, database_line, outcome_lines}
 
 -- what a session writes to standard output and to standard error, and its status
 pub record Answer : Type 0 where
@@ -43,7 +45,7 @@ checked = record { output = []; errors = []; status = 0 }
 abbrev pub limits : Limits
 limits = record { line = 1048576; bytes = 2 ^ 40 }
 
--- the answer of a comparison: its report, or the first fault of a database
+-- the answer of a comparison of two databases: its report, or the first fault of a database
 abbrev pub answer_of_run : Result Report DbFault → Answer
 answer_of_run (Ok report) = record {
   output = report.text;
@@ -52,17 +54,25 @@ answer_of_run (Ok report) = record {
 }
 answer_of_run (Err fault) = refused (database_line fault) 24
 
--- the comparison of the two databases that the settings name, where both are there
+-- The answer by what stands at the paths of the two databases: that the old one is not opened, where it is not there; that the
+-- new one is not opened, where it alone is not there and the old one is sound, otherwise the old one's first fault; and the
+-- answer of their comparison, where both are there.
+abbrev pub IsCompared : Options → Named → Option (List ℕ) → Option (List ℕ) → Answer → Type 0
+IsCompared options named None new a = a ≡ refused (open_line Old named.old_path) 18
+IsCompared options named (Some old) None a = (IsSound limits old × (a ≡ refused (open_line New named.new_path) 18))
+    ⊎ ((fault : DbFault) × IsFirstFaultOf limits Old old fault × (a ≡ refused (database_line fault) 24))
+IsCompared options named (Some old) (Some new) a =
+    (run : Result Report DbFault) × Runs limits (asked_by options named) old new run × (a ≡ answer_of_run run)
+
+-- the comparison of what stands at the two paths that the settings name, of each a database or that there is no file
 pub record Compares (files : Files) (s : Configured) (named : Named) (a : Answer) : Type 0 where
   pub old_is : s.old_path ≡ Some named.old_path
   pub new_is : s.new_path ≡ Some named.new_path
-  pub old_bytes : List ℕ
-  pub new_bytes : List ℕ
-  pub old_there : files named.old_path ≡ Some (Some old_bytes)
-  pub new_there : files named.new_path ≡ Some (Some new_bytes)
-  pub run : Result Report DbFault
-  pub runs : Runs limits (asked_by s.options named) old_bytes new_bytes run
-  pub is : a ≡ answer_of_run run
+  pub old_file : Option (List ℕ)
+  pub new_file : Option (List ℕ)
+  pub old_told : files named.old_path ≡ Some old_file
+  pub new_told : files named.new_path ≡ Some new_file
+  pub then_is : IsCompared s.options named old_file new_file a
 
 -- what a configuration is read for: to compare, or to be checked
 abbrev pub need_of : Bool → Need
@@ -103,7 +113,7 @@ abbrev pub IsWordsAnswer : Files → Option JobText → Named → Answer → Typ
 IsWordsAnswer files None named a = a ≡ refused usage_line 15
 IsWordsAnswer files (Some job) named a = IsJobAnswer files job named a
 
--- The answer to the words, over these files: the first fault of the words, of the configuration or of a database,
--- or what the job asks for. `named` has the paths that are named on the way there.
+-- The answer to the words, over these files: the first fault of the words, of the configuration or of a database, a file that
+-- is not there counted among them, or what the job asks for. `named` has the paths that are named on the way there.
 abbrev pub IsAnswer : Files → List (List ℕ) → Named → Answer → Type 0
 IsAnswer files words named a = IsWordsAnswer files (job_of words) named a

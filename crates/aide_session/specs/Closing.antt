@@ -12,9 +12,9 @@ use Rattle.aide_db.specs.declared.side.Side.{Side}
 use Rattle.aide_db.specs.declared.side.Side.TheVariants.{Old}
 use Rattle.aide_report.specs.FaultStatus.{fault_status}
 use Rattle.aide_report.specs.Openings.{IsRefusedThere}
-use Rattle.aide_report.specs.Reading.{IsFaultOf}
+use Rattle.aide_report.specs.Standing.{IsFaultOf}
 use Rattle.aide_report.specs.Room.{IsNotMemory}
-use Rattle.aide_report.specs.Failures.{counted}
+use Rattle.aide_report.specs.Failures.{one_more}
 use Rattle.aide_report.specs.Agreement.{IsOfOutcome}
 use Rattle.aide_report.specs.Report.{status_of}
 use Rattle.aide_report.specs.RunFaults.{IsSilent}
@@ -22,7 +22,7 @@ use Rattle.aide_report.specs.declared.outcome.Outcome.{Outcome}
 use Rattle.aide_report.specs.declared.run_fault.RunFault.{RunFault}
 use Rattle.aide_report.specs.declared.run_fault.RunFault.TheVariants.{Open, Database, Changed, Write}
 use Rattle.aide_session.specs.Answer.{Named, limits, need_of}
-use Rattle.aide_session.specs.Ends.{Sinks, Tells}
+use Rattle.aide_session.specs.Ends.{Sinks, Puts}
 use Rattle.aide_session.specs.Files.{Files, IsLarge, is_too_large}
 use Rattle.aide_session.specs.Job.{JobText, job_of}
 use Rattle.aide_session.specs.Lines.{usage_line, memory_line, unread_line, too_large_line, conf_line, run_fault_line, outcome_lines}
@@ -49,7 +49,7 @@ closing_status good_config = 0
 closing_status (bad_run fault) = fault_status fault
 closing_status (good_run options outcome) = status_of outcome.added outcome.removed outcome.changed
 
--- what is told on standard error
+-- what is put on standard error
 abbrev pub closing_line : Named → Closing → List ℕ
 closing_line named no_job = usage_line
 closing_line named no_memory = memory_line
@@ -84,7 +84,7 @@ course_between openings flushes is_flushed site_old site_new out_old out_new = r
 -- nothing and opens no side.
 abbrev pub ClosingOutput : Closing → Course → Option (List ℕ) → Option (List ℕ) → Type 0
 ClosingOutput (good_run options outcome) course before after = IsOfOutcome options outcome before after
-    × (course.is_flushed ≡ true) × (course.flushes_after ≡ counted course.flushes_before)
+    × (course.is_flushed ≡ true) × (course.flushes_after ≡ one_more course.flushes_before)
 ClosingOutput (bad_run fault) course before after = IsSilent (course.opened_before Old) (course.opened_after Old) before after fault
     × IsRefusedThere course.opened_before course.opened_after fault × (course.flushes_after ≡ course.flushes_before)
 ClosingOutput _ course before after = Appends before after [] × (course.opened_after ≡ course.opened_before)
@@ -154,4 +154,4 @@ pub record Closes (files : Files) (words : List (List ℕ)) (status : ℕ) (sink
   pub cause : ClosingCause files words named closing site out
   pub status_is : status ≡ closing_status closing
   pub output : ClosingOutput closing course sinks.out_old sinks.out_new
-  pub told : Tells (closing_line named closing) sinks
+  pub put : Puts (closing_line named closing) sinks

@@ -1,14 +1,15 @@
 -- How a session ends.
-use Rattle.std.specs.Prelude.{◌≡◌, ℕ, List, [], Option, ◌⊎◌}
+use Rattle.std.specs.Prelude.{◌≡◌, ℕ, Bool, false, List, [], Option, ◌⊎◌}
 use Rattle.std.specs.Io.KnownBytes.{Appends}
 use Rattle.aide_db.specs.declared.fault.DbFault.{DbFault}
 use Rattle.aide_db.specs.declared.fault.DbFaultKind.TheVariants.{Read}
 use Rattle.aide_db.specs.declared.side.Side.{Side}
 use Rattle.aide_db.specs.Side.{by_side}
+use Rattle.aide_report.specs.Failures.{Rose}
 use Rattle.aide_report.specs.Sent.{SendsPart}
 use Rattle.aide_session.specs.Answer.{Answer, Named}
 use Rattle.aide_session.specs.Lines.{memory_line, unread_line, open_line, database_line, write_line}
-use Rattle.aide_session.specs.Told.{Told}
+use Rattle.aide_session.specs.Put.{Put}
 
 -- What went out, by the sinks before and after: the bytes of the output, those of standard error, and
 -- the failures that standard error has counted.
@@ -22,18 +23,18 @@ pub record Sinks : Type 0 where
 
 -- what went out between two moments, by what the devices tell of their bytes and failures
 abbrev pub sinks_between : {W E : Type 0} → (W → Option (List ℕ)) → (E → Option (List ℕ)) → (E → ℕ) → W → W → E → E → Sinks
-sinks_between delivered told failures out_old out_new err_old err_new = record {
+sinks_between delivered put failures out_old out_new err_old err_new = record {
   out_old = delivered out_old;
   out_new = delivered out_new;
-  err_old = told err_old;
-  err_new = told err_new;
+  err_old = put err_old;
+  err_new = put err_new;
   err_before = failures err_old;
   err_after = failures err_new;
 }
 
--- this text was told on standard error
-abbrev pub Tells : List ℕ → Sinks → Type 0
-Tells text sinks = Told text sinks.err_old sinks.err_new sinks.err_before sinks.err_after
+-- this text was put on standard error
+abbrev pub Puts : List ℕ → Sinks → Type 0
+Puts text sinks = Put text sinks.err_old sinks.err_new sinks.err_before sinks.err_after
 
 -- a failure of a device
 pub data Failure : Type 0 where
@@ -49,6 +50,11 @@ failure_line named (unopened side) = open_line side (by_side named.old_path name
 failure_line named (unread fault) = database_line fault
 failure_line named unwritten = write_line
 
+-- A site that is not reliable has counted a failure, by the counts before and after. Of a reliable one nothing fails but the
+-- opening of a file that is not there, and that is an answer.
+abbrev pub HasFailed : (is_reliable : Bool) → (before after : ℕ) → Type 0
+HasFailed is_reliable before after = (is_reliable ≡ false) × Rose before after
+
 -- what a failure comes from: the site or the output has counted one
 abbrev pub FailureCause : Failure → (site out : Type 0) → Type 0
 FailureCause config_unread site out = site
@@ -60,13 +66,13 @@ FailureCause unwritten site out = out
 pub record Whole (a : Answer) (status : ℕ) (sinks : Sinks) : Type 0 where
   pub status_is : status ≡ a.status
   pub output : Appends sinks.out_old sinks.out_new a.output
-  pub told : Tells a.errors sinks
+  pub put : Puts a.errors sinks
 
 -- for want of memory, with nothing of the output: what a comparison may hold is reserved before anything goes out
 pub record Starved (a : Answer) (status : ℕ) (sinks : Sinks) : Type 0 where
   pub status_is : status ≡ 22
   pub output : Appends sinks.out_old sinks.out_new []
-  pub told : Tells memory_line sinks
+  pub put : Puts memory_line sinks
 
 -- for a failure of the site or of the output, with a front of the output
 pub record Broken (a : Answer) (named : Named) (status : ℕ) (sinks : Sinks) (site out : Type 0) : Type 0 where
@@ -74,7 +80,7 @@ pub record Broken (a : Answer) (named : Named) (status : ℕ) (sinks : Sinks) (s
   pub output : SendsPart a.output sinks.out_old sinks.out_new
   pub failure : Failure
   pub cause : FailureCause failure site out
-  pub told : Tells (failure_line named failure) sinks
+  pub put : Puts (failure_line named failure) sinks
 
 -- In one of these three ways; `site` and `out` say that these have counted a failure.
 abbrev pub Ends : Answer → Named → ℕ → Sinks → (site out : Type 0) → Type 0

@@ -1,8 +1,8 @@
 pub mod Job
-pub mod Told
+pub mod Put
 pub mod Lines
 pub mod Files
-pub mod Held
+pub mod Sites
 pub mod Answer
 pub mod Ends
 pub mod Closing

@@ -1,5 +1,6 @@
 //! The configuration file, whole.
-ghost use Rattle.std.specs.Prelude.{◌≡◌, ◌≤◌, ℕ, List, Option, Some, None, IfOk, IsErrOf, true, false};
+ghost use Rattle.std.specs.Prelude.{◌≡◌, ◌≤◌, ℕ, List, Option, Some, None, IfOk, IsErrOf, true};
+ghost use Rattle.std.specs.Prelude.{false};
 ghost use Rattle.aide_report.specs.Failures.{Rose};
 ghost use Rattle.aide_session.specs.Files.{IsLarge, is_too_large};
 
@@ -23,9 +24,11 @@ fn read_all<R: Reel>(alloc: Global, reel: &mut R) -> Result<Vec<u8>, ConfigFault
     ensures ok { IfOk result (λ text. (bytes : List ℕ) → R.to_come reel.old ≡ Some bytes
         → (bytes ≡ text.items) × (is_too_large bytes ≡ false)) }
     ensures small { IfOk result (λ text. is_too_large text.items ≡ false) }
-    ensures large { IsErrOf result ConfigFault.TooLarge → (bytes : List ℕ) → R.to_come reel.old ≡ Some bytes
+    ensures large { IsErrOf result ConfigFault.TooLarge → (bytes : List ℕ)
+        → R.to_come reel.old ≡ Some bytes
         → is_too_large bytes ≡ true }
-    ensures unread { IsErrOf result ConfigFault.Unread → Rose (R.failures reel.old) (R.failures reel.new) }
+    ensures unread { IsErrOf result ConfigFault.Unread
+        → Rose (R.failures reel.old) (R.failures reel.new) }
 {
     let mut text = Vec::new(alloc);
     let mut block = [0u8; 4096];
@@ -49,14 +52,19 @@ pub(crate) fn read_config<S: Site>(
     site: &mut S,
     path: &str,
 ) -> Result<Vec<u8>, ConfigFault>
-    ensures ok { IfOk result (λ text. (file : Option (List ℕ)) → S.file_at site.old path.now ≡ Some file
+    ensures ok { IfOk result (λ text. (file : Option (List ℕ))
+        → S.file_at site.old path.now ≡ Some file
         → (file ≡ Some text.items) × (is_too_large text.items ≡ false)) }
     ensures small { IfOk result (λ text. is_too_large text.items ≡ false) }
     ensures large { IsErrOf result ConfigFault.TooLarge → (file : Option (List ℕ))
         → S.file_at site.old path.now ≡ Some file
         → IsLarge file }
-    ensures unread { IsErrOf result ConfigFault.Unread → Rose (S.failures site.old) (S.failures site.new) }
+    ensures unread { IsErrOf result ConfigFault.Unread
+        → Rose (S.failures site.old) (S.failures site.new) }
+    ensures gone { S.is_reliable site.old ≡ true → IsErrOf result ConfigFault.Unread
+        → S.file_at site.old path.now ≡ Some None }
     ensures files { S.file_at site.new ≡ S.file_at site.old }
+    ensures reliable { S.is_reliable site.new ≡ S.is_reliable site.old }
     ensures openings { S.openings site.new ≡ S.openings site.old }
     ensures never_falls { S.failures site.old ≤ S.failures site.new }
 {

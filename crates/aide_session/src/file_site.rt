@@ -1,6 +1,6 @@
 //! The machine's files.
 ghost use Rattle.std.specs.Prelude.{◌≡◌, ℕ, List, Option, None, IfSome};
-ghost use Rattle.aide_session.specs.Held.{machine_path};
+ghost use Rattle.aide_session.specs.Sites.{machine_path};
 ghost use Rattle.aide_db.specs.Side.{by_side};
 
 use crate::pointed::Pointed;
@@ -22,7 +22,7 @@ pub struct FileSite<F> {
 }
 
 impl<F> Model for FileSite<F> {
-    ghost use Rattle.aide_session.specs.Held.{Machine};
+    ghost use Rattle.aide_session.specs.Sites.{Machine};
 
     ghost Value = { Machine F };
 

@@ -1,6 +1,7 @@
 //! What a command line asks for.
 ghost use Rattle.std.specs.Prelude.{◌≡◌, ◌≢◌, [], false, Some, None, IfOk, IsErrOf};
-ghost use Rattle.aide_session.specs.Job.{aide_command, flag_of, option_rule, job_of, text_of, text_of_job};
+ghost use Rattle.aide_session.specs.Job.{aide_command, flag_of, option_rule, job_of, text_of};
+ghost use Rattle.aide_session.specs.Job.{text_of_job};
 ghost use Rattle.clap.specs.Words.{app_of, fault_of, found_of, matches_of, rows_of, rule_of};
 
 use crate::words::{Memory, Word, Words};

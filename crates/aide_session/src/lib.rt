@@ -11,8 +11,8 @@ mod paged_sink;
 mod pieces;
 mod pointed;
 mod program;
+mod put;
 mod site;
-mod tell;
 mod words;
 
 pub use file_site::FileSite;

@@ -1,8 +1,9 @@
 //! A site in memory.
-ghost use Rattle.std.specs.Prelude.{◌≡◌, ◌≢◌, ◌++◌, ◌∷◌, [], ℕ, List, Option};
+ghost use Rattle.std.specs.Prelude.{◌≡◌, ◌≢◌, ◌++◌, ◌∷◌, [], ℕ, true, false, List, Option};
 ghost use Rattle.std.specs.Prelude.{Some, None, IfOk, IfSome, IsSome, OnOk, OnErr, option_and_then};
 ghost use Rattle.std.specs.Option.{option_map};
-ghost use Rattle.aide_session.specs.Held.{bytes_at, either, files_at, of_file, side_bytes, side_openings, side_path};
+ghost use Rattle.aide_session.specs.Sites.{bytes_at, either, files_at, of_file, side_bytes};
+ghost use Rattle.aide_session.specs.Sites.{side_missing, side_openings, side_path};
 ghost use Rattle.aide_session.specs.Files.{GivesFile};
 ghost use Rattle.aide_db.specs.Count.{one_more, sum_of};
 ghost use Rattle.aide_db.specs.Side.{other_side};
@@ -16,27 +17,28 @@ use std::marker::Model;
 
 /// A file by its path, which contracts see as its path and its bytes.
 #[derive(Drop)]
-pub struct Held<'a> {
+pub struct StoredFile<'a> {
     path: &'a str,
     bytes: &'a [u8],
 }
 
-impl<'a> Model for Held<'a> {
+impl<'a> Model for StoredFile<'a> {
     ghost Value = { List ℕ × List ℕ };
 
     ghost view = { λ h. (h.path.now, h.bytes.now) };
 }
 
-/// Files in memory, which are lent to it. Of one path the file added last counts.
+/// Files in memory, which are lent to it. Of one path the file added last counts. It tells what
+/// stands at every path, and nothing of it fails but the opening of a file that is not there.
 #[derive(Drop)]
 pub struct MemorySite<'a> {
-    files: Vec<Held<'a>>,
+    files: Vec<StoredFile<'a>>,
     sides: Pointed,
     failures: u64,
 }
 
 impl<'a> Model for MemorySite<'a> {
-    ghost use Rattle.aide_session.specs.Held.{Shelf};
+    ghost use Rattle.aide_session.specs.Sites.{Shelf};
 
     ghost Value = { Shelf };
 
@@ -51,7 +53,7 @@ impl<'a> Model for MemorySite<'a> {
 }
 
 /// The bytes of a file if the path is its own, otherwise those found before.
-fn later<'a>(found: Option<&'a [u8]>, file: &Held<'a>, path: &str) -> Option<&'a [u8]>
+fn later<'a>(found: Option<&'a [u8]>, file: &StoredFile<'a>, path: &str) -> Option<&'a [u8]>
     ensures { option_map (λ b. b.now) result
         ≡ either (of_file file.now path.now) (option_map (λ b. b.now) found.entry) }
 {
@@ -63,7 +65,7 @@ fn later<'a>(found: Option<&'a [u8]>, file: &Held<'a>, path: &str) -> Option<&'a
 }
 
 /// The bytes of the last file of a path.
-fn look<'a>(files: &[Held<'a>], path: &str) -> Option<&'a [u8]>
+fn look<'a>(files: &[StoredFile<'a>], path: &str) -> Option<&'a [u8]>
     ensures { option_map (λ b. b.now) result ≡ bytes_at files.now path.now }
 {
     let mut found = None;
@@ -73,8 +75,9 @@ fn look<'a>(files: &[Held<'a>], path: &str) -> Option<&'a [u8]>
     found
 }
 
-fn look_side<'a>(files: &[Held<'a>], path: &Option<Word>) -> Option<&'a [u8]>
-    ensures { option_map (λ b. b.now) result ≡ option_and_then (λ p. bytes_at files.now p) path.now }
+fn look_side<'a>(files: &[StoredFile<'a>], path: &Option<Word>) -> Option<&'a [u8]>
+    ensures { option_map (λ b. b.now) result ≡ option_and_then
+        (λ p. bytes_at files.now p) path.now }
 {
     match path {
         Some(path) => look(files, path.as_str()),
@@ -104,13 +107,15 @@ impl<'a> MemorySite<'a> {
     /// Adds a file. The path and each side that is pointed at it have these bytes from now on.
     pub fn add(&mut self, path: &'a str, bytes: &'a [u8]) -> Result<(), Memory>
         ensures ok { OnOk result (self.new
-            ≡ record self.old { files = self.old.files ++ (path.entry.now, bytes.entry.now) ∷ [] }) }
+            ≡ record self.old {
+              files = self.old.files ++ (path.entry.now, bytes.entry.now) ∷ [];
+            }) }
         ensures here { OnOk result (bytes_at self.new.files path.entry.now ≡ Some bytes.entry.now) }
         ensures elsewhere { OnOk result ((other : List ℕ) → other ≢ path.entry.now
             → bytes_at self.new.files other ≡ bytes_at self.old.files other) }
         ensures err { OnErr result (self.new ≡ self.old) }
     {
-        if let Err(_) = self.files.push(Held { path, bytes }) {
+        if let Err(_) = self.files.push(StoredFile { path, bytes }) {
             return Err(Memory);
         }
         Ok(())
@@ -128,17 +133,24 @@ impl<'a> Sources for MemorySite<'a> {
 
     ghost file_at = { files_at };
 
+    ghost is_missing = { side_missing };
+
+    ghost is_reliable = { λ _. true };
+
     // A side is refused exactly where it is not pointed at a file that is there.
     fn open(&mut self, side: Side) -> Result<&'a [u8], OpenFault>
         ensures missing { OnErr result (side_bytes self.old side ≡ None) }
         ensures there { OnOk result (IsSome (side_bytes self.old side)) }
+        ensures refuses { OnOk result (side_missing self.old side ≡ false) }
         ensures fresh { IfOk result (λ reel. ⟦<&'a [u8] as Reel>⟧.failures reel ≡ 0) }
         ensures gives { IfOk result (λ reel. IfSome (side_bytes self.old side)
             (λ bytes. ⟦<&'a [u8] as Reel>⟧.to_come reel ≡ Some bytes)) }
         ensures same { side_bytes self.new ≡ side_bytes self.old }
         ensures files { files_at self.new ≡ files_at self.old }
+        ensures still_missing { side_missing self.new ≡ side_missing self.old }
         ensures counts { side_openings self.new side ≡ one_more (side_openings self.old side) }
-        ensures others { side_openings self.new (other_side side) ≡ side_openings self.old (other_side side) }
+        ensures others { side_openings self.new (other_side side)
+            ≡ side_openings self.old (other_side side) }
         ensures ok { OnOk result (self.new.failures ≡ self.old.failures) }
         ensures fault { OnErr result (self.new.failures ≡ one_more self.old.failures) }
     {
@@ -156,8 +168,10 @@ impl<'a> Sources for MemorySite<'a> {
         ensures quiet { self.new ≡ self.old }
         ensures same { side_bytes self.new ≡ side_bytes self.old }
         ensures files { files_at self.new ≡ files_at self.old }
+        ensures still_missing { side_missing self.new ≡ side_missing self.old }
         ensures openings { side_openings self.new ≡ side_openings self.old }
-        ensures adds { self.new.failures ≡ sum_of self.old.failures (⟦<&'a [u8] as Reel>⟧.failures reel.entry) }
+        ensures adds { self.new.failures ≡ sum_of self.old.failures
+            (⟦<&'a [u8] as Reel>⟧.failures reel.entry) }
     {
         let _ = reel;
     }
@@ -170,12 +184,15 @@ impl<'a> Site for MemorySite<'a> {
     fn config(&mut self, path: &str) -> Result<&'a [u8], OpenFault>
         ensures missing { OnErr result (bytes_at self.old.files path.now ≡ None) }
         ensures there { OnOk result (IsSome (bytes_at self.old.files path.now)) }
+        ensures gone { OnErr result (files_at self.old path.now ≡ Some None) }
         ensures fresh { IfOk result (λ reel. ⟦<&'a [u8] as Reel>⟧.failures reel ≡ 0) }
-        ensures gives { IfOk result (λ reel. (file : Option (List ℕ)) → files_at self.old path.now ≡ Some file
+        ensures gives { IfOk result (λ reel. (file : Option (List ℕ))
+            → files_at self.old path.now ≡ Some file
             → GivesFile file (⟦<&'a [u8] as Reel>⟧.to_come reel)) }
         ensures sides { side_bytes self.new ≡ side_bytes self.old }
         ensures paths { side_path self.new ≡ side_path self.old }
         ensures files { files_at self.new ≡ files_at self.old }
+        ensures still_missing { side_missing self.new ≡ side_missing self.old }
         ensures openings { side_openings self.new ≡ side_openings self.old }
         ensures ok { OnOk result (self.new.failures ≡ self.old.failures) }
         ensures fault { OnErr result (self.new.failures ≡ one_more self.old.failures) }

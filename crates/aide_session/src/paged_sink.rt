@@ -1,5 +1,6 @@
 //! A sink that gathers small pieces.
-ghost use Rattle.std.specs.Prelude.{◌≡◌, ◌==◌, ◌&&◌, ◌<◌, ◌≤◌, ℕ, List, [], length, drop, take, OnOk, Bool};
+ghost use Rattle.std.specs.Prelude.{◌≡◌, ◌==◌, ◌&&◌, ◌<◌, ◌≤◌, ℕ, List, [], length, drop, take};
+ghost use Rattle.std.specs.Prelude.{OnOk, Bool};
 ghost use Rattle.std.specs.Io.KnownBytes.{Appends, Keeps, append_known};
 ghost use Rattle.aide_report.specs.Failures.{CountsFault};
 ghost use Rattle.aide_session.specs.Page.{holds_none, known_of};

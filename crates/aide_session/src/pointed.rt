@@ -18,7 +18,12 @@ pub(crate) struct Pointed {
 
 impl Pointed {
     pub(crate) fn new() -> Pointed
-        ensures { result ≡ record { old_path = None; new_path = None; old_openings = 0; new_openings = 0 } }
+        ensures { result ≡ record {
+          old_path = None;
+          new_path = None;
+          old_openings = 0;
+          new_openings = 0;
+        } }
     {
         Pointed {
             old_path: None,
@@ -40,7 +45,8 @@ impl Pointed {
 
     /// Points a side at a copy of a path.
     pub(crate) fn point(&mut self, alloc: Global, side: Side, path: &str) -> Result<(), Memory>
-        ensures ok { OnOk result (by_side self.new.old_path self.new.new_path side ≡ Some path.now) }
+        ensures ok { OnOk result (by_side self.new.old_path self.new.new_path side
+            ≡ Some path.now) }
         ensures other { by_side self.new.old_path self.new.new_path (other_side side)
             ≡ by_side self.old.old_path self.old.new_path (other_side side) }
         ensures old_openings { self.new.old_openings ≡ self.old.old_openings }

@@ -1,29 +1,29 @@
 //! The whole program over any site.
-ghost use Rattle.std.specs.Prelude.{◌≡◌, ◌≤◌, ◌⊎◌, ℕ, List, Option, Some, None, IsSome, Ok, Err, Result, true, false};
+ghost use Rattle.std.specs.Prelude.{◌≡◌, ◌≤◌, ◌⊎◌, ℕ, List, Option, Some, None, IsSome, Ok, Err};
+ghost use Rattle.std.specs.Prelude.{Result, true, false};
 ghost use Rattle.aide_db.specs.Side.{by_side};
-ghost use Rattle.aide_db.specs.declared.fault.DbFault.{DbFault};
 ghost use Rattle.aide_db.specs.declared.side.Side.{Side};
-ghost use Rattle.aide_report.specs.Asked.{asked};
 ghost use Rattle.aide_report.specs.Failures.{Rose};
-ghost use Rattle.aide_report.specs.Runs.{Report, Runs};
+ghost use Rattle.aide_report.specs.Missing.{TellsSide};
 ghost use Rattle.aide_session.specs.Answer.{Answer, Named, IsAnswer, IsJobAnswer, IsTextAnswer};
-ghost use Rattle.aide_session.specs.Answer.{Compares, answer_of_run, limits, need_of};
-ghost use Rattle.aide_session.specs.Closing.{AsksAndReads, AsksToCompare, Closes, HasText, course_between};
-ghost use Rattle.aide_session.specs.Ends.{Ends, Whole, Starved, sinks_between};
+ghost use Rattle.aide_session.specs.Answer.{Compares, IsCompared, need_of};
+ghost use Rattle.aide_session.specs.Closing.{AsksAndReads, AsksToCompare, Closes, HasText};
+ghost use Rattle.aide_session.specs.Closing.{course_between};
+ghost use Rattle.aide_session.specs.Ends.{Ends, HasFailed, Whole, Starved, sinks_between};
 ghost use Rattle.aide_session.specs.Existence.{HasAnswer, TellsNamed};
 ghost use Rattle.aide_session.specs.Files.{is_too_large};
 ghost use Rattle.aide_session.specs.Job.{job_of, text_of_job};
 ghost use Rattle.aide_session.specs.Lines.{run_fault_line};
-ghost use Rattle.aide_session.specs.Told.{IsQuiet, Told};
+ghost use Rattle.aide_session.specs.Put.{IsQuiet, Put};
 
 use crate::config_file::{ConfigFault, read_config};
 use crate::job::{Job, WordsFault, read_words};
 use crate::lines::{
-    tell_changed_line, tell_conf_line, tell_database_line, tell_memory_line, tell_open_line,
-    tell_outcome_lines, tell_too_large_line, tell_unread_line, tell_usage_line, tell_write_line,
+    put_changed_line, put_conf_line, put_database_line, put_memory_line, put_open_line,
+    put_outcome_lines, put_too_large_line, put_unread_line, put_usage_line, put_write_line,
 };
+use crate::put::pass_on;
 use crate::site::Site;
-use crate::tell::pass_on;
 use crate::words::{Memory, Words};
 use aide_conf::{ConfFaultKind, Need, Settings, Task};
 use aide_db::{DbFault, DbFaultKind, Desk, Limits, Side, Sources};
@@ -50,18 +50,18 @@ fn path_of<'a>(task: &Task<'a>, side: Side) -> &'a str
 }
 
 /// Why a run was given up.
-fn tell_run_fault<E: Sink>(err: &mut E, task: &Task<'_>, fault: RunFault)
-    ensures { Told (run_fault_line task.now.old_path.now task.now.new_path.now fault)
+fn put_run_fault<E: Sink>(err: &mut E, task: &Task<'_>, fault: RunFault)
+    ensures { Put (run_fault_line task.now.old_path.now task.now.new_path.now fault)
         (E.delivered err.old) (E.delivered err.new) (E.failures err.old) (E.failures err.new) }
 {
     match fault {
-        RunFault::Open(side) => tell_open_line(err, side, path_of(task, side)),
+        RunFault::Open(side) => put_open_line(err, side, path_of(task, side)),
         RunFault::Database(fault) => match fault.kind {
-            DbFaultKind::Memory => tell_memory_line(err),
-            _ => tell_database_line(err, fault),
+            DbFaultKind::Memory => put_memory_line(err),
+            _ => put_database_line(err, fault),
         },
-        RunFault::Changed(side) => tell_changed_line(err, side),
-        RunFault::Write { written: _ } => tell_write_line(err),
+        RunFault::Changed(side) => put_changed_line(err, side),
+        RunFault::Write { written: _ } => put_write_line(err),
     }
 }
 
@@ -76,30 +76,34 @@ fn compare_sides<S: Site, W: Sink, E: Sink>(
     requires room { 1048576 ≤ desk.old.room }
     ensures ends { (named : Named)
         → named.old_path ≡ task.now.old_path.now → named.new_path ≡ task.now.new_path.now
-        → (old_bytes new_bytes : List ℕ)
-        → S.bytes_of site.old Side.Old ≡ Some old_bytes → S.bytes_of site.old Side.New ≡ Some new_bytes
-        → (r : Result Report DbFault) → Runs limits (asked task.now) old_bytes new_bytes r
-        → Ends (answer_of_run r) named result
+        → (old_file new_file : Option (List ℕ))
+        → TellsSide (S.bytes_of site.old Side.Old) (S.is_missing site.old Side.Old) old_file
+        → TellsSide (S.bytes_of site.old Side.New) (S.is_missing site.old Side.New) new_file
+        → (a : Answer) → IsCompared task.now.options named old_file new_file a
+        → Ends a named result
         (sinks_between W.delivered E.delivered E.failures out.old out.new err.old err.new)
-        (Rose (S.failures site.old) (S.failures site.new)) (Rose (W.failures out.old) (W.failures out.new)) }
+        (HasFailed (S.is_reliable site.old) (S.failures site.old) (S.failures site.new))
+        (Rose (W.failures out.old) (W.failures out.new)) }
     ensures closes { (words : List (List ℕ)) (named : Named)
         → named.old_path ≡ task.now.old_path.now → named.new_path ≡ task.now.new_path.now
-        → (asks : AsksToCompare (S.file_at site.old) words named) → asks.settings.options ≡ task.now.options
+        → (asks : AsksToCompare (S.file_at site.old) words named)
+        → asks.settings.options ≡ task.now.options
         → ((side : Side) (text : List ℕ) → HasText (S.file_at site.old) named side text
         → S.bytes_of site.old side ≡ Some text)
         → Closes (S.file_at site.old) words result
         (sinks_between W.delivered E.delivered E.failures out.old out.new err.old err.new)
         (course_between S.openings W.flushes W.is_flushed site.old site.new out.old out.new)
-        (Rose (S.failures site.old) (S.failures site.new)) (Rose (W.failures out.old) (W.failures out.new)) }
+        (Rose (S.failures site.old) (S.failures site.new))
+        (Rose (W.failures out.old) (W.failures out.new)) }
     ensures site_never_falls { S.failures site.old ≤ S.failures site.new }
 {
     match run(task, LIMITS, desk, site, out) {
         Ok(outcome) => {
-            tell_outcome_lines(err, &outcome);
+            put_outcome_lines(err, &outcome);
             outcome.status()
         }
         Err(fault) => {
-            tell_run_fault(err, task, fault);
+            put_run_fault(err, task, fault);
             fault.status()
         }
     }
@@ -118,28 +122,30 @@ fn compare<S: Site, W: Sink, E: Sink>(
     ensures ends { (named : Named) (a : Answer) → Compares (S.file_at site.old) settings.now named a
         → Ends a named result
         (sinks_between W.delivered E.delivered E.failures out.old out.new err.old err.new)
-        (Rose (S.failures site.old) (S.failures site.new)) (Rose (W.failures out.old) (W.failures out.new)) }
+        (HasFailed (S.is_reliable site.old) (S.failures site.old) (S.failures site.new))
+        (Rose (W.failures out.old) (W.failures out.new)) }
     ensures closes { (words : List (List ℕ)) (config : List ℕ)
         → AsksAndReads (S.file_at site.old) words config true (Ok settings.now)
         → Closes (S.file_at site.old) words result
         (sinks_between W.delivered E.delivered E.failures out.old out.new err.old err.new)
         (course_between S.openings W.flushes W.is_flushed site.old site.new out.old out.new)
-        (Rose (S.failures site.old) (S.failures site.new)) (Rose (W.failures out.old) (W.failures out.new)) }
+        (Rose (S.failures site.old) (S.failures site.new))
+        (Rose (W.failures out.old) (W.failures out.new)) }
     ensures site_never_falls { S.failures site.old ≤ S.failures site.new }
 {
     let Some(task) = settings.task() else {
         unreachable!()
     };
     if let Err(Memory) = site.point(alloc, Side::Old, task.old_path) {
-        tell_memory_line(err);
+        put_memory_line(err);
         return 22;
     }
     if let Err(Memory) = site.point(alloc, Side::New, task.new_path) {
-        tell_memory_line(err);
+        put_memory_line(err);
         return 22;
     }
     let Ok(mut desk) = Desk::reserved(alloc, LONGEST) else {
-        tell_memory_line(err);
+        put_memory_line(err);
         return 22;
     };
     compare_sides(&task, &mut desk, site, out, err)
@@ -164,13 +170,17 @@ fn after_reading<S: Site, W: Sink, E: Sink>(
         → IsTextAnswer (S.file_at site.old) (text_of_job job.now) text.now named a
         → Ends a named result
         (sinks_between W.delivered E.delivered E.failures out.old out.new err.old err.new)
-        (Rose (S.failures site.old) (S.failures site.new)) (Rose (W.failures out.old) (W.failures out.new)) }
-    ensures closes { (words : List (List ℕ)) → job_of words ≡ Some (text_of_job job.now) → is_too_large text.now ≡ false
-        → ((file : Option (List ℕ)) → S.file_at site.old job.now.config ≡ Some file → file ≡ Some text.now)
+        (HasFailed (S.is_reliable site.old) (S.failures site.old) (S.failures site.new))
+        (Rose (W.failures out.old) (W.failures out.new)) }
+    ensures closes { (words : List (List ℕ)) → job_of words ≡ Some (text_of_job job.now)
+        → is_too_large text.now ≡ false
+        → ((file : Option (List ℕ)) → S.file_at site.old job.now.config ≡ Some file
+        → file ≡ Some text.now)
         → Closes (S.file_at site.old) words result
         (sinks_between W.delivered E.delivered E.failures out.old out.new err.old err.new)
         (course_between S.openings W.flushes W.is_flushed site.old site.new out.old out.new)
-        (Rose (S.failures site.old) (S.failures site.new)) (Rose (W.failures out.old) (W.failures out.new)) }
+        (Rose (S.failures site.old) (S.failures site.new))
+        (Rose (W.failures out.old) (W.failures out.new)) }
     ensures site_never_falls { S.failures site.old ≤ S.failures site.new }
 {
     let before = job.before.as_str().as_bytes();
@@ -185,11 +195,11 @@ fn after_reading<S: Site, W: Sink, E: Sink>(
         }
         Err(fault) => match fault.kind {
             ConfFaultKind::Memory => {
-                tell_memory_line(err);
+                put_memory_line(err);
                 22
             }
             _ => {
-                tell_conf_line(err, fault);
+                put_conf_line(err, fault);
                 17
             }
         },
@@ -204,29 +214,32 @@ fn run_job<S: Site, W: Sink, E: Sink>(
     out: &mut W,
     err: &mut E,
 ) -> u8
-    ensures ends { (named : Named) (a : Answer) → IsJobAnswer (S.file_at site.old) (text_of_job job.now) named a
+    ensures ends { (named : Named) (a : Answer) → IsJobAnswer (S.file_at site.old)
+        (text_of_job job.now) named a
         → Ends a named result
         (sinks_between W.delivered E.delivered E.failures out.old out.new err.old err.new)
-        (Rose (S.failures site.old) (S.failures site.new)) (Rose (W.failures out.old) (W.failures out.new)) }
+        (HasFailed (S.is_reliable site.old) (S.failures site.old) (S.failures site.new))
+        (Rose (W.failures out.old) (W.failures out.new)) }
     ensures closes { (words : List (List ℕ)) → job_of words ≡ Some (text_of_job job.now)
         → Closes (S.file_at site.old) words result
         (sinks_between W.delivered E.delivered E.failures out.old out.new err.old err.new)
         (course_between S.openings W.flushes W.is_flushed site.old site.new out.old out.new)
-        (Rose (S.failures site.old) (S.failures site.new)) (Rose (W.failures out.old) (W.failures out.new)) }
+        (Rose (S.failures site.old) (S.failures site.new))
+        (Rose (W.failures out.old) (W.failures out.new)) }
 {
     let path = job.config.as_str();
     match read_config(alloc, site, path) {
         Ok(text) => after_reading(alloc, job, text.as_slice(), site, out, err),
         Err(ConfigFault::TooLarge) => {
-            tell_too_large_line(err);
+            put_too_large_line(err);
             17
         }
         Err(ConfigFault::Unread) => {
-            tell_unread_line(err, path);
+            put_unread_line(err, path);
             18
         }
         Err(ConfigFault::Memory) => {
-            tell_memory_line(err);
+            put_memory_line(err);
             22
         }
     }
@@ -243,20 +256,22 @@ fn run_words<S: Site, W: Sink, E: Sink>(
     ensures ends { (named : Named) (a : Answer) → IsAnswer (S.file_at site.old) words.now named a
         → Ends a named result
         (sinks_between W.delivered E.delivered E.failures out.old out.new err.old err.new)
-        (Rose (S.failures site.old) (S.failures site.new)) (Rose (W.failures out.old) (W.failures out.new)) }
+        (HasFailed (S.is_reliable site.old) (S.failures site.old) (S.failures site.new))
+        (Rose (W.failures out.old) (W.failures out.new)) }
     ensures closes { Closes (S.file_at site.old) words.now result
         (sinks_between W.delivered E.delivered E.failures out.old out.new err.old err.new)
         (course_between S.openings W.flushes W.is_flushed site.old site.new out.old out.new)
-        (Rose (S.failures site.old) (S.failures site.new)) (Rose (W.failures out.old) (W.failures out.new)) }
+        (Rose (S.failures site.old) (S.failures site.new))
+        (Rose (W.failures out.old) (W.failures out.new)) }
 {
     match read_words(alloc, words) {
         Ok(job) => run_job(alloc, &job, site, out, err),
         Err(WordsFault::Usage) => {
-            tell_usage_line(err);
+            put_usage_line(err);
             15
         }
         Err(WordsFault::Memory) => {
-            tell_memory_line(err);
+            put_memory_line(err);
             22
         }
     }
@@ -267,7 +282,8 @@ fn run_words<S: Site, W: Sink, E: Sink>(
 /// after a good comparison one line for each column that was skipped; `err` is flushed at the end.
 /// Answers the exit status.
 ///
-/// A failure of `err` changes nothing.
+/// A file that is named and not there is told like a fault, in its turn: the configuration, the old
+/// database, and, behind a sound old one, the new database. A failure of `err` changes nothing.
 pub fn session<S: Site, W: Sink, E: Sink>(
     alloc: Global,
     words: &Words,
@@ -276,30 +292,41 @@ pub fn session<S: Site, W: Sink, E: Sink>(
     err: &mut E,
 ) -> u8
     // The answer to the words; or want of memory, with nothing of its output; or a failure that was
-    // counted, with a front of its output.
+    // counted, of the output or of a site that is not reliable, with a front of its output.
     ensures ends { (named : Named) (a : Answer) → IsAnswer (S.file_at site.old) words.now named a
         → Ends a named result
         (sinks_between W.delivered E.delivered E.failures out.old out.new err.old err.new)
-        (Rose (S.failures site.old) (S.failures site.new)) (Rose (W.failures out.old) (W.failures out.new)) }
+        (HasFailed (S.is_reliable site.old) (S.failures site.old) (S.failures site.new))
+        (Rose (W.failures out.old) (W.failures out.new)) }
     // Where no failure was counted: the answer to the words, or want of memory.
     ensures exact { (named : Named) (a : Answer) → IsAnswer (S.file_at site.old) words.now named a
-        → IsQuiet (S.failures site.old) (S.failures site.new) → IsQuiet (W.failures out.old) (W.failures out.new)
+        → IsQuiet (S.failures site.old) (S.failures site.new)
+        → IsQuiet (W.failures out.old) (W.failures out.new)
+        → Whole a result
+        (sinks_between W.delivered E.delivered E.failures out.old out.new err.old err.new)
+        ⊎ Starved a result
+        (sinks_between W.delivered E.delivered E.failures out.old out.new err.old err.new) }
+    // Over a reliable site, where a file that is not there counts as a failure but is an answer, and
+    // an output that counts no failure: the answer to the words, or want of memory.
+    ensures reliable { (named : Named) (a : Answer)
+        → IsAnswer (S.file_at site.old) words.now named a
+        → S.is_reliable site.old ≡ true → IsQuiet (W.failures out.old) (W.failures out.new)
         → Whole a result
         (sinks_between W.delivered E.delivered E.failures out.old out.new err.old err.new)
         ⊎ Starved a result
         (sinks_between W.delivered E.delivered E.failures out.old out.new err.old err.new) }
     // The lines have been passed on, where standard error counts no failure.
-    ensures passed_on { IsQuiet (E.failures err.old) (E.failures err.new) → E.is_flushed err.new ≡ true }
-    // There is an answer where the files that are named are told and there, the site has not failed
-    // and memory has not run out.
+    ensures passed_on { IsQuiet (E.failures err.old) (E.failures err.new)
+        → E.is_flushed err.new ≡ true }
+    // There is an answer where it is told of the files that are named what stands at their paths.
     ensures answered { TellsNamed (S.file_at site.old) words.now
-        → IsQuiet (S.failures site.old) (S.failures site.new) → (result ≡ 22 → ⊥)
         → HasAnswer (S.file_at site.old) words.now }
     // Whatever the site: the lines, the status and what went out, by what they stand on.
     ensures closes { Closes (S.file_at site.old) words.now result
         (sinks_between W.delivered E.delivered E.failures out.old out.new err.old err.new)
         (course_between S.openings W.flushes W.is_flushed site.old site.new out.old out.new)
-        (Rose (S.failures site.old) (S.failures site.new)) (Rose (W.failures out.old) (W.failures out.new)) }
+        (Rose (S.failures site.old) (S.failures site.new))
+        (Rose (W.failures out.old) (W.failures out.new)) }
 {
     let status = run_words(alloc, words, site, out, err);
     pass_on(err);

@@ -1,5 +1,5 @@
 //! Where the files of a session come from.
-ghost use Rattle.std.specs.Prelude.{◌≡◌, ◌≢◌, ℕ, List, Option, Some, None, IfOk, OnOk, OnErr};
+ghost use Rattle.std.specs.Prelude.{◌≡◌, ◌≢◌, ℕ, true, List, Option, Some, None, IfOk, OnOk, OnErr};
 ghost use Rattle.aide_db.specs.Count.{one_more};
 ghost use Rattle.aide_session.specs.Files.{GivesFile};
 
@@ -19,25 +19,39 @@ pub trait Site: Sources {
     /// A path that is not there is a fault.
     fn config(&mut self, path: &str) -> Result<Self::R, OpenFault>
         ensures fresh { IfOk result (λ r. Self.R.failures r ≡ 0) }
-        ensures gives { IfOk result (λ r. (file : Option (List ℕ)) → Self.file_at self.old path.now ≡ Some file
+        ensures gives { IfOk result (λ r. (file : Option (List ℕ))
+            → Self.file_at self.old path.now ≡ Some file
             → GivesFile file (Self.R.to_come r)) }
         ensures sides { Self.bytes_of self.new ≡ Self.bytes_of self.old }
         ensures paths { path_of self.new ≡ path_of self.old }
         ensures files { Self.file_at self.new ≡ Self.file_at self.old }
+        ensures missing { Self.is_missing self.new ≡ Self.is_missing self.old }
+        ensures reliable { Self.is_reliable self.new ≡ Self.is_reliable self.old }
+        ensures gone { Self.is_reliable self.old ≡ true
+            → OnErr result (Self.file_at self.old path.now ≡ Some None) }
         ensures openings { Self.openings self.new ≡ Self.openings self.old }
         ensures ok { OnOk result (Self.failures self.new ≡ Self.failures self.old) }
         ensures fault { OnErr result (Self.failures self.new ≡ one_more (Self.failures self.old)) };
 
     /// Makes the bytes of a side those of a path, of which it keeps a copy.
     fn point(&mut self, alloc: Global, side: Side, path: &str) -> Result<(), Memory>
-        ensures pointed { OnOk result ((bytes : List ℕ) → Self.file_at self.old path.now ≡ Some (Some bytes)
+        ensures pointed { OnOk result ((bytes : List ℕ)
+            → Self.file_at self.old path.now ≡ Some (Some bytes)
             → Self.bytes_of self.new side ≡ Some bytes) }
+        ensures gone { OnOk result (Self.file_at self.old path.now ≡ Some None
+            → Self.is_missing self.new side ≡ true) }
         ensures path { OnOk result (path_of self.new side ≡ Some path.now) }
-        ensures other { (s : Side) → s ≢ side → Self.bytes_of self.new s ≡ Self.bytes_of self.old s }
+        ensures other { (s : Side) → s ≢ side → Self.bytes_of self.new s
+            ≡ Self.bytes_of self.old s }
+        ensures other_missing { (s : Side) → s ≢ side
+            → Self.is_missing self.new s ≡ Self.is_missing self.old s }
         ensures other_path { (s : Side) → s ≢ side → path_of self.new s ≡ path_of self.old s }
         ensures refused { OnErr result (Self.bytes_of self.new ≡ Self.bytes_of self.old) }
+        ensures refused_missing { OnErr result (Self.is_missing self.new
+            ≡ Self.is_missing self.old) }
         ensures refused_path { OnErr result (path_of self.new ≡ path_of self.old) }
         ensures files { Self.file_at self.new ≡ Self.file_at self.old }
         ensures openings { Self.openings self.new ≡ Self.openings self.old }
+        ensures reliable { Self.is_reliable self.new ≡ Self.is_reliable self.old }
         ensures failures { Self.failures self.new ≡ Self.failures self.old };
 }

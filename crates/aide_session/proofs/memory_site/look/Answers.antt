@@ -1,7 +1,7 @@
 use Rattle.std.proofs.Common.{◌∙◌, sym, ap, List, ℕ, Option, get_or}
 use Rattle.std.specs.Option.{option_map}
-use Rattle.aide_session.specs.Held.{either, of_file}
-use Rattle.aide_session.proofs.HeldLemmas.{bytes_none, bytes_more}
+use Rattle.aide_session.specs.Sites.{either, of_file}
+use Rattle.aide_session.proofs.SiteLemmas.{bytes_none, bytes_more}
 use Rattle.aide_session.proofs.memory_site.look.Goals as goal
 
 pub loop-file-init : goal.loop-file-init

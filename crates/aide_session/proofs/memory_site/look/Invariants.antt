@@ -1,6 +1,6 @@
 use Rattle.std.proofs.Common.{◌≡◌, take}
 use Rattle.std.specs.Option.{option_map}
-use Rattle.aide_session.specs.Held.{bytes_at}
+use Rattle.aide_session.specs.Sites.{bytes_at}
 use Rattle.aide_session.proofs.memory_site.look.Given as goal
 
 abbrev pub invariant-loop-file : goal.invariant-loop-file

@@ -3,8 +3,8 @@ use Rattle.aide_session.specs.Job.{text_of_job}
 use Rattle.aide_session.specs.Lines.{conf_line}
 use Rattle.aide_session.proofs.Closings.{asks_and_reads, closes_bad_config, closes_good_config, closes_starved, reads_same, refused_as}
 use Rattle.aide_session.proofs.Endings.{ends_refused, ends_starved}
-use Rattle.aide_session.proofs.Tellings.{told_none}
-use Rattle.aide_session.proofs.Stages.{checked_is, compares_is, fault_is}
+use Rattle.aide_session.proofs.PutLemmas.{put_none}
+use Rattle.aide_session.proofs.AnswerSteps.{checked_is, compares_is, fault_is}
 use Rattle.aide_session.proofs.program.after_reading.Goals as goal
 
 pub returns-then-job-clause-ends : goal.returns-then-job-clause-ends
@@ -38,7 +38,7 @@ returns-in-Ok-clause-ends g c = λ named a is.
     let before_is = c.as_bytes-before.ensures.value ∙ c.as_str.ensures in
     let after_is = c.as_bytes-after.ensures.value ∙ c.as_str-2.ensures in
     let reads = reads_same _ _ job.before before text job.after after is.read (sym c.need.ensures) (sym before_is) (sym after_is) is.reads in
-    ends_refused a named [] 0 _ _ _ _ _ _ _ (checked_is _ job.compare c.in-Ok.settings is.read named a c.if-job.false (c.in-Ok.ensures.only_ok is.read reads) is.then_is) (told_none _ _)
+    ends_refused a named [] 0 _ _ _ _ _ _ _ (checked_is _ job.compare c.in-Ok.settings is.read named a c.if-job.false (c.in-Ok.ensures.only_ok is.read reads) is.then_is) (put_none _ _)
 
 pub returns-in-Ok-clause-closes : goal.returns-in-Ok-clause-closes
 returns-in-Ok-clause-closes g c = λ words is small text_is.
@@ -52,10 +52,10 @@ returns-in-Ok-clause-closes g c = λ words is small text_is.
     closes_good_config _ words job.config c.in-Ok.settings _ _ _ _ _ _ (asks_and_reads _ words job text false (Ok c.in-Ok.settings) is small text_is c.if-job.false reads) refl refl
 
 pub returns-in-Memory-clause-ends : goal.returns-in-Memory-clause-ends
-returns-in-Memory-clause-ends g c = λ named a is. ends_starved a named _ _ _ _ _ _ _ c.tell_memory_line.ensures
+returns-in-Memory-clause-ends g c = λ named a is. ends_starved a named _ _ _ _ _ _ _ c.put_memory_line.ensures
 
 pub returns-in-Memory-clause-closes : goal.returns-in-Memory-clause-closes
-returns-in-Memory-clause-closes g c = λ words is small text_is. closes_starved _ words _ _ _ _ _ _ _ _ c.tell_memory_line.ensures refl refl
+returns-in-Memory-clause-closes g c = λ words is small text_is. closes_starved _ words _ _ _ _ _ _ _ _ c.put_memory_line.ensures refl refl
 
 pub returns-clause-ends : goal.returns-clause-ends
 returns-clause-ends g c = λ named a is.
@@ -68,7 +68,7 @@ returns-clause-ends g c = λ named a is.
     let reads = reads_same _ _ job.before before text job.after after is.read (sym c.need.ensures) (sym before_is) (sym after_is) is.reads in
     let fault = c.in-Err.fault in
     ends_refused a named (conf_line fault) 17 _ _ _ _ _ _ _
-    (fault_is _ job.compare fault is.read named a (c.in-Err.ensures.only_err c.in_default.not-Memory is.read reads) is.then_is) c.tell_conf_line.ensures
+    (fault_is _ job.compare fault is.read named a (c.in-Err.ensures.only_err c.in_default.not-Memory is.read reads) is.then_is) c.put_conf_line.ensures
 
 pub returns-clause-closes : goal.returns-clause-closes
 returns-clause-closes g c = λ words is small text_is.
@@ -80,4 +80,4 @@ returns-clause-closes g c = λ words is small text_is.
     let after_is = c.as_bytes-after.ensures.value ∙ c.as_str-2.ensures in
     let fault = c.in-Err.fault in
     let reads = reads_same _ _ before job.before text after job.after (Err fault) c.need.ensures before_is after_is (refused_as c.need.result before text after fault c.in-Err.ensures.err c.in_default.not-Memory) in
-    closes_bad_config _ words job.config job.compare fault _ _ _ _ _ _ _ _ (asks_and_reads _ words job text job.compare (Err fault) is small text_is refl reads) c.tell_conf_line.ensures refl refl
+    closes_bad_config _ words job.config job.compare fault _ _ _ _ _ _ _ _ (asks_and_reads _ words job text job.compare (Err fault) is small text_is refl reads) c.put_conf_line.ensures refl refl

@@ -6,9 +6,9 @@ use Rattle.aide_session.specs.Files.{Files, is_too_large}
 use Rattle.aide_session.specs.Job.{text_of_job}
 use Rattle.aide_session.specs.Lines.{too_large_line, unread_line}
 use Rattle.aide_session.proofs.Closings.{closes_later, closes_large, closes_starved, closes_unread, same_course}
-use Rattle.aide_session.proofs.Endings.{ends_broken, ends_by, ends_refused, ends_starved, rose_later}
-use Rattle.aide_session.proofs.Stages.{large_is, text_is}
-use Rattle.aide_session.proofs.Tellings.{told_as}
+use Rattle.aide_session.proofs.Endings.{by_reliable, ends_broken, ends_by, ends_refused, ends_starved, failed_later}
+use Rattle.aide_session.proofs.AnswerSteps.{large_is, same_file, text_is, unread_is}
+use Rattle.aide_session.proofs.PutLemmas.{put_as}
 use Rattle.aide_session.proofs.program.run_job.Goals as goal
 
 pub returns-in-Ok-clause-ends : goal.returns-in-Ok-clause-ends
@@ -18,7 +18,8 @@ returns-in-Ok-clause-ends g c = λ named a is.
     let known = subst (λ (path : List ℕ). files path ≡ Some is.file) (sym c.as_str-path.ensures) is.known in
     let of_text = text_is files job is.file c.in-Ok.text.items named a (c.in-Ok.ensures.ok is.file known) is.then_is in
     let of_slice = subst (λ (text : List ℕ). IsTextAnswer files job text named a) (sym c.as_slice.ensures.value) of_text in
-    ends_by a named _ _ _ _ _ (rose_later _ _ _ c.read_config.ensures.never_falls)
+    ends_by a named _ _ _ _ _
+    (failed_later (g.S.Sources.is_reliable c.args.site.now) (g.S.Sources.is_reliable c.read_config.new.site) _ _ _ c.read_config.ensures.reliable c.read_config.ensures.never_falls)
     (c.after_reading.ensures.ends named a (subst (λ (f : Files). IsTextAnswer f job c.as_slice.result.now named a) (sym c.read_config.ensures.files) of_slice))
 
 pub returns-in-Ok-clause-closes : goal.returns-in-Ok-clause-closes
@@ -42,7 +43,7 @@ returns-in-Err-TooLarge-clause-ends g c = λ named a is.
     let files = g.S.Sources.file_at c.args.site.now in
     let known = subst (λ (path : List ℕ). files path ≡ Some is.file) (sym c.as_str-path.ensures) is.known in
     let large = c.read_config.ensures.large (c.in-Err-TooLarge.is ∙ ap Err c.in-Err-TooLarge.field-0-is) is.file known in
-    ends_refused a named too_large_line 17 _ _ _ _ _ _ _ (large_is files job is.file named a large is.then_is) c.tell_too_large_line.ensures
+    ends_refused a named too_large_line 17 _ _ _ _ _ _ _ (large_is files job is.file named a large is.then_is) c.put_too_large_line.ensures
 
 pub returns-in-Err-TooLarge-clause-closes : goal.returns-in-Err-TooLarge-clause-closes
 returns-in-Err-TooLarge-clause-closes g c = λ words is.
@@ -50,21 +51,28 @@ returns-in-Err-TooLarge-clause-closes g c = λ words is.
     let files = g.S.Sources.file_at c.args.site.now in
     closes_large files words job _ _ _ _ _ _ _ _ is
     (λ file known. c.read_config.ensures.large (c.in-Err-TooLarge.is ∙ ap Err c.in-Err-TooLarge.field-0-is) file
-    (subst (λ (path : List ℕ). files path ≡ Some file) (sym c.as_str-path.ensures) known)) c.tell_too_large_line.ensures c.read_config.ensures.openings refl
+    (subst (λ (path : List ℕ). files path ≡ Some file) (sym c.as_str-path.ensures) known)) c.put_too_large_line.ensures c.read_config.ensures.openings refl
 
 pub returns-in-Err-Unread-clause-ends : goal.returns-in-Err-Unread-clause-ends
 returns-in-Err-Unread-clause-ends g c = λ named a is.
-    let cause = c.read_config.ensures.unread (c.in-Err-Unread.is ∙ ap Err c.in-Err-Unread.field-0-is) in
-    let told = told_as _ _ (ap unread_line (c.as_str-path.ensures ∙ sym is.config_is)) c.tell_unread_line.ensures in
-    ends_broken a named config_unread _ _ _ _ _ _ _ cause told
+    let job = text_of_job c.args.job.now in
+    let files = g.S.Sources.file_at c.args.site.now in
+    let unread = c.in-Err-Unread.is ∙ ap Err c.in-Err-Unread.field-0-is in
+    let put = put_as _ _ (ap unread_line (c.as_str-path.ensures ∙ sym is.config_is)) c.put_unread_line.ensures in
+    let told_job = put_as _ _ (ap unread_line c.as_str-path.ensures) c.put_unread_line.ensures in
+    let known = subst (λ (path : List ℕ). files path ≡ Some is.file) (sym c.as_str-path.ensures) is.known in
+    by_reliable (g.S.Sources.is_reliable c.args.site.now) _
+    (λ reliable. ends_refused a named (unread_line job.config) 18 _ _ _ _ _ _ _
+    (unread_is files job is.file named a (same_file _ is.file known (c.read_config.ensures.gone reliable unread)) is.then_is) told_job)
+    (λ unreliable. ends_broken a named config_unread _ _ _ _ _ _ _ (unreliable, c.read_config.ensures.unread unread) put)
 
 pub returns-in-Err-Unread-clause-closes : goal.returns-in-Err-Unread-clause-closes
 returns-in-Err-Unread-clause-closes g c = λ words is.
     let cause = c.read_config.ensures.unread (c.in-Err-Unread.is ∙ ap Err c.in-Err-Unread.field-0-is) in
-    closes_unread _ words (text_of_job c.args.job.now) _ _ _ _ _ _ _ _ is cause (told_as _ _ (ap unread_line c.as_str-path.ensures) c.tell_unread_line.ensures) c.read_config.ensures.openings refl
+    closes_unread _ words (text_of_job c.args.job.now) _ _ _ _ _ _ _ _ is cause (put_as _ _ (ap unread_line c.as_str-path.ensures) c.put_unread_line.ensures) c.read_config.ensures.openings refl
 
 pub returns-in-Err-Memory-clause-ends : goal.returns-in-Err-Memory-clause-ends
-returns-in-Err-Memory-clause-ends g c = λ named a is. ends_starved a named _ _ _ _ _ _ _ c.tell_memory_line.ensures
+returns-in-Err-Memory-clause-ends g c = λ named a is. ends_starved a named _ _ _ _ _ _ _ c.put_memory_line.ensures
 
 pub returns-in-Err-Memory-clause-closes : goal.returns-in-Err-Memory-clause-closes
-returns-in-Err-Memory-clause-closes g c = λ words is. closes_starved _ words _ _ _ _ _ _ _ _ c.tell_memory_line.ensures c.read_config.ensures.openings refl
+returns-in-Err-Memory-clause-closes g c = λ words is. closes_starved _ words _ _ _ _ _ _ _ _ c.put_memory_line.ensures c.read_config.ensures.openings refl

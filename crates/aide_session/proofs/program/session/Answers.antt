@@ -1,6 +1,6 @@
 use Rattle.std.proofs.Common.{arith}
 use Rattle.aide_session.proofs.Closings.{closes_passed}
-use Rattle.aide_session.proofs.Endings.{ends_exactly, ends_passed, quiet_never_rose}
+use Rattle.aide_session.proofs.Endings.{ends_exactly, ends_passed, ends_reliably}
 use Rattle.aide_session.proofs.Existence.{answered}
 use Rattle.aide_session.proofs.program.session.Goals as goal
 
@@ -10,18 +10,22 @@ returns-clause-ends g c = λ named a is.
 
 pub returns-clause-exact : goal.returns-clause-exact
 returns-clause-exact g c = λ named a is quiet_site quiet_out.
-    ends_exactly a named _ _ _ _ _ _ quiet_site quiet_out
+    ends_exactly a named _ _ _ _ _ _ _ quiet_site quiet_out
+    (ends_passed a named _ _ _ _ _ _ _ _ _ _ _ c.pass_on.ensures.kept c.pass_on.ensures.never_falls (c.run_words-status.ensures.ends named a is))
+
+pub returns-clause-reliable : goal.returns-clause-reliable
+returns-clause-reliable g c = λ named a is reliable quiet_out.
+    ends_reliably a named _ _ _ _ _ _ _ reliable quiet_out
     (ends_passed a named _ _ _ _ _ _ _ _ _ _ _ c.pass_on.ensures.kept c.pass_on.ensures.never_falls (c.run_words-status.ensures.ends named a is))
 
 pub returns-clause-passed_on : goal.returns-clause-passed_on
 returns-clause-passed_on g c = λ quiet.
-    let before = c.run_words-status.ensures.closes.told.never_falls in
+    let before = c.run_words-status.ensures.closes.put.never_falls in
     let after = c.pass_on.ensures.never_falls in
     c.pass_on.ensures.flushed (omega (arith, before, after, quiet.0), quiet.1)
 
 pub returns-clause-answered : goal.returns-clause-answered
-returns-clause-answered g c = λ tells quiet fed.
-    answered _ c.args.words.now _ _ _ _ _ (quiet_never_rose _ _ quiet) c.run_words-status.ensures.closes tells fed
+returns-clause-answered g c = λ tells. answered _ c.args.words.now tells
 
 pub returns-clause-closes : goal.returns-clause-closes
 returns-clause-closes g c =

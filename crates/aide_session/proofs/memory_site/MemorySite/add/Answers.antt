@@ -1,6 +1,6 @@
 use Rattle.std.proofs.Common.{rules, ◌≡◌, ◌∙◌, ap, List, ℕ, [], ◌∷◌, ◌++◌}
-use Rattle.aide_session.specs.Held.{bytes_at}
-use Rattle.aide_session.proofs.HeldLemmas.{added_here, added_elsewhere}
+use Rattle.aide_session.specs.Sites.{bytes_at}
+use Rattle.aide_session.proofs.SiteLemmas.{added_here, added_elsewhere}
 use Rattle.aide_session.proofs.memory_site.MemorySite.add.Goals as goal
 
 pub returns-clause-here : goal.returns-clause-here

@@ -1,4 +1,4 @@
--- From one stage of the answer to the next.
+-- From one step of the answer to the next.
 use Rattle.std.proofs.Common.{◌≡◌, ℕ, List, Option, Some, None, sym, true, false, Bool, Ok, Err}
 use Rattle.std.specs.Prelude.{Result, ⊤}
 use Rattle.std.proofs.Math.Path.{subst}
@@ -7,7 +7,7 @@ use Rattle.aide_conf.specs.declared.fault.ConfFault.{ConfFault}
 use Rattle.aide_session.specs.Answer.{Answer, Named, refused, checked, IsFileAnswer, IsSizedAnswer, IsTextAnswer, IsJobAnswer, IsWordsAnswer, IsReadAnswer, Compares, IsAnswer}
 use Rattle.aide_session.specs.Files.{Files, IsLarge, is_too_large}
 use Rattle.aide_session.specs.Job.{JobText, job_of}
-use Rattle.aide_session.specs.Lines.{usage_line, too_large_line, conf_line}
+use Rattle.aide_session.specs.Lines.{usage_line, too_large_line, unread_line, conf_line}
 
 abbrev denies : Bool → Type 0
 denies true = ⊥
@@ -21,6 +21,14 @@ usage_is files words named a none is = subst (λ (o : Option JobText). IsWordsAn
 
 pub job_is : (files : Files) (words : List (List ℕ)) (job : JobText) (named : Named) (a : Answer) → job_of words ≡ Some job → IsAnswer files words named a → IsJobAnswer files job named a
 job_is files words job named a some is = subst (λ (o : Option JobText). IsWordsAnswer files o named a) some is
+
+pub unread_is : (files : Files) (job : JobText) (file : Option (List ℕ)) (named : Named) (a : Answer) → file ≡ None → IsFileAnswer files job file named a
+    → a ≡ refused (unread_line job.config) 18
+unread_is files job file named a none is = subst (λ (o : Option (List ℕ)). IsFileAnswer files job o named a) none is
+
+-- what is known of a file is one thing
+pub same_file : (there : Option (Option (List ℕ))) (file : Option (List ℕ)) → there ≡ Some file → there ≡ Some None → file ≡ None
+same_file there file p q = cc
 
 pub large_is : (files : Files) (job : JobText) (file : Option (List ℕ)) (named : Named) (a : Answer) → IsLarge file → IsFileAnswer files job file named a → a ≡ refused too_large_line 17
 large_is files job None named a large is = absurd large

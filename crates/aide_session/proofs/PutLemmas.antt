@@ -1,4 +1,4 @@
--- What was told, piece by piece.
+-- What was put on standard error, piece by piece.
 use Rattle.std.proofs.Common.{◌≡◌, ◌∙◌, ℕ, ◌+◌, ◌≤◌, List, [], ◌∷◌, ◌++◌, Option, Some, None, sym, ap, append_assoc, arith, suc}
 use Rattle.std.proofs.Math.Path.{subst}
 use Rattle.std.proofs.lemmas.Grind.{flat_map-append}
@@ -8,7 +8,7 @@ use Rattle.std.proofs.KnownBytes.{Appends-kept}
 use Rattle.std.specs.Io.KnownBytes.{Appends, Keeps}
 use Rattle.aide_db.specs.declared.side.Side.{Side}
 use Rattle.aide_session.specs.Lines.{below, place_line}
-use Rattle.aide_session.specs.Told.{Told}
+use Rattle.aide_session.specs.Put.{Put}
 
 pub appends_more : (a b c : Option (List ℕ)) (xs ys : List ℕ) → Appends a b xs → Appends b c ys → Appends a c (xs ++ ys)
 appends_more None b c xs ys h k = tt
@@ -20,22 +20,22 @@ pub appends_none : (a : Option (List ℕ)) → Appends a a []
 appends_none None = tt
 appends_none (Some x) = sym (append-nil x)
 
-pub told_more : {a b c : Option (List ℕ)} {m n k : ℕ} {xs ys : List ℕ} → Told xs a b m n → Told ys b c n k → Told (xs ++ ys) a c m k
-told_more {a} {b} {c} {m} {n} {k} {xs} {ys} p q = record {
+pub put_more : {a b c : Option (List ℕ)} {m n k : ℕ} {xs ys : List ℕ} → Put xs a b m n → Put ys b c n k → Put (xs ++ ys) a c m k
+put_more {a} {b} {c} {m} {n} {k} {xs} {ys} p q = record {
   never_falls = let h = p.never_falls in let i = q.never_falls in omega arith;
   exact = λ quiet. let h = p.never_falls in let i = q.never_falls in
       appends_more a b c xs ys (p.exact (omega (arith, quiet.0, quiet.1), omega (arith, quiet.0, quiet.1))) (q.exact (omega (arith, quiet.0, quiet.1), omega (arith, quiet.0, quiet.1)));
 }
 
-pub told_none : (a : Option (List ℕ)) (n : ℕ) → Told [] a a n n
-told_none a n = record { never_falls = omega arith; exact = λ _. appends_none a }
+pub put_none : (a : Option (List ℕ)) (n : ℕ) → Put [] a a n n
+put_none a n = record { never_falls = omega arith; exact = λ _. appends_none a }
 
-pub told_as : (xs ys : List ℕ) {a b : Option (List ℕ)} {m n : ℕ} → xs ≡ ys → Told xs a b m n → Told ys a b m n
-told_as xs ys {a} {b} {m} {n} e p = subst (λ (l : List ℕ). Told l a b m n) e p
+pub put_as : (xs ys : List ℕ) {a b : Option (List ℕ)} {m n : ℕ} → xs ≡ ys → Put xs a b m n → Put ys a b m n
+put_as xs ys {a} {b} {m} {n} e p = subst (λ (l : List ℕ). Put l a b m n) e p
 
 -- the same text once it is passed on
-pub told_passed : (text : List ℕ) (a b c : Option (List ℕ)) (m n k : ℕ) → Keeps b c → n ≤ k → Told text a b m n → Told text a c m k
-told_passed text a b c m n k kept more p = record {
+pub put_passed : (text : List ℕ) (a b c : Option (List ℕ)) (m n k : ℕ) → Keeps b c → n ≤ k → Put text a b m n → Put text a c m k
+put_passed text a b c m n k kept more p = record {
   never_falls = let h = p.never_falls in omega (arith, h, more);
   exact = λ quiet. let h = p.never_falls in
       Appends-kept a b c text (p.exact (omega (arith, h, more, quiet.0), omega (arith, h, more, quiet.0, quiet.1))) kept;
@@ -52,14 +52,14 @@ lines_more side columns n =
     ∙ ap (λ (l : List ℕ). flat_map (place_line side columns) (below n) ++ l) (append-nil (place_line side columns n))
 
 -- the lines of the places so far, and the next one
-pub told_place : (side : Side) (columns place : ℕ) (a b c : Option (List ℕ)) (m n k : ℕ) → Told (flat_map (place_line side columns) (below place)) a b m n → Told (place_line side columns place) b c n k
-    → Told (flat_map (place_line side columns) (below (place + 1))) a c m k
-told_place side columns place a b c m n k p q = subst (λ (l : List ℕ). Told l a c m k) (sym (lines_more side columns place)) (told_more p q)
+pub put_place : (side : Side) (columns place : ℕ) (a b c : Option (List ℕ)) (m n k : ℕ) → Put (flat_map (place_line side columns) (below place)) a b m n → Put (place_line side columns place) b c n k
+    → Put (flat_map (place_line side columns) (below (place + 1))) a c m k
+put_place side columns place a b c m n k p q = subst (λ (l : List ℕ). Put l a c m k) (sym (lines_more side columns place)) (put_more p q)
 
-pub no_places : (side : Side) (columns : ℕ) (a : Option (List ℕ)) (n : ℕ) → Told (flat_map (place_line side columns) (below 0)) a a n n
+pub no_places : (side : Side) (columns : ℕ) (a : Option (List ℕ)) (n : ℕ) → Put (flat_map (place_line side columns) (below 0)) a a n n
 unfolding below
-no_places side columns a n = told_none a n
+no_places side columns a n = put_none a n
 
-pub told_to : (side : Side) (columns place end : ℕ) (a b : Option (List ℕ)) (m n : ℕ) → place ≡ end → Told (flat_map (place_line side columns) (below place)) a b m n
-    → Told (flat_map (place_line side columns) (below end)) a b m n
-told_to side columns place end a b m n e p = subst (λ (k : ℕ). Told (flat_map (place_line side columns) (below k)) a b m n) e p
+pub put_to : (side : Side) (columns place end : ℕ) (a b : Option (List ℕ)) (m n : ℕ) → place ≡ end → Put (flat_map (place_line side columns) (below place)) a b m n
+    → Put (flat_map (place_line side columns) (below end)) a b m n
+put_to side columns place end a b m n e p = subst (λ (k : ℕ). Put (flat_map (place_line side columns) (below k)) a b m n) e p

@@ -1,4 +1,4 @@
--- What was told on standard error.
+-- What was put on standard error.
 use Rattle.std.specs.Prelude.{◌≡◌, ℕ, ◌≤◌, ◌<◌, ◌-◌, ◌^◌, List, Option}
 use Rattle.std.specs.Io.KnownBytes.{Appends}
 
@@ -6,7 +6,7 @@ use Rattle.std.specs.Io.KnownBytes.{Appends}
 abbrev pub IsQuiet : ℕ → ℕ → Type 0
 IsQuiet before after = (after ≡ before) × (after < 2 ^ 64 - 1)
 
--- where the sink counts no failure, this text and nothing else was told
-pub record Told (text : List ℕ) (old new : Option (List ℕ)) (before after : ℕ) : Type 0 where
+-- where the sink counts no failure, this text and nothing else was put there
+pub record Put (text : List ℕ) (old new : Option (List ℕ)) (before after : ℕ) : Type 0 where
   pub never_falls : before ≤ after
   pub exact : IsQuiet before after → Appends old new text

@@ -1,5 +1,5 @@
--- Files in memory.
-use Rattle.std.specs.Prelude.{ℕ, List, [], ◌∷◌, Option, Some, None, option_and_then, if◌then◌else◌}
+-- What contracts see of sites: files in memory, and those of the machine.
+use Rattle.std.specs.Prelude.{ℕ, List, [], ◌∷◌, Option, Some, None, option_and_then, is_none, Bool, if◌then◌else◌}
 use Rattle.std.specs.Str.{bytes_eq}
 use Rattle.aide_db.specs.Side.{by_side}
 use Rattle.aide_db.specs.declared.side.Side.{Side}
@@ -49,6 +49,10 @@ side_path s side = by_side s.old_path s.new_path side
 -- the bytes of that path
 abbrev pub side_bytes : Shelf → Side → Option (List ℕ)
 side_bytes s side = option_and_then (λ path. bytes_at s.files path) (side_path s side)
+
+-- a side is not pointed at a file that is there
+abbrev pub side_missing : Shelf → Side → Bool
+side_missing s side = is_none (side_bytes s side)
 
 -- how often a side was opened
 abbrev pub side_openings : Shelf → Side → ℕ

@@ -2,41 +2,42 @@
 ghost use Rattle.std.specs.Prelude.{◌≡◌, ◌≤◌, ℕ, List, decimal, true};
 ghost use Rattle.std.specs.Io.KnownBytes.{Keeps};
 ghost use Rattle.aide_report.specs.Printed.{printed};
-ghost use Rattle.aide_session.specs.Told.{IsQuiet, Told};
+ghost use Rattle.aide_session.specs.Put.{IsQuiet, Put};
 
 use aide_report::{Sink, emit, emit_path};
 use itoa::Buffer;
 
-/// Tells these bytes.
-pub(crate) fn tell<E: Sink>(err: &mut E, bytes: &[u8])
-    ensures { Told bytes.now (E.delivered err.old) (E.delivered err.new)
+/// Puts these bytes on standard error.
+pub(crate) fn put<E: Sink>(err: &mut E, bytes: &[u8])
+    ensures { Put bytes.now (E.delivered err.old) (E.delivered err.new)
         (E.failures err.old) (E.failures err.new) }
 {
     if let Err(_) = emit(err, bytes) {}
 }
 
-/// Tells a path as it is printed.
-pub(crate) fn tell_path<E: Sink>(err: &mut E, path: &[u8])
-    ensures { Told (printed path.now) (E.delivered err.old) (E.delivered err.new)
+/// Puts a path there as it is printed.
+pub(crate) fn put_path<E: Sink>(err: &mut E, path: &[u8])
+    ensures { Put (printed path.now) (E.delivered err.old) (E.delivered err.new)
         (E.failures err.old) (E.failures err.new) }
 {
     if let Err(_) = emit_path(err, path) {}
 }
 
-/// Tells a number in decimal.
-pub(crate) fn tell_number<E: Sink>(err: &mut E, number: u64)
-    ensures { Told (decimal number) (E.delivered err.old) (E.delivered err.new)
+/// Puts a number there in decimal.
+pub(crate) fn put_number<E: Sink>(err: &mut E, number: u64)
+    ensures { Put (decimal number) (E.delivered err.old) (E.delivered err.new)
         (E.failures err.old) (E.failures err.new) }
 {
     let mut buffer = Buffer::new();
-    tell(err, buffer.format(number).as_bytes());
+    put(err, buffer.format(number).as_bytes());
 }
 
-/// Passes on what was told.
+/// Passes on what was put there.
 pub(crate) fn pass_on<E: Sink>(err: &mut E)
     ensures kept { Keeps (E.delivered err.old) (E.delivered err.new) }
     ensures never_falls { E.failures err.old ≤ E.failures err.new }
-    ensures flushed { IsQuiet (E.failures err.old) (E.failures err.new) → E.is_flushed err.new ≡ true }
+    ensures flushed { IsQuiet (E.failures err.old) (E.failures err.new)
+        → E.is_flushed err.new ≡ true }
 {
     if let Err(_) = err.flush() {}
 }

@@ -4,7 +4,7 @@ use Rattle.std.specs.Str.{bytes_eq}
 use Rattle.std.specs.Cmp.Lexicographic.{bytes_decides}
 use Rattle.std.proofs.Math.Seq.{take-add}
 use Rattle.std.proofs.lemmas.List.{drop_more}
-use Rattle.aide_session.specs.Held.{either, of_file, bytes_at}
+use Rattle.aide_session.specs.Sites.{either, of_file, bytes_at}
 
 either_none : (o : Option (List ℕ)) → o ≡ either o None
 either_none None = refl
