@@ -1,9 +1,8 @@
 //! Sessions over files in memory, and over the machine's.
-mod details;
 mod devices;
-mod digests;
 mod faults;
 mod files;
-mod lists;
+mod missing;
+mod reports;
 mod session;
 mod words;

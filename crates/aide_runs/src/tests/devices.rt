@@ -1,6 +1,6 @@
 //! Standard output and standard error that fail, and pages before them.
 use super::session::{CONF, site_of, words_of};
-use aide_faults::{Pace, PlannedSink};
+use aide_faults::{Pace, PlannedSink, Refusing};
 use aide_report::{MemorySink, Sink};
 use aide_session::{Memory, PagedSink, session};
 use std::alloc::Global;
@@ -49,6 +49,44 @@ fn stops_at_each_byte(rt: HostRuntime) -> Result<(), Fail> {
     for sound in 0..whole.len() {
         assert_stops(&rt, alloc, whole, sound)?;
     }
+    Ok(())
+}
+
+/// A session whose standard output is refused one growth. Whether it was refused one.
+fn refuses_growth(
+    rt: &impl Abort,
+    alloc: Global,
+    whole: &[u8],
+    growth: u64,
+) -> Result<bool, Memory> {
+    let mut site = site_of(alloc, CONF, OLD, NEW)?;
+    let words = words_of(alloc, "aide -E -c /conf")?;
+    let refusing = Refusing::new(alloc, growth);
+    let mut out = MemorySink::new(&refusing);
+    let mut err = MemorySink::new(alloc);
+    let status = session(alloc, &words, &mut site, &mut out, &mut err);
+    if !refusing.has_refused() {
+        assert!(rt; status == 7, "status {status} at growth {growth}");
+        assert!(rt; out.bytes() == whole, "output at growth {growth}");
+        return Ok(false);
+    }
+    assert!(rt; status == 18, "status {status} at growth {growth}");
+    assert!(rt; err.bytes() == FULL, "error lines at growth {growth}");
+    assert!(rt; whole.starts_with(out.bytes()), "output at growth {growth}");
+    Ok(true)
+}
+
+#[test]
+fn stops_at_each_growth(rt: HostRuntime) -> Result<(), Fail> {
+    let alloc = rt.alloc();
+    let sink = report(&rt, alloc)?;
+    for growth in 0..1000 {
+        if !refuses_growth(&rt, alloc, sink.bytes(), growth)? {
+            assert!(rt; growth > 3, "{growth} growths");
+            return Ok(());
+        }
+    }
+    assert!(rt; false, "no end of growths");
     Ok(())
 }
 

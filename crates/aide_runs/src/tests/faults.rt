@@ -2,23 +2,7 @@
 use super::session::{Row, check};
 use std::test::Fail;
 
-const ROWS: [Row; 21] = [
-    Row {
-        name: "no entries, minimal",
-        options: "report_level=minimal",
-        old: b"@@begin_db
-@@db_spec name size
-@@end_db
-",
-        new: b"@@begin_db
-@@db_spec name size
-@@end_db
-",
-        output: "AIDE found NO differences between the two databases.
-",
-        errors: "",
-        status: 0,
-    },
+const ROWS: [Row; 17] = [
     Row {
         name: "quiet",
         options: "report_quiet=yes",
@@ -53,28 +37,6 @@ const ROWS: [Row; 21] = [
 ",
         errors: "",
         status: 7,
-    },
-    Row {
-        name: "in path order",
-        options: "report_level=minimal",
-        old: b"@@begin_db
-@@db_spec name size
-/a 1
-/a/b 1
-/a-b 1
-@@end_db
-",
-        new: b"@@begin_db
-@@db_spec name size
-/a 1
-/a/b 1
-/a-b 1
-@@end_db
-",
-        output: "AIDE found NO differences between the two databases.
-",
-        errors: "",
-        status: 0,
     },
     Row {
         name: "old out of path order",
@@ -138,24 +100,6 @@ const ROWS: [Row; 21] = [
         errors: "aide: old database:4: entry out of path order
 ",
         status: 24,
-    },
-    Row {
-        name: "the same name in another spelling",
-        options: "report_level=minimal",
-        old: b"@@begin_db
-@@db_spec name size
-/%61 1
-@@end_db
-",
-        new: b"@@begin_db
-@@db_spec name size
-/a 1
-@@end_db
-",
-        output: "AIDE found NO differences between the two databases.
-",
-        errors: "",
-        status: 0,
     },
     Row {
         name: "no end",
@@ -354,24 +298,6 @@ const ROWS: [Row; 21] = [
 aide: new database: column 1 skipped
 aide: new database: column 4 skipped
 ",
-        status: 0,
-    },
-    Row {
-        name: "another type, ignored",
-        options: "report_level=minimal\nreport_ignore_changed_attrs=ftype",
-        old: b"@@begin_db
-@@db_spec name attr perm uid
-/a 12 100644 0
-@@end_db
-",
-        new: b"@@begin_db
-@@db_spec name attr perm uid
-/a 12 120644 0
-@@end_db
-",
-        output: "AIDE found NO differences between the two databases.
-",
-        errors: "",
         status: 0,
     },
     Row {

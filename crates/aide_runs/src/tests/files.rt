@@ -1,23 +1,10 @@
-//! Long files, files that are not there, and the machine's files.
-use super::session::{CONF, assert_silent, site_of, words_of};
+//! Long files, and the machine's files.
+use super::session::{assert_silent, site_of, words_of};
 use aide_report::MemorySink;
 use aide_session::{FileSite, MemorySite, session};
 use std::alloc::{AllocError, Global};
 use std::fs;
 use std::test::Fail;
-
-const NONE: &[u8] = b"@@begin_db\n@@db_spec name\n@@end_db\n";
-
-#[test]
-fn misses_the_new_database(rt: HostRuntime) -> Result<(), Fail> {
-    let alloc = rt.alloc();
-    let mut site = MemorySite::new(alloc);
-    site.add("/conf", CONF)?;
-    site.add("/old", NONE)?;
-    let line = "aide: cannot open the new database /new\n";
-    assert_silent(&rt, alloc, "aide -E -c /conf", &mut site, line, 18)?;
-    Ok(())
-}
 
 #[test]
 fn bounds_a_configuration(rt: HostRuntime) -> Result<(), Fail> {
