@@ -15,19 +15,12 @@ import subprocess
 import sys
 import tempfile
 
+from definitions.configuration import LEVELS
+
 HERE = os.path.dirname(os.path.dirname(os.path.abspath(__file__)))
 PAGE = os.path.join(HERE, "man", "aide-compare.1")
 CONF_PAGE = os.path.join(HERE, "man", "aide-compare.conf.5")
 PLACES = "YlZbpugamcinHAXSEC"
-LEVELS = [
-    "minimal",
-    "summary",
-    "database_attributes",
-    "list_entries",
-    "changed_attributes",
-    "added_removed_attributes",
-    "added_removed_entries",
-]
 
 
 class Trial:

@@ -3,13 +3,12 @@ import glob
 import os
 import re
 
+from definitions.configuration import LEVELS
 from trials import run, wanted
 
 EXAMPLES = os.path.realpath(os.path.join(os.path.dirname(os.path.abspath(__file__)), '..', '..', 'examples'))
 LABELS = {'total': 'Total number of entries', 'added': 'Added entries', 'removed': 'Removed entries',
           'changed': 'Changed entries'}
-LEVELS = ['minimal', 'summary', 'database_attributes', 'list_entries', 'changed_attributes', 'added_removed_attributes',
-          'added_removed_entries']
 BOOLS = ['yes', 'no']
 HEAD = b'AIDE found differences between the two databases.\n'
 
@@ -17,6 +16,17 @@ HEAD = b'AIDE found differences between the two databases.\n'
 def words_for(folder, *more):
     return [b'-E', b'-c', os.fsencode(os.path.join(folder, 'aide.conf')), b'-B',
             os.fsencode('@@define DIR ' + folder)] + list(more)
+
+
+def words_at(folder, options):
+    """The words that compare the databases of a folder under these options, which leave out those of its configuration."""
+    before = '@@define DIR %s\n%s\nreport_url=stdout' % (folder, options)
+    return words_for(folder)[:-1] + [os.fsencode(before)]
+
+
+def folders_of_aide():
+    """The folders with databases that AIDE has written."""
+    return sorted(os.path.dirname(found) for found in glob.glob(os.path.join(EXAMPLES, '*', 'aide-counts.txt')))
 
 
 def told_by_aide(folder):
@@ -42,15 +52,14 @@ def try_made_by_hand(program, tally):
 
 def try_written_by_aide(program, tally):
     """Databases that AIDE has written: its counts and status, nothing skipped, and the definitions' report at each level."""
-    for folder in sorted(os.path.dirname(found) for found in glob.glob(os.path.join(EXAMPLES, '*', 'aide-counts.txt'))):
+    for folder in folders_of_aide():
         label = 'examples/' + os.path.basename(folder)
         status, counts = told_by_aide(folder)
         answer = run(program, words_for(folder))
         known, given = (status, counts, b''), (answer.status, counted(answer.output), answer.errors)
         tally.add(label, [] if given == known else ['wanted status, counts and errors %r, has %r' % (known, given)])
         for options in ('report_level=%s\nreport_grouped=%s' % (level, yes) for level in LEVELS for yes in BOOLS):
-            before = '@@define DIR %s\n%s\nreport_url=stdout' % (folder, options)
-            words = words_for(folder)[:-1] + [os.fsencode(before)]
+            words = words_at(folder, options)
             tally.check('%s with %s' % (label, options.replace('\n', ', ')), run(program, words), wanted(words))
 
 

@@ -1,0 +1,111 @@
+/* Loaded before the C library (LD_PRELOAD), this refuses a program memory. From the program's start on the calls of
+   malloc and its kin are counted, and those with the numbers GROWTHS_FIRST to GROWTHS_LAST answer that no memory is
+   left. At its end three numbers are written to the descriptor GROWTHS_NOTES: all calls, the refused ones that the
+   program itself made, and the refused ones that came from elsewhere, as from the C library. */
+#define _GNU_SOURCE
+#include <dlfcn.h>
+#include <errno.h>
+#include <link.h>
+#include <stdlib.h>
+#include <unistd.h>
+
+static struct {
+    long calls, own, others;
+} notes;
+
+static long first, last;
+
+/* Where the program itself lies in memory; nowhere before its start. */
+static struct {
+    char *start, *end;
+} program;
+
+/* The program is the first object that is loaded, so the walk ends with it. */
+static int find_program(struct dl_phdr_info *object, size_t size, void *unused)
+{
+    (void)size, (void)unused;
+    for (int i = 0; i < object->dlpi_phnum; i++) {
+        const ElfW(Phdr) *part = &object->dlpi_phdr[i];
+        char *start = (char *)object->dlpi_addr + part->p_vaddr, *end = start + part->p_memsz;
+        if (part->p_type != PT_LOAD)
+            continue;
+        if (program.start == NULL || start < program.start)
+            program.start = start;
+        if (end > program.end)
+            program.end = end;
+    }
+    return 1;
+}
+
+static long number(const char *name)
+{
+    const char *text = getenv(name);
+    return text == NULL ? 0 : atol(text);
+}
+
+__attribute__((constructor)) static void begin(void)
+{
+    first = number("GROWTHS_FIRST");
+    last = number("GROWTHS_LAST");
+    dl_iterate_phdr(find_program, NULL);
+}
+
+__attribute__((destructor)) static void end(void)
+{
+    if (write((int)number("GROWTHS_NOTES"), &notes, sizeof notes) < 0)
+        notes.calls = 0;
+}
+
+/* Counts a call from this place, and says whether it is refused. */
+static int is_refused(const char *caller)
+{
+    if (program.start == NULL)
+        return 0;
+    notes.calls++;
+    if (notes.calls < first || notes.calls > last)
+        return 0;
+    if (program.start <= caller && caller < program.end)
+        notes.own++;
+    else
+        notes.others++;
+    errno = ENOMEM;
+    return 1;
+}
+
+#define IS_REFUSED is_refused(__builtin_return_address(0))
+#define REAL(name) ((__typeof__(&name))dlsym(RTLD_NEXT, #name))
+
+void *malloc(size_t size)
+{
+    static __typeof__(&malloc) real;
+    real = real ? real : REAL(malloc);
+    return IS_REFUSED ? NULL : real(size);
+}
+
+void *calloc(size_t count, size_t size)
+{
+    static __typeof__(&calloc) real;
+    real = real ? real : REAL(calloc);
+    return IS_REFUSED ? NULL : real(count, size);
+}
+
+void *realloc(void *block, size_t size)
+{
+    static __typeof__(&realloc) real;
+    real = real ? real : REAL(realloc);
+    return IS_REFUSED ? NULL : real(block, size);
+}
+
+void *aligned_alloc(size_t alignment, size_t size)
+{
+    static __typeof__(&aligned_alloc) real;
+    real = real ? real : REAL(aligned_alloc);
+    return IS_REFUSED ? NULL : real(alignment, size);
+}
+
+int posix_memalign(void **block, size_t alignment, size_t size)
+{
+    static __typeof__(&posix_memalign) real;
+    real = real ? real : REAL(posix_memalign);
+    return IS_REFUSED ? ENOMEM : real(block, alignment, size);
+}
