@@ -1,5 +1,6 @@
 -- Sets of attributes by lists of them.
-use Rattle.std.proofs.Common.{ℕ, ◌<◌, ◌≡◌, Bool, true, false, List, [], ◌∷◌, suc, zero, length, refl, sym, ap, ◌∙◌, arith, get_or, inl, inr}
+use Rattle.std.proofs.Common.{ℕ, ◌<◌, ◌≡◌, Bool, true, false, List, [], ◌∷◌, suc, zero, length, refl, sym, ap, ◌∙◌}
+use Rattle.std.proofs.Common.{arith, get_or, inl, inr}
 use Rattle.std.specs.Prelude.{◌||◌, ◌&&◌, map, filter, if◌then◌else◌}
 use Rattle.std.proofs.lemmas.Bool.{eqb-true}
 use Rattle.std.specs.List.{list_any}
@@ -13,11 +14,13 @@ use Rattle.aide_attr.proofs.AttrLemmas.{at_number, number_small}
 use Rattle.aide_attr.proofs.WalkLemmas.{bool_cases}
 
 -- a set and a test that agree
-pub any_has : (s : AttrSet) (p : Attr → Bool) (xs : List Attr) → ((a : Attr) → has s a ≡ p a) → list_any (has s) xs ≡ list_any p xs
+pub any_has : (s : AttrSet) (p : Attr → Bool) (xs : List Attr) → ((a : Attr) → has s a ≡ p a)
+    → list_any (has s) xs ≡ list_any p xs
 any_has s p [] h = refl
 any_has s p (x ∷ xs) h = rw (h x, any_has s p xs h) refl
 
-none_any : (p : Attr → Bool) (xs : List Attr) (k : ℕ) (d : Attr) → list_any p xs ≡ false → k < length xs → p (get_or xs k d) ≡ false
+none_any : (p : Attr → Bool) (xs : List Attr) (k : ℕ) (d : Attr) → list_any p xs ≡ false → k < length xs
+    → p (get_or xs k d) ≡ false
 none_any p [] k d h l = absurd (omega arith)
 none_any p (x ∷ xs) zero d h l = first (p x) (list_any p xs) h
   where
@@ -46,14 +49,16 @@ pub filled : (f : ℕ → ℕ) (places letters : List ℕ) → length letters �
 filled f [] [] e h = refl
 filled f [] (l ∷ letters) e h = absurd (omega arith)
 filled f (p ∷ places) [] e h = absurd (omega arith)
-filled f (p ∷ places) (l ∷ letters) e h = rw (h 0 (omega arith), filled f places letters (omega arith) (λ k below. h (suc k) (omega arith))) refl
+filled f (p ∷ places) (l ∷ letters) e h =
+    rw (h 0 (omega arith), filled f places letters (omega arith) (λ k below. h (suc k) (omega arith))) refl
 
 -- attributes with one number are one
 pub attr_is : (a b : Attr) → is_attr a b ≡ true → a ≡ b
 attr_is a b e = sym (at_number a a) ∙ ap (λ n. get_or all_attrs n a) (eqb-true (number a) (number b) e) ∙ at_number b a
 
 -- what no listed attribute has, none has
-pub any_from : (s : Sides) (i : Ignore) (r : AttrSet) → ((a : Attr) → has r a ≡ is_reported s i a) → (((a : Attr) → has r a ≡ false) → ⊥)
+pub any_from : (s : Sides) (i : Ignore) (r : AttrSet) → ((a : Attr) → has r a ≡ is_reported s i a)
+    → (((a : Attr) → has r a ≡ false) → ⊥)
     → any_reported s i ≡ true
 unfolding count
 any_from s i r h k = elim (bool_cases (any_reported s i)) [
@@ -61,7 +66,8 @@ any_from s i r h k = elim (bool_cases (any_reported s i)) [
   | inr e ↦ absurd (k (λ a. h a ∙ ap (is_reported s i) (sym (at_number a a)) ∙ none_any (is_reported s i) all_attrs (number a) a e (number_small a)))
 ]
 
-pub none_from : (s : Sides) (i : Ignore) (r : AttrSet) → ((a : Attr) → has r a ≡ is_reported s i a) → ((a : Attr) → has r a ≡ false)
+pub none_from : (s : Sides) (i : Ignore) (r : AttrSet) → ((a : Attr) → has r a ≡ is_reported s i a)
+    → ((a : Attr) → has r a ≡ false)
     → any_reported s i ≡ false
 none_from s i r h k = none all_attrs
   where

@@ -24,7 +24,8 @@ pub one_fault : (look : Lookup) (text : List ℕ) (e f : ExprFault) → IsFault 
 one_fault = only.one_fault
 
 -- a text that means something has no fault
-pub no_fault_of_a_meaning : (look : Lookup) (text : List ℕ) (set : AttrSet) (e : ExprFault) → IsMeaning look text set → IsFault look text e → ⊥
+pub no_fault_of_a_meaning : (look : Lookup) (text : List ℕ) (set : AttrSet) (e : ExprFault) → IsMeaning look text set
+    → IsFault look text e → ⊥
 no_fault_of_a_meaning look text set e m f =
     only.sound look text (meant look (λ _. false) m.0)
     (only.read look (λ _. false) BeforeName true 0 text m.0 (from_expression text m.0 m.1) m.2) e f

@@ -1,5 +1,6 @@
 -- Where an expression fails.
-use Rattle.std.proofs.Common.{ℕ, ◌≡◌, ◌<◌, ◌≤◌, ◌+◌, Bool, true, false, List, [], ◌∷◌, ◌++◌, length, refl, sym, ap, ◌∙◌, subst, inl, inr, arith}
+use Rattle.std.proofs.Common.{ℕ, ◌≡◌, ◌<◌, ◌≤◌, ◌+◌, Bool, true, false, List, [], ◌∷◌, ◌++◌, length, refl, sym, ap, ◌∙◌}
+use Rattle.std.proofs.Common.{subst, inl, inr, arith}
 use Rattle.std.proofs.Common.{append_assoc, cond, Option, Some, None, Result, Ok, Err, length-append}
 use Rattle.std.specs.Prelude.{◌==◌, option_and_then}
 use Rattle.std.proofs.lemmas.List.{append-nil}
@@ -9,7 +10,8 @@ use Rattle.aide_attr.specs.declared.expression.Stage.TheVariants.{BeforeName, In
 use Rattle.aide_attr.specs.declared.expression.ExprFault.{ExprFault}
 use Rattle.aide_attr.specs.declared.expression.ExprFault.TheVariants.{UnknownName, BadExpression}
 use Rattle.aide_attr.specs.Byte.{is_blank, is_name_byte}
-use Rattle.aide_attr.specs.Expression.{Each, starts_named, ends_named, Term, IsExpression, Lookup, IsFront, IsBreak, IsUnknown, NoneBefore, IsFault}
+use Rattle.aide_attr.specs.Expression.{Each, starts_named, ends_named, Term, IsExpression, Lookup, IsFront, IsBreak}
+use Rattle.aide_attr.specs.Expression.{IsUnknown, NoneBefore, IsFault}
 use Rattle.aide_attr.specs.code.Walk.{Spot, name_run, after_step, step, begun, apply, taken, after_byte, walk}
 use Rattle.aide_attr.proofs.WalkSteps.{stage_is, At, NoName, whole_run, onward}
 use Rattle.aide_attr.proofs.WalkLemmas.{bool_cases, run_all, front_runs, runs_front, step_named}
@@ -45,7 +47,8 @@ step_other BeforeName s b q e h w = elim (bool_cases (is_blank b)) [
 step_other InName s b q e h w = after_not_within s b q (rw h at e) w
 step_other AfterName s b q e h w = after_not_within s b q e w
 
-run_more : (p : Stage) (s : Bool) (xs ys : List ℕ) → run_all p s (xs ++ ys) ≡ option_and_then (λ (q : Spot). run_all q.0 q.1 ys) (run_all p s xs)
+run_more : (p : Stage) (s : Bool) (xs ys : List ℕ)
+    → run_all p s (xs ++ ys) ≡ option_and_then (λ (q : Spot). run_all q.0 q.1 ys) (run_all p s xs)
 unfolding run_all
 run_more p s [] ys = refl
 run_more p s (x ∷ xs) ys = by_step (λ q. run_more q.0 q.1 xs ys) (step p s x)
@@ -58,21 +61,25 @@ run_more p s (x ∷ xs) ys = by_step (λ q. run_more q.0 q.1 xs ys) (step p s x)
     by_step again (Some q) = again q
 
 -- what runs has fronts that run
-run_front : (p : Stage) (s : Bool) (xs ys : List ℕ) (q : Spot) → run_all p s (xs ++ ys) ≡ Some q → (r : Spot) × (run_all p s xs ≡ Some r)
+run_front : (p : Stage) (s : Bool) (xs ys : List ℕ) (q : Spot) → run_all p s (xs ++ ys) ≡ Some q
+    → (r : Spot) × (run_all p s xs ≡ Some r)
 run_front p s xs ys q e = by_run (run_all p s xs) refl (sym (run_more p s xs ys) ∙ e)
   where
-    by_run : (o : Option Spot) → run_all p s xs ≡ o → option_and_then (λ (r : Spot). run_all r.0 r.1 ys) o ≡ Some q → (r : Spot)
+    by_run : (o : Option Spot) → run_all p s xs ≡ o → option_and_then (λ (r : Spot). run_all r.0 r.1 ys) o ≡ Some q
+        → (r : Spot)
         × (run_all p s xs ≡ Some r)
     by_run None k m = cc
     by_run (Some r) k m = (r, k)
 
 -- a place that wants a name is behind no name byte
-ends_wanting : (p : Stage) (s : Bool) (xs : List ℕ) (q : Spot) → run_all p s xs ≡ Some q → q.0 ≡ BeforeName → ends_named xs ≡ false
+ends_wanting : (p : Stage) (s : Bool) (xs : List ℕ) (q : Spot) → run_all p s xs ≡ Some q → q.0 ≡ BeforeName
+    → ends_named xs ≡ false
 unfolding run_all
 ends_wanting p s [] q e w = refl
 ends_wanting p s (x ∷ []) q e w = elim (bool_cases (is_name_byte x)) [ inr k ↦ k | inl k ↦ absurd (by_step (step p s x) refl e k) ]
   where
-    by_step : (o : Option Spot) → step p s x ≡ o → option_and_then (λ (q : Spot). Some (q.0, q.1)) o ≡ Some q → is_name_byte x ≡ true → ⊥
+    by_step : (o : Option Spot) → step p s x ≡ o → option_and_then (λ (q : Spot). Some (q.0, q.1)) o ≡ Some q
+        → is_name_byte x ≡ true → ⊥
     by_step None k m n = cc
     by_step (Some r) k m n =
         let f : r.0 ≡ InName = step_named p s x r k n in
@@ -97,9 +104,11 @@ unfolding NoName
 named_next [] h = tt
 named_next (b ∷ bs) h = h
 
-pub known_before : (look : Lookup) (acc : Attr → Bool) (p : Stage) (s : Bool) (i : ℕ) (bs : List ℕ) (d name rest : List ℕ) → bs ≡ d ++ name ++ rest
+pub known_before : (look : Lookup) (acc : Attr → Bool) (p : Stage) (s : Bool) (i : ℕ) (bs : List ℕ) (d name rest : List ℕ)
+    → bs ≡ d ++ name ++ rest
     → (d ≡ [] → p ≡ InName → ⊥)
-    → ends_named d ≡ false → Each is_name_byte name → 0 < length name → starts_named rest ≡ false → Reaches (walk look acc p s i bs) (i + length d)
+    → ends_named d ≡ false → Each is_name_byte name → 0 < length name → starts_named rest ≡ false
+    → Reaches (walk look acc p s i bs) (i + length d)
     → look name ≡ None → ⊥
 unfolding walk
 known_before look acc p s i [] [] [] rest e w n k o r c u = absurd (omega arith)
@@ -124,7 +133,8 @@ known_before look acc p s i (b ∷ bs) [] (x ∷ name) rest e w n k o r c u = by
     unknown = let f : look (b ∷ name_run bs) ≡ None = ap look (ap (λ z. b ∷ z) run ∙ ap (λ z. z ∷ name) same) ∙ u in rw f refl
 
     by_stage : (p' : Stage) → (p' ≡ InName → ⊥) → (o' : Option Spot) → step p' s b ≡ o'
-        → Reaches (after_byte o' (taken look acc (begun p' s b bs)) i (λ q known. walk look known q.0 q.1 (i + 1) bs)) (i + 0) → ⊥
+        → Reaches (after_byte o' (taken look acc (begun p' s b bs)) i (λ q known. walk look known q.0 q.1 (i + 1) bs)) (i + 0)
+        → ⊥
     by_stage p' w' None m z = omega arith
     by_stage InName w' (Some q) m z = w' refl
     by_stage AfterName w' (Some q) m z = after_not_within s b q m (step_named AfterName s b q m named)
@@ -179,10 +189,12 @@ fault_place (BadExpression k) = k
 abbrev pub Stopped : Lookup → Stage → Bool → ℕ → List ℕ → ExprFault → Type 0
 Stopped look p s i bs e = (w : Passed p s i bs (fault_place e)) × Stops look e w.stage.0 w.stage.1 w.left
 
-here : (look : Lookup) (p : Stage) (s : Bool) (i : ℕ) (bs : List ℕ) (e : ExprFault) → fault_place e ≡ i → Stops look e p s bs
+here : (look : Lookup) (p : Stage) (s : Bool) (i : ℕ) (bs : List ℕ) (e : ExprFault) → fault_place e ≡ i
+    → Stops look e p s bs
     → Stopped look p s i bs e
 unfolding run_all
-here look p s i bs e k h = (record { done = []; left = bs; cut = refl; at = omega (arith, k); stage = (p, s); runs = refl }, h)
+here look p s i bs e k h =
+    (record { done = []; left = bs; cut = refl; at = omega (arith, k); stage = (p, s); runs = refl }, h)
 
 later : (look : Lookup) (p : Stage) (s : Bool) (i b : ℕ) (bs : List ℕ) (e : ExprFault) (q : Spot) → step p s b ≡ Some q
     → Stopped look q.0 q.1 (i + 1) bs e → Stopped look p s i (b ∷ bs) e
@@ -199,7 +211,8 @@ later look p s i b bs e q k h = (
   h.1,
 )
 
-pub stopped : (look : Lookup) (acc : Attr → Bool) (p : Stage) (s : Bool) (i : ℕ) (bs : List ℕ) (e : ExprFault) → walk look acc p s i bs ≡ Err e
+pub stopped : (look : Lookup) (acc : Attr → Bool) (p : Stage) (s : Bool) (i : ℕ) (bs : List ℕ) (e : ExprFault)
+    → walk look acc p s i bs ≡ Err e
     → Stopped look p s i bs e
 unfolding walk
 stopped look acc BeforeName s i [] e h =
@@ -209,14 +222,16 @@ stopped look acc AfterName s i [] e h = cc
 stopped look acc p s i (b ∷ bs) e h =
     by_byte (λ q known m. stopped look known q.0 q.1 (i + 1) bs e m) (step p s b) refl (taken look acc (begun p s b bs)) refl h
   where
-    unknown : (q : Spot) (p' : Stage) → step p' s b ≡ Some q → taken look acc (begun p' s b bs) ≡ None → UnknownName i ≡ e
+    unknown : (q : Spot) (p' : Stage) → step p' s b ≡ Some q → taken look acc (begun p' s b bs) ≡ None
+        → UnknownName i ≡ e
         → Stopped look p' s i (b ∷ bs) e
     unknown q InName m t g = cc
     unknown q AfterName m t g = cc
     unknown q BeforeName m t g =
         subst (Stopped look BeforeName s i (b ∷ bs)) g (here look BeforeName s i (b ∷ bs) (UnknownName i) refl (by_name (is_name_byte b) refl t))
       where
-        by_look : (o : Option (Attr → Bool)) → option_and_then (λ set. Some (apply s (Some set) acc)) o ≡ None → o ≡ None
+        by_look : (o : Option (Attr → Bool)) → option_and_then (λ set. Some (apply s (Some set) acc)) o ≡ None
+            → o ≡ None
         by_look None z = refl
         by_look (Some set) z = cc
 
@@ -255,7 +270,8 @@ unfolding drop_run
 split [] = refl
 split (b ∷ bs) = by_test (split bs) (is_name_byte b)
   where
-    by_test : bs ≡ name_run bs ++ drop_run bs → (n : Bool) → b ∷ bs ≡ cond n (b ∷ name_run bs) [] ++ cond n (drop_run bs) (b ∷ bs)
+    by_test : bs ≡ name_run bs ++ drop_run bs → (n : Bool)
+        → b ∷ bs ≡ cond n (b ∷ name_run bs) [] ++ cond n (drop_run bs) (b ∷ bs)
     by_test h true = ap (λ z. b ∷ z) h
     by_test h false = refl
 
@@ -263,7 +279,8 @@ each : (bs : List ℕ) → Each is_name_byte (name_run bs)
 each [] = tt
 each (b ∷ bs) = by_test (each bs) (is_name_byte b) refl
   where
-    by_test : Each is_name_byte (name_run bs) → (n : Bool) → is_name_byte b ≡ n → Each is_name_byte (cond n (b ∷ name_run bs) [])
+    by_test : Each is_name_byte (name_run bs) → (n : Bool) → is_name_byte b ≡ n
+        → Each is_name_byte (cond n (b ∷ name_run bs) [])
     by_test h true k = (k, h)
     by_test h false k = tt
 
@@ -272,7 +289,8 @@ unfolding drop_run
 starts [] = refl
 starts (b ∷ bs) = by_test (starts bs) (is_name_byte b) refl
   where
-    by_test : starts_named (drop_run bs) ≡ false → (n : Bool) → is_name_byte b ≡ n → starts_named (cond n (drop_run bs) (b ∷ bs)) ≡ false
+    by_test : starts_named (drop_run bs) ≡ false → (n : Bool) → is_name_byte b ≡ n
+        → starts_named (cond n (drop_run bs) (b ∷ bs)) ≡ false
     by_test h true k = h
     by_test h false k = k
 
@@ -300,7 +318,8 @@ same_front (x ∷ xs) ys (z ∷ zs) ws e h =
 front_is : (bs : List ℕ) → IsFront bs → (q : Spot) × (run_all BeforeName true bs ≡ Some q)
 front_is bs h = front_runs BeforeName true bs h.0 h.1 (from_expression (bs ++ h.0) h.1 h.2)
 
-at_end : (p : Stage) (s : Bool) (bs : List ℕ) (q : Spot) (ts : List Term) → run_all p s bs ≡ Some q → q.0 ≡ BeforeName → At p s bs ts → ⊥
+at_end : (p : Stage) (s : Bool) (bs : List ℕ) (q : Spot) (ts : List Term) → run_all p s bs ≡ Some q → q.0 ≡ BeforeName
+    → At p s bs ts → ⊥
 unfolding run_all
 at_end p s [] q ts e w h = none p (stage_is p s q e ∙ w) ts h
   where
@@ -318,7 +337,8 @@ at_end p s (b ∷ bs) q ts e w h =
     let o = onward p s b bs ts h in
     at_end o.0.0 o.0.1 bs q o.1 (rw o.2 at e) w o.4
 
-pub is_fault : (look : Lookup) (text : List ℕ) (e : ExprFault) → walk look (λ _. false) BeforeName true 0 text ≡ Err e → IsFault look text e
+pub is_fault : (look : Lookup) (text : List ℕ) (e : ExprFault) → walk look (λ _. false) BeforeName true 0 text ≡ Err e
+    → IsFault look text e
 unfolding run_all
 is_fault look text e h = by_kind e h (stopped look (λ _. false) BeforeName true 0 text e h)
   where
@@ -330,12 +350,14 @@ is_fault look text e h = by_kind e h (stopped look (λ _. false) BeforeName true
         let r = run_front BeforeName true (b.0 ++ b.1 ∷ []) f.0 w.stage (ap (run_all BeforeName true) (sym f.1) ∙ w.runs) in
         b.5 (is_front (b.0 ++ b.1 ∷ []) r.0 r.1)
 
-    no_unknown : (k : ℕ) → Reaches (walk look (λ _. false) BeforeName true 0 text) k → (j : ℕ) → j ≡ k → IsUnknown look text j → ⊥
+    no_unknown : (k : ℕ) → Reaches (walk look (λ _. false) BeforeName true 0 text) k → (j : ℕ) → j ≡ k
+        → IsUnknown look text j → ⊥
     no_unknown k c j l u =
         known_before look (λ _. false) BeforeName true 0 text u.0 u.1 u.2 u.3 (λ x y. cc) u.5 u.6 u.7 u.8
         (let g : k ≡ 0 + length u.0 = omega (arith, u.4) in subst (Reaches (walk look (λ _. false) BeforeName true 0 text)) g c) u.9
 
-    none_before : (e : ExprFault) → walk look (λ _. false) BeforeName true 0 text ≡ Err e → Passed BeforeName true 0 text (fault_place e)
+    none_before : (e : ExprFault) → walk look (λ _. false) BeforeName true 0 text ≡ Err e
+        → Passed BeforeName true 0 text (fault_place e)
         → NoneBefore look text (fault_place e)
     none_before e h w j l = (no_break (fault_place e) w j l, no_unknown j (rw h (reaches e l)) j refl)
       where
@@ -343,10 +365,12 @@ is_fault look text e h = by_kind e h (stopped look (λ _. false) BeforeName true
         reaches (UnknownName k) l = l
         reaches (BadExpression k) l = l
 
-    by_kind : (e : ExprFault) → walk look (λ _. false) BeforeName true 0 text ≡ Err e → Stopped look BeforeName true 0 text e → IsFault look text e
+    by_kind : (e : ExprFault) → walk look (λ _. false) BeforeName true 0 text ≡ Err e
+        → Stopped look BeforeName true 0 text e → IsFault look text e
     by_kind (UnknownName k) h t = unknown t.0.left refl t.1
       where
-        unknown : (left : List ℕ) → t.0.left ≡ left → Stops look (UnknownName k) t.0.stage.0 t.0.stage.1 left → IsFault look text (UnknownName k)
+        unknown : (left : List ℕ) → t.0.left ≡ left → Stops look (UnknownName k) t.0.stage.0 t.0.stage.1 left
+            → IsFault look text (UnknownName k)
         unknown [] m z = absurd z
         unknown (b ∷ rest) m z = (
           none_before (UnknownName k) h t.0,
@@ -365,7 +389,8 @@ is_fault look text e h = by_kind e h (stopped look (λ _. false) BeforeName true
           λ x. x.5 (runs_on x.0 x.1 x.2 (sym x.3 ∙ t.0.cut ∙ ap (λ y. t.0.done ++ y) m) (omega (arith, x.4, t.0.at)) z.0 z.1),
         )
           where
-            runs_on : (d : List ℕ) (c : ℕ) (r : List ℕ) → d ++ c ∷ r ≡ t.0.done ++ b ∷ rest → length d ≡ length t.0.done → (q : Spot)
+            runs_on : (d : List ℕ) (c : ℕ) (r : List ℕ) → d ++ c ∷ r ≡ t.0.done ++ b ∷ rest → length d ≡ length t.0.done
+                → (q : Spot)
                 → step t.0.stage.0 t.0.stage.1 b ≡ Some q → IsFront (d ++ c ∷ [])
             runs_on d c r e l q s =
                 let g = same_front d (c ∷ r) t.0.done (b ∷ rest) e l in
@@ -374,7 +399,8 @@ is_fault look text e h = by_kind e h (stopped look (λ _. false) BeforeName true
                 ∙ run_more BeforeName true t.0.done (b ∷ []) ∙ rw (t.0.runs, s) refl)
     by_kind (BadExpression k) h t = bad t.0.left refl t.1
       where
-        bad : (left : List ℕ) → t.0.left ≡ left → Stops look (BadExpression k) t.0.stage.0 t.0.stage.1 left → IsFault look text (BadExpression k)
+        bad : (left : List ℕ) → t.0.left ≡ left → Stops look (BadExpression k) t.0.stage.0 t.0.stage.1 left
+            → IsFault look text (BadExpression k)
         bad [] m z = (
           none_before (BadExpression k) h t.0,
           inr (

@@ -1,5 +1,6 @@
 -- Expressions are read byte by byte.
-use Rattle.std.proofs.Common.{ℕ, ◌≡◌, ◌<◌, ◌≤◌, ◌+◌, Bool, true, false, not, List, [], ◌∷◌, ◌++◌, length, refl, sym, ap, ◌∙◌, subst, inl, inr, arith}
+use Rattle.std.proofs.Common.{ℕ, ◌≡◌, ◌<◌, ◌≤◌, ◌+◌, Bool, true, false, not, List, [], ◌∷◌, ◌++◌, length, refl, sym, ap}
+use Rattle.std.proofs.Common.{◌∙◌, subst, inl, inr, arith}
 use Rattle.std.proofs.Common.{append_assoc, cond, Option, Some, None, Ok, Err, get_or, drop}
 use Rattle.std.specs.Prelude.{◌&&◌, ◌||◌, ◌⊎◌, ◌↔◌, ◌==◌, IsSome, option_and_then}
 use Rattle.std.proofs.lemmas.Bool.{eqb-true}
@@ -11,9 +12,11 @@ use Rattle.aide_attr.specs.declared.expression.Stage.TheVariants.{BeforeName, In
 use Rattle.aide_attr.specs.declared.expression.ExprFault.TheVariants.{UnknownName, BadExpression}
 use Rattle.aide_attr.specs.Set.{has}
 use Rattle.aide_attr.specs.Byte.{is_blank, is_name_byte, is_word_byte}
-use Rattle.aide_attr.specs.Expression.{Each, Term, IsSpaced, sign, AreMore, IsExpression, Lookup, set_has, NoneHas, IsMeant, AllKnown, IsMeaning}
+use Rattle.aide_attr.specs.Expression.{Each, Term, IsSpaced, sign, AreMore, IsExpression, Lookup, set_has, NoneHas}
+use Rattle.aide_attr.specs.Expression.{IsMeant, AllKnown, IsMeaning}
 use Rattle.aide_attr.specs.code.Walk.{Spot, name_run, after_step, step, begun, apply, taken, finish, after_byte, walk}
-use Rattle.aide_attr.proofs.WalkSteps.{spot_is, stage_is, name_not_blank, sign_not_name, blank_not_name, At, whole_run, tail_no_name, onward}
+use Rattle.aide_attr.proofs.WalkSteps.{spot_is, stage_is, name_not_blank, sign_not_name, blank_not_name, At, whole_run}
+use Rattle.aide_attr.proofs.WalkSteps.{tail_no_name, onward}
 
 pub bool_cases : (b : Bool) → (b ≡ true) ⊎ (b ≡ false)
 bool_cases true = inl refl
@@ -23,15 +26,18 @@ bool_cases false = inr refl
 
 signed : (t : Bool) (bs : List ℕ) (ts : List Term) → At BeforeName t bs ts → AreMore (sign t ∷ bs) ts
 signed t bs [] h = absurd h
-signed t bs (u ∷ ts) h = (h.1, h.2, (let e = h.3 in ap (λ z. sign z ∷ bs) (sym h.0) ∙ ap (λ z. sign u.adds ∷ z) e), h.4, h.5)
+signed t bs (u ∷ ts) h =
+    (h.1, h.2, (let e = h.3 in ap (λ z. sign z ∷ bs) (sym h.0) ∙ ap (λ z. sign u.adds ∷ z) e), h.4, h.5)
 
 at_spot : (p q : Spot) (bs : List ℕ) (ts : List Term) → p ≡ q → At q.0 q.1 bs ts → At p.0 p.1 bs ts
 at_spot p q bs ts e h = subst (λ (z : Spot). At z.0 z.1 bs ts) (sym e) h
 
 AfterBack : ℕ → List ℕ → List Term → Type 0
-AfterBack b bs ts = (after : List ℕ) × (rest : List ℕ) × (b ∷ bs ≡ after ++ rest) × Each is_blank after × AreMore rest ts
+AfterBack b bs ts =
+    (after : List ℕ) × (rest : List ℕ) × (b ∷ bs ≡ after ++ rest) × Each is_blank after × AreMore rest ts
 
-after_back : (s : Bool) (b : ℕ) (bs : List ℕ) (ts : List Term) (q : Spot) → after_step s b ≡ Some q → At q.0 q.1 bs ts → AfterBack b bs ts
+after_back : (s : Bool) (b : ℕ) (bs : List ℕ) (ts : List Term) (q : Spot) → after_step s b ≡ Some q → At q.0 q.1 bs ts
+    → AfterBack b bs ts
 unfolding AfterBack
 after_back s b bs ts q e h = elim (bool_cases (is_blank b)) [
   | inl k ↦ blank k (spot_is (AfterName, s) q (rw k at e))
@@ -57,7 +63,8 @@ after_back s b bs ts q e h = elim (bool_cases (is_blank b)) [
     minus : b ≡ 45 → (BeforeName, false) ≡ q → AfterBack b bs ts
     minus k m = ([], b ∷ bs, refl, tt, subst (λ z. AreMore (z ∷ bs) ts) (sym k) (signed false bs ts (at_spot (BeforeName, false) q bs ts m h)))
 
-pub back : (p : Stage) (s : Bool) (b : ℕ) (bs : List ℕ) (ts : List Term) (q : Spot) → step p s b ≡ Some q → At q.0 q.1 bs ts
+pub back : (p : Stage) (s : Bool) (b : ℕ) (bs : List ℕ) (ts : List Term) (q : Spot) → step p s b ≡ Some q
+    → At q.0 q.1 bs ts
     → At p s (b ∷ bs) (begun p s b bs ++ ts)
 unfolding AfterBack
 back AfterName s b bs ts q e h = after_back s b bs ts q e h
@@ -124,7 +131,8 @@ unfoldable pub run_all : Stage → Bool → List ℕ → Option Spot
 run_all p s [] = Some (p, s)
 run_all p s (b ∷ bs) = option_and_then (λ (q : Spot). run_all q.0 q.1 bs) (step p s b)
 
-pub front_runs : (p : Stage) (s : Bool) (bs more : List ℕ) (ts : List Term) → At p s (bs ++ more) ts → (q : Spot) × (run_all p s bs ≡ Some q)
+pub front_runs : (p : Stage) (s : Bool) (bs more : List ℕ) (ts : List Term) → At p s (bs ++ more) ts
+    → (q : Spot) × (run_all p s bs ≡ Some q)
 unfolding run_all
 front_runs p s [] more ts h = ((p, s), refl)
 front_runs p s (b ∷ bs) more ts h =
@@ -135,9 +143,11 @@ front_runs p s (b ∷ bs) more ts h =
 -- the shortest name
 one_name : IsSpaced (97 ∷ []) (97 ∷ [])
 unfolding is_name_byte is_word_byte
-one_name = record { before = []; after = []; spelled = refl; blanks_before = tt; blanks_after = tt; named = (refl, tt); some = omega arith }
+one_name =
+    record { before = []; after = []; spelled = refl; blanks_before = tt; blanks_after = tt; named = (refl, tt); some = omega arith }
 
-pub runs_front : (p : Stage) (s : Bool) (bs : List ℕ) (q : Spot) → run_all p s bs ≡ Some q → (more : List ℕ) × (ts : List Term)
+pub runs_front : (p : Stage) (s : Bool) (bs : List ℕ) (q : Spot) → run_all p s bs ≡ Some q
+    → (more : List ℕ) × (ts : List Term)
     × At p s (bs ++ more) ts
 unfolding run_all
 runs_front BeforeName s [] q e = (
@@ -150,7 +160,8 @@ runs_front AfterName s [] q e = ([], [], ([], [], refl, tt, refl))
 runs_front p s (b ∷ bs) q e = by_step (λ r m. runs_front r.0 r.1 bs q m) (step p s b) refl e
   where
     by_step : ((r : Spot) → run_all r.0 r.1 bs ≡ Some q → (more : List ℕ) × (ts : List Term) × At r.0 r.1 (bs ++ more) ts)
-        → (o : Option Spot) → step p s b ≡ o → option_and_then (λ (q : Spot). run_all q.0 q.1 bs) o ≡ Some q → (more : List ℕ) × (ts : List Term)
+        → (o : Option Spot) → step p s b ≡ o → option_and_then (λ (q : Spot). run_all q.0 q.1 bs) o ≡ Some q
+        → (more : List ℕ) × (ts : List Term)
         × At p s (b ∷ bs ++ more) ts
     by_step again None k m = cc
     by_step again (Some r) k m = let f = again r m in (f.0, begun p s b (bs ++ f.0) ++ f.1, back p s b (bs ++ f.0) f.1 r k f.2)
@@ -161,19 +172,22 @@ abbrev pub meant : Lookup → (Attr → Bool) → List Term → Attr → Bool
 meant look acc [] = acc
 meant look acc (t ∷ ts) = meant look (apply t.adds (look t.name) acc) ts
 
-known_all : (look : Lookup) (acc known : Attr → Bool) (gs ts : List Term) → taken look acc gs ≡ Some known → AllKnown look ts
+known_all : (look : Lookup) (acc known : Attr → Bool) (gs ts : List Term) → taken look acc gs ≡ Some known
+    → AllKnown look ts
     → AllKnown look (gs ++ ts) × (meant look acc (gs ++ ts) ≡ meant look known ts)
 known_all look acc known [] ts e h = (h, ap (λ z. meant look z ts) (let k : acc ≡ known = cc in k))
 known_all look acc known (g ∷ gs) ts e h = by_name (λ a e. known_all look a known gs ts e h) (look g.name) refl e
   where
     by_name : ((a : Attr → Bool) → taken look a gs ≡ Some known → AllKnown look (gs ++ ts) × (meant look a (gs ++ ts) ≡ meant look known ts))
-        → (o : Option (Attr → Bool)) → look g.name ≡ o → option_and_then (λ set. taken look (apply g.adds (Some set) acc) gs) o ≡ Some known
+        → (o : Option (Attr → Bool)) → look g.name ≡ o
+        → option_and_then (λ set. taken look (apply g.adds (Some set) acc) gs) o ≡ Some known
         → (IsSome (look g.name) × AllKnown look (gs ++ ts)) × (meant look (apply g.adds (look g.name) acc) (gs ++ ts) ≡ meant look known ts)
     by_name again None k m = cc
     by_name again (Some set) k m = let r = again (apply g.adds (Some set) acc) m in ((rw k refl, r.0), rw k r.1)
 
 -- what the walk answers is the meaning of an expression
-pub walked : (look : Lookup) (acc : Attr → Bool) (p : Stage) (s : Bool) (i : ℕ) (bs : List ℕ) (m : Attr → Bool) → walk look acc p s i bs ≡ Ok m
+pub walked : (look : Lookup) (acc : Attr → Bool) (p : Stage) (s : Bool) (i : ℕ) (bs : List ℕ) (m : Attr → Bool)
+    → walk look acc p s i bs ≡ Ok m
     → (ts : List Term) × At p s bs ts × AllKnown look ts × (m ≡ meant look acc ts)
 unfolding walk
 walked look acc BeforeName s i [] m e = cc
@@ -185,7 +199,8 @@ walked look acc p s i (b ∷ bs) m e =
     by_byte : ((q : Spot) (known : Attr → Bool) → walk look known q.0 q.1 (i + 1) bs ≡ Ok m → (ts : List Term) × At q.0 q.1 bs ts × AllKnown look ts
         × (m ≡ meant look known ts))
         → (o : Option Spot) → step p s b ≡ o → (k : Option (Attr → Bool)) → taken look acc (begun p s b bs) ≡ k
-        → after_byte o k i (λ q known. walk look known q.0 q.1 (i + 1) bs) ≡ Ok m → (ts : List Term) × At p s (b ∷ bs) ts × AllKnown look ts
+        → after_byte o k i (λ q known. walk look known q.0 q.1 (i + 1) bs) ≡ Ok m
+        → (ts : List Term) × At p s (b ∷ bs) ts × AllKnown look ts
         × (m ≡ meant look acc ts)
     by_byte again None x k y e = cc
     by_byte again (Some q) x None y e = cc
@@ -196,7 +211,8 @@ walked look acc p s i (b ∷ bs) m e =
 
 -- ---- the last term that has the attribute decides
 
-apply_at : (adds : Bool) (o : Option (Attr → Bool)) (acc : Attr → Bool) (a : Attr) → apply adds o acc a ≡ cond (set_has o a) adds (acc a)
+apply_at : (adds : Bool) (o : Option (Attr → Bool)) (acc : Attr → Bool) (a : Attr)
+    → apply adds o acc a ≡ cond (set_has o a) adds (acc a)
 apply_at adds None acc a = refl
 apply_at true (Some set) acc a = cases (acc a) (set a)
   where
@@ -213,19 +229,24 @@ apply_at false (Some set) acc a = cases (acc a) (set a)
     cases false true = refl
     cases false false = refl
 
-meant_keep : (look : Lookup) (ts : List Term) (acc : Attr → Bool) (a : Attr) → NoneHas look a ts → meant look acc ts a ≡ acc a
+meant_keep : (look : Lookup) (ts : List Term) (acc : Attr → Bool) (a : Attr) → NoneHas look a ts
+    → meant look acc ts a ≡ acc a
 meant_keep look [] acc a h = refl
-meant_keep look (t ∷ ts) acc a h = meant_keep look ts _ a h.1 ∙ apply_at t.adds (look t.name) acc a ∙ ap (λ b. cond b t.adds (acc a)) h.0
+meant_keep look (t ∷ ts) acc a h =
+    meant_keep look ts _ a h.1 ∙ apply_at t.adds (look t.name) acc a ∙ ap (λ b. cond b t.adds (acc a)) h.0
 
-meant_to : (look : Lookup) (ts : List Term) (acc : Attr → Bool) (a : Attr) → (earlier : List Term) (t : Term) (later : List Term)
+meant_to : (look : Lookup) (ts : List Term) (acc : Attr → Bool) (a : Attr)
+    → (earlier : List Term) (t : Term) (later : List Term)
     → ts ≡ earlier ++ t ∷ later
     → t.adds ≡ true → set_has (look t.name) a ≡ true → NoneHas look a later → meant look acc ts a ≡ true
 meant_to look ts acc a [] t later e h k n =
     ap (λ z. meant look acc z a) e ∙ meant_keep look later _ a n ∙ apply_at t.adds (look t.name) acc a ∙ ap (λ b. cond b t.adds (acc a)) k ∙ h
 meant_to look [] acc a (u ∷ earlier) t later e h k n = cc
-meant_to look (v ∷ ts) acc a (u ∷ earlier) t later e h k n = meant_to look ts _ a earlier t later (let f : ts ≡ earlier ++ t ∷ later = cc in f) h k n
+meant_to look (v ∷ ts) acc a (u ∷ earlier) t later e h k n =
+    meant_to look ts _ a earlier t later (let f : ts ≡ earlier ++ t ∷ later = cc in f) h k n
 
-meant_from : (look : Lookup) (ts : List Term) (acc : Attr → Bool) (a : Attr) → meant look acc ts a ≡ true → IsMeant look ts a
+meant_from : (look : Lookup) (ts : List Term) (acc : Attr → Bool) (a : Attr) → meant look acc ts a ≡ true
+    → IsMeant look ts a
     ⊎ ((acc a ≡ true) × NoneHas look a ts)
 meant_from look [] acc a h = inr (h, tt)
 meant_from look (t ∷ ts) acc a h = elim (meant_from look ts (apply t.adds (look t.name) acc) a h) [
@@ -243,7 +264,8 @@ meant_is look ts a = (
 )
 
 -- the answer of a walk that starts at the front
-pub is_meaning : (look : Lookup) (text : List ℕ) (set : AttrSet) → walk look (λ _. false) BeforeName true 0 text ≡ Ok (has set)
+pub is_meaning : (look : Lookup) (text : List ℕ) (set : AttrSet)
+    → walk look (λ _. false) BeforeName true 0 text ≡ Ok (has set)
     → IsMeaning look text set
 is_meaning look text set e =
     let w = walked look (λ _. false) BeforeName true 0 text (has set) e in (
@@ -280,13 +302,15 @@ step_named AfterName s b q e h = named_after s b q e h
 
 -- ---- what the code does at a byte
 
-pub at_none : (look : Lookup) (acc : Attr → Bool) (p : Stage) (s : Bool) (i : ℕ) (bs : List ℕ) → 0 < length bs → step p s (get_or bs 0 0) ≡ None
+pub at_none : (look : Lookup) (acc : Attr → Bool) (p : Stage) (s : Bool) (i : ℕ) (bs : List ℕ) → 0 < length bs
+    → step p s (get_or bs 0 0) ≡ None
     → walk look acc p s i bs ≡ Err (BadExpression i)
 unfolding walk
 at_none look acc p s i [] h k = absurd (omega arith)
 at_none look acc p s i (b ∷ bs) h k = rw k refl
 
-pub at_unknown : (look : Lookup) (acc : Attr → Bool) (p : Stage) (s : Bool) (i : ℕ) (bs : List ℕ) (q : Spot) → 0 < length bs
+pub at_unknown : (look : Lookup) (acc : Attr → Bool) (p : Stage) (s : Bool) (i : ℕ) (bs : List ℕ) (q : Spot)
+    → 0 < length bs
     → step p s (get_or bs 0 0) ≡ Some q → p ≡ BeforeName → is_name_byte (get_or bs 0 0) ≡ true
     → taken look acc (record { adds = s; name = name_run bs } ∷ []) ≡ None → walk look acc p s i bs ≡ Err (UnknownName i)
 unfolding walk
@@ -296,7 +320,8 @@ at_unknown look acc BeforeName s i (b ∷ bs) q h k w n t =
 at_unknown look acc InName s i (b ∷ bs) q h k w n t = cc
 at_unknown look acc AfterName s i (b ∷ bs) q h k w n t = cc
 
-pub at_named : (look : Lookup) (acc : Attr → Bool) (p : Stage) (s : Bool) (i : ℕ) (bs : List ℕ) (q : Spot) (known : Attr → Bool) → 0 < length bs
+pub at_named : (look : Lookup) (acc : Attr → Bool) (p : Stage) (s : Bool) (i : ℕ) (bs : List ℕ) (q : Spot) (known : Attr → Bool)
+    → 0 < length bs
     → step p s (get_or bs 0 0) ≡ Some q → p ≡ BeforeName → is_name_byte (get_or bs 0 0) ≡ true
     → taken look acc (record { adds = s; name = name_run bs } ∷ []) ≡ Some known
     → walk look acc p s i bs ≡ walk look known q.0 q.1 (i + 1) (drop 1 bs)
@@ -307,7 +332,8 @@ at_named look acc BeforeName s i (b ∷ bs) q known h k w n t =
 at_named look acc InName s i (b ∷ bs) q known h k w n t = cc
 at_named look acc AfterName s i (b ∷ bs) q known h k w n t = cc
 
-pub at_plain : (look : Lookup) (acc : Attr → Bool) (p : Stage) (s : Bool) (i : ℕ) (bs : List ℕ) (q : Spot) → 0 < length bs
+pub at_plain : (look : Lookup) (acc : Attr → Bool) (p : Stage) (s : Bool) (i : ℕ) (bs : List ℕ) (q : Spot)
+    → 0 < length bs
     → step p s (get_or bs 0 0) ≡ Some q → (p ≡ BeforeName → is_name_byte (get_or bs 0 0) ≡ false)
     → walk look acc p s i bs ≡ walk look acc q.0 q.1 (i + 1) (drop 1 bs)
 unfolding walk
@@ -316,17 +342,21 @@ at_plain look acc BeforeName s i (b ∷ bs) q h k n = rw (k, n refl) refl
 at_plain look acc InName s i (b ∷ bs) q h k n = rw k refl
 at_plain look acc AfterName s i (b ∷ bs) q h k n = rw k refl
 
-pub at_front : (look : Lookup) (acc : Attr → Bool) (p : Stage) (s : Bool) (i : ℕ) → walk look acc p s i [] ≡ finish p acc i
+pub at_front : (look : Lookup) (acc : Attr → Bool) (p : Stage) (s : Bool) (i : ℕ)
+    → walk look acc p s i [] ≡ finish p acc i
 unfolding walk
 at_front look acc p s i = refl
 
 -- the end of the text
-pub ends_wanting_more : (look : Lookup) (acc : Attr → Bool) (p : Stage) (s : Bool) (text : List ℕ) (i : ℕ) → length text ≤ i → i ≤ length text
+pub ends_wanting_more : (look : Lookup) (acc : Attr → Bool) (p : Stage) (s : Bool) (text : List ℕ) (i : ℕ)
+    → length text ≤ i → i ≤ length text
     → p ≡ BeforeName → walk look acc p s i (drop i text) ≡ Err (BadExpression (length text))
 unfolding walk
-ends_wanting_more look acc p s text i h k w = rw (drop_all i text h, w) (let e : i ≡ length text = omega arith in ap (λ z. Err (BadExpression z)) e)
+ends_wanting_more look acc p s text i h k w =
+    rw (drop_all i text h, w) (let e : i ≡ length text = omega arith in ap (λ z. Err (BadExpression z)) e)
 
-pub ends_well : (look : Lookup) (acc : Attr → Bool) (p : Stage) (s : Bool) (text : List ℕ) (i : ℕ) → length text ≤ i → (p ≡ BeforeName → ⊥)
+pub ends_well : (look : Lookup) (acc : Attr → Bool) (p : Stage) (s : Bool) (text : List ℕ) (i : ℕ) → length text ≤ i
+    → (p ≡ BeforeName → ⊥)
     → walk look acc p s i (drop i text) ≡ Ok acc
 unfolding walk
 ends_well look acc p s text i h w = rw (drop_all i text h) (finished p w)

@@ -1,5 +1,6 @@
 -- The table of attributes: everything that depends on it in the definitions stands here.
-use Rattle.std.specs.Prelude.{ℕ, List, length, ◌==◌, if◌then◌else◌, codes, find, filter, nat_eq, Option, Some, None}
+use Rattle.std.specs.Prelude.{ℕ, List, length, ◌==◌, if◌then◌else◌, codes, find, filter, nat_eq}
+use Rattle.std.specs.Prelude.{Option, Some, None}
 use Rattle.std.specs.Cmp.Lexicographic.{pointwise}
 use Rattle.aide_attr.specs.Byte.{letter}
 use Rattle.aide_attr.specs.declared.attr.Attr.{Attr}
@@ -8,8 +9,8 @@ use Rattle.aide_attr.specs.declared.attr.TheConstants.Attr.{ALL}
 use Rattle.aide_attr.specs.declared.form.Form.{Form}
 use Rattle.aide_attr.specs.declared.form.Form.TheVariants.{Kind, Mode, Number, Time, Link, Digest, Opaque}
 
--- a line of the table: the number in the order from 0, the names in configurations, in details and of the column, the bit of the
--- column `attr` where there is one, the letter of the place in a summary string, and how the column writes the value
+-- a line of the table: the number in the order from 0, the names in configurations, in details and of the column, the
+-- bit of the column `attr` where there is one, the letter of the place in a summary string, and how values are written
 pub record Row : Type 0 where
   pub number : ℕ
   pub name : List ℕ
@@ -68,7 +69,8 @@ row_of attr.Sha3Of512 = digest 27 (codes "sha3_512") (codes "SHA3-512") 64 64
 row_of attr.Acl = row 28 (codes "acl") (codes "ACL") (codes "acl") None (codes "A") Opaque
 row_of attr.Xattrs = row 29 (codes "xattrs") (codes "XAttrs") (codes "xattrs") None (codes "X") Opaque
 row_of attr.Selinux = row 30 (codes "selinux") (codes "SELinux") (codes "selinux") None (codes "S") Opaque
-row_of attr.E2fsattrs = row 31 (codes "e2fsattrs") (codes "E2FSAttrs") (codes "e2fsattrs") None (codes "E") Opaque
+row_of attr.E2fsattrs =
+    row 31 (codes "e2fsattrs") (codes "E2FSAttrs") (codes "e2fsattrs") None (codes "E") Opaque
 row_of attr.Caps = row 32 (codes "caps") (codes "Caps") (codes "capabilities") None (codes "C") Opaque
 
 -- the columns of the table: the number in the order

@@ -17,7 +17,8 @@ is_blank b = (b == letter (codes " ")) || (b == letter (codes "\t"))
 -- an ASCII letter, a digit or `_`
 unfoldable pub is_word_byte : ℕ → Bool
 is_word_byte b =
-    is_between (codes "A") (codes "Z") b || is_between (codes "a") (codes "z") b || is_between (codes "0") (codes "9") b
+    is_between (codes "A") (codes "Z") b || is_between (codes "a") (codes "z") b
+    || is_between (codes "0") (codes "9") b
     || (b == letter (codes "_"))
 
 -- such a byte or `>`, as names in expressions have them

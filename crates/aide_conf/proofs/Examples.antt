@@ -8,10 +8,15 @@ use Rattle.aide_attr.specs.Level.{level_named}
 use Rattle.aide_attr.specs.Name.{is_group_name, is_word, is_word_byte, is_empty_name}
 use Rattle.aide_conf.specs.declared.task.Need.TheVariants.{Compare, Check}
 use Rattle.aide_conf.specs.declared.fault.ConfText.TheVariants.{File, After}
-use Rattle.aide_conf.specs.declared.fault.ConfFaultKind.TheVariants.{BadDirective, LeftOut, StrayElse, StrayEndif, MissingEndif, TooDeep, BadName, BadValue, BadUrl, BadLine, UnknownAttribute, NoOldDatabase, NoNewDatabase}
+use Rattle.aide_conf.specs.declared.fault.ConfFaultKind.TheVariants.{BadDirective, LeftOut, StrayElse, StrayEndif}
+use Rattle.aide_conf.specs.declared.fault.ConfFaultKind.TheVariants.{MissingEndif, TooDeep, BadName, BadValue, BadUrl}
+use Rattle.aide_conf.specs.declared.fault.ConfFaultKind.TheVariants.{BadLine, UnknownAttribute, NoOldDatabase}
+use Rattle.aide_conf.specs.declared.fault.ConfFaultKind.TheVariants.{NoNewDatabase}
 use Rattle.aide_conf.specs.declared.setting.Switch.TheVariants.{Quiet}
 use Rattle.aide_conf.specs.Lines.{Place, is_blank, strip, lines_of, places}
-use Rattle.aide_conf.specs.Reading.{Reading, Nothing, Faulty, SetsLevel, DefinesGroup, DefinesVariable, OpensBlock, kept_reading, value_reading, is_selection, is_directive, is_omitted, main_setting, is_accepted, is_older, setting_named, bool_named, is_left_out, path_after, path_of}
+use Rattle.aide_conf.specs.Reading.{Reading, Nothing, Faulty, SetsLevel, DefinesGroup, DefinesVariable, OpensBlock}
+use Rattle.aide_conf.specs.Reading.{kept_reading, value_reading, is_selection, is_directive, is_omitted, main_setting}
+use Rattle.aide_conf.specs.Reading.{is_accepted, is_older, setting_named, bool_named, is_left_out, path_after, path_of}
 use Rattle.aide_conf.specs.Directive.{reading, item_of, item_by, if_item}
 use Rattle.aide_conf.specs.Marks.{Marked, says, last_given, fault_at, missing, variable}
 use Rattle.aide_conf.specs.Settings.{counted, level_in, switch_in}
@@ -79,7 +84,8 @@ empty_older = refl
 
 -- a used line, with no expression
 at : List ℕ → Marked
-at bytes = record { place = record { text = File; number = 1; line = Some bytes }; used = true; depth = 0; divided = false; first = false; expanded = bytes; verdict = None }
+at bytes =
+    record { place = record { text = File; number = 1; line = Some bytes }; used = true; depth = 0; divided = false; first = false; expanded = bytes; verdict = None }
 
 -- of three lines the last level before `report_url=stdout` counts
 last_level : last_given level_in (counted (at (codes "report_level=minimal") ∷ at (codes "report_url=stdout") ∷ at (codes "report_level=summary") ∷ [])) ≡ Some Minimal
@@ -97,7 +103,8 @@ unfolding at fault_at says reading item_of kept_reading value_reading is_selecti
 unknown_attribute = refl
 
 end_of_after : Marked
-end_of_after = record { place = record { text = After; number = 1; line = None }; used = true; depth = 0; divided = false; first = false; expanded = []; verdict = None }
+end_of_after =
+    record { place = record { text = After; number = 1; line = None }; used = true; depth = 0; divided = false; first = false; expanded = []; verdict = None }
 
 no_old : fault_at Compare [] end_of_after ≡ Some NoOldDatabase
 unfolding end_of_after fault_at last_given says

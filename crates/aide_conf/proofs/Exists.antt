@@ -1,5 +1,6 @@
 -- Every configuration has an answer.
-use Rattle.std.proofs.Common.{ℕ, ◌≡◌, Bool, true, false, List, [], ◌∷◌, ◌++◌, refl, sym, ap, subst, ◌∙◌, Option, Some, None, Result, Ok, Err, inl, inr, ◌⊎◌, append_assoc}
+use Rattle.std.proofs.Common.{ℕ, ◌≡◌, Bool, true, false, List, [], ◌∷◌, ◌++◌, refl, sym, ap, subst, ◌∙◌, Option, Some}
+use Rattle.std.proofs.Common.{None, Result, Ok, Err, inl, inr, ◌⊎◌, append_assoc}
 use Rattle.std.specs.Prelude.{map, unwrap_or, if◌then◌else◌}
 use Rattle.aide_attr.specs.declared.attr.Attr.{Attr}
 use Rattle.aide_attr.specs.declared.set.AttrSet.{AttrSet}
@@ -24,8 +25,10 @@ use Rattle.aide_conf.specs.declared.blocks.Frame.{Frame}
 use Rattle.aide_conf.specs.Lines.{Place, places}
 use Rattle.aide_conf.specs.Blocks.{nothing}
 use Rattle.aide_conf.specs.code.Stack.{IsOpen}
-use Rattle.aide_conf.specs.Marks.{Marked, AreSound, IsMarkedWell, IsJudgedWell, fault_at, is_text, last_given, path_set, seen, seen_in}
-use Rattle.aide_conf.specs.Settings.{AreOptions, AreSettings, Configured, attrs_in, attrs_of, counted, has_any, level_in, switch_default, switch_in, switch_of}
+use Rattle.aide_conf.specs.Marks.{Marked, AreSound, IsMarkedWell, IsJudgedWell, fault_at, is_text, last_given, path_set}
+use Rattle.aide_conf.specs.Marks.{seen, seen_in}
+use Rattle.aide_conf.specs.Settings.{AreOptions, AreSettings, Configured, attrs_in, attrs_of, counted, has_any}
+use Rattle.aide_conf.specs.Settings.{level_in, switch_default, switch_in, switch_of}
 use Rattle.aide_conf.specs.Answer.{ReadsAs}
 use Rattle.aide_conf.proofs.Cuts.{append_nothing}
 use Rattle.aide_conf.proofs.PlaceTaken.{ends_somehow, goes_on}
@@ -37,11 +40,13 @@ abbrev Look : Type 0
 Look = List ℕ → Option (Attr → Bool)
 
 -- a text means a set, or has a fault: by the answer of a program that gives one of them
-judged_by : {r : Result (Attr → Bool) ExprFault} (look : Look) (text : List ℕ) → ((s : AttrSet) → r ≡ Ok (has s) → IsMeaning look text s) → ((e : ExprFault) → r ≡ Err e → IsFault look text e)
+judged_by : {r : Result (Attr → Bool) ExprFault} (look : Look) (text : List ℕ)
+    → ((s : AttrSet) → r ≡ Ok (has s) → IsMeaning look text s) → ((e : ExprFault) → r ≡ Err e → IsFault look text e)
     → (v : Result AttrSet ExprFault) × IsJudgedWell look (Some text) (Some v)
 judged_by {r} look text means fails = by_answer r refl
   where
-    by_answer : (q : Result (Attr → Bool) ExprFault) → r ≡ q → (v : Result AttrSet ExprFault) × IsJudgedWell look (Some text) (Some v)
+    by_answer : (q : Result (Attr → Bool) ExprFault) → r ≡ q
+        → (v : Result AttrSet ExprFault) × IsJudgedWell look (Some text) (Some v)
     by_answer (Ok f) e = (Ok (set_of f), means (set_of f) (e ∙ ap Ok (sym (has_set_of f))))
     by_answer (Err fault) e = (Err fault, fails fault e)
 
@@ -69,7 +74,8 @@ same_text File After e = cc
 same_text After Before e = cc
 same_text After File e = cc
 
-unseen : (text : ConfText) (xs : List Marked) (x : Marked) → is_text text x.place.text ≡ false → seen_in text (xs ++ x ∷ []) ≡ seen_in text xs
+unseen : (text : ConfText) (xs : List Marked) (x : Marked) → is_text text x.place.text ≡ false
+    → seen_in text (xs ++ x ∷ []) ≡ seen_in text xs
 unseen text [] x e = ap (λ z. if z then seen x ∷ [] else []) e
 unseen text (y ∷ ys) x e = by (is_text text y.place.text) (unseen text ys x e)
   where
@@ -78,7 +84,8 @@ unseen text (y ∷ ys) x e = by (is_text text y.place.text) (unseen text ys x e)
     by true h = ap (λ z. seen y ∷ z) h
     by false h = h
 
-open_after : (earlier : List Marked) (x : Marked) → AllOpen earlier → (gs : List Frame) → IsOpen (seen_in x.place.text (earlier ++ x ∷ [])) gs → AllOpen (earlier ++ x ∷ [])
+open_after : (earlier : List Marked) (x : Marked) → AllOpen earlier → (gs : List Frame)
+    → IsOpen (seen_in x.place.text (earlier ++ x ∷ [])) gs → AllOpen (earlier ++ x ∷ [])
 open_after earlier x all gs o text = by (is_text text x.place.text) refl
   where
     by : (b : Bool) → is_text text x.place.text ≡ b → (fs : List Frame) × IsOpen (seen_in text (earlier ++ x ∷ [])) fs
@@ -98,7 +105,8 @@ marked need earlier at all = let h = all at.text in by at.line refl h.0 h.1
     at_place : (line : Option (List ℕ)) → at.line ≡ line → record { text = at.text; number = at.number; line = line } ≡ at
     at_place line e = ap (λ z. record at { line = z }) (sym e)
 
-    by : (line : Option (List ℕ)) → at.line ≡ line → (fs : List Frame) → IsOpen (seen_in at.text earlier) fs → HasMark need earlier at
+    by : (line : Option (List ℕ)) → at.line ≡ line → (fs : List Frame) → IsOpen (seen_in at.text earlier) fs
+        → HasMark need earlier at
     by None e fs o = let r = ends_somehow need earlier at.text at.number fs o in
         record { mark = r.0; place = r.1 ∙ at_place None e; well = r.2; goes_on = r.3 }
     by (Some line) e fs o = let r = goes_on need earlier at.text at.number line fs o (judged _ _) in
@@ -116,7 +124,8 @@ record HasStop (need : Need) (earlier : List Marked) (ps : List Place) : Type 0 
   fault : fault_at need (earlier ++ lines) at ≡ Some kind
 
 abbrev Walked : Need → List Marked → List Place → Type 0
-Walked need earlier ps = ((xs : List Marked) × (map (λ x. x.place) xs ≡ ps) × AreSound need earlier xs) ⊎ HasStop need earlier ps
+Walked need earlier ps =
+    ((xs : List Marked) × (map (λ x. x.place) xs ≡ ps) × AreSound need earlier xs) ⊎ HasStop need earlier ps
 
 walked : (need : Need) (earlier : List Marked) (ps : List Place) → AllOpen earlier → Walked need earlier ps
 walked need earlier [] all = inl ([], refl, tt)
@@ -138,7 +147,8 @@ walked need earlier (p ∷ ps) all = by (λ xs o. walked need xs ps o) (fault_at
       fault = subst (λ z. fault_at need z h.at ≡ Some h.kind) (append_assoc earlier (m.mark ∷ []) h.lines) h.fault;
     })
 
-    by : ((xs : List Marked) → AllOpen xs → Walked need xs ps) → (o : Option ConfFaultKind) → fault_at need earlier m.mark ≡ o → Walked need earlier (p ∷ ps)
+    by : ((xs : List Marked) → AllOpen xs → Walked need xs ps) → (o : Option ConfFaultKind)
+        → fault_at need earlier m.mark ≡ o → Walked need earlier (p ∷ ps)
     by again None e =
         let g = m.goes_on e in
         let o = subst (λ (z : Place). IsOpen (seen_in z.text (earlier ++ m.mark ∷ [])) g.0) (sym m.place) g.1 in
@@ -159,7 +169,8 @@ walked need earlier (p ∷ ps) all = by (λ xs o. walked need xs ps o) (fault_at
 list_of : AttrList → List Marked → AttrSet
 list_of l xs = set_of (has_any (last_given (attrs_in l) xs))
 
-has_list_of : (l : AttrList) (xs : List Marked) (a : Attr) → has (list_of l xs) a ≡ has_any (last_given (attrs_in l) xs) a
+has_list_of : (l : AttrList) (xs : List Marked) (a : Attr)
+    → has (list_of l xs) a ≡ has_any (last_given (attrs_in l) xs) a
 unfolding list_of
 has_list_of l xs a = ap (λ f. f a) (has_set_of (has_any (last_given (attrs_in l) xs)))
 
@@ -199,10 +210,12 @@ are_settings xs = record { options = are_options (counted xs); old_path = refl; 
 
 -- ---- the answer
 
-pub reads_somehow : (need : Need) (before file after : List ℕ) → (r : Result Configured ConfFault) × ReadsAs need before file after r
+pub reads_somehow : (need : Need) (before file after : List ℕ)
+    → (r : Result Configured ConfFault) × ReadsAs need before file after r
 reads_somehow need before file after = by (walked need [] (places before file after) (λ text. ([], nothing)))
   where
-    by : Walked need [] (places before file after) → (r : Result Configured ConfFault) × ReadsAs need before file after r
+    by : Walked need [] (places before file after)
+        → (r : Result Configured ConfFault) × ReadsAs need before file after r
     by (inl h) = (Ok (settings_at h.0), record { lines = h.0; all = h.1; sound = h.2; settings = are_settings h.0 })
     by (inr h) = (
       Err (record { text = h.at.place.text; line = h.at.place.number; kind = h.kind }),

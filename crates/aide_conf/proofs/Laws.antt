@@ -1,11 +1,13 @@
 -- Laws of the definitions of a configuration.
-use Rattle.std.proofs.Common.{ℕ, ◌≡◌, ◌<◌, suc, zero, true, false, List, [], ◌∷◌, ◌++◌, length, refl, sym, ap, subst, ◌∙◌, arith, Result, Ok, Err, inl, inr, ◌⊎◌, append_assoc}
+use Rattle.std.proofs.Common.{ℕ, ◌≡◌, ◌<◌, suc, zero, true, false, List, [], ◌∷◌, ◌++◌, length, refl, sym, ap, subst}
+use Rattle.std.proofs.Common.{◌∙◌, arith, Result, Ok, Err, inl, inr, ◌⊎◌, append_assoc}
 use Rattle.std.proofs.lemmas.List.{length-append, append-nil}
 use Rattle.std.specs.Prelude.{IsSome}
 use Rattle.aide_conf.specs.declared.task.Need.{Need}
 use Rattle.aide_conf.specs.declared.task.Need.TheVariants.{Compare}
 use Rattle.aide_conf.specs.declared.fault.ConfFault.{ConfFault}
-use Rattle.aide_conf.specs.Blocks.{Seen, opens, closes, Inside, IsClosed, IsInnermost, AreEnclosing, Encloses, AreSoMany}
+use Rattle.aide_conf.specs.Blocks.{Seen, opens, closes, Inside, IsClosed, IsInnermost, AreEnclosing, Encloses}
+use Rattle.aide_conf.specs.Blocks.{AreSoMany}
 use Rattle.aide_conf.specs.Settings.{Configured}
 use Rattle.aide_conf.specs.Answer.{ReadsAs}
 use Rattle.aide_conf.proofs.BlockLemmas.{cut_at, opening, IsClosed-more, Settled, Settled-body}
@@ -14,16 +16,19 @@ use Rattle.aide_conf.proofs.Exists.{reads_somehow}
 use Rattle.aide_conf.proofs.Named.{both_named}
 
 -- Every three texts, for either need, read as settings or have a first fault.
-pub every_configuration_has_an_answer : (need : Need) (before file after : List ℕ) → (r : Result Configured ConfFault) × ReadsAs need before file after r
+pub every_configuration_has_an_answer : (need : Need) (before file after : List ℕ)
+    → (r : Result Configured ConfFault) × ReadsAs need before file after r
 every_configuration_has_an_answer = reads_somehow
 
 -- They have only one answer.
-pub no_configuration_has_two_answers : (need : Need) (before file after : List ℕ) (r s : Result Configured ConfFault) → ReadsAs need before file after r → ReadsAs need before file after s → s ≡ r
+pub no_configuration_has_two_answers : (need : Need) (before file after : List ℕ) (r s : Result Configured ConfFault)
+    → ReadsAs need before file after r → ReadsAs need before file after s → s ≡ r
 no_configuration_has_two_answers need before file after (Ok c) s h i = only_settings need before file after c h s i
 no_configuration_has_two_answers need before file after (Err e) s h i = only_first_fault need before file after e h s i
 
 -- Those that are read to be compared name both databases.
-pub what_is_compared_is_named : (before file after : List ℕ) (c : Configured) → ReadsAs Compare before file after (Ok c) → IsSome c.old_path × IsSome c.new_path
+pub what_is_compared_is_named : (before file after : List ℕ) (c : Configured) → ReadsAs Compare before file after (Ok c)
+    → IsSome c.old_path × IsSome c.new_path
 what_is_compared_is_named = both_named
 
 -- ---- a depth is the number of lines that enclose a line
@@ -33,7 +38,8 @@ Settled-inside w (inl h) = Settled-body false w h
 Settled-inside w (inr h) = Settled-body true w h
 
 -- an opening line that is not closed before another such line is not closed behind it
-still_open : (o : Seen) (rest between : List Seen) → opens o.shape ≡ true → ¬ IsClosed rest → ¬ IsClosed between → ¬ IsClosed (rest ++ o ∷ between)
+still_open : (o : Seen) (rest between : List Seen) → opens o.shape ≡ true → ¬ IsClosed rest → ¬ IsClosed between
+    → ¬ IsClosed (rest ++ o ∷ between)
 still_open o rest between t no_rest no_between h = elim (cut_at rest (o ∷ between) h.0 h.2 h.1 h.3) [
   | inl p ↦ no_rest (h.0, h.1, p.0, p.1, h.4, h.5)
   | inr p ↦ within p.0 p.1 p.2
@@ -84,7 +90,8 @@ module _ (here outer : List Seen) (o : Seen) (between : List Seen) (inner : IsIn
 
 -- The depth that a line is marked with is the number of all lines that enclose it.
 pub a_depth_counts_the_enclosing_lines : (n : ℕ) (here : List Seen) → AreEnclosing n here → AreSoMany n here
-a_depth_counts_the_enclosing_lines zero here h = ([], refl, tt, λ i. ((λ e. e.6 (h e.0 e.1 e.2 e.3 e.5)), (λ e. absurd e)))
+a_depth_counts_the_enclosing_lines zero here h =
+    ([], refl, tt, λ i. ((λ e. e.6 (h e.0 e.1 e.2 e.3 e.5)), (λ e. absurd e)))
 a_depth_counts_the_enclosing_lines (suc n) here h =
     let r = a_depth_counts_the_enclosing_lines n h.0 h.4 in (
       length h.0 ∷ r.0,

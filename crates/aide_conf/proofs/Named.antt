@@ -1,5 +1,6 @@
 -- What is read to be compared names both databases.
-use Rattle.std.proofs.Common.{ℕ, ◌≡◌, ◌+◌, Bool, true, false, List, [], ◌∷◌, ◌++◌, Option, Some, None, Ok, refl, sym, ap, subst, append_assoc}
+use Rattle.std.proofs.Common.{ℕ, ◌≡◌, ◌+◌, Bool, true, false, List, [], ◌∷◌, ◌++◌, Option, Some, None, Ok, refl, sym}
+use Rattle.std.proofs.Common.{ap, subst, append_assoc}
 use Rattle.std.specs.Prelude.{map, is_none, IsSome}
 use Rattle.std.specs.Option.{option_or}
 use Rattle.aide_conf.specs.declared.fault.ConfFaultKind.{ConfFaultKind}
@@ -9,7 +10,8 @@ use Rattle.aide_conf.specs.declared.setting.Database.TheVariants.{Old, New}
 use Rattle.aide_conf.specs.declared.task.Need.TheVariants.{Compare}
 use Rattle.aide_conf.specs.Answer.{ReadsAs}
 use Rattle.aide_conf.specs.Lines.{Place, places_from, places_of, lines_of}
-use Rattle.aide_conf.specs.Marks.{Marked, AreSound, end_fault, fault_at, line_says, missing, path_by, path_in, path_set, place_fault, says}
+use Rattle.aide_conf.specs.Marks.{Marked, AreSound, end_fault, fault_at, line_says, missing, path_by, path_in, path_set}
+use Rattle.aide_conf.specs.Marks.{place_fault, says}
 use Rattle.aide_conf.specs.Settings.{Configured}
 use Rattle.aide_conf.proofs.Steps.{last_given-silent}
 
@@ -34,7 +36,8 @@ no_later None later e = e
 no_later (Some kind) later e = cc
 
 -- at the end of the last text, where it has no fault
-at_end : (earlier : List Marked) (x : Marked) → x.place.line ≡ None → x.place.text ≡ After → fault_at Compare earlier x ≡ None → AreNamed (earlier ++ x ∷ [])
+at_end : (earlier : List Marked) (x : Marked) → x.place.line ≡ None → x.place.text ≡ After
+    → fault_at Compare earlier x ≡ None → AreNamed (earlier ++ x ∷ [])
 unfolding fault_at says
 at_end earlier x no_line text sound =
     let here : place_fault Compare earlier x None ≡ None = subst (λ (l : Option (List ℕ)). place_fault Compare earlier x l ≡ None) no_line sound in
@@ -45,7 +48,8 @@ at_end earlier x no_line text sound =
     )
 
 -- behind the last text
-behind_last : (ls : List (List ℕ)) (n : ℕ) (earlier lines : List Marked) → places_in lines ≡ places_from After n ls → AreSound Compare earlier lines
+behind_last : (ls : List (List ℕ)) (n : ℕ) (earlier lines : List Marked) → places_in lines ≡ places_from After n ls
+    → AreSound Compare earlier lines
     → AreNamed (earlier ++ lines)
 behind_last [] n earlier [] e sound = cc
 behind_last [] n earlier (x ∷ []) e sound =
@@ -58,7 +62,8 @@ behind_last (l ∷ ls) n earlier (x ∷ lines) e sound =
     subst AreNamed (append_assoc earlier (x ∷ []) lines) (behind_last ls (n + 1) (earlier ++ x ∷ []) lines tail sound.2)
 
 -- behind the last of several texts
-behind_all : (ps : List Place) (ls : List (List ℕ)) (n : ℕ) (earlier lines : List Marked) → places_in lines ≡ ps ++ places_from After n ls → AreSound Compare earlier lines
+behind_all : (ps : List Place) (ls : List (List ℕ)) (n : ℕ) (earlier lines : List Marked)
+    → places_in lines ≡ ps ++ places_from After n ls → AreSound Compare earlier lines
     → AreNamed (earlier ++ lines)
 behind_all [] ls n earlier lines e sound = behind_last ls n earlier lines e sound
 behind_all (p ∷ ps) ls n earlier [] e sound = cc
@@ -66,7 +71,8 @@ behind_all (p ∷ ps) ls n earlier (x ∷ lines) e sound =
     let tail : places_in lines ≡ ps ++ places_from After n ls = cc in
     subst AreNamed (append_assoc earlier (x ∷ []) lines) (behind_all ps ls n (earlier ++ x ∷ []) lines tail sound.2)
 
-pub both_named : (before file after : List ℕ) (c : Configured) → ReadsAs Compare before file after (Ok c) → IsSome c.old_path × IsSome c.new_path
+pub both_named : (before file after : List ℕ) (c : Configured) → ReadsAs Compare before file after (Ok c)
+    → IsSome c.old_path × IsSome c.new_path
 both_named before file after c read =
     let first = places_of Before before in
     let second = places_of File file in

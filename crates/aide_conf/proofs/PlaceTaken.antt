@@ -1,5 +1,6 @@
 -- What is taken at one place, by what its line says and by the blocks that are open before it.
-use Rattle.std.proofs.Common.{ℕ, suc, ◌≡◌, ◌<◌, Bool, true, false, List, [], ◌∷◌, ◌++◌, length, refl, sym, ap, subst, ◌∙◌, arith, Option, Some, None, Result, Ok, Err, inl, inr}
+use Rattle.std.proofs.Common.{ℕ, suc, ◌≡◌, ◌<◌, Bool, true, false, List, [], ◌∷◌, ◌++◌, length, refl, sym, ap, subst}
+use Rattle.std.proofs.Common.{◌∙◌, arith, Option, Some, None, Result, Ok, Err, inl, inr}
 use Rattle.std.specs.Prelude.{if◌then◌else◌, OnOk, ◌||◌, ◌&&◌, not, nat_lt, ◌==◌, nat_eq, is_none, String, drop}
 use Rattle.std.specs.Option.{option_or}
 use Rattle.std.proofs.lemmas.Bool.Decides.{nat_tests}
@@ -11,7 +12,8 @@ use Rattle.aide_conf.specs.declared.task.Need.TheVariants.{Compare}
 use Rattle.aide_conf.specs.declared.fault.ConfText.{ConfText}
 use Rattle.aide_conf.specs.declared.fault.ConfText.TheVariants.{Before, File, After}
 use Rattle.aide_conf.specs.declared.fault.ConfFaultKind.{ConfFaultKind}
-use Rattle.aide_conf.specs.declared.fault.ConfFaultKind.TheVariants.{StrayElse, StrayEndif, MissingEndif, LineTooLong, Memory}
+use Rattle.aide_conf.specs.declared.fault.ConfFaultKind.TheVariants.{StrayElse, StrayEndif, MissingEndif, LineTooLong}
+use Rattle.aide_conf.specs.declared.fault.ConfFaultKind.TheVariants.{Memory}
 use Rattle.aide_conf.specs.declared.setting.Database.TheVariants.{Old, New}
 use Rattle.aide_conf.specs.declared.pass.Pass.{Pass}
 use Rattle.aide_conf.specs.declared.blocks.Frame.{Frame}
@@ -19,15 +21,20 @@ use Rattle.aide_conf.specs.declared.directive.Directive.{Directive}
 use Rattle.aide_conf.specs.declared.directive.Directive.TheVariants as code
 use Rattle.aide_conf.specs.Lines.{strip}
 use Rattle.aide_conf.specs.Reading.{Reading, Nothing, Faulty, is_skipped, is_directive, expanded_reading}
-use Rattle.aide_conf.specs.Directive.{Item, Define, Undef, IfDef, IfNotDef, IfOther, Else, EndIf, Omitted, Unknown, Plain, item_of, directive_item, item_text, item_chooses, item_reading, item_grows, line_grows, shape_of, reading}
+use Rattle.aide_conf.specs.Directive.{Item, Define, Undef, IfDef, IfNotDef, IfOther, Else, EndIf, Omitted, Unknown}
+use Rattle.aide_conf.specs.Directive.{Plain, item_of, directive_item, item_text, item_chooses, item_reading, item_grows}
+use Rattle.aide_conf.specs.Directive.{line_grows, shape_of, reading}
 use Rattle.aide_conf.specs.code.Said.{item}
 use Rattle.aide_conf.specs.Blocks.{Opens, Divides, Closes, Seen, is_single, opens, divides, closes}
 use Rattle.aide_conf.specs.code.Stack.{IsOpen, top_used, top_divided, opened, divided_at, closed_at, frames_after}
 use Rattle.aide_conf.specs.Expansion.{plain}
 use Rattle.aide_conf.specs.code.Replacing.{expansion_after}
-use Rattle.aide_conf.specs.Marks.{Marked, says, stands_after, value, is_defined, seen, seen_in, is_text, Grows, line_fault, fault_at, end_fault, end_block_fault, path_set, missing, IsMarkedWell, IsJudgedWell, expression_in}
+use Rattle.aide_conf.specs.Marks.{Marked, says, stands_after, value, is_defined, seen, seen_in, is_text, Grows}
+use Rattle.aide_conf.specs.Marks.{line_fault, fault_at, end_fault, end_block_fault, path_set, missing, IsMarkedWell}
+use Rattle.aide_conf.specs.Marks.{IsJudgedWell, expression_in}
 use Rattle.aide_conf.specs.code.Pass.{StandsFor, TakesOne, TakesReading, fault_of, place_at, text_at}
-use Rattle.aide_conf.proofs.StackLemmas.{used_right, depth_right, divided_right, single_next, opens_next, divides_next, closes_next}
+use Rattle.aide_conf.proofs.StackLemmas.{used_right, depth_right, divided_right, single_next, opens_next, divides_next}
+use Rattle.aide_conf.proofs.StackLemmas.{closes_next}
 use Rattle.aide_conf.proofs.ExpansionLemmas.{is_expansion}
 use Rattle.aide_conf.proofs.Stands.{stands_silent}
 
@@ -38,7 +45,8 @@ same_text Before = refl
 same_text File = refl
 same_text After = refl
 
-pub seen_in-more : (text : ConfText) (xs : List Marked) (x : Marked) → x.place.text ≡ text → seen_in text (xs ++ x ∷ []) ≡ seen_in text xs ++ seen x ∷ []
+pub seen_in-more : (text : ConfText) (xs : List Marked) (x : Marked) → x.place.text ≡ text
+    → seen_in text (xs ++ x ∷ []) ≡ seen_in text xs ++ seen x ∷ []
 seen_in-more text [] x e = ap (λ z. if z then seen x ∷ [] else []) (ap (is_text text) e ∙ same_text text)
 seen_in-more text (y ∷ ys) x e = by (is_text text y.place.text) (seen_in-more text ys x e)
   where
@@ -56,7 +64,9 @@ abbrev else_fault : Bool → Option ConfFaultKind
 else_fault b = if b then Some StrayElse else None
 
 module _ (here : List Seen) (fs : List Frame) (o : IsOpen here fs) (earlier : List Marked) (defined : List ℕ → Bool) (out : List ℕ) (v : Option (Result AttrSet ExprFault)) where
-  divides_well : (x : Seen) → x.shape ≡ Divides → (gs : List Frame) → IsOpen here gs → (if length gs == 0 || top_divided gs then Some StrayElse else None) ≡ None → IsOpen (here ++ x ∷ []) (divided_at gs)
+  divides_well : (x : Seen) → x.shape ≡ Divides → (gs : List Frame) → IsOpen here gs
+      → (if length gs == 0 || top_divided gs then Some StrayElse else None) ≡ None
+      → IsOpen (here ++ x ∷ []) (divided_at gs)
   divides_well x e [] h f = let bad : Some StrayElse ≡ None = f in cc
   divides_well x e (g ∷ gs) h f = divides_next here g gs x h (ap divides e) (by g.second (sym (ap (λ z. else_fault (z || g.second)) (not_zero (length gs))) ∙ f))
     where
@@ -64,15 +74,19 @@ module _ (here : List Seen) (fs : List Frame) (o : IsOpen here fs) (earlier : Li
       by true k = let bad : Some StrayElse ≡ None = k in cc
       by false k = refl
 
-  closes_well : (x : Seen) → x.shape ≡ Closes → (gs : List Frame) → IsOpen here gs → (if length gs == 0 then Some StrayEndif else None) ≡ None → IsOpen (here ++ x ∷ []) (closed_at gs)
+  closes_well : (x : Seen) → x.shape ≡ Closes → (gs : List Frame) → IsOpen here gs
+      → (if length gs == 0 then Some StrayEndif else None) ≡ None → IsOpen (here ++ x ∷ []) (closed_at gs)
   closes_well x e [] h f = let bad : Some StrayEndif ≡ None = f in cc
   closes_well x e (g ∷ gs) h f = closes_next here g gs x h (ap closes e)
 
-  opens_well : (x : Seen) (first : Bool) → x.shape ≡ Opens → x.used ≡ top_used fs → x.first ≡ first → IsOpen (here ++ x ∷ []) (opened (top_used fs) first fs)
+  opens_well : (x : Seen) (first : Bool) → x.shape ≡ Opens → x.used ≡ top_used fs → x.first ≡ first
+      → IsOpen (here ++ x ∷ []) (opened (top_used fs) first fs)
   opens_well x first e u f = subst (λ z. IsOpen (here ++ x ∷ []) (opened (top_used fs) z fs)) f
       (subst (λ z. IsOpen (here ++ x ∷ []) (opened z x.first fs)) u (opens_next here fs x o (ap opens e) u))
 
-  pub blocks_after : (i : Item) (x : Seen) → x.shape ≡ shape_of i → x.used ≡ top_used fs → x.first ≡ item_chooses defined i → line_fault earlier (length fs) (top_divided fs) (item_reading (top_used fs) i out) v ≡ None
+  pub blocks_after : (i : Item) (x : Seen) → x.shape ≡ shape_of i → x.used ≡ top_used fs
+      → x.first ≡ item_chooses defined i
+      → line_fault earlier (length fs) (top_divided fs) (item_reading (top_used fs) i out) v ≡ None
       → IsOpen (here ++ x ∷ []) (frames_after (shape_of i) (top_used fs) (item_chooses defined i) fs)
   blocks_after (Define n t) x e u f h = single_next here fs x o (ap is_single e)
   blocks_after (Undef n) x e u f h = single_next here fs x o (ap is_single e)
@@ -118,11 +132,13 @@ module _ (need : Need) (earlier : List Marked) (text : ConfText) (n : ℕ) (line
   unfolding says
   says-marked v = refl
 
-  fault-marked : (v : Option (Result AttrSet ExprFault)) → fault_at need earlier (marked v) ≡ line_fault earlier (length fs) (top_divided fs) said_here v
+  fault-marked : (v : Option (Result AttrSet ExprFault))
+      → fault_at need earlier (marked v) ≡ line_fault earlier (length fs) (top_divided fs) said_here v
   unfolding fault_at says
   fault-marked v = refl
 
-  well : (v : Option (Result AttrSet ExprFault)) → IsJudgedWell (stands_after earlier) (expression_in said_here) v → IsMarkedWell earlier (marked v)
+  well : (v : Option (Result AttrSet ExprFault)) → IsJudgedWell (stands_after earlier) (expression_in said_here) v
+      → IsMarkedWell earlier (marked v)
   well v j = record {
     is_used = used_right (seen_in text earlier) fs (seen (marked v)) o refl;
     is_enclosed = depth_right (seen_in text earlier) fs o;
@@ -165,7 +181,8 @@ module _ (need : Need) (earlier : List Marked) (text : ConfText) (n : ℕ) (line
   unfolding reading
   skipped_says h = rw h refl
 
-  plain_after : item_of line ≡ Plain → (v : Option (Result AttrSet ExprFault)) → IsOpen (seen_in text earlier ++ seen (marked v) ∷ []) fs
+  plain_after : item_of line ≡ Plain → (v : Option (Result AttrSet ExprFault))
+      → IsOpen (seen_in text earlier ++ seen (marked v) ∷ []) fs
   plain_after e v = single_next (seen_in text earlier) fs (seen (marked v)) o (ap (λ i. is_single (shape_of i)) e)
 
   -- an empty line or a comment
@@ -186,12 +203,15 @@ module _ (need : Need) (earlier : List Marked) (text : ConfText) (n : ℕ) (line
     unfolding reading
     says_item = rw (h, l) refl
 
-    grows_item : item_grows (top_used fs) (length fs) (item_of line) ≡ true → line_grows (top_used fs) (length fs) line ≡ true
+    grows_item : item_grows (top_used fs) (length fs) (item_of line) ≡ true
+        → line_grows (top_used fs) (length fs) line ≡ true
     unfolding line_grows
     grows_item g = rw (h, l, g) refl
 
-    item_after : (gs : List Frame) → gs ≡ frames_after (shape_of (item_of line)) (top_used fs) (item_chooses (is_defined earlier) (item_of line)) fs
-        → (v : Option (Result AttrSet ExprFault)) → line_fault earlier (length fs) (top_divided fs) said_here v ≡ None → IsOpen (seen_in text earlier ++ seen (marked v) ∷ []) gs
+    item_after : (gs : List Frame)
+        → gs ≡ frames_after (shape_of (item_of line)) (top_used fs) (item_chooses (is_defined earlier) (item_of line)) fs
+        → (v : Option (Result AttrSet ExprFault)) → line_fault earlier (length fs) (top_divided fs) said_here v ≡ None
+        → IsOpen (seen_in text earlier ++ seen (marked v) ∷ []) gs
     item_after gs e v f = subst (IsOpen (seen_in text earlier ++ seen (marked v) ∷ [])) (sym e)
         (blocks_after (seen_in text earlier) fs o earlier (is_defined earlier) out v (item_of line) (seen (marked v)) refl refl refl
         (sym (ap (λ r. line_fault earlier (length fs) (top_divided fs) r v) says_item) ∙ f))
@@ -204,7 +224,8 @@ module _ (need : Need) (earlier : List Marked) (text : ConfText) (n : ℕ) (line
     item_taken gs q (Err kind) b m t = takes_place gs q (Err kind) (λ v f. tt) (λ e. grows_item (m e)) (subst (λ r. TakesReading {E = Unit {0}} earlier (length fs) (top_divided fs) r q (Err kind)) (sym says_item) t)
 
     -- a directive
-    pub directive_line : {A : Type 0} (i : Item) (gs : List Frame) (q : Pass A) (result : Result (Unit {0}) ConfFaultKind) → item_of line ≡ i → item_text line i ≡ item_text [] i
+    pub directive_line : {A : Type 0} (i : Item) (gs : List Frame) (q : Pass A) (result : Result (Unit {0}) ConfFaultKind)
+        → item_of line ≡ i → item_text line i ≡ item_text [] i
         → OnOk result (gs ≡ frames_after (shape_of i) (top_used fs) (item_chooses (is_defined earlier) i) fs)
         → (result ≡ Err Memory → item_grows (top_used fs) (length fs) i ≡ true)
         → TakesReading {E = Unit {0}} earlier (length fs) (top_divided fs) (item_reading (top_used fs) i (expansion_after (value earlier) 0 (item_text [] i))) q result → TakesOne {E = Unit {0}} need earlier (place_at text n (Some line)) q gs result
@@ -215,7 +236,8 @@ module _ (need : Need) (earlier : List Marked) (text : ConfText) (n : ℕ) (line
         (subst (λ z. TakesReading {E = Unit {0}} earlier (length fs) (top_divided fs) (item_reading (top_used fs) i (expansion_after (value earlier) 0 z)) q result) (sym f) t))
 
     -- a line that is no directive
-    pub plain_line : {A : Type 0} (q : Pass A) (result : Result (Unit {0}) ConfFaultKind) → is_directive line ≡ false → (result ≡ Err Memory → top_used fs ≡ true)
+    pub plain_line : {A : Type 0} (q : Pass A) (result : Result (Unit {0}) ConfFaultKind) → is_directive line ≡ false
+        → (result ≡ Err Memory → top_used fs ≡ true)
         → TakesReading {E = Unit {0}} earlier (length fs) (top_divided fs) (if top_used fs then expanded_reading (strip (expansion_after (value earlier) 0 line)) else Nothing) q result → TakesOne {E = Unit {0}} need earlier (place_at text n (Some line)) q fs result
     unfolding item_of
     plain_line q result d m t =
@@ -223,19 +245,23 @@ module _ (need : Need) (earlier : List Marked) (text : ConfText) (n : ℕ) (line
         item_taken fs q result (kept result e) (λ w. ap (item_grows (top_used fs) (length fs)) e ∙ m w)
         (subst (λ z. TakesReading {E = Unit {0}} earlier (length fs) (top_divided fs) (item_reading (top_used fs) z (expansion_after (value earlier) 0 (item_text line z))) q result) (sym e) t)
       where
-        kept : (r : Result (Unit {0}) ConfFaultKind) → item_of line ≡ Plain → OnOk r (fs ≡ frames_after (shape_of (item_of line)) (top_used fs) (item_chooses (is_defined earlier) (item_of line)) fs)
+        kept : (r : Result (Unit {0}) ConfFaultKind) → item_of line ≡ Plain
+            → OnOk r (fs ≡ frames_after (shape_of (item_of line)) (top_used fs) (item_chooses (is_defined earlier) (item_of line)) fs)
         kept (Ok u) e = ap (λ z. frames_after (shape_of z) (top_used fs) (item_chooses (is_defined earlier) z) fs) (sym e)
         kept (Err k) e = tt
 
-  long_says : is_skipped line ≡ false → (top_used fs && nat_lt 65536 (length line)) ≡ true → said_here ≡ Faulty LineTooLong
+  long_says : is_skipped line ≡ false → (top_used fs && nat_lt 65536 (length line)) ≡ true
+      → said_here ≡ Faulty LineTooLong
   unfolding reading
   long_says h l = rw (h, l) refl
 
   -- the blocks behind this line, where it has no fault
-  blocks_behind : (v : Option (Result AttrSet ExprFault)) → fault_at need earlier (marked v) ≡ None → (gs : List Frame) × IsOpen (seen_in text earlier ++ seen (marked v) ∷ []) gs
+  blocks_behind : (v : Option (Result AttrSet ExprFault)) → fault_at need earlier (marked v) ≡ None
+      → (gs : List Frame) × IsOpen (seen_in text earlier ++ seen (marked v) ∷ []) gs
   blocks_behind v f = by_skip (is_skipped line) refl
     where
-      by_length : is_skipped line ≡ false → (b : Bool) → (top_used fs && nat_lt 65536 (length line)) ≡ b → (gs : List Frame) × IsOpen (seen_in text earlier ++ seen (marked v) ∷ []) gs
+      by_length : is_skipped line ≡ false → (b : Bool) → (top_used fs && nat_lt 65536 (length line)) ≡ b
+          → (gs : List Frame) × IsOpen (seen_in text earlier ++ seen (marked v) ∷ []) gs
       by_length h true l =
           let bad : Some LineTooLong ≡ None = sym (ap (λ r. line_fault earlier (length fs) (top_divided fs) r v) (long_says h l)) ∙ sym (fault-marked v) ∙ f in
           absurd (let no : ⊥ = cc in no)
@@ -244,7 +270,8 @@ module _ (need : Need) (earlier : List Marked) (text : ConfText) (n : ℕ) (line
         item_after h l _ refl v (sym (fault-marked v) ∙ f),
       )
 
-      by_skip : (b : Bool) → is_skipped line ≡ b → (gs : List Frame) × IsOpen (seen_in text earlier ++ seen (marked v) ∷ []) gs
+      by_skip : (b : Bool) → is_skipped line ≡ b
+          → (gs : List Frame) × IsOpen (seen_in text earlier ++ seen (marked v) ∷ []) gs
       by_skip true h = (fs, plain_after (skipped_item h) v)
       by_skip false h = by_length h (top_used fs && nat_lt 65536 (length line)) refl
 
@@ -259,7 +286,8 @@ module _ (need : Need) (earlier : List Marked) (text : ConfText) (n : ℕ) (line
   )
 
 -- the item of a directive is what stands behind its `@@`
-pub item_is : (line : List ℕ) (i : Item) → is_directive line ≡ true → i ≡ directive_item (drop 2 line) → item_of line ≡ i
+pub item_is : (line : List ℕ) (i : Item) → is_directive line ≡ true → i ≡ directive_item (drop 2 line)
+    → item_of line ≡ i
 unfolding item_of
 item_is line i d e = ap (λ z. if z then directive_item (drop 2 line) else Plain) d ∙ sym e
 
@@ -281,8 +309,10 @@ is_none-text_at : {A : Type 0} (t : Option (String A)) (q : Option (List ℕ)) �
 is_none-text_at None q h = ap is_none h
 is_none-text_at (Some t) q h = ap is_none h
 
-pub missing_is : {A : Type 0} (earlier : List Marked) (p : Pass A) → StandsFor earlier p → missing (is_none p.old_path) (is_none p.new_path) ≡ end_fault Compare After earlier
-missing_is earlier p s = ap (λ z. missing z (is_none p.new_path)) (is_none-text_at p.old_path (path_set Old earlier) s.old_path)
+pub missing_is : {A : Type 0} (earlier : List Marked) (p : Pass A) → StandsFor earlier p
+    → missing (is_none p.old_path) (is_none p.new_path) ≡ end_fault Compare After earlier
+missing_is earlier p s =
+    ap (λ z. missing z (is_none p.new_path)) (is_none-text_at p.old_path (path_set Old earlier) s.old_path)
     ∙ ap (missing (is_none (path_set Old earlier))) (is_none-text_at p.new_path (path_set New earlier) s.new_path)
 
 module _ (need : Need) (earlier : List Marked) (text : ConfText) (n : ℕ) (fs : List Frame) (o : IsOpen (seen_in text earlier) fs) where
@@ -321,7 +351,8 @@ module _ (need : Need) (earlier : List Marked) (text : ConfText) (n : ℕ) (fs :
       let e : (length fs == 0) ≡ false = grind (arith, nat_tests) in
       inl (end_marked, refl, well_end, fault-end ∙ ap (λ z. option_or (if z then None else Some MissingEndif) (end_fault need text earlier)) e)
 
-  no_block : length fs ≡ 0 → option_or (end_block_fault (length fs)) (end_fault need text earlier) ≡ end_fault need text earlier
+  no_block : length fs ≡ 0
+      → option_or (end_block_fault (length fs)) (end_fault need text earlier) ≡ end_fault need text earlier
   no_block h =
       let e : (length fs == 0) ≡ true = grind (arith, nat_tests) in
       ap (λ z. option_or (if z then None else Some MissingEndif) (end_fault need text earlier)) e
@@ -341,7 +372,8 @@ module _ (need : Need) (earlier : List Marked) (text : ConfText) (n : ℕ) (fs :
   end_refused p kind h e = inl (end_marked, refl, well_end, fault-end ∙ no_block h ∙ e)
 
   -- the end of the last text, where databases may be missing
-  pub lacking : {A : Type 0} (p : Pass A) → StandsFor earlier p → length fs ≡ 0 → end_fault need text earlier ≡ end_fault Compare After earlier
+  pub lacking : {A : Type 0} (p : Pass A) → StandsFor earlier p → length fs ≡ 0
+      → end_fault need text earlier ≡ end_fault Compare After earlier
       → (result : Result (Unit {0}) ConfFaultKind) → fault_of result ≡ missing (is_none p.old_path) (is_none p.new_path) → TakesOne {E = Unit {0}} need earlier (place_at text n None) p fs result
   lacking p s h e (Ok u) k = ended p s u h (e ∙ sym (missing_is earlier p s) ∙ sym k)
   lacking p s h e (Err kind) k = end_refused p kind h (e ∙ sym (missing_is earlier p s) ∙ sym k)

@@ -1,5 +1,6 @@
 -- Each test of attributes is that of a set.
-use Rattle.std.proofs.Common.{ℕ, ◌≡◌, ◌<◌, ◌^◌, suc, zero, Bool, true, false, refl, sym, ap, ◌∙◌, arith, inl, inr, ◌⊎◌, get_or}
+use Rattle.std.proofs.Common.{ℕ, ◌≡◌, ◌<◌, ◌^◌, suc, zero, Bool, true, false, refl, sym, ap, ◌∙◌, arith, inl, inr, ◌⊎◌}
+use Rattle.std.proofs.Common.{get_or}
 use Rattle.std.specs.Prelude.{◌==◌, ◌||◌}
 use Rattle.std.specs.Int.{bit_at}
 use Rattle.std.specs.Int.RustNames.{bit_or}
@@ -56,7 +57,8 @@ or_false false = refl
 bits_are : (f : Attr → Bool) (n i : ℕ) → i < n → (bit_at (bits f n) i == 1) ≡ f (attr_of i)
 unfolding bits
 bits_are f zero i h = absurd (omega arith)
-bits_are f (suc n) i h = bit_or_test (bits f n) (bit_if (f (attr_of n)) n) i ∙ by_place (λ l. bits_are f n i l) (split i n h)
+bits_are f (suc n) i h =
+    bit_or_test (bits f n) (bit_if (f (attr_of n)) n) i ∙ by_place (λ l. bits_are f n i l) (split i n h)
   where
     split : (i n : ℕ) → i < suc n → (i < n) ⊎ (i ≡ n)
     split zero zero h = inr refl
@@ -64,7 +66,8 @@ bits_are f (suc n) i h = bit_or_test (bits f n) (bit_if (f (attr_of n)) n) i ∙
     split (suc i) zero h = absurd (omega arith)
     split (suc i) (suc n) h = elim (split i n (omega arith)) [ inl l ↦ inl (omega (arith, l)) | inr e ↦ inr (ap suc e) ]
 
-    by_place : ((i < n) → (bit_at (bits f n) i == 1) ≡ f (attr_of i)) → (i < n) ⊎ (i ≡ n) → ((bit_at (bits f n) i == 1) || (bit_at (bit_if (f (attr_of n)) n) i == 1)) ≡ f (attr_of i)
+    by_place : ((i < n) → (bit_at (bits f n) i == 1) ≡ f (attr_of i)) → (i < n) ⊎ (i ≡ n)
+        → ((bit_at (bits f n) i == 1) || (bit_at (bit_if (f (attr_of n)) n) i == 1)) ≡ f (attr_of i)
     by_place below (inl l) = ap (λ z. z || (bit_at (bit_if (f (attr_of n)) n) i == 1)) (below l)
         ∙ ap (λ z. f (attr_of i) || z) (other_bit (f (attr_of n)) n i l) ∙ or_false (f (attr_of i))
     by_place below (inr e) =

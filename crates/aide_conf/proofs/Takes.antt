@@ -1,5 +1,6 @@
 -- What is taken where a line says something.
-use Rattle.std.proofs.Common.{ℕ, ◌≡◌, ◌≤◌, ◌<◌, Bool, true, false, List, [], length, refl, sym, ap, subst, ◌∙◌, arith, Option, Some, None, Result, Ok, Err, inl, inr}
+use Rattle.std.proofs.Common.{ℕ, ◌≡◌, ◌≤◌, ◌<◌, Bool, true, false, List, [], length, refl, sym, ap, subst, ◌∙◌, arith}
+use Rattle.std.proofs.Common.{Option, Some, None, Result, Ok, Err, inl, inr}
 use Rattle.std.specs.Prelude.{if◌then◌else◌, nat_lt}
 use Rattle.std.specs.Option.{option_or}
 use Rattle.std.specs.FinMap.{insert, remove}
@@ -11,24 +12,30 @@ use Rattle.aide_attr.specs.Groups.{names_of, stands_for}
 use Rattle.aide_attr.specs.Expression.{IsMeaning, IsFault}
 use Rattle.aide_attr.specs.Name.{is_word}
 use Rattle.aide_conf.specs.declared.fault.ConfFaultKind.{ConfFaultKind}
-use Rattle.aide_conf.specs.declared.fault.ConfFaultKind.TheVariants.{BadDirective, BadName, LineTooLong, ValueTooLong, TooMany}
+use Rattle.aide_conf.specs.declared.fault.ConfFaultKind.TheVariants.{BadDirective, BadName, LineTooLong, ValueTooLong}
+use Rattle.aide_conf.specs.declared.fault.ConfFaultKind.TheVariants.{TooMany}
 use Rattle.aide_conf.specs.declared.setting.Database.{Database}
 use Rattle.aide_conf.specs.declared.setting.Switch.{Switch}
 use Rattle.aide_conf.specs.declared.setting.AttrList.{AttrList}
 use Rattle.aide_conf.specs.declared.pass.Pass.{Pass}
-use Rattle.aide_conf.specs.Reading.{Reading, Nothing, Faulty, NamesDatabase, SetsLevel, SetsSwitch, SetsAttributes, EndsOptions, DefinesGroup, DefinesVariable, DropsVariable, OpensBlock, DividesBlock, ClosesBlock, is_skipped, expanded_reading, kept_reading}
+use Rattle.aide_conf.specs.Reading.{Reading, Nothing, Faulty, NamesDatabase, SetsLevel, SetsSwitch, SetsAttributes}
+use Rattle.aide_conf.specs.Reading.{EndsOptions, DefinesGroup, DefinesVariable, DropsVariable, OpensBlock, DividesBlock}
+use Rattle.aide_conf.specs.Reading.{ClosesBlock, is_skipped, expanded_reading, kept_reading}
 use Rattle.aide_conf.specs.declared.directive.Directive.{Directive}
 use Rattle.aide_conf.specs.declared.blocks.Frame.{Frame}
 use Rattle.aide_conf.specs.code.Stack.{top_used, top_divided}
 use Rattle.aide_conf.specs.code.Replacing.{expansion_after}
 use Rattle.aide_conf.specs.Directive.{item_reading, item_text, set_reading, unset_reading}
 use Rattle.aide_conf.specs.code.Said.{item}
-use Rattle.aide_conf.specs.Marks.{Marked, value, set_meant, stands_after, is_too_many, line_fault, verdict_fault, IsJudgedWell, expression_in}
+use Rattle.aide_conf.specs.Marks.{Marked, value, set_meant, stands_after, is_too_many, line_fault, verdict_fault}
+use Rattle.aide_conf.specs.Marks.{IsJudgedWell, expression_in}
 use Rattle.aide_conf.specs.code.Variables.{values_of}
 use Rattle.aide_attr.specs.Table.{HasRoom, IsFull}
-use Rattle.aide_conf.specs.code.Pass.{StandsFor, TakesReading, IsAnswered, unless_fixed, with_level, with_switch, with_attrs, NamesPath, HasNewGroup, IsMisjudged, HasNoRoom}
+use Rattle.aide_conf.specs.code.Pass.{StandsFor, TakesReading, IsAnswered, unless_fixed, with_level, with_switch}
+use Rattle.aide_conf.specs.code.Pass.{with_attrs, NamesPath, HasNewGroup, IsMisjudged, HasNoRoom}
 use Rattle.aide_conf.proofs.Steps.{options_tell, options_turn, options_list}
-use Rattle.aide_conf.proofs.Stands.{IsQuiet, SetsNone, stands_silent, stands_set, stands_unset, stands_option, stands_fixed, stands_named, stands_defined, few, many, looks}
+use Rattle.aide_conf.proofs.Stands.{IsQuiet, SetsNone, stands_silent, stands_set, stands_unset, stands_option}
+use Rattle.aide_conf.proofs.Stands.{stands_fixed, stands_named, stands_defined, few, many, looks}
 use Rattle.aide_conf.proofs.VariableSteps.{room_left, no_room}
 
 module _ {A : Type 0} (E : Type 0) (earlier : List Marked) (depth : ℕ) (divided : Bool) (p : Pass A) (s : StandsFor earlier p) where
@@ -57,7 +64,8 @@ module _ {A : Type 0} (E : Type 0) (earlier : List Marked) (depth : ℕ) (divide
     λ x e w. stands_option earlier x p s (SetsLevel l) (with_level l p.options) e refl refl refl refl (record { value = λ n. refl; name = refl }) (λ h. options_tell earlier x p.options h l e),
   )
 
-  pub turns : (u : E) (t : Switch) (b : Bool) → Taken (SetsSwitch t b) (unless_fixed p (with_switch t b p.options)) (Ok u)
+  pub turns : (u : E) (t : Switch) (b : Bool)
+      → Taken (SetsSwitch t b) (unless_fixed p (with_switch t b p.options)) (Ok u)
   turns u t b = (
     None,
     refl,
@@ -68,15 +76,18 @@ module _ {A : Type 0} (E : Type 0) (earlier : List Marked) (depth : ℕ) (divide
   pub fixes_here : (u : E) → Taken EndsOptions (record p { fixed = true }) (Ok u)
   fixes_here u = (None, refl, refl, λ x e w. stands_fixed earlier x p s e)
 
-  pub names_path : (u : E) (d : Database) (path : List ℕ) (q : Pass A) → NamesPath d path p q → Taken (NamesDatabase d path) q (Ok u)
+  pub names_path : (u : E) (d : Database) (path : List ℕ) (q : Pass A) → NamesPath d path p q
+      → Taken (NamesDatabase d path) q (Ok u)
   names_path u d path q h = (None, refl, refl, λ x e w. stands_named earlier x p s d path q e h)
 
   -- ---- expressions
 
-  meant : (expression : List ℕ) (set : AttrSet) → IsMeaning (stands_for (names_of p.groups)) expression set → IsMeaning (stands_after earlier) expression set
+  meant : (expression : List ℕ) (set : AttrSet) → IsMeaning (stands_for (names_of p.groups)) expression set
+      → IsMeaning (stands_after earlier) expression set
   meant expression set h = subst (λ z. IsMeaning z expression set) (looks earlier (names_of p.groups) s.groups) h
 
-  pub lists : (u : E) (l : AttrList) (expression : List ℕ) (set : AttrSet) → IsMeaning (stands_for (names_of p.groups)) expression set
+  pub lists : (u : E) (l : AttrList) (expression : List ℕ) (set : AttrSet)
+      → IsMeaning (stands_for (names_of p.groups)) expression set
       → Taken (SetsAttributes l expression) (unless_fixed p (with_attrs l set p.options)) (Ok u)
   lists u l expression set m = (
     Some (Ok set),
@@ -86,20 +97,26 @@ module _ {A : Type 0} (E : Type 0) (earlier : List Marked) (depth : ℕ) (divide
         (λ h. options_list earlier x p.options h l expression set e (ap set_meant w)),
   )
 
-  misjudged : (r : Reading) (expression : List ℕ) → expression_in r ≡ Some expression → ((v : Option (Result AttrSet ExprFault)) (k : ConfFaultKind) → verdict_fault v ≡ Some k → line_fault earlier depth divided r v ≡ Some k)
-      → (kind : ConfFaultKind) (q : Pass A) → IsMisjudged (stands_for (names_of p.groups)) expression kind → Taken r q (Err kind)
+  misjudged : (r : Reading) (expression : List ℕ) → expression_in r ≡ Some expression
+      → ((v : Option (Result AttrSet ExprFault)) (k : ConfFaultKind) → verdict_fault v ≡ Some k → line_fault earlier depth divided r v ≡ Some k)
+      → (kind : ConfFaultKind) (q : Pass A) → IsMisjudged (stands_for (names_of p.groups)) expression kind
+      → Taken r q (Err kind)
   misjudged r expression is_in fails kind q m =
       let v = Some (Err m.0) in
       let judged = subst (λ z. IsFault z expression m.0) (looks earlier (names_of p.groups) s.groups) m.1 in
       inl (v, subst (λ z. IsJudgedWell (stands_after earlier) z v) (sym is_in) judged, fails v kind m.2)
 
-  pub lists_misjudged : (l : AttrList) (expression : List ℕ) (kind : ConfFaultKind) (q : Pass A) → IsMisjudged (stands_for (names_of p.groups)) expression kind → Taken (SetsAttributes l expression) q (Err kind)
+  pub lists_misjudged : (l : AttrList) (expression : List ℕ) (kind : ConfFaultKind) (q : Pass A)
+      → IsMisjudged (stands_for (names_of p.groups)) expression kind → Taken (SetsAttributes l expression) q (Err kind)
   lists_misjudged l expression = misjudged (SetsAttributes l expression) expression refl (λ v k h. h)
 
-  pub defines_misjudged : (name expression : List ℕ) (kind : ConfFaultKind) (q : Pass A) → IsMisjudged (stands_for (names_of p.groups)) expression kind → Taken (DefinesGroup name expression) q (Err kind)
+  pub defines_misjudged : (name expression : List ℕ) (kind : ConfFaultKind) (q : Pass A)
+      → IsMisjudged (stands_for (names_of p.groups)) expression kind → Taken (DefinesGroup name expression) q (Err kind)
   defines_misjudged name expression = misjudged (DefinesGroup name expression) expression refl (λ v k h. ap (λ z. option_or z (if is_too_many earlier name then Some TooMany else None)) h)
 
-  pub defines : (u : E) (name expression : List ℕ) (set : AttrSet) (q : Pass A) → IsMeaning (stands_for (names_of p.groups)) expression set → HasNewGroup name set p q → Taken (DefinesGroup name expression) q (Ok u)
+  pub defines : (u : E) (name expression : List ℕ) (set : AttrSet) (q : Pass A)
+      → IsMeaning (stands_for (names_of p.groups)) expression set → HasNewGroup name set p q
+      → Taken (DefinesGroup name expression) q (Ok u)
   defines u name expression set q m h = (
     Some (Ok set),
     meant expression set m,
@@ -107,22 +124,27 @@ module _ {A : Type 0} (E : Type 0) (earlier : List Marked) (depth : ℕ) (divide
     λ x e w. stands_defined earlier x p s name expression set q e (ap set_meant w) h,
   )
 
-  pub undefined : (name expression : List ℕ) (set : AttrSet) (kind : ConfFaultKind) (q : Pass A) → IsMeaning (stands_for (names_of p.groups)) expression set → HasNoRoom name p kind → Taken (DefinesGroup name expression) q (Err kind)
+  pub undefined : (name expression : List ℕ) (set : AttrSet) (kind : ConfFaultKind) (q : Pass A)
+      → IsMeaning (stands_for (names_of p.groups)) expression set → HasNoRoom name p kind
+      → Taken (DefinesGroup name expression) q (Err kind)
   undefined name expression set kind q m (inl h) =
       inl (Some (Ok set), meant expression set m, ap (λ z. if z then Some TooMany else None) (many earlier (names_of p.groups) s.groups name h.1) ∙ ap Some (sym h.0))
   undefined name expression set kind q m (inr h) = inr h
 
   -- ---- variables
 
-  set_well : (name value : List ℕ) → is_word name ≡ true → (b : Bool) → nat_lt 4096 (length value) ≡ b → set_reading name value ≡ (if b then Faulty ValueTooLong else DefinesVariable name value)
+  set_well : (name value : List ℕ) → is_word name ≡ true → (b : Bool) → nat_lt 4096 (length value) ≡ b
+      → set_reading name value ≡ (if b then Faulty ValueTooLong else DefinesVariable name value)
   set_well name value e b f = ap (λ z. if z then (if nat_lt 4096 (length value) then Faulty ValueTooLong else DefinesVariable name value) else Faulty BadName) e ∙ ap (λ z. if z then Faulty ValueTooLong else DefinesVariable name value) f
 
-  pub set_too_long : (name value : List ℕ) (q : Pass A) → is_word name ≡ true → 4096 < length value → Taken (set_reading name value) q (Err ValueTooLong)
+  pub set_too_long : (name value : List ℕ) (q : Pass A) → is_word name ≡ true → 4096 < length value
+      → Taken (set_reading name value) q (Err ValueTooLong)
   set_too_long name value q e l =
       let f : nat_lt 4096 (length value) ≡ true = grind (arith, nat_tests) in
       subst (λ r. Taken r q (Err ValueTooLong)) (sym (set_well name value e true f)) (faulty ValueTooLong q)
 
-  pub sets : (u : E) (name value : List ℕ) (q : Pass A) → is_word name ≡ true → length value ≤ 4096 → HasRoom (values_of p.variables) name
+  pub sets : (u : E) (name value : List ℕ) (q : Pass A) → is_word name ≡ true → length value ≤ 4096
+      → HasRoom (values_of p.variables) name
       → values_of q.variables ≡ insert (values_of p.variables) name value → q ≡ record p { variables = q.variables } → Taken (set_reading name value) q (Ok u)
   sets u name value q e l room t k =
       let f : nat_lt 4096 (length value) ≡ false = grind (arith, nat_tests) in
@@ -133,7 +155,8 @@ module _ {A : Type 0} (E : Type 0) (earlier : List Marked) (depth : ℕ) (divide
         λ x h w. stands_set earlier x p s name value q h t k,
       )
 
-  pub no_room_to_set : (name value : List ℕ) (q : Pass A) → is_word name ≡ true → length value ≤ 4096 → IsFull (values_of p.variables) name → Taken (set_reading name value) q (Err TooMany)
+  pub no_room_to_set : (name value : List ℕ) (q : Pass A) → is_word name ≡ true → length value ≤ 4096
+      → IsFull (values_of p.variables) name → Taken (set_reading name value) q (Err TooMany)
   no_room_to_set name value q e l full =
       let f : nat_lt 4096 (length value) ≡ false = grind (arith, nat_tests) in
       subst (λ r. Taken r q (Err TooMany)) (sym (set_well name value e false f))
@@ -144,32 +167,39 @@ module _ {A : Type 0} (E : Type 0) (earlier : List Marked) (depth : ℕ) (divide
 
   -- ---- blocks
 
-  silent : (r : Reading) → IsQuiet r → SetsNone r → expression_in r ≡ None → (u : E) → line_fault earlier depth divided r None ≡ None → Taken r p (Ok u)
+  silent : (r : Reading) → IsQuiet r → SetsNone r → expression_in r ≡ None → (u : E)
+      → line_fault earlier depth divided r None ≡ None → Taken r p (Ok u)
   silent r q n e u f = (None, subst (λ z. IsJudgedWell (stands_after earlier) z None) (sym e) refl, f, λ x h w. stands_silent earlier x p s r h q n)
 
-  answered : (r : Reading) → IsQuiet r → SetsNone r → expression_in r ≡ None → (result : Result E ConfFaultKind) → IsAnswered (line_fault earlier depth divided r None) result → Taken r p result
+  answered : (r : Reading) → IsQuiet r → SetsNone r → expression_in r ≡ None → (result : Result E ConfFaultKind)
+      → IsAnswered (line_fault earlier depth divided r None) result → Taken r p result
   answered r q n e (Ok u) h = silent r q n e u h
   answered r q n e (Err kind) (inl h) = inl (None, subst (λ z. IsJudgedWell (stands_after earlier) z None) (sym e) refl, h)
   answered r q n e (Err kind) (inr h) = inr h
 
-  pub answered_open : (good : Bool) (result : Result E ConfFaultKind) → IsAnswered (line_fault [] depth divided (OpensBlock good) None) result → Taken (OpensBlock good) p result
+  pub answered_open : (good : Bool) (result : Result E ConfFaultKind)
+      → IsAnswered (line_fault [] depth divided (OpensBlock good) None) result → Taken (OpensBlock good) p result
   answered_open good = answered (OpensBlock good) (record { group = refl; fixing = refl; level = refl; switch = λ t. refl; attrs = λ l v. refl; path = λ d. refl }) (record { value = λ n. refl; name = refl }) refl
 
-  pub answered_other : (used : Bool) (result : Result E ConfFaultKind) → IsAnswered (line_fault [] depth divided (if used then Faulty BadDirective else OpensBlock true) None) result
+  pub answered_other : (used : Bool) (result : Result E ConfFaultKind)
+      → IsAnswered (line_fault [] depth divided (if used then Faulty BadDirective else OpensBlock true) None) result
       → Taken (if used then Faulty BadDirective else OpensBlock true) p result
   answered_other true (Ok u) h = let bad : Some BadDirective ≡ None = h in cc
   answered_other true (Err k) (inl h) = let e : BadDirective ≡ k = cc in subst (λ z. Taken (Faulty BadDirective) p (Err z)) e (faulty BadDirective p)
   answered_other true (Err k) (inr h) = inr h
   answered_other false result h = answered_open true result h
 
-  pub answered_divide : (result : Result E ConfFaultKind) → IsAnswered (line_fault [] depth divided DividesBlock None) result → Taken DividesBlock p result
+  pub answered_divide : (result : Result E ConfFaultKind)
+      → IsAnswered (line_fault [] depth divided DividesBlock None) result → Taken DividesBlock p result
   answered_divide = answered DividesBlock (record { group = refl; fixing = refl; level = refl; switch = λ t. refl; attrs = λ l v. refl; path = λ d. refl }) (record { value = λ n. refl; name = refl }) refl
 
-  pub answered_close : (result : Result E ConfFaultKind) → IsAnswered (line_fault [] depth divided ClosesBlock None) result → Taken ClosesBlock p result
+  pub answered_close : (result : Result E ConfFaultKind)
+      → IsAnswered (line_fault [] depth divided ClosesBlock None) result → Taken ClosesBlock p result
   answered_close = answered ClosesBlock (record { group = refl; fixing = refl; level = refl; switch = λ t. refl; attrs = λ l v. refl; path = λ d. refl }) (record { value = λ n. refl; name = refl }) refl
 
   -- what is refused or has no effect
-  pub refused_if : (b : Bool) (kind : ConfFaultKind) (result : Result E ConfFaultKind) → IsAnswered (if b then Some kind else None) result → Taken (if b then Faulty kind else Nothing) p result
+  pub refused_if : (b : Bool) (kind : ConfFaultKind) (result : Result E ConfFaultKind)
+      → IsAnswered (if b then Some kind else None) result → Taken (if b then Faulty kind else Nothing) p result
   refused_if true kind (Ok u) h = let bad : Some kind ≡ None = h in cc
   refused_if true kind (Err k) (inl h) = let e : kind ≡ k = cc in subst (λ z. Taken (Faulty kind) p (Err z)) e (faulty kind p)
   refused_if true kind (Err k) (inr h) = inr h
@@ -182,19 +212,24 @@ module _ {A : Type 0} (E : Type 0) (earlier : List Marked) (depth : ℕ) (divide
   pub skipped : (u : E) (out : List ℕ) → is_skipped out ≡ true → Taken (expanded_reading out) p (Ok u)
   skipped u out e = subst (λ r. Taken r p (Ok u)) (sym (ap (λ z. if z then Nothing else if nat_lt 65536 (length out) then Faulty LineTooLong else kept_reading out) e)) (nothing u)
 
-  not_skipped : (out : List ℕ) (b : Bool) → is_skipped out ≡ false → nat_lt 65536 (length out) ≡ b → expanded_reading out ≡ (if b then Faulty LineTooLong else kept_reading out)
+  not_skipped : (out : List ℕ) (b : Bool) → is_skipped out ≡ false → nat_lt 65536 (length out) ≡ b
+      → expanded_reading out ≡ (if b then Faulty LineTooLong else kept_reading out)
   not_skipped out b e f = ap (λ z. if z then Nothing else if nat_lt 65536 (length out) then Faulty LineTooLong else kept_reading out) e ∙ ap (λ z. if z then Faulty LineTooLong else kept_reading out) f
 
-  pub too_long : (out : List ℕ) (q : Pass A) → is_skipped out ≡ false → nat_lt 65536 (length out) ≡ true → Taken (expanded_reading out) q (Err LineTooLong)
+  pub too_long : (out : List ℕ) (q : Pass A) → is_skipped out ≡ false → nat_lt 65536 (length out) ≡ true
+      → Taken (expanded_reading out) q (Err LineTooLong)
   too_long out q e f = subst (λ r. Taken r q (Err LineTooLong)) (sym (not_skipped out true e f)) (faulty LineTooLong q)
 
-  pub kept_line : (out bytes : List ℕ) (r : Reading) (q : Pass A) (result : Result E ConfFaultKind) → bytes ≡ out → is_skipped out ≡ false → nat_lt 65536 (length out) ≡ false → r ≡ kept_reading bytes
+  pub kept_line : (out bytes : List ℕ) (r : Reading) (q : Pass A) (result : Result E ConfFaultKind) → bytes ≡ out
+      → is_skipped out ≡ false → nat_lt 65536 (length out) ≡ false → r ≡ kept_reading bytes
       → Taken r q result → Taken (expanded_reading out) q result
   kept_line out bytes r q result b e f k t = subst (λ z. Taken z q result) (k ∙ ap kept_reading b ∙ sym (not_skipped out false e f)) t
 
 -- what a directive says is what its item says
-pub by_item : {A : Type 0} (earlier : List Marked) (fs : List Frame) (d e : Directive) (r : Reading) (q : Pass A) (result : Result (Unit {0}) ConfFaultKind) → d ≡ e
+pub by_item : {A : Type 0} (earlier : List Marked) (fs : List Frame) (d e : Directive) (r : Reading) (q : Pass A) (result : Result (Unit {0}) ConfFaultKind)
+    → d ≡ e
     → r ≡ item_reading (top_used fs) (item e) (expansion_after (value earlier) 0 (item_text [] (item e))) → TakesReading {E = Unit {0}} earlier (length fs) (top_divided fs) r q result
     → TakesReading {E = Unit {0}} earlier (length fs) (top_divided fs) (item_reading (top_used fs) (item d) (expansion_after (value earlier) 0 (item_text [] (item d)))) q result
-by_item earlier fs d e r q result h k t = subst (λ z. TakesReading {E = Unit {0}} earlier (length fs) (top_divided fs) z q result)
+by_item earlier fs d e r q result h k t =
+    subst (λ z. TakesReading {E = Unit {0}} earlier (length fs) (top_divided fs) z q result)
     (k ∙ ap (λ z. item_reading (top_used fs) (item z) (expansion_after (value earlier) 0 (item_text [] (item z)))) (sym h)) t

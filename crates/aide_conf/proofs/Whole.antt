@@ -1,5 +1,6 @@
 -- The three texts, one after another.
-use Rattle.std.proofs.Common.{ℕ, ◌≡◌, ◌+◌, false, List, [], ◌∷◌, ◌++◌, refl, sym, ap, subst, ◌∙◌, append_assoc, inl, inr, ◌⊎◌}
+use Rattle.std.proofs.Common.{ℕ, ◌≡◌, ◌+◌, false, List, [], ◌∷◌, ◌++◌, refl, sym, ap, subst, ◌∙◌, append_assoc, inl}
+use Rattle.std.proofs.Common.{inr, ◌⊎◌}
 use Rattle.std.specs.Prelude.{map, if◌then◌else◌}
 use Rattle.aide_conf.specs.declared.task.Need.{Need}
 use Rattle.aide_conf.specs.declared.fault.ConfFault.{ConfFault}
@@ -11,13 +12,16 @@ use Rattle.aide_conf.specs.Answer.{IsRead, IsRefused, IsStarved}
 use Rattle.aide_conf.specs.code.Pass.{StandsFor, Takes, Stops, text_at}
 use Rattle.aide_conf.proofs.Cuts.{append_nothing}
 
-places_append : (xs ys : List Marked) → map (λ (x : Marked). x.place) (xs ++ ys) ≡ map (λ (x : Marked). x.place) xs ++ map (λ (x : Marked). x.place) ys
+places_append : (xs ys : List Marked)
+    → map (λ (x : Marked). x.place) (xs ++ ys) ≡ map (λ (x : Marked). x.place) xs ++ map (λ (x : Marked). x.place) ys
 places_append [] ys = refl
 places_append (x ∷ xs) ys = ap (λ z. x.place ∷ z) (places_append xs ys)
 
-sound_append : (need : Need) (earlier xs ys : List Marked) → AreSound need earlier xs → AreSound need (earlier ++ xs) ys → AreSound need earlier (xs ++ ys)
+sound_append : (need : Need) (earlier xs ys : List Marked) → AreSound need earlier xs → AreSound need (earlier ++ xs) ys
+    → AreSound need earlier (xs ++ ys)
 sound_append need earlier [] ys h i = subst (λ z. AreSound need z ys) (append_nothing earlier) i
-sound_append need earlier (x ∷ xs) ys h i = (h.0, h.1, sound_append need (earlier ++ x ∷ []) xs ys h.2 (subst (λ z. AreSound need z ys) (sym (append_assoc earlier (x ∷ []) xs)) i))
+sound_append need earlier (x ∷ xs) ys h i =
+    (h.0, h.1, sound_append need (earlier ++ x ∷ []) xs ys h.2 (subst (λ z. AreSound need z ys) (sym (append_assoc earlier (x ∷ []) xs)) i))
 
 -- ---- lines of other texts
 
@@ -25,11 +29,13 @@ abbrev pub Elsewhere : ConfText → List Place → Type 0
 Elsewhere text [] = Unit {0}
 Elsewhere text (p ∷ ps) = (is_text text p.text ≡ false) × Elsewhere text ps
 
-pub elsewhere : (text other : ConfText) (n : ℕ) (ls : List (List ℕ)) → is_text text other ≡ false → Elsewhere text (places_from other n ls)
+pub elsewhere : (text other : ConfText) (n : ℕ) (ls : List (List ℕ)) → is_text text other ≡ false
+    → Elsewhere text (places_from other n ls)
 elsewhere text other n [] e = (e, tt)
 elsewhere text other n (l ∷ ls) e = (e, elsewhere text other (n + 1) ls e)
 
-pub elsewhere_both : (text : ConfText) (ps qs : List Place) → Elsewhere text ps → Elsewhere text qs → Elsewhere text (ps ++ qs)
+pub elsewhere_both : (text : ConfText) (ps qs : List Place) → Elsewhere text ps → Elsewhere text qs
+    → Elsewhere text (ps ++ qs)
 elsewhere_both text [] qs h i = i
 elsewhere_both text (p ∷ ps) qs h i = (h.0, elsewhere_both text ps qs h.1 i)
 
@@ -38,18 +44,23 @@ unseen : (text : ConfText) (xs : List Marked) → Elsewhere text (map (λ (x : M
 unseen text [] h = refl
 unseen text (x ∷ xs) h = ap (λ z. if z then seen x ∷ seen_in text xs else seen_in text xs) h.0 ∙ unseen text xs h.1
 
-pub unseen_at : (text : ConfText) (ps : List Place) (xs : List Marked) → map (λ (x : Marked). x.place) xs ≡ ps → Elsewhere text ps → seen_in text xs ≡ []
+pub unseen_at : (text : ConfText) (ps : List Place) (xs : List Marked) → map (λ (x : Marked). x.place) xs ≡ ps
+    → Elsewhere text ps → seen_in text xs ≡ []
 unseen_at text ps xs e h = unseen text xs (subst (Elsewhere text) (sym e) h)
 
 -- ---- one text after others
 
 -- sound lines of one text after those of others
-pub then_more : {A : Type 0} (need : Need) (ps qs : List Place) (p q : Pass A) → Takes need [] ps p → ((earlier : List Marked) → map (λ (x : Marked). x.place) earlier ≡ ps → StandsFor earlier p → Takes need earlier qs q) → Takes need [] (ps ++ qs) q
+pub then_more : {A : Type 0} (need : Need) (ps qs : List Place) (p q : Pass A) → Takes need [] ps p
+    → ((earlier : List Marked) → map (λ (x : Marked). x.place) earlier ≡ ps → StandsFor earlier p → Takes need earlier qs q)
+    → Takes need [] (ps ++ qs) q
 then_more need ps qs p q t u =
     let v = u t.0 t.1 t.3 in
     (t.0 ++ v.0, places_append t.0 v.0 ∙ ap (λ z. z ++ map (λ (x : Marked). x.place) v.0) t.1 ∙ ap (λ z. ps ++ z) v.1, sound_append need [] t.0 v.0 t.2 v.2, v.3)
 
-pub then_stop : {A : Type 0} (need : Need) (ps qs : List Place) (p : Pass A) (e : ConfFault) → Takes need [] ps p → ((earlier : List Marked) → map (λ (x : Marked). x.place) earlier ≡ ps → StandsFor earlier p → Stops need earlier qs e) → Stops need [] (ps ++ qs) e
+pub then_stop : {A : Type 0} (need : Need) (ps qs : List Place) (p : Pass A) (e : ConfFault) → Takes need [] ps p
+    → ((earlier : List Marked) → map (λ (x : Marked). x.place) earlier ≡ ps → StandsFor earlier p → Stops need earlier qs e)
+    → Stops need [] (ps ++ qs) e
 then_stop need ps qs p e t u =
     let v = u t.0 t.1 t.3 in
     record {
@@ -76,7 +87,8 @@ more_behind need ps qs e v = record {
   kind = v.kind;
 }
 
-pub refused : (need : Need) (ps : List Place) (e : ConfFault) → Stops need [] ps e → IsRefused need ps e ⊎ IsStarved need ps e
+pub refused : (need : Need) (ps : List Place) (e : ConfFault) → Stops need [] ps e
+    → IsRefused need ps e ⊎ IsStarved need ps e
 refused need ps e v = elim v.kind [
   | inl k ↦ inl (record {
     lines = v.lines;
@@ -93,4 +105,5 @@ refused need ps e v = elim v.kind [
 ]
 
 pub taken : {A : Type 0} (need : Need) (ps : List Place) (p : Pass A) → Takes need [] ps p → IsRead need ps (record { options = p.options; old_path = text_at p.old_path; new_path = text_at p.new_path })
-taken need ps p t = record { lines = t.0; all = t.1; sound = t.2; settings = record { options = t.3.options; old_path = t.3.old_path; new_path = t.3.new_path } }
+taken need ps p t =
+    record { lines = t.0; all = t.1; sound = t.2; settings = record { options = t.3.options; old_path = t.3.old_path; new_path = t.3.new_path } }

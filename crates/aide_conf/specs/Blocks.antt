@@ -1,5 +1,6 @@
 -- Blocks of lines: which lines enclose a line, in which part it stands, and how deep.
-use Rattle.std.specs.Prelude.{ℕ, suc, zero, ◌≡◌, Bool, true, false, List, [], ◌∷◌, ◌++◌, length, ◌<◌, ◌⊎◌, ◌↔◌}
+use Rattle.std.specs.Prelude.{ℕ, suc, zero, ◌≡◌, Bool, true, false, List, [], ◌∷◌, ◌++◌, length}
+use Rattle.std.specs.Prelude.{◌<◌, ◌⊎◌, ◌↔◌}
 
 -- what a line does to the blocks of its text
 pub data Shape : Type 0 where
@@ -8,7 +9,7 @@ pub data Shape : Type 0 where
   Closes : Shape
   Single : Shape
 
--- A line of a text, and what is true of it: whether it is used, and, of an opening line, whether it chooses its first part.
+-- A line of a text, and what is true of it: whether it is used; of an opening line, whether it chooses its first part.
 pub record Seen : Type 0 where
   pub shape : Shape
   pub used : Bool
@@ -49,22 +50,26 @@ pub data Balanced : List Seen → Type 0 where
 abbrev pub Inside : List Seen → Type 0
 Inside xs =
     Balanced xs
-    ⊎ ((ys : List Seen) × (d : Seen) × (zs : List Seen) × (xs ≡ ys ++ d ∷ zs) × Balanced ys × (divides d.shape ≡ true) × Balanced zs)
+    ⊎ ((ys : List Seen) × (d : Seen) × (zs : List Seen) × (xs ≡ ys ++ d ∷ zs) × Balanced ys
+    × (divides d.shape ≡ true) × Balanced zs)
 
 -- a closing line among these ends the block that an opening line just before them began
 abbrev pub IsClosed : List Seen → Type 0
 IsClosed between =
-    (inner : List Seen) × (c : Seen) × (rest : List Seen) × (between ≡ inner ++ c ∷ rest) × (closes c.shape ≡ true) × Inside inner
+    (inner : List Seen) × (c : Seen) × (rest : List Seen) × (between ≡ inner ++ c ∷ rest)
+    × (closes c.shape ≡ true) × Inside inner
 
 -- a line with these between it and an opening line stands in the second part
 abbrev pub IsSecond : List Seen → Type 0
 IsSecond between =
-    (xs : List Seen) × (d : Seen) × (ys : List Seen) × (between ≡ xs ++ d ∷ ys) × (divides d.shape ≡ true) × Balanced xs
+    (xs : List Seen) × (d : Seen) × (ys : List Seen) × (between ≡ xs ++ d ∷ ys)
+    × (divides d.shape ≡ true) × Balanced xs
 
 -- no line encloses the line after these
 abbrev pub IsOutside : List Seen → Type 0
 IsOutside here =
-    (outer : List Seen) (o : Seen) (between : List Seen) → here ≡ outer ++ o ∷ between → opens o.shape ≡ true → IsClosed between
+    (outer : List Seen) (o : Seen) (between : List Seen) → here ≡ outer ++ o ∷ between
+    → opens o.shape ≡ true → IsClosed between
 
 -- the innermost line that encloses the line after these
 pub record IsInnermost (here outer : List Seen) (o : Seen) (between : List Seen) : Type 0 where
@@ -77,11 +82,13 @@ pub record IsInnermost (here outer : List Seen) (o : Seen) (between : List Seen)
 abbrev pub AreEnclosing : ℕ → List Seen → Type 0
 AreEnclosing zero here = IsOutside here
 AreEnclosing (suc n) here =
-    (outer : List Seen) × (o : Seen) × (between : List Seen) × IsInnermost here outer o between × AreEnclosing n outer
+    (outer : List Seen) × (o : Seen) × (between : List Seen) × IsInnermost here outer o between
+    × AreEnclosing n outer
 
 -- the innermost block that is open after these lines is in its second part
 abbrev pub IsDivided : List Seen → Type 0
-IsDivided here = (outer : List Seen) × (o : Seen) × (between : List Seen) × IsInnermost here outer o between × IsSecond between
+IsDivided here = (outer : List Seen) × (o : Seen) × (between : List Seen)
+    × IsInnermost here outer o between × IsSecond between
 
 -- an opening line with these between it and a line that it encloses chooses that line's part
 abbrev pub Chooses : Seen → List Seen → Type 0
@@ -90,7 +97,8 @@ Chooses o between = (¬ IsSecond between → o.first ≡ true) × (IsSecond betw
 -- each line that encloses the line after these is used and chooses that line's part
 abbrev pub EnclosedWell : List Seen → Type 0
 EnclosedWell here =
-    (outer : List Seen) (o : Seen) (between : List Seen) → here ≡ outer ++ o ∷ between → opens o.shape ≡ true → ¬ IsClosed between
+    (outer : List Seen) (o : Seen) (between : List Seen) → here ≡ outer ++ o ∷ between
+    → opens o.shape ≡ true → ¬ IsClosed between
     → (o.used ≡ true) × Chooses o between
 
 -- a line is marked as used exactly where it is
@@ -117,4 +125,5 @@ IsOneOf i (j ∷ js) = (i ≡ j) ⊎ IsOneOf i js
 
 -- the lines that enclose the line after these are so many
 abbrev pub AreSoMany : ℕ → List Seen → Type 0
-AreSoMany n here = (is : List ℕ) × (length is ≡ n) × AreFalling (length here) is × ((i : ℕ) → Encloses here i ↔ IsOneOf i is)
+AreSoMany n here = (is : List ℕ) × (length is ≡ n) × AreFalling (length here) is
+    × ((i : ℕ) → Encloses here i ↔ IsOneOf i is)

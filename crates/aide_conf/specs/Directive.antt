@@ -1,10 +1,13 @@
 -- What a line is before expansion, and what it says, as functions of its bytes.
-use Rattle.std.specs.Prelude.{ℕ, Bool, true, false, not, ◌&&◌, ◌||◌, nat_lt, List, [], length, codes, drop, unwrap_or, if◌then◌else◌}
+use Rattle.std.specs.Prelude.{ℕ, Bool, true, false, not, ◌&&◌, ◌||◌, nat_lt, List, [], length}
+use Rattle.std.specs.Prelude.{codes, drop, unwrap_or, if◌then◌else◌}
 use Rattle.aide_attr.specs.Name.{is_word}
-use Rattle.aide_conf.specs.declared.fault.ConfFaultKind.TheVariants.{BadDirective, LeftOut, BadName, LineTooLong, ValueTooLong}
+use Rattle.aide_conf.specs.declared.fault.ConfFaultKind.TheVariants.{BadDirective, LeftOut, BadName}
+use Rattle.aide_conf.specs.declared.fault.ConfFaultKind.TheVariants.{LineTooLong, ValueTooLong}
 use Rattle.aide_conf.specs.Lines.{is_blank, strip, bytes_before, bytes_after}
 use Rattle.aide_conf.specs.Reading.{same, begins, is_directive, is_omitted, is_skipped, expanded_reading}
-use Rattle.aide_conf.specs.Reading.{Reading, Nothing, Faulty, DefinesVariable, DropsVariable, OpensBlock, DividesBlock, ClosesBlock}
+use Rattle.aide_conf.specs.Reading.{Reading, Nothing, Faulty, DefinesVariable, DropsVariable}
+use Rattle.aide_conf.specs.Reading.{OpensBlock, DividesBlock, ClosesBlock}
 use Rattle.aide_conf.specs.Blocks.{Shape, Opens, Divides, Closes, Single}
 use Rattle.aide_conf.specs.Limits.{longest_line, longest_value, deepest}
 
@@ -19,9 +22,9 @@ pub data Item : Type 0 where
   IfOther : Item
   Else : Item
   EndIf : Item
-  -- a directive that is left out; the flag tells whether its word begins with `if`, so that an unused one is refused too
+  -- a directive that is left out, and whether its word begins with `if`, so that an unused one is refused too
   Omitted : Bool → Item
-  -- any other directive, with the same flag
+  -- any other directive, and the same of its word
   Unknown : Bool → Item
   -- no directive
   Plain : Item
@@ -32,7 +35,8 @@ after_blank bs = strip (unwrap_or (bytes_after is_blank bs) [])
 
 -- an `@@if` with this behind the `not` of its condition
 unfoldable pub not_item : List ℕ → Item
-not_item rest = if same (bytes_before is_blank rest) (codes "defined") then IfNotDef (after_blank rest) else IfOther
+not_item rest =
+    if same (bytes_before is_blank rest) (codes "defined") then IfNotDef (after_blank rest) else IfOther
 
 -- an `@@if` with this condition: in form are `defined NAME` and `not defined NAME`
 unfoldable pub if_item : List ℕ → Item
@@ -86,15 +90,16 @@ item_text _ _ = []
 -- What the setting of a variable says: a fault of its name comes before one of its value's length.
 abbrev pub set_reading : List ℕ → List ℕ → Reading
 set_reading name value =
-    if is_word name then (if nat_lt longest_value (length value) then Faulty ValueTooLong else DefinesVariable name value)
+    if is_word name
+    then (if nat_lt longest_value (length value) then Faulty ValueTooLong else DefinesVariable name value)
     else Faulty BadName
 
 -- what the dropping of a variable says: its name has to be a word, and need not be defined
 abbrev pub unset_reading : List ℕ → Reading
 unset_reading name = if is_word name then DropsVariable name else Faulty BadName
 
--- What an item says in a used part or in an unused one, where this is its expansion.
--- In an unused part only what nests is followed, and other words that begin with `if` are refused.
+-- What an item says in a used part or in an unused one, where this is its expansion. In an unused part only what nests
+-- is followed, and other words that begin with `if` are refused.
 abbrev pub item_reading : Bool → Item → List ℕ → Reading
 item_reading used (Define n v) expanded = if used then set_reading n expanded else Nothing
 item_reading used (Undef n) expanded = if used then unset_reading n else Nothing

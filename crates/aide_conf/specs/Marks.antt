@@ -80,9 +80,9 @@ use Rattle.aide_conf.specs.Expansion.{IsExpansion}
 use Rattle.aide_conf.specs.Limits.{most_variables, deepest}
 use Rattle.aide_attr.specs.Groups.{most_groups}
 
--- A place, and what is true of it: whether it is used; how many lines of its text enclose it, and whether it stands in the
--- second part of the innermost of their blocks; of an opening line, whether it chooses its first part; what its bytes are after
--- expansion; and what its expression means or why it means nothing.
+-- A place, and what is true of it: whether it is used; how many lines of its text enclose it, and whether it stands in
+-- the second part of the innermost of their blocks; of an opening line, whether it chooses its first part; what its
+-- bytes are after expansion; and what its expression means or why it means nothing.
 pub record Marked : Type 0 where
   pub place : Place
   pub used : Bool
@@ -171,7 +171,8 @@ variable_by _ _ = None
 abbrev pub variable_in : List ℕ → Marked → Option (Option (List ℕ))
 variable_in n x = variable_by n (says x)
 
--- the value of a variable after these places, where it is defined: that of the last line that sets it, if none unsets it later
+-- the value of a variable after these places, where it is defined: that of the last line that sets it, unless one
+-- behind that unsets it
 abbrev pub variable : List Marked → List ℕ → Option (List ℕ)
 variable xs n = unwrap_or (last_given (variable_in n) xs) None
 
@@ -259,14 +260,18 @@ abbrev pub unless : Bool → ConfFaultKind → Option ConfFaultKind
 unless holds kind = if holds then None else Some kind
 
 -- the fault of a line after these places, so deep in blocks, and in the second part of the innermost or not
-abbrev pub line_fault : List Marked → ℕ → Bool → Reading → Option (Result AttrSet ExprFault) → Option ConfFaultKind
+abbrev pub line_fault : List Marked → ℕ → Bool → Reading → Option (Result AttrSet ExprFault)
+    → Option ConfFaultKind
 line_fault earlier depth divided (Faulty k) verdict = Some k
 line_fault earlier depth divided (SetsAttributes l e) verdict = verdict_fault verdict
 line_fault earlier depth divided (DefinesGroup n e) verdict =
     option_or (verdict_fault verdict) (if is_too_many earlier n then Some TooMany else None)
-line_fault earlier depth divided (DefinesVariable n v) verdict = if is_one_variable_more earlier n then Some TooMany else None
-line_fault earlier depth divided (OpensBlock good) verdict = if nat_le deepest depth then Some TooDeep else unless good BadName
-line_fault earlier depth divided DividesBlock verdict = if depth == 0 || divided then Some StrayElse else None
+line_fault earlier depth divided (DefinesVariable n v) verdict =
+    if is_one_variable_more earlier n then Some TooMany else None
+line_fault earlier depth divided (OpensBlock good) verdict =
+    if nat_le deepest depth then Some TooDeep else unless good BadName
+line_fault earlier depth divided DividesBlock verdict =
+    if depth == 0 || divided then Some StrayElse else None
 line_fault earlier depth divided ClosesBlock verdict = if depth == 0 then Some StrayEndif else None
 line_fault _ _ _ _ _ = None
 
@@ -305,7 +310,8 @@ text_to_expand None = []
 text_to_expand (Some line) = item_text line (item_of line)
 
 -- A verdict is right: it is what the expression means or why it means nothing, and there is none without an expression.
-abbrev pub IsJudgedWell : (List ℕ → Option (Attr → Bool)) → Option (List ℕ) → Option (Result AttrSet ExprFault) → Type 0
+abbrev pub IsJudgedWell : (List ℕ → Option (Attr → Bool)) → Option (List ℕ)
+    → Option (Result AttrSet ExprFault) → Type 0
 IsJudgedWell look None verdict = verdict ≡ None
 IsJudgedWell look (Some text) None = ⊥
 IsJudgedWell look (Some text) (Some (Ok s)) = IsMeaning look text s
@@ -336,4 +342,5 @@ pub record Grows (earlier : List Marked) (at : Place) : Type 0 where
 -- all are marked well, each after those before it, and none has a fault
 abbrev pub AreSound : Need → List Marked → List Marked → Type 0
 AreSound need earlier [] = Unit {0}
-AreSound need earlier (x ∷ xs) = IsMarkedWell earlier x × (fault_at need earlier x ≡ None) × AreSound need (earlier ++ x ∷ []) xs
+AreSound need earlier (x ∷ xs) = IsMarkedWell earlier x × (fault_at need earlier x ≡ None)
+    × AreSound need (earlier ++ x ∷ []) xs

@@ -1,5 +1,6 @@
 -- What a line says, as a function of its bytes.
-use Rattle.std.specs.Prelude.{ℕ, Bool, true, false, not, ◌&&◌, ◌||◌, ◌==◌, nat_lt, nat_eq, List, [], ◌∷◌, length, drop}
+use Rattle.std.specs.Prelude.{ℕ, Bool, true, false, not, ◌&&◌, ◌||◌, ◌==◌, nat_lt, nat_eq, List, []}
+use Rattle.std.specs.Prelude.{◌∷◌, length, drop}
 use Rattle.std.specs.Prelude.{Option, Some, None, codes, if◌then◌else◌}
 use Rattle.std.specs.List.{starts_with}
 use Rattle.std.specs.Option.{option_or}
@@ -9,13 +10,16 @@ use Rattle.aide_attr.specs.declared.level.Level.{Level}
 use Rattle.aide_attr.specs.Level.{level_named}
 use Rattle.aide_attr.specs.Name.{is_group_name}
 use Rattle.aide_conf.specs.declared.fault.ConfFaultKind.{ConfFaultKind}
-use Rattle.aide_conf.specs.declared.fault.ConfFaultKind.TheVariants.{LeftOut, BadName, BadValue, BadUrl, LineTooLong, ValueTooLong, BadLine}
+use Rattle.aide_conf.specs.declared.fault.ConfFaultKind.TheVariants.{LeftOut, BadName, BadValue}
+use Rattle.aide_conf.specs.declared.fault.ConfFaultKind.TheVariants.{BadUrl, LineTooLong}
+use Rattle.aide_conf.specs.declared.fault.ConfFaultKind.TheVariants.{ValueTooLong, BadLine}
 use Rattle.aide_conf.specs.declared.setting.Database.{Database}
 use Rattle.aide_conf.specs.declared.setting.Database.TheVariants.{Old, New}
 use Rattle.aide_conf.specs.declared.setting.Switch.{Switch}
 use Rattle.aide_conf.specs.declared.setting.Switch.TheVariants.{Grouped, Summarize, Base16, Quiet}
 use Rattle.aide_conf.specs.declared.setting.AttrList.{AttrList}
-use Rattle.aide_conf.specs.declared.setting.AttrList.TheVariants.{IgnoreAdded, IgnoreRemoved, IgnoreChanged, Force}
+use Rattle.aide_conf.specs.declared.setting.AttrList.TheVariants.{IgnoreAdded, IgnoreRemoved}
+use Rattle.aide_conf.specs.declared.setting.AttrList.TheVariants.{IgnoreChanged, Force}
 use Rattle.aide_conf.specs.declared.setting.Setting.{Setting}
 use Rattle.aide_conf.specs.declared.setting.Setting.TheVariants as setting
 use Rattle.aide_conf.specs.Lines.{strip, bytes_before, bytes_after}
@@ -29,7 +33,7 @@ same xs ys = pointwise nat_eq xs ys
 abbrev pub begins : List ℕ → List ℕ → Bool
 begins bs text = starts_with nat_eq bs text
 
--- What a line says: nothing that has an effect, or a fault that its bytes alone show, or what it sets, or what it does to blocks.
+-- What a line says: nothing of effect, a fault that its bytes alone show, what it sets, or what it does to blocks.
 pub data Reading : Type 0 where
   Nothing : Reading
   Faulty : ConfFaultKind → Reading
@@ -75,11 +79,16 @@ main_setting n =
 -- names that are accepted and have no effect
 unfoldable pub is_accepted : List ℕ → Bool
 is_accepted n =
-    same n (codes "database_out") || same n (codes "database_gzip") || same n (codes "gzip_dbout") || same n (codes "database_attrs")
-    || same n (codes "database_add_metadata") || same n (codes "log_level") || same n (codes "verbose") || same n (codes "config_version")
-    || same n (codes "config_check_warn_unrestricted_rules") || same n (codes "root_prefix") || same n (codes "num_workers")
-    || same n (codes "acl_no_symlink_follow") || same n (codes "warn_dead_symlinks") || same n (codes "report_append")
-    || same n (codes "report_detailed_init") || same n (codes "report_ignore_e2fsattrs") || same n (codes "syslog_format")
+    same n (codes "database_out") || same n (codes "database_gzip") || same n (codes "gzip_dbout")
+    || same n (codes "database_attrs")
+    || same n (codes "database_add_metadata") || same n (codes "log_level")
+    || same n (codes "verbose") || same n (codes "config_version")
+    || same n (codes "config_check_warn_unrestricted_rules") || same n (codes "root_prefix")
+    || same n (codes "num_workers")
+    || same n (codes "acl_no_symlink_follow") || same n (codes "warn_dead_symlinks")
+    || same n (codes "report_append")
+    || same n (codes "report_detailed_init") || same n (codes "report_ignore_e2fsattrs")
+    || same n (codes "syslog_format")
 
 -- older names, which are left out
 unfoldable pub is_older : List ℕ → Bool
@@ -90,7 +99,8 @@ is_older n =
 -- the option of a name; any other name is that of a group
 unfoldable pub setting_named : List ℕ → Option Setting
 setting_named n =
-    option_or (main_setting n) (if is_accepted n then Some setting.Accepted else if is_older n then Some setting.Older else None)
+    option_or (main_setting n) (if is_accepted n then Some setting.Accepted
+    else if is_older n then Some setting.Older else None)
 
 -- ---- the values of options
 
@@ -145,7 +155,8 @@ url_reading d v = if is_left_out v then Faulty LeftOut else path_reading d (path
 
 -- what `report_format` says: reports are plain, and JSON is left out
 abbrev pub format_reading : List ℕ → Reading
-format_reading v = if same v (codes "json") then Faulty LeftOut else if same v (codes "plain") then Nothing else Faulty BadValue
+format_reading v = if same v (codes "json") then Faulty LeftOut
+    else if same v (codes "plain") then Nothing else Faulty BadValue
 
 -- an option with a value that is not empty
 unfoldable pub value_reading : Setting → List ℕ → Reading
@@ -171,11 +182,13 @@ is_directive bs = begins bs (codes "@@") && not (begins bs (codes "@@{"))
 
 -- the words of the directives that are left out
 unfoldable pub is_omitted : List ℕ → Bool
-is_omitted w = same w (codes "include") || same w (codes "x_include") || same w (codes "ifhost") || same w (codes "ifnhost")
+is_omitted w = same w (codes "include") || same w (codes "x_include") || same w (codes "ifhost")
+    || same w (codes "ifnhost")
 
 -- the first bytes of selection lines
 unfoldable pub is_selection : List ℕ → Bool
-is_selection bs = begins bs (codes "/") || begins bs (codes "!") || begins bs (codes "=") || begins bs (codes "-")
+is_selection bs = begins bs (codes "/") || begins bs (codes "!") || begins bs (codes "=")
+    || begins bs (codes "-")
 
 -- the byte `=`, which ends the name of an option or a group
 abbrev pub is_equals : ℕ → Bool
@@ -193,7 +206,8 @@ cut_reading (Some value) name = assigned (setting_named name) name (strip value)
 
 -- a line after expansion, stripped, that is neither skipped nor too long
 unfoldable pub kept_reading : List ℕ → Reading
-kept_reading bs = if is_selection bs then Nothing else cut_reading (bytes_after is_equals bs) (strip (bytes_before is_equals bs))
+kept_reading bs = if is_selection bs then Nothing
+    else cut_reading (bytes_after is_equals bs) (strip (bytes_before is_equals bs))
 
 -- a line after expansion, stripped
 abbrev pub expanded_reading : List ℕ → Reading

@@ -1,5 +1,6 @@
 -- The settings that marked lines give.
-use Rattle.std.specs.Prelude.{ℕ, ◌≡◌, Bool, true, false, List, [], ◌∷◌, Option, Some, None, unwrap_or, if◌then◌else◌, Result}
+use Rattle.std.specs.Prelude.{ℕ, ◌≡◌, Bool, true, false, List, [], ◌∷◌, Option, Some, None}
+use Rattle.std.specs.Prelude.{unwrap_or, if◌then◌else◌, Result}
 use Rattle.aide_attr.specs.declared.attr.Attr.{Attr}
 use Rattle.aide_attr.specs.declared.set.AttrSet.{AttrSet}
 use Rattle.aide_attr.specs.declared.expression.ExprFault.{ExprFault}
@@ -11,11 +12,12 @@ use Rattle.aide_conf.specs.declared.setting.Database.TheVariants.{Old, New}
 use Rattle.aide_conf.specs.declared.setting.Switch.{Switch}
 use Rattle.aide_conf.specs.declared.setting.Switch.TheVariants.{Grouped, Summarize, Base16, Quiet}
 use Rattle.aide_conf.specs.declared.setting.AttrList.{AttrList}
-use Rattle.aide_conf.specs.declared.setting.AttrList.TheVariants.{IgnoreAdded, IgnoreRemoved, IgnoreChanged, Force}
+use Rattle.aide_conf.specs.declared.setting.AttrList.TheVariants.{IgnoreAdded, IgnoreRemoved}
+use Rattle.aide_conf.specs.declared.setting.AttrList.TheVariants.{IgnoreChanged, Force}
 use Rattle.aide_conf.specs.Reading.{Reading, SetsLevel, SetsSwitch, SetsAttributes, EndsOptions}
 use Rattle.aide_conf.specs.Marks.{Marked, says, last_given, set_meant, path_set}
 
--- Settings, as contracts see them: the options of the report, and the paths of the two databases, each missing or its bytes.
+-- Settings, as contracts see them: the report's options, and the bytes of both databases' paths, where these are given.
 pub record Configured : Type 0 where
   pub options : Options
   pub old_path : Option (List ℕ)

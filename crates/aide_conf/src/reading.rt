@@ -30,8 +30,7 @@ pub(crate) enum Said<'a> {
     DefinesGroup(&'a [u8], &'a [u8]),
 }
 
-/// What a line says after expansion, or the fault that its bytes alone show. It is stripped, no comment, and not too
-/// long.
+/// What a line says after expansion, or the fault that its bytes alone show. It is stripped, no comment, not too long.
 #[tactic(auto, unfolding(crate::specs::Reading::kept_reading))]
 pub(crate) fn kept_reading(line: &[u8]) -> Result<Said<'_>, ConfFaultKind>
     ensures says { said result ≡ kept_reading line.now }

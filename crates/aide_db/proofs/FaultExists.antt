@@ -1,11 +1,13 @@
 -- A text that is not sound has a first fault.
-use Rattle.std.proofs.Common.{◌≡◌, ℕ, ◌+◌, ◌≤◌, List, [], ◌∷◌, ◌++◌, length, take, refl, sym, subst, true, false, append_assoc, append-nil, None, Some, inl, inr}
+use Rattle.std.proofs.Common.{◌≡◌, ℕ, ◌+◌, ◌≤◌, List, [], ◌∷◌, ◌++◌, length, take, refl, sym, subst, true, false}
+use Rattle.std.proofs.Common.{append_assoc, append-nil, None, Some, inl, inr}
 use Rattle.std.specs.Prelude.{nat_le, ◌⊎◌}
 use Rattle.std.proofs.lemmas.Bool.{leb-true}
 use Rattle.std.proofs.lemmas.List.Elements.{All-nil}
 use Rattle.aide_db.specs.Text.{lines}
 use Rattle.aide_db.specs.Lines.{is_end}
-use Rattle.aide_db.specs.Database.{counted, IsShort, IsFront, IsDatabase, IsSound, fault_of, whole_lines, IsFirstFault, cut_kind, end_kind}
+use Rattle.aide_db.specs.Database.{counted, IsShort, IsFront, IsDatabase, IsSound, fault_of, whole_lines, IsFirstFault}
+use Rattle.aide_db.specs.Database.{cut_kind, end_kind}
 use Rattle.aide_db.specs.Parts.{IsOpen}
 use Rattle.aide_db.specs.declared.limits.Limits.{Limits}
 use Rattle.aide_db.specs.declared.fault.DbFaultKind.{DbFaultKind}
@@ -50,17 +52,21 @@ whole_plain limits text = elim (nat_le (length text) limits.bytes) as (λ b. nat
   | false ↦ λ e. rw e (ended_plain (take limits.bytes text))
 ] refl
 
-whole_uncut : (limits : Limits) (text : List ℕ) → nat_le (length text) limits.bytes ≡ true → whole_lines limits text ≡ lines text
+whole_uncut : (limits : Limits) (text : List ℕ) → nat_le (length text) limits.bytes ≡ true
+    → whole_lines limits text ≡ lines text
 unfolding whole_lines
 whole_uncut limits text e = rw e refl
 
 open_nil : (limit : ℕ) → IsOpen limit []
 open_nil limit = record { no_end = refl; short = All-nil (IsShort limit); part = tt }
 
-at_cut : (limits : Limits) (text : List ℕ) → nat_le (length text) limits.bytes ≡ false → IsFront limits.line (whole_lines limits text) → HasFirstFault limits text
-at_cut limits text e good = (length (whole_lines limits text) + 1, cut_kind limits text, inr (inl (record { long = e; good = good; number_is = refl; kind_is = refl })))
+at_cut : (limits : Limits) (text : List ℕ) → nat_le (length text) limits.bytes ≡ false
+    → IsFront limits.line (whole_lines limits text) → HasFirstFault limits text
+at_cut limits text e good =
+    (length (whole_lines limits text) + 1, cut_kind limits text, inr (inl (record { long = e; good = good; number_is = refl; kind_is = refl })))
 
-at_open : (limits : Limits) (text : List ℕ) → 14 ≤ limits.line → IsOpen limits.line (whole_lines limits text) → HasFirstFault limits text
+at_open : (limits : Limits) (text : List ℕ) → 14 ≤ limits.line → IsOpen limits.line (whole_lines limits text)
+    → HasFirstFault limits text
 at_open limits text le is_open =
     let good = open_front limits.line (whole_lines limits text) le (whole_plain limits text) is_open in
     elim (nat_le (length text) limits.bytes) as (λ b. nat_le (length text) limits.bytes ≡ b → HasFirstFault limits text) [
@@ -79,14 +85,16 @@ at_open limits text le is_open =
       | false ↦ λ e. at_cut limits text e good
     ] refl
 
-at_database : (limits : Limits) (text : List ℕ) → IsDatabase limits.line (whole_lines limits text) → IsSound limits text ⊎ HasFirstFault limits text
+at_database : (limits : Limits) (text : List ℕ) → IsDatabase limits.line (whole_lines limits text)
+    → IsSound limits text ⊎ HasFirstFault limits text
 at_database limits text d =
     elim (nat_le (length text) limits.bytes) as (λ b. nat_le (length text) limits.bytes ≡ b → IsSound limits text ⊎ HasFirstFault limits text) [
       | true ↦ λ e. inl (subst (IsDatabase limits.line) (whole_uncut limits text e) d, leb-true (length text) limits.bytes e)
       | false ↦ λ e. inr (at_cut limits text e (database_front limits.line (whole_lines limits text) (whole_plain limits text) d))
     ] refl
 
-at_bad : (limits : Limits) (text : List ℕ) → 14 ≤ limits.line → HasBadLine limits.line (whole_lines limits text) → HasFirstFault limits text
+at_bad : (limits : Limits) (text : List ℕ) → 14 ≤ limits.line → HasBadLine limits.line (whole_lines limits text)
+    → HasFirstFault limits text
 at_bad limits text le b =
     let plain = AreLines-front b.front (b.line ∷ b.after) (subst AreLines b.parts (whole_plain limits text)) in (
       length b.front + 1,
@@ -104,7 +112,8 @@ at_bad limits text le b =
     )
 
 -- a text is sound, or it has a first fault
-pub sound_or_fault : (limits : Limits) (text : List ℕ) → 14 ≤ limits.line → IsSound limits text ⊎ HasFirstFault limits text
+pub sound_or_fault : (limits : Limits) (text : List ℕ) → 14 ≤ limits.line
+    → IsSound limits text ⊎ HasFirstFault limits text
 sound_or_fault limits text le =
     elim (walk limits.line [] (whole_lines limits text) (open_nil limits.line)) [
       | inl is_open ↦ inr (at_open limits text le is_open)

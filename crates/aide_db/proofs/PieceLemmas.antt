@@ -1,8 +1,10 @@
 -- The first piece of a line, by the place of its newline.
-use Rattle.std.proofs.Common.{◌≡◌, ℕ, ◌+◌, ◌<◌, ◌≤◌, List, [], ◌∷◌, ◌++◌, length, take, drop, refl, sym, ap, ◌∙◌, subst, true, false, Bool, arith, get_or, None, Some, inl, inr}
+use Rattle.std.proofs.Common.{◌≡◌, ℕ, ◌+◌, ◌<◌, ◌≤◌, List, [], ◌∷◌, ◌++◌, length, take, drop, refl, sym, ap, ◌∙◌, subst}
+use Rattle.std.proofs.Common.{true, false, Bool, arith, get_or, None, Some, inl, inr}
 use Rattle.std.specs.Prelude.{min, ◌==◌}
 use Rattle.std.proofs.lemmas.Bool.{eqb-true, cases_lt}
-use Rattle.std.proofs.lemmas.List.{take-append-drop, take-append-le, get_or-take, get_or_default, length-take-le, length-take, drop_more, drop-drop, take_all, drop_all}
+use Rattle.std.proofs.lemmas.List.{take-append-drop, take-append-le, get_or-take, get_or_default, length-take-le}
+use Rattle.std.proofs.lemmas.List.{length-take, drop_more, drop-drop, take_all, drop_all}
 use Rattle.memchr.specs.Find.{IsFirstByte, is_byte}
 use Rattle.aide_db.specs.Text.{is_newline, is_filled}
 use Rattle.std.proofs.Common.{append_assoc, append-nil}
@@ -20,12 +22,14 @@ not_true true n = absurd (n refl)
 not_true false n = refl
 
 -- the bytes before a place, none of them a newline
-plain_front : (xs : List ℕ) (n : ℕ) → n ≤ length xs → ((k : ℕ) → k < n → is_newline (get_or xs k 0) ≡ true → ⊥) → HasNoNewline (take n xs)
+plain_front : (xs : List ℕ) (n : ℕ) → n ≤ length xs → ((k : ℕ) → k < n → is_newline (get_or xs k 0) ≡ true → ⊥)
+    → HasNoNewline (take n xs)
 plain_front xs n le none = λ k d lt.
     let small : k < n = omega (arith, length-take-le n xs le) in
     subst (λ (x : ℕ). is_newline x ≡ false) (sym (get_or-take n xs k d small ∙ get_or_default xs k d 0 (omega arith))) (not_true (is_newline (get_or xs k 0)) (none k small))
 
-pub piece_some : (ahead near piece : List ℕ) (room at : ℕ) → near ≡ take room ahead → IsFirstByte (is_byte 10) near (Some at) → piece ≡ take at near → IsPiece ahead room piece true
+pub piece_some : (ahead near piece : List ℕ) (room at : ℕ) → near ≡ take room ahead
+    → IsFirstByte (is_byte 10) near (Some at) → piece ≡ take at near → IsPiece ahead room piece true
 piece_some ahead near piece room at e f g =
     let n : length near ≡ min room (length ahead) = ap length e ∙ length-take room ahead in
     let small : at < length near = f.0.high in
@@ -56,7 +60,8 @@ near_parts ahead near room e =
     ] in
     sym (ap (λ p. p ++ drop (length near) ahead) (sym front) ∙ take-append-drop (length near) ahead)
 
-pub piece_none : (ahead near : List ℕ) (room : ℕ) → near ≡ take room ahead → IsFirstByte (is_byte 10) near None → IsPiece ahead room near false
+pub piece_none : (ahead near : List ℕ) (room : ℕ) → near ≡ take room ahead → IsFirstByte (is_byte 10) near None
+    → IsPiece ahead room near false
 piece_none ahead near room e f =
     let n : length near ≡ min room (length ahead) = ap length e ∙ length-take room ahead in
     record {
@@ -74,13 +79,16 @@ plain_take xs n le none = λ k d lt.
 
 -- what a reel gave, one call after another
 pub gives_none : (bytes : List ℕ) (hash : Sha256) → Gives bytes bytes hash hash
-gives_none bytes hash = record { given = []; parts = refl; hashed = λ m h. subst (Holds256 hash) (sym (append-nil m)) h }
+gives_none bytes hash =
+    record { given = []; parts = refl; hashed = λ m h. subst (Holds256 hash) (sym (append-nil m)) h }
 
 pub gives_more : (a b c : List ℕ) (h i j : Sha256) → Gives a b h i → Gives b c i j → Gives a c h j
-gives_more a b c h i j x y = record { given = x.given ++ y.given; parts = x.parts ∙ (ap (λ r. x.given ++ r) y.parts ∙ sym (append_assoc x.given y.given c)); hashed = λ m g. subst (Holds256 j) (append_assoc m x.given y.given) (y.hashed (m ++ x.given) (x.hashed m g)) }
+gives_more a b c h i j x y =
+    record { given = x.given ++ y.given; parts = x.parts ∙ (ap (λ r. x.given ++ r) y.parts ∙ sym (append_assoc x.given y.given c)); hashed = λ m g. subst (Holds256 j) (append_assoc m x.given y.given) (y.hashed (m ++ x.given) (x.hashed m g)) }
 
 -- a piece more of a line, of the bytes ahead
-pub begun_more : (limits : Limits) (bytes line ahead rest left piece : List ℕ) (used used_now room : ℕ) (ends : Bool) → HaveBegun limits bytes used line left used_now → ahead ++ rest ≡ left → IsPiece ahead room piece ends
+pub begun_more : (limits : Limits) (bytes line ahead rest left piece : List ℕ) (used used_now room : ℕ) (ends : Bool)
+    → HaveBegun limits bytes used line left used_now → ahead ++ rest ≡ left → IsPiece ahead room piece ends
     → HaveBegun limits bytes used (line ++ piece) (drop (length piece) ahead ++ rest) (used_now + length piece)
 begun_more limits bytes line ahead rest left piece used used_now room ends h same p = record {
   parts = h.parts ∙ (ap (λ r. line ++ r) (sym same ∙ (ap (λ r. r ++ rest) p.parts ∙ append_assoc piece (drop (length piece) ahead) rest)) ∙ sym (append_assoc line piece (drop (length piece) ahead ++ rest)));
@@ -89,7 +97,8 @@ begun_more limits bytes line ahead rest left piece used used_now room ends h sam
 }
 
 -- a line with too many bytes
-pub begun_too_long : (limits : Limits) (bytes line ahead rest left piece : List ℕ) (used used_now room over : ℕ) (ends : Bool) → HaveBegun limits bytes used line left used_now → ahead ++ rest ≡ left → IsPiece ahead room piece ends
+pub begun_too_long : (limits : Limits) (bytes line ahead rest left piece : List ℕ) (used used_now room over : ℕ) (ends : Bool)
+    → HaveBegun limits bytes used line left used_now → ahead ++ rest ≡ left → IsPiece ahead room piece ends
     → over ≤ length piece → length line + over ≡ limits.line + 1
     → (front : List ℕ) × HaveBegun limits bytes used front (drop over ahead ++ rest) (used_now + over) × (length front ≡ limits.line + 1)
 begun_too_long limits bytes line ahead rest left piece used used_now room over ends h same p le sum =
@@ -119,15 +128,18 @@ filled_length [] e = cc
 filled_length (x ∷ xs) e = omega arith
 
 -- a byte too many behind a piece
-pub begun_too_many : (limits : Limits) (bytes line ahead rest left piece : List ℕ) (used used_now room : ℕ) → HaveBegun limits bytes used line left used_now → ahead ++ rest ≡ left → IsPiece ahead room piece false
-    → is_filled (drop (length piece) ahead) ≡ true → length line + length piece ≤ limits.line → used_now + room ≡ limits.bytes
+pub begun_too_many : (limits : Limits) (bytes line ahead rest left piece : List ℕ) (used used_now room : ℕ)
+    → HaveBegun limits bytes used line left used_now → ahead ++ rest ≡ left → IsPiece ahead room piece false
+    → is_filled (drop (length piece) ahead) ≡ true → length line + length piece ≤ limits.line
+    → used_now + room ≡ limits.bytes
     → HaveBegun limits bytes used (line ++ piece) (drop (length piece) ahead ++ rest) (used_now + length piece) × (is_filled (drop (length piece) ahead ++ rest) ≡ true) × (length (line ++ piece) ≤ limits.line) × (used_now + length piece ≡ limits.bytes)
 begun_too_many limits bytes line ahead rest left piece used used_now room h same p some short sum =
     let b = begun_more limits bytes line ahead rest left piece used used_now room false h same p in
     (b, filled_more (drop (length piece) ahead) rest some, omega (arith, short, length-append line piece), omega (arith, p.all refl some, sum))
 
 -- a line that has begun stands at the front
-pub begun_begins : (limits : Limits) (bytes line left : List ℕ) (used used_now : ℕ) → HaveBegun limits bytes used line left used_now → Begins bytes line
+pub begun_begins : (limits : Limits) (bytes line left : List ℕ) (used used_now : ℕ)
+    → HaveBegun limits bytes used line left used_now → Begins bytes line
 begun_begins limits bytes line left used used_now h = record { more = left; parts = h.parts; none = h.none }
 
 -- what is not empty is filled
@@ -135,14 +147,19 @@ pub filled_from : (xs ys zs : List ℕ) → false ≡ (length xs == 0) → xs �
 filled_from [] ys zs e f g = cc
 filled_from (x ∷ xs) ys zs e f g = ap is_filled (sym (f ∙ g))
 
-pub piece_length : (ahead piece : List ℕ) (room : ℕ) (ends : Bool) → IsPiece ahead room piece ends → length piece + length (drop (length piece) ahead) ≡ length ahead
+pub piece_length : (ahead piece : List ℕ) (room : ℕ) (ends : Bool) → IsPiece ahead room piece ends
+    → length piece + length (drop (length piece) ahead) ≡ length ahead
 piece_length ahead piece room ends p = sym (ap length p.parts ∙ length-append piece (drop (length piece) ahead))
 
-pub near_whole : (ahead near : List ℕ) (room : ℕ) → near ≡ take room ahead → is_filled (drop (length near) ahead) ≡ true → length near ≡ room
-near_whole ahead near room e some = omega (arith, ap length e, length-take room ahead, none_left ahead (length near) some)
+pub near_whole : (ahead near : List ℕ) (room : ℕ) → near ≡ take room ahead → is_filled (drop (length near) ahead) ≡ true
+    → length near ≡ room
+near_whole ahead near room e some =
+    omega (arith, ap length e, length-take room ahead, none_left ahead (length near) some)
 
 pub near_short : (ahead near : List ℕ) (room : ℕ) → near ≡ take room ahead → length near ≤ room
 near_short ahead near room e = omega (arith, ap length e, length-take room ahead)
 
-pub near_length : (ahead near : List ℕ) (room : ℕ) → near ≡ take room ahead → length near + length (drop (length near) ahead) ≡ length ahead
-near_length ahead near room e = sym (ap length (near_parts ahead near room e) ∙ length-append near (drop (length near) ahead))
+pub near_length : (ahead near : List ℕ) (room : ℕ) → near ≡ take room ahead
+    → length near + length (drop (length near) ahead) ≡ length ahead
+near_length ahead near room e =
+    sym (ap length (near_parts ahead near room e) ∙ length-append near (drop (length near) ahead))

@@ -1,5 +1,6 @@
 -- What is lent of fields, and handed out of them.
-use Rattle.std.specs.Prelude.{ℕ, ℤ, ◌≡◌, ◌<◌, ◌≤◌, ◌%◌, ◌==◌, Bool, false, not, Option, Some, None, option_map, List, length, take}
+use Rattle.std.specs.Prelude.{ℕ, ℤ, ◌≡◌, ◌<◌, ◌≤◌, ◌%◌, ◌==◌, Bool, false, not, Option, Some, None}
+use Rattle.std.specs.Prelude.{option_map, List, length, take}
 use Rattle.std.specs.Ordering.{int_eq}
 use Rattle.percent_encoding.specs.Iter.{decoded_bytes}
 use Rattle.percent_encoding.specs.declared.PercentDecode.{PercentDecode}

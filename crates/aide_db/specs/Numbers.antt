@@ -1,5 +1,6 @@
 -- The numbers that fields write.
-use Rattle.std.specs.Prelude.{ℕ, ◌+◌, ◌-◌, ◌*◌, ◌^◌, ℤ, pos, negsuc, suc, zero, nat_lt, nat_le, ◌==◌, Bool, ◌&&◌, if◌then◌else◌}
+use Rattle.std.specs.Prelude.{ℕ, ◌+◌, ◌-◌, ◌*◌, ◌^◌, ℤ, pos, negsuc, suc, zero, nat_lt, nat_le}
+use Rattle.std.specs.Prelude.{◌==◌, Bool, ◌&&◌, if◌then◌else◌}
 use Rattle.std.specs.Prelude.{Option, Some, None, List, [], ◌∷◌, length}
 use Rattle.std.specs.List.{list_all}
 use Rattle.aide_db.specs.Text.{is_filled}
@@ -20,7 +21,8 @@ are_digits base digits = is_filled digits && list_all (is_digit base) digits
 -- the number that digits write, where it is below the bound
 abbrev pub digits_of : ℕ → ℕ → List ℕ → Option ℕ
 digits_of base bound digits =
-    if are_digits base digits && nat_lt (positional base digits) bound then Some (positional base digits) else None
+    if are_digits base digits && nat_lt (positional base digits) bound then Some
+    (positional base digits) else None
 
 -- decimal digits, up to 2^64 - 1
 unfoldable pub natural_of : List ℕ → Option ℕ
@@ -48,7 +50,8 @@ plain_of (Some n) = Some (pos n)
 -- an optional minus sign and digits, from -2^63 to 2^64 - 1
 unfoldable pub number_of : List ℕ → Option ℤ
 number_of [] = None
-number_of (first ∷ digits) = if first == 45 then minus_of (natural_of digits) else plain_of (natural_of (first ∷ digits))
+number_of (first ∷ digits) =
+    if first == 45 then minus_of (natural_of digits) else plain_of (natural_of (first ∷ digits))
 
 -- a number that is not below 0
 abbrev pub not_negative : Option ℤ → Option ℕ

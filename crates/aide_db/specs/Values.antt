@@ -1,5 +1,6 @@
 -- What a field means, by its form.
-use Rattle.std.specs.Prelude.{ℕ, ℤ, ◌≡◌, ◌/◌, ◌%◌, nat_eq, nat_le, ◌==◌, Bool, true, false, ◌&&◌, ◌||◌, if◌then◌else◌, Option, Some}
+use Rattle.std.specs.Prelude.{ℕ, ℤ, ◌≡◌, ◌/◌, ◌%◌, nat_eq, nat_le, ◌==◌, Bool, true, false, ◌&&◌}
+use Rattle.std.specs.Prelude.{◌||◌, if◌then◌else◌, Option, Some}
 use Rattle.std.specs.Prelude.{None, is_some, option_map, List, [], ◌∷◌, length, codes, drop}
 use Rattle.std.specs.List.{starts_with}
 use Rattle.std.specs.Str.{bytes_eq}
@@ -7,10 +8,13 @@ use Rattle.percent_encoding.specs.Percent.{percent_decode}
 use Rattle.base64.specs.Engines.{standard}
 use Rattle.base64.specs.GeneralPurpose.{decoded_of}
 use Rattle.aide_attr.specs.declared.file_type.FileType.{FileType}
-use Rattle.aide_attr.specs.declared.file_type.FileType.TheVariants.{File, Directory, Link as SymbolicLink, Char, Block, Fifo, Socket, Other}
+use Rattle.aide_attr.specs.declared.file_type.FileType.TheVariants.{File, Directory}
+use Rattle.aide_attr.specs.declared.file_type.FileType.TheVariants.{Link as SymbolicLink, Char}
+use Rattle.aide_attr.specs.declared.file_type.FileType.TheVariants.{Block, Fifo, Socket, Other}
 use Rattle.aide_attr.specs.declared.form.Form.{Form}
 use Rattle.aide_attr.specs.declared.form.Form.TheVariants.{Kind, Mode, Number, Time, Link, Digest, Opaque}
-use Rattle.aide_db.specs.Attributes.{Value, number_value, mode_value, type_value, link_value, digest_value, opaque_value}
+use Rattle.aide_db.specs.Attributes.{Value, number_value, mode_value, type_value, link_value}
+use Rattle.aide_db.specs.Attributes.{digest_value, opaque_value}
 use Rattle.aide_db.specs.Text.{is_filled}
 use Rattle.aide_db.specs.Numbers.{is_digit, mode_of, number_of}
 use Rattle.aide_db.specs.declared.fault.DbFaultKind.{DbFaultKind}
@@ -66,7 +70,8 @@ IsTimeOrNothing field = is_filled field ≡ true → is_some (time_of field) ≡
 -- bytes, so many of them
 abbrev pub of_length : ℕ → ℕ → Option (List ℕ) → Option (List ℕ)
 of_length least most None = None
-of_length least most (Some bytes) = if nat_le least (length bytes) && nat_le (length bytes) most then Some bytes else None
+of_length least most (Some bytes) =
+    if nat_le least (length bytes) && nat_le (length bytes) most then Some bytes else None
 
 -- base64 of so many bytes; `0` is no base64
 unfoldable pub digest_of : ℕ → ℕ → List ℕ → Option (List ℕ)

@@ -64,8 +64,7 @@ fn order(old: Option<i128>, new: Option<i128>) -> Ordering
     }
 }
 
-/// How two entries of one path differ: the attributes of each, those with other values, the order of their sizes, and
-/// their types.
+/// How two entries of one path differ: the attributes of each, those with other values, the order of sizes, the types.
 pub fn delta_of(old: &View<'_>, new: &View<'_>) -> Delta
     ensures in_old { (attr : Attr) → (sides_of result).in_old attr
         ≡ (sides_between (entry_in old.now).1 (entry_in new.now).1).in_old attr }

@@ -1,4 +1,4 @@
-//! The runs of bytes between blanks, whose places are those of fields.
+//! The runs of bytes between blanks, which are the fields of a line.
 ghost use Rattle.std.specs.Prelude.{ℕ, slice_index, true, false, ◌≡◌, ◌+◌, ◌^◌, ◌<◌, ◌≤◌, [], ◌∷◌};
 ghost use Rattle.std.specs.Prelude.{◌++◌, length, take, drop};
 ghost use Rattle.std.specs.Prelude.{IfSome, IfNone};
@@ -8,10 +8,10 @@ ghost use Rattle.aide_db.specs.Spans.{fields_at};
 use crate::blanks::{bits_from, blanks_at, lowest_bit, without_bit};
 use crate::spans::Span;
 
-/// Puts a place behind so many, where these are fewer than 64: how many there are then.
-pub fn put(spanned: &mut [Span; 64], count: usize, span: Span) -> Option<usize>
+/// Adds a span behind so many, where these are fewer than 64: how many there are then.
+pub fn add_span(spanned: &mut [Span; 64], count: usize, span: Span) -> Option<usize>
     requires { count ≤ 64 }
-    ensures put { IfSome result (λ more. (more ≤ 64)
+    ensures added { IfSome result (λ more. (more ≤ 64)
         × (take more spanned.new ≡ take count spanned.old ++ span ∷ [])) }
     ensures full { IfNone result (length (take count spanned.old) ≡ 64) }
 {
@@ -22,7 +22,7 @@ pub fn put(spanned: &mut [Span; 64], count: usize, span: Span) -> Option<usize>
     Some(count + 1)
 }
 
-/// Puts the place of the run of bytes before a blank behind so many, where it is not empty: how many there are then.
+/// Adds the span of the run of bytes before a blank behind so many, where it is not empty: how many there are then.
 fn run_ends(
     spanned: &mut [Span; 64],
     count: usize,
@@ -51,13 +51,13 @@ fn run_ends(
         start: from as u32,
         len: (at - from) as u32,
     };
-    match put(spanned, count, span) {
+    match add_span(spanned, count, span) {
         None => None,
         Some(more) => Some(more),
     }
 }
 
-/// Puts the place of the run of bytes before the end of a line behind so many, where it is not empty.
+/// Adds the span of the run of bytes at a line's end behind so many, where it is not empty: how many there are then.
 fn line_ends(spanned: &mut [Span; 64], count: usize, line: &[u8], from: usize) -> Option<usize>
     requires few { count ≤ 64 }
     requires within { from ≤ length line.now }
@@ -78,7 +78,7 @@ fn line_ends(spanned: &mut [Span; 64], count: usize, line: &[u8], from: usize) -
         start: from as u32,
         len: (line.len() - from) as u32,
     };
-    match put(spanned, count, span) {
+    match add_span(spanned, count, span) {
         None => None,
         Some(more) => Some(more),
     }

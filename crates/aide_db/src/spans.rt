@@ -5,7 +5,7 @@ ghost use Rattle.std.specs.Prelude.{IfSome, IfNone};
 ghost use Rattle.aide_db.specs.Text.{fields};
 
 use crate::fields::{field_len, run_of};
-use crate::runs::{find_runs, put};
+use crate::runs::{add_span, find_runs};
 
 /// Where a field stands in its line.
 #[derive(Clone, Copy)]
@@ -87,7 +87,7 @@ impl Spans {
         ensures pushed { result ≡ true → spans_in self.new ≡ spans_in self.old ++ span ∷ [] }
         ensures full { result ≡ false → length (spans_in self.old) ≡ 64 }
     {
-        match put(&mut self.spans, self.count as usize, span) {
+        match add_span(&mut self.spans, self.count as usize, span) {
             None => false,
             Some(count) => {
                 self.count = count as u8;

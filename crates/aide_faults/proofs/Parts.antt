@@ -1,7 +1,7 @@
--- What the walks of `Refusing` share. Assumes `Logic`.
+-- What the proofs about `Refusing` share. Assumes `Logic`.
 --     Owner, inner_at, plan_at       the row of `Refusing`, and where its two fields lie
 --     Both, parts                    a `&Refusing` is a `&` to the inner allocator beside one to the plan
---     Asks, at_asks, asks, asked     `Plan::refuses` at a call: its contract, what it is handed, and what a caller has of it
+--     Asks, at_asks, asks, asked     `Plan::refuses` at a call: its contract, what it is handed, and what a caller has
 use Rattle.std.proofs.Common.{◌≡◌, ℕ, ◌+◌, Bool, List, [], ◌∷◌, refl, ap}
 use seplogic.Ra.Ura.{Ura}
 use mir.Val.{Val, vbool, vptr}
@@ -11,7 +11,8 @@ use prog.Memory.{Memory, size, align, up}
 use prog.Routine.{Routine}
 use types.Logic.{Logic, sem}
 use contract.Monad.{Fun}
-use types.Kit.{Item, mean, ‵, raw, ◌⊛◌, some, later, given, ◌$◌, ◌∵◌, !, qed, done, move, keep, use1, split, join, fsplit, fjoin, feq_i, feq_l, pick, await, updating, show, check, now as at_once}
+use types.Kit.{Item, mean, ‵, raw, ◌⊛◌, some, later, given, ◌$◌, ◌∵◌, !, qed, done, move, keep, use1, split, join}
+use types.Kit.{fsplit, fjoin, feq_i, feq_l, pick, await, updating, show, check, now as at_once}
 use denote.Builtin.{bool}
 use denote.Memory.{hidden_shr}
 use denote.Opens.{unhide}

@@ -17,8 +17,8 @@ pub struct PlannedSink<W> {
 }
 
 impl<W> PlannedSink<W> {
-    /// A sink that takes bytes at this pace, fails after `sound` of them, and fails to flush unless `flushes`. It takes
-    /// no memory.
+    /// A sink that takes bytes at this pace, fails after `sound` of them, and fails to flush unless `flushes`. It
+    /// takes no memory.
     pub fn new(inner: W, pace: Pace, sound: u64, flushes: bool) -> PlannedSink<W>
         ensures inner { result.inner ≡ inner }
         ensures pace { result.pace ≡ pace }

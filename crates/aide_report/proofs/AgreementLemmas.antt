@@ -1,5 +1,6 @@
 -- What a report says first.
-use Rattle.std.proofs.Common.{◌≡◌, ◌≤◌, ◌<◌, ◌∙◌, ℕ, Bool, true, false, if◌then◌else◌, List, [], ◌∷◌, ◌++◌, length, Option, refl, sym, ap, subst, arith}
+use Rattle.std.proofs.Common.{◌≡◌, ◌≤◌, ◌<◌, ◌∙◌, ℕ, Bool, true, false, if◌then◌else◌, List, [], ◌∷◌, ◌++◌, length}
+use Rattle.std.proofs.Common.{Option, refl, sym, ap, subst, arith}
 use Rattle.std.proofs.lemmas.Bool.{leb-false, lt-leb}
 use Rattle.std.specs.Prelude.{◌&&◌, not}
 use Rattle.std.specs.Io.KnownBytes.{Keeps}
@@ -17,13 +18,15 @@ use Rattle.aide_report.proofs.ReportLemmas.{flushed_whole}
 use Rattle.aide_text.proofs.Sheets.{wrote_more, wrote_nothing}
 
 -- below a level, and so below each level behind it
-none_behind : (level first later : Level) → rank first ≤ rank later → reaches level first ≡ false → reaches level later ≡ false
+none_behind : (level first later : Level) → rank first ≤ rank later → reaches level first ≡ false
+    → reaches level later ≡ false
 none_behind level first later behind below =
     let less : rank level < rank first = leb-false (rank first) (rank level) below in
     lt-leb (rank later) (rank level) (omega (arith, behind, less))
 
 -- below the level of the databases no section is asked for
-pub none_asked : (options : Options) → reaches options.level DatabaseAttributes ≡ false → length (asked_sections options) ≡ 0
+pub none_asked : (options : Options) → reaches options.level DatabaseAttributes ≡ false
+    → length (asked_sections options) ≡ 0
 unfolding asked_sections
 none_asked options below =
     ap (λ b. length ((if b then list_sections options.grouped else []) ++ (if reaches options.level ChangedAttributes then Details ∷ [] else [])))
@@ -31,15 +34,18 @@ none_asked options below =
     ∙ ap (λ b. length (if b then Details ∷ [] else [])) (none_behind options.level DatabaseAttributes ChangedAttributes (omega arith) below)
 
 -- nor the databases
-pub no_databases : (options : Options) (old_origin new_origin : Origin) → reaches options.level DatabaseAttributes ≡ false → databases_text options old_origin new_origin ≡ []
+pub no_databases : (options : Options) (old_origin new_origin : Origin)
+    → reaches options.level DatabaseAttributes ≡ false → databases_text options old_origin new_origin ≡ []
 unfolding databases_text
-no_databases options old_origin new_origin below = ap (λ b. when b (databases_of options.base16 old_origin new_origin)) below
+no_databases options old_origin new_origin below =
+    ap (λ b. when b (databases_of options.base16 old_origin new_origin)) below
 
 pub first_nothing : (wants_more : Bool) (a : Sheet) → WritesFirst [] wants_more a a
 first_nothing wants_more a = record { rest = []; wrote = wrote_nothing a; alone = λ e. refl }
 
 -- where more is wanted, some bytes may follow
-pub first_some : {a b : Sheet} (wants_more : Bool) → (wants_more ≡ false → ⊥) → WritesSome a b → WritesFirst [] wants_more a b
+pub first_some : {a b : Sheet} (wants_more : Bool) → (wants_more ≡ false → ⊥) → WritesSome a b
+    → WritesFirst [] wants_more a b
 first_some {a} {b} wants_more wanted p = record { rest = p.text; wrote = p.wrote; alone = λ e. absurd (wanted e) }
 
 -- the first text, what follows it, and a last text where more is wanted
@@ -51,25 +57,32 @@ first_then {text} {last} {a} {b} {c} {d} wants_more none p q r = record {
   alone = λ e. ap (λ xs. xs ++ last) (q.alone e) ∙ none e;
 }
 
-first_by : (options : Options) (total added removed changed : ℕ) (wants_more silent : Bool) (a b : Sheet) → is_silent options (is_different added removed changed) ≡ silent
+first_by : (options : Options) (total added removed changed : ℕ) (wants_more silent : Bool) (a b : Sheet)
+    → is_silent options (is_different added removed changed) ≡ silent
     → WritesFirst (if silent then [] else overview_of options.level total added removed changed) (not silent && reaches options.level DatabaseAttributes) a b
     → WritesFirst (beginning_of options total added removed changed) (goes_on options added removed changed) a b
 first_by options total added removed changed wants_more silent a b is p =
     subst (λ x. WritesFirst (if x then [] else overview_of options.level total added removed changed) (not x && reaches options.level DatabaseAttributes) a b) (sym is) p
 
-pub first_silent : (options : Options) (total added removed changed : ℕ) (a : Sheet) → is_silent options (is_different added removed changed) ≡ true
+pub first_silent : (options : Options) (total added removed changed : ℕ) (a : Sheet)
+    → is_silent options (is_different added removed changed) ≡ true
     → WritesFirst (beginning_of options total added removed changed) (goes_on options added removed changed) a a
-first_silent options total added removed changed a is = first_by options total added removed changed false true a a is (first_nothing false a)
+first_silent options total added removed changed a is =
+    first_by options total added removed changed false true a a is (first_nothing false a)
 
-pub first_full : (options : Options) (total added removed changed : ℕ) (a b : Sheet) → is_silent options (is_different added removed changed) ≡ false
+pub first_full : (options : Options) (total added removed changed : ℕ) (a b : Sheet)
+    → is_silent options (is_different added removed changed) ≡ false
     → WritesFirst (overview_of options.level total added removed changed) (reaches options.level DatabaseAttributes) a b
     → WritesFirst (beginning_of options total added removed changed) (goes_on options added removed changed) a b
-first_full options total added removed changed a b is p = first_by options total added removed changed (reaches options.level DatabaseAttributes) false a b is p
+first_full options total added removed changed a b is p =
+    first_by options total added removed changed (reaches options.level DatabaseAttributes) false a b is p
 
 -- the same of a sink, after a flush
-pub begins : {text : List ℕ} {wants_more : Bool} {a b : Sheet} (c : Option (List ℕ)) → a.failed ≡ false → b.failed ≡ false → WritesFirst text wants_more a b → Keeps b.bytes c
+pub begins : {text : List ℕ} {wants_more : Bool} {a b : Sheet} (c : Option (List ℕ)) → a.failed ≡ false
+    → b.failed ≡ false → WritesFirst text wants_more a b → Keeps b.bytes c
     → BeginsWith text wants_more a.bytes c
-begins {text} {wants_more} {a} {b} c fresh on p kept = record { rest = p.rest; bytes = flushed_whole c fresh on p.wrote kept; alone = p.alone }
+begins {text} {wants_more} {a} {b} c fresh on p kept =
+    record { rest = p.rest; bytes = flushed_whole c fresh on p.wrote kept; alone = p.alone }
 
 -- no flush
 pub unflushed : {a b : Sheet} → WritesSome a b → b.flushes ≡ a.flushes

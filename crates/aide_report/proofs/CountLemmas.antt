@@ -15,7 +15,8 @@ abbrev Change : Type 0
 Change = Sided (List ℕ) Attributes
 
 one_more : (p : Change → Bool) (change : Change) (a b : ℕ) (rest more all : List Change)
-    → rest ≡ (change ∷ []) ++ more → b ≡ a + count_by p (change ∷ []) → a + count_by p rest ≡ count_by p all → b + count_by p more ≡ count_by p all
+    → rest ≡ (change ∷ []) ++ more → b ≡ a + count_by p (change ∷ []) → a + count_by p rest ≡ count_by p all
+    → b + count_by p more ≡ count_by p all
 one_more p change a b rest more all is grows so_far =
     omega (arith, ap (count_by p) is, sum_by-append (λ x. cond (p x) 1 0) (change ∷ []) more)
 
@@ -40,7 +41,8 @@ counts_more options a b change rest changes more all is one e f g h s so_far =
 at_most_one : (p : Change → Bool) (change : Change) → count_by p (change ∷ []) ≤ 1
 at_most_one p change = count_by-le-length p (change ∷ [])
 
-small_one : (p : Change → Bool) (change : Change) (a b top m n : ℕ) → n < m → b ≡ a + count_by p (change ∷ []) → a < top - m → b < top - n
+small_one : (p : Change → Bool) (change : Change) (a b top m n : ℕ) → n < m → b ≡ a + count_by p (change ∷ [])
+    → a < top - m → b < top - n
 small_one p change a b top m n less grows small = omega (arith, at_most_one p change)
 
 pub small_more : (options : Options) (a b : Counts) (change : Change) (top m n : ℕ)
@@ -60,8 +62,10 @@ small_more options a b change top m n less e f g h s small = record {
 }
 
 -- no change was shown
-pub counts_same : (options : Options) (a : Counts) (rest changes more all : List Change) → rest ≡ changes ++ more → changes ≡ [] → Completes options a rest all → Completes options a more all
+pub counts_same : (options : Options) (a : Counts) (rest changes more all : List Change) → rest ≡ changes ++ more
+    → changes ≡ [] → Completes options a rest all → Completes options a more all
 counts_same options a rest changes more all is none so_far = let step : rest ≡ more = is ∙ ap (λ cs. cs ++ more) none in rw step at so_far
 
 pub small_same : (a : Counts) (top m n : ℕ) → n < m → AreBelow a (top - m) → AreBelow a (top - n)
-small_same a top m n less small = record { added = omega (arith, small.added); removed = omega (arith, small.removed); changed = omega (arith, small.changed); total = omega (arith, small.total); shown = omega (arith, small.shown) }
+small_same a top m n less small =
+    record { added = omega (arith, small.added); removed = omega (arith, small.removed); changed = omega (arith, small.changed); total = omega (arith, small.total); shown = omega (arith, small.shown) }

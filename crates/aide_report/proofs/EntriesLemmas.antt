@@ -1,5 +1,6 @@
 -- What a section says of changes, one after another.
-use Rattle.std.proofs.Common.{◌≡◌, ◌∙◌, ℕ, Bool, true, false, if◌then◌else◌, cond, List, [], ◌∷◌, ◌++◌, refl, ap, ◌+◌, ◌<◌, ◌≤◌, length, drop, get_or}
+use Rattle.std.proofs.Common.{◌≡◌, ◌∙◌, ℕ, Bool, true, false, if◌then◌else◌, cond, List, [], ◌∷◌, ◌++◌, refl, ap, ◌+◌}
+use Rattle.std.proofs.Common.{◌<◌, ◌≤◌, length, drop, get_or}
 use Rattle.std.specs.List.{flat_map, filter}
 use Rattle.std.proofs.lemmas.List.{drop_more, drop_all}
 use Rattle.aide_attr.specs.declared.attr.Attr.{Attr}
@@ -13,21 +14,26 @@ pub entries_first : (options : Options) (section : Section) (entry : PathChange)
 unfolding entries_text one_text
 entries_first options section entry more = by_test (is_in options section entry)
   where
-    by_test : (b : Bool) → flat_map (entry_text options section) (cond b (entry ∷ filter (is_in options section) more) (filter (is_in options section) more))
+    by_test : (b : Bool)
+        → flat_map (entry_text options section) (cond b (entry ∷ filter (is_in options section) more) (filter (is_in options section) more))
         ≡ (if b then entry_text options section entry else []) ++ flat_map (entry_text options section) (filter (is_in options section) more)
     by_test true = refl
     by_test false = refl
 
-pub entries_step : (options : Options) (section : Section) (entry : PathChange) (rest changes more : List PathChange) → rest ≡ changes ++ more → changes ≡ entry ∷ []
+pub entries_step : (options : Options) (section : Section) (entry : PathChange) (rest changes more : List PathChange)
+    → rest ≡ changes ++ more → changes ≡ entry ∷ []
     → entries_text options section rest ≡ one_text options section entry ++ entries_text options section more
 entries_step options section entry rest changes more is one =
     ap (entries_text options section) (is ∙ ap (λ l. l ++ more) one) ∙ entries_first options section entry more
 
-pub entries_same : (options : Options) (section : Section) (rest changes more : List PathChange) → rest ≡ changes ++ more → changes ≡ []
+pub entries_same : (options : Options) (section : Section) (rest changes more : List PathChange)
+    → rest ≡ changes ++ more → changes ≡ []
     → entries_text options section rest ≡ entries_text options section more
-entries_same options section rest changes more is none = ap (entries_text options section) (is ∙ ap (λ l. l ++ more) none)
+entries_same options section rest changes more is none =
+    ap (entries_text options section) (is ∙ ap (λ l. l ++ more) none)
 
-pub entries_end : (options : Options) (section : Section) (rest : List PathChange) → rest ≡ [] → entries_text options section rest ≡ []
+pub entries_end : (options : Options) (section : Section) (rest : List PathChange) → rest ≡ []
+    → entries_text options section rest ≡ []
 unfolding entries_text
 entries_end options section rest none = ap (entries_text options section) none
 
@@ -43,14 +49,19 @@ shown_first base16 pair shows a rest = by_shown (shows a)
     by_shown true = refl
     by_shown false = refl
 
-pub shown_drop : (base16 : Bool) (pair : Pair) (shows : Attr → Bool) (attrs : List Attr) (i : ℕ) (d : Attr) → i < length attrs
+pub shown_drop : (base16 : Bool) (pair : Pair) (shows : Attr → Bool) (attrs : List Attr) (i : ℕ) (d : Attr)
+    → i < length attrs
     → attributes_text base16 pair shows (drop i attrs) ≡ shown_text base16 pair shows (get_or attrs i d) ++ attributes_text base16 pair shows (drop (i + 1) attrs)
-shown_drop base16 pair shows attrs i d h = ap (attributes_text base16 pair shows) (drop_more attrs i d h) ∙ shown_first base16 pair shows (get_or attrs i d) (drop (i + 1) attrs)
+shown_drop base16 pair shows attrs i d h =
+    ap (attributes_text base16 pair shows) (drop_more attrs i d h) ∙ shown_first base16 pair shows (get_or attrs i d) (drop (i + 1) attrs)
 
-pub shown_end : (base16 : Bool) (pair : Pair) (shows : Attr → Bool) (attrs : List Attr) (i : ℕ) → length attrs ≤ i → attributes_text base16 pair shows (drop i attrs) ≡ []
+pub shown_end : (base16 : Bool) (pair : Pair) (shows : Attr → Bool) (attrs : List Attr) (i : ℕ) → length attrs ≤ i
+    → attributes_text base16 pair shows (drop i attrs) ≡ []
 unfolding attributes_text
-shown_end base16 pair shows attrs i h = ap (λ xs. flat_map (attribute_text base16 pair) (filter shows xs)) (drop_all i attrs h)
+shown_end base16 pair shows attrs i h =
+    ap (λ xs. flat_map (attribute_text base16 pair) (filter shows xs)) (drop_all i attrs h)
 
 -- two tests that agree show the same
-pub shown_as : (base16 : Bool) (pair : Pair) (p q : Attr → Bool) (attrs : List Attr) → ((a : Attr) → p a ≡ q a) → attributes_text base16 pair p attrs ≡ attributes_text base16 pair q attrs
+pub shown_as : (base16 : Bool) (pair : Pair) (p q : Attr → Bool) (attrs : List Attr) → ((a : Attr) → p a ≡ q a)
+    → attributes_text base16 pair p attrs ≡ attributes_text base16 pair q attrs
 shown_as base16 pair p q attrs same i = attributes_text base16 pair (λ a. same a i) attrs

@@ -6,7 +6,9 @@ use Rattle.aide_db.specs.Database.{IsSound}
 use Rattle.aide_db.specs.Failures.{is_outside}
 use Rattle.aide_db.specs.declared.fault.DbFault.{DbFault}
 use Rattle.aide_db.specs.declared.fault.DbFaultKind.{DbFaultKind}
-use Rattle.aide_db.specs.declared.fault.DbFaultKind.TheVariants.{LineTooLong, NoBegin, BadDirective, BadSpec, NoSpec, FieldCount, BadName, OutOfOrder, BadNumber, BadTime, BadDigest, NoEnd, Memory, Read, TooManyBytes}
+use Rattle.aide_db.specs.declared.fault.DbFaultKind.TheVariants.{LineTooLong, NoBegin, BadDirective, BadSpec, NoSpec}
+use Rattle.aide_db.specs.declared.fault.DbFaultKind.TheVariants.{FieldCount, BadName, OutOfOrder, BadNumber, BadTime}
+use Rattle.aide_db.specs.declared.fault.DbFaultKind.TheVariants.{BadDigest, NoEnd, Memory, Read, TooManyBytes}
 use Rattle.aide_db.specs.declared.limits.Limits.{Limits}
 use Rattle.aide_db.specs.declared.side.Side.{Side}
 use Rattle.aide_db.specs.declared.side.Side.TheVariants.{Old, New}
@@ -29,7 +31,8 @@ HasFault limits bytes_of fault = (text : List ℕ) → bytes_of fault.side ≡ S
 
 changed_later : (limits : Limits) (bytes_of : Side → Option (List ℕ)) (fault : DbFault) → HasFault limits bytes_of fault
     → is_outside fault.kind ≡ false → IsLater limits bytes_of (Changed fault.side)
-changed_later limits bytes_of fault first inside text told sound = first_fault_unsound limits text fault.line fault.kind (first text told inside) sound
+changed_later limits bytes_of fault first inside text told sound =
+    first_fault_unsound limits text fault.line fault.kind (first text told inside) sound
 
 later_at : (limits : Limits) (bytes_of : Side → Option (List ℕ)) (fault : DbFault) → HasFault limits bytes_of fault
     → (kind : DbFaultKind) → fault.kind ≡ kind → IsLater limits bytes_of (later_by kind fault)
@@ -41,16 +44,19 @@ later_at limits bytes_of fault first NoSpec is = changed_later limits bytes_of f
 later_at limits bytes_of fault first FieldCount is = changed_later limits bytes_of fault first (ap is_outside is)
 later_at limits bytes_of fault first BadName is = changed_later limits bytes_of fault first (ap is_outside is)
 later_at limits bytes_of fault first OutOfOrder is = changed_later limits bytes_of fault first (ap is_outside is)
-later_at limits bytes_of fault first (BadNumber column) is = changed_later limits bytes_of fault first (ap is_outside is)
+later_at limits bytes_of fault first (BadNumber column) is =
+    changed_later limits bytes_of fault first (ap is_outside is)
 later_at limits bytes_of fault first (BadTime column) is = changed_later limits bytes_of fault first (ap is_outside is)
-later_at limits bytes_of fault first (BadDigest column) is = changed_later limits bytes_of fault first (ap is_outside is)
+later_at limits bytes_of fault first (BadDigest column) is =
+    changed_later limits bytes_of fault first (ap is_outside is)
 later_at limits bytes_of fault first NoEnd is = changed_later limits bytes_of fault first (ap is_outside is)
 later_at limits bytes_of fault first Memory is = ap is_outside is
 later_at limits bytes_of fault first Read is = ap is_outside is
 later_at limits bytes_of fault first TooManyBytes is = changed_later limits bytes_of fault first (ap is_outside is)
 
 -- a fault of the text after the first readings shows that its side is not sound
-pub later_fault : (limits : Limits) (bytes_of : Side → Option (List ℕ)) (fault : DbFault) → HasFault limits bytes_of fault → IsLater limits bytes_of (later_of fault)
+pub later_fault : (limits : Limits) (bytes_of : Side → Option (List ℕ)) (fault : DbFault)
+    → HasFault limits bytes_of fault → IsLater limits bytes_of (later_of fault)
 later_fault limits bytes_of fault first = later_at limits bytes_of fault first fault.kind refl
 
 true_false : true ≡ false → ⊥
@@ -65,7 +71,8 @@ right_later limits before after same sound (Database fault) later = λ text told
 right_later limits before after same sound (Changed side) later = λ text told. later text (ap (λ bytes. bytes side) same ∙ told) (sound side text told)
 right_later limits before after same sound (Write written) later = tt
 
-stands_on : (rose first : Type 0) (kind : DbFaultKind) → (kind ≡ Read → rose) → (is_outside kind ≡ false → first) → StandsOn kind rose first
+stands_on : (rose first : Type 0) (kind : DbFaultKind) → (kind ≡ Read → rose) → (is_outside kind ≡ false → first)
+    → StandsOn kind rose first
 stands_on rose first LineTooLong read inside = inside refl
 stands_on rose first NoBegin read inside = inside refl
 stands_on rose first BadDirective read inside = inside refl
@@ -97,16 +104,19 @@ has_cause limits task bytes_of sources sink (Write written) caused answer right 
 
 -- ---- the end of a pass
 
-pub if_database : (P Q : DbFault → Type 0) → ((fault : DbFault) → P fault → Q fault) → (fault : PassFault) → IfDatabase P fault → IfDatabase Q fault
+pub if_database : (P Q : DbFault → Type 0) → ((fault : DbFault) → P fault → Q fault) → (fault : PassFault)
+    → IfDatabase P fault → IfDatabase Q fault
 if_database P Q f (passes.Database fault) p = f fault p
 if_database P Q f passes.Write p = tt
 
 -- a fault of the text shows that its side is not sound
-pub pass_later : (limits : Limits) (bytes_of : Side → Option (List ℕ)) (fault : PassFault) (sent : ℕ) → IfDatabase (HasFault limits bytes_of) fault → IsLater limits bytes_of (pass_fault_of fault sent)
+pub pass_later : (limits : Limits) (bytes_of : Side → Option (List ℕ)) (fault : PassFault) (sent : ℕ)
+    → IfDatabase (HasFault limits bytes_of) fault → IsLater limits bytes_of (pass_fault_of fault sent)
 pass_later limits bytes_of (passes.Database fault) sent first = later_fault limits bytes_of fault first
 pass_later limits bytes_of passes.Write sent first = tt
 
-caused_at : (sources sink : Type 0) (fault : DbFault) → (fault.kind ≡ Read → sources) → (kind : DbFaultKind) → IsCaused sources sink (later_by kind fault)
+caused_at : (sources sink : Type 0) (fault : DbFault) → (fault.kind ≡ Read → sources) → (kind : DbFaultKind)
+    → IsCaused sources sink (later_by kind fault)
 caused_at sources sink fault read LineTooLong = tt
 caused_at sources sink fault read NoBegin = tt
 caused_at sources sink fault read BadDirective = tt
@@ -123,7 +133,9 @@ caused_at sources sink fault read Memory = read
 caused_at sources sink fault read Read = read
 caused_at sources sink fault read TooManyBytes = tt
 
-pub pass_caused : (sources sink : Type 0) (fault : PassFault) (sent : ℕ) → IfDatabase (λ f. f.kind ≡ Read → sources) fault → IfWrite sink fault → IsCaused sources sink (pass_fault_of fault sent)
+pub pass_caused : (sources sink : Type 0) (fault : PassFault) (sent : ℕ)
+    → IfDatabase (λ f. f.kind ≡ Read → sources) fault → IfWrite sink fault
+    → IsCaused sources sink (pass_fault_of fault sent)
 pass_caused sources sink (passes.Database fault) sent read write = caused_at sources sink fault read fault.kind
 pass_caused sources sink passes.Write sent read write = write
 
@@ -144,7 +156,8 @@ written_at pen fault Memory = tt
 written_at pen fault Read = tt
 written_at pen fault TooManyBytes = tt
 
-pub pass_written : (pen : Pen) (fault : PassFault) → IfWrite (pen.failed ≡ true) fault → HasPenWritten pen (pass_fault_of fault pen.sent)
+pub pass_written : (pen : Pen) (fault : PassFault) → IfWrite (pen.failed ≡ true) fault
+    → HasPenWritten pen (pass_fault_of fault pen.sent)
 pass_written pen (passes.Database fault) write = written_at pen fault fault.kind
 pass_written pen passes.Write write = (write, refl)
 
@@ -157,13 +170,15 @@ answer_later limits task bytes_of given (Database fault) later = λ old new told
 answer_later limits task bytes_of given (Changed side) later = tt
 answer_later limits task bytes_of given (Write written) later = tt
 
-pub first_later : (limits : Limits) (given : Side → Option (List ℕ)) (before after : Side → ℕ) (fault : RunFault) → IsLater limits given fault → OpensFirst before after fault
+pub first_later : (limits : Limits) (given : Side → Option (List ℕ)) (before after : Side → ℕ) (fault : RunFault)
+    → IsLater limits given fault → OpensFirst before after fault
 first_later limits given before after (Open side) later = tt
 first_later limits given before after (Database fault) later = λ inside. absurd (true_false (sym later ∙ inside))
 first_later limits given before after (Changed side) later = tt
 first_later limits given before after (Write written) later = tt
 
-pub rose_later : (first second sink : Type 0) (fault : RunFault) → (first → second) → IsCaused first sink fault → IsCaused second sink fault
+pub rose_later : (first second sink : Type 0) (fault : RunFault) → (first → second) → IsCaused first sink fault
+    → IsCaused second sink fault
 rose_later first second sink (Open side) f p = f p
 rose_later first second sink (Database fault) f p = λ e. f (p e)
 rose_later first second sink (Changed side) f p = tt

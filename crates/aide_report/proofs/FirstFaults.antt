@@ -1,5 +1,6 @@
 -- A text has one first fault, and a run one right answer.
-use Rattle.std.specs.Prelude.{◌≡◌, ℕ, ◌+◌, ◌≤◌, ◌⊎◌, true, false, Some, Result, Ok, Err, List, [], ◌∷◌, ◌++◌, length, nat_le}
+use Rattle.std.specs.Prelude.{◌≡◌, ℕ, ◌+◌, ◌≤◌, ◌⊎◌, true, false, Some, Result, Ok, Err, List, [], ◌∷◌, ◌++◌, length}
+use Rattle.std.specs.Prelude.{nat_le}
 use Rattle.std.proofs.Common.{refl, sym, ap, subst, ◌∙◌, inl, inr, append_assoc}
 use Rattle.aide_report.specs.Asked.{Asked}
 use Rattle.aide_db.specs.Database.{IsFront, IsAtLine, IsFirstFault, fault_of, whole_lines}
@@ -13,7 +14,7 @@ use Rattle.aide_db.proofs.FaultExists.{sound_or_fault}
 use Rattle.aide_db.proofs.MapLaws.{first_fault_unsound}
 use Rattle.aide_report.specs.Runs.{Report, Runs, HasAnswer, IsFirstFaultOf, report_over}
 
--- of two cuts of a list at an element, they are one, or the first ends in the front of the second, or the other way round
+-- two cuts of a list at an element are one, or the first ends in the front of the second, or the other way round
 record SameCut {X : Type 0} (xs : List X) (x : X) (zs : List X) (z : X) : Type 0 where
   fronts : xs ≡ zs
   elements : x ≡ z
@@ -31,7 +32,8 @@ head_of x z xs zs e = cc
 tail_of : {X : Type 0} (x z : X) (xs zs : List X) → x ∷ xs ≡ z ∷ zs → xs ≡ zs
 tail_of x z xs zs e = cc
 
-cut_later : {X : Type 0} (y : X) (xs : List X) (x : X) (zs : List X) (z : X) → Cuts xs x zs z → Cuts (y ∷ xs) x (y ∷ zs) z
+cut_later : {X : Type 0} (y : X) (xs : List X) (x : X) (zs : List X) (z : X) → Cuts xs x zs z
+    → Cuts (y ∷ xs) x (y ∷ zs) z
 cut_later y xs x zs z c = elim c [
   | inl same ↦ inl (record { fronts = ap (λ l. y ∷ l) same.fronts; elements = same.elements })
   | inr other ↦ inr (elim other [
@@ -40,10 +42,13 @@ cut_later y xs x zs z c = elim c [
   ])
 ]
 
-cuts : {X : Type 0} (xs : List X) (x : X) (ys : List X) (zs : List X) (z : X) (ws : List X) → xs ++ x ∷ ys ≡ zs ++ z ∷ ws → Cuts xs x zs z
+cuts : {X : Type 0} (xs : List X) (x : X) (ys : List X) (zs : List X) (z : X) (ws : List X)
+    → xs ++ x ∷ ys ≡ zs ++ z ∷ ws → Cuts xs x zs z
 cuts [] x ys [] z ws e = inl (record { fronts = refl; elements = head_of x z ys ws e })
-cuts [] x ys (u ∷ zs) z ws e = inr (inl (record { more = zs; longer = ap (λ v. v ∷ zs) (sym (head_of x u ys (zs ++ z ∷ ws) e)) }))
-cuts (v ∷ xs) x ys [] z ws e = inr (inr (record { more = xs; longer = ap (λ u. u ∷ xs) (head_of v z (xs ++ x ∷ ys) ws e) }))
+cuts [] x ys (u ∷ zs) z ws e =
+    inr (inl (record { more = zs; longer = ap (λ v. v ∷ zs) (sym (head_of x u ys (zs ++ z ∷ ws) e)) }))
+cuts (v ∷ xs) x ys [] z ws e =
+    inr (inr (record { more = xs; longer = ap (λ u. u ∷ xs) (head_of v z (xs ++ x ∷ ys) ws e) }))
 cuts (v ∷ xs) x ys (u ∷ zs) z ws e =
     subst (λ y. Cuts (v ∷ xs) x (y ∷ zs) z) (head_of v u (xs ++ x ∷ ys) (zs ++ z ∷ ws) e)
     (cut_later v xs x zs z (cuts xs x ys zs z ws (tail_of v u (xs ++ x ∷ ys) (zs ++ z ∷ ws) e)))
@@ -63,7 +68,8 @@ some_same x y e = cc
 abbrev Same : ℕ → DbFaultKind → ℕ → DbFaultKind → Type 0
 Same m j n k = (m ≡ n) × (j ≡ k)
 
-line_line : (limits : Limits) (text : List ℕ) (m : ℕ) (j : DbFaultKind) (n : ℕ) (k : DbFaultKind) → IsAtLine limits text m j → IsAtLine limits text n k → Same m j n k
+line_line : (limits : Limits) (text : List ℕ) (m : ℕ) (j : DbFaultKind) (n : ℕ) (k : DbFaultKind)
+    → IsAtLine limits text m j → IsAtLine limits text n k → Same m j n k
 line_line limits text m j n k f g = elim (cuts f.before f.line f.after g.before g.line g.after (sym f.parts ∙ g.parts)) [
   | inl same ↦ (
     f.number_is ∙ ap (λ ls. length ls + 1) same.fronts ∙ sym g.number_is,
@@ -75,18 +81,21 @@ line_line limits text m j n k f g = elim (cuts f.before f.line f.after g.before 
   ]
 ]
 
-no_line : (limits : Limits) (text : List ℕ) (m : ℕ) (j : DbFaultKind) → IsAtLine limits text m j → IsFront limits.line (whole_lines limits text) → ⊥
+no_line : (limits : Limits) (text : List ℕ) (m : ℕ) (j : DbFaultKind) → IsAtLine limits text m j
+    → IsFront limits.line (whole_lines limits text) → ⊥
 no_line limits text m j f good =
     f.bad (front_of limits.line (f.before ++ f.line ∷ []) f.after (whole_lines limits text) (f.parts ∙ sym (append_assoc f.before (f.line ∷ []) f.after)) good)
 
-whole_is : (limits : Limits) (text : List ℕ) → nat_le (length text) limits.bytes ≡ true → whole_lines limits text ≡ lines text
+whole_is : (limits : Limits) (text : List ℕ) → nat_le (length text) limits.bytes ≡ true
+    → whole_lines limits text ≡ lines text
 unfolding whole_lines
 whole_is limits text e = rw e refl
 
 true_false : true ≡ false → ⊥
 true_false e = cc
 
-one_fault : (limits : Limits) (text : List ℕ) (m : ℕ) (j : DbFaultKind) (n : ℕ) (k : DbFaultKind) → IsFirstFault limits text m j → IsFirstFault limits text n k → Same m j n k
+one_fault : (limits : Limits) (text : List ℕ) (m : ℕ) (j : DbFaultKind) (n : ℕ) (k : DbFaultKind)
+    → IsFirstFault limits text m j → IsFirstFault limits text n k → Same m j n k
 one_fault limits text m j n k f g = elim f [
   | inl a ↦ elim g [
     | inl b ↦ line_line limits text m j n k a b
@@ -113,14 +122,16 @@ one_fault limits text m j n k f g = elim f [
   ]
 ]
 
-pub same_fault : (limits : Limits) (side : Side) (text : List ℕ) (f g : DbFault) → IsFirstFaultOf limits side text f → IsFirstFaultOf limits side text g → f ≡ g
+pub same_fault : (limits : Limits) (side : Side) (text : List ℕ) (f g : DbFault) → IsFirstFaultOf limits side text f
+    → IsFirstFaultOf limits side text g → f ≡ g
 same_fault limits side text f g a b =
     let same = one_fault limits text f.line f.kind g.line g.kind a.1 b.1 in
     let sides : f.side ≡ g.side = a.0 ∙ sym b.0 in
     λ i. record { side = sides i; line = same.0 i; kind = same.1 i }
 
 -- a run has one right answer
-pub Runs-unique : (limits : Limits) (task : Asked) (old new : List ℕ) (r s : Result Report DbFault) → Runs limits task old new r → Runs limits task old new s → r ≡ s
+pub Runs-unique : (limits : Limits) (task : Asked) (old new : List ℕ) (r s : Result Report DbFault)
+    → Runs limits task old new r → Runs limits task old new s → r ≡ s
 Runs-unique limits task old new (Ok x) (Ok y) a b = ap Ok (a.2 ∙ sym b.2)
 Runs-unique limits task old new (Ok x) (Err g) a b = absurd (elim b [
   | inl p ↦ first_fault_unsound limits old g.line g.kind p.1 a.0

@@ -1,5 +1,6 @@
 -- The forms that one attribute alone has.
-use Rattle.std.proofs.Common.{◌≡◌, ◌∙◌, ◌<◌, ℕ, suc, zero, Bool, true, false, List, [], ◌∷◌, length, get_or, refl, sym, ap, arith}
+use Rattle.std.proofs.Common.{◌≡◌, ◌∙◌, ◌<◌, ℕ, suc, zero, Bool, true, false, List, [], ◌∷◌, length, get_or, refl, sym}
+use Rattle.std.proofs.Common.{ap, arith}
 use Rattle.std.specs.Prelude.{◌&&◌, ◌||◌, not}
 use Rattle.std.specs.List.{list_all}
 use Rattle.aide_attr.specs.Attr.{form_of, row_of, row, number, all_attrs, count}
@@ -21,7 +22,8 @@ and_right : (a b : Bool) → (a && b) ≡ true → b ≡ true
 and_right true b h = h
 and_right false b h = cc
 
-all_at : (p : Attr → Bool) (xs : List Attr) (k : ℕ) (d : Attr) → list_all p xs ≡ true → k < length xs → p (get_or xs k d) ≡ true
+all_at : (p : Attr → Bool) (xs : List Attr) (k : ℕ) (d : Attr) → list_all p xs ≡ true → k < length xs
+    → p (get_or xs k d) ≡ true
 all_at p [] k d h l = absurd (omega arith)
 all_at p (x ∷ xs) zero d h l = and_left (p x) (list_all p xs) h
 all_at p (x ∷ xs) (suc k) d h l = all_at p xs k d (and_right (p x) (list_all p xs) h) (omega arith)
@@ -45,15 +47,21 @@ then_passes false b h e = cc
 
 kind_alone : (a : Attr) → form_of a ≡ Kind → a ≡ Ftype
 unfolding row_of row is_kind
-kind_alone a e = attr_is a Ftype (then_passes (is_kind (form_of a)) (is_attr a Ftype) (every_attr (λ x. not (is_kind (form_of x)) || is_attr x Ftype) refl a) (ap is_kind e))
+kind_alone a e =
+    attr_is a Ftype (then_passes (is_kind (form_of a)) (is_attr a Ftype) (every_attr (λ x. not (is_kind (form_of x)) || is_attr x Ftype) refl a) (ap is_kind e))
 
 link_alone : (a : Attr) → form_of a ≡ Link → a ≡ Lname
 unfolding row_of row is_link
-link_alone a e = attr_is a Lname (then_passes (is_link (form_of a)) (is_attr a Lname) (every_attr (λ x. not (is_link (form_of x)) || is_attr x Lname) refl a) (ap is_link e))
+link_alone a e =
+    attr_is a Lname (then_passes (is_link (form_of a)) (is_attr a Lname) (every_attr (λ x. not (is_link (form_of x)) || is_attr x Lname) refl a) (ap is_link e))
 
 -- the text of an attribute of such a form is that of the attribute that alone has it
-pub kind_at : (base16 : Bool) (a : Attr) (attributes : Attributes) → form_of a ≡ Kind → option_text type_text (type_in (attributes Ftype)) ≡ text_at base16 a (attributes a)
-kind_at base16 a attributes e = ap (λ x. option_text type_text (type_in (attributes x))) (sym (kind_alone a e)) ∙ ap (λ form. value_in base16 form (attributes a)) (sym e)
+pub kind_at : (base16 : Bool) (a : Attr) (attributes : Attributes) → form_of a ≡ Kind
+    → option_text type_text (type_in (attributes Ftype)) ≡ text_at base16 a (attributes a)
+kind_at base16 a attributes e =
+    ap (λ x. option_text type_text (type_in (attributes x))) (sym (kind_alone a e)) ∙ ap (λ form. value_in base16 form (attributes a)) (sym e)
 
-pub link_at : (base16 : Bool) (a : Attr) (attributes : Attributes) → form_of a ≡ Link → option_text link_text (link_in (attributes Lname)) ≡ text_at base16 a (attributes a)
-link_at base16 a attributes e = ap (λ x. option_text link_text (link_in (attributes x))) (sym (link_alone a e)) ∙ ap (λ form. value_in base16 form (attributes a)) (sym e)
+pub link_at : (base16 : Bool) (a : Attr) (attributes : Attributes) → form_of a ≡ Link
+    → option_text link_text (link_in (attributes Lname)) ≡ text_at base16 a (attributes a)
+link_at base16 a attributes e =
+    ap (λ x. option_text link_text (link_in (attributes x))) (sym (link_alone a e)) ∙ ap (λ form. value_in base16 form (attributes a)) (sym e)

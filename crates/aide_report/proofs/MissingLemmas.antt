@@ -1,7 +1,6 @@
 -- A run over what stands at both sides, where a side may not be there.
 use Rattle.std.specs.Prelude.{◌≡◌, ℕ, ◌≤◌, ◌⊎◌, Bool, true, false, Option, Some, None, Result, Ok, Err, List, []}
 use Rattle.std.proofs.Common.{refl, sym, ap, subst, ◌∙◌, inl, inr}
-use Rattle.std.specs.Io.KnownBytes.{Appends}
 use Rattle.aide_db.specs.Database.{IsSound}
 use Rattle.aide_db.specs.Failures.{is_outside}
 use Rattle.aide_db.specs.declared.fault.DbFault.{DbFault}
@@ -13,7 +12,8 @@ use Rattle.aide_db.specs.declared.side.Side.TheVariants.{Old, New}
 use Rattle.aide_db.proofs.FaultExists.{sound_or_fault}
 use Rattle.aide_db.proofs.MapLaws.{first_fault_unsound}
 use Rattle.aide_report.specs.Asked.{Asked}
-use Rattle.aide_report.specs.Missing.{TellsSide, RunsOver, HasAnswerOver, IsHindered, SendsFront, SendsWhole, StopsFor, given}
+use Rattle.aide_report.specs.Missing.{TellsSide, RunsOver, HasAnswerOver, IsHindered, SendsFront, SendsWhole, StopsFor}
+use Rattle.aide_report.specs.Missing.{given}
 use Rattle.aide_report.specs.RunFaults.{IsCaused, IsFirst, IsLater}
 use Rattle.aide_report.specs.Runs.{Report, Runs, EndsEarly, EndsWell, IsFirstFaultOf, StandsOn}
 use Rattle.aide_report.specs.declared.outcome.Outcome.{Outcome}
@@ -24,7 +24,8 @@ use Rattle.aide_text.proofs.Sending.{Appends-nothing}
 
 -- ---- one answer, and only one
 
-answer_beside_none : (limits : Limits) (wish : Asked) (old : List ℕ) → 14 ≤ limits.line → HasAnswerOver limits wish (Some old) None
+answer_beside_none : (limits : Limits) (wish : Asked) (old : List ℕ) → 14 ≤ limits.line
+    → HasAnswerOver limits wish (Some old) None
 answer_beside_none limits wish old le = elim (sound_or_fault limits old le) [
   | inr bad ↦
       let fault : DbFault = record { side = Old; line = bad.0; kind = bad.1 } in
@@ -32,10 +33,12 @@ answer_beside_none limits wish old le = elim (sound_or_fault limits old le) [
   | inl sound ↦ (Err (Open New), inl (sound, refl))
 ]
 
-pub RunsOver-exists : (limits : Limits) (wish : Asked) (old new : Option (List ℕ)) → 14 ≤ limits.line → HasAnswerOver limits wish old new
+pub RunsOver-exists : (limits : Limits) (wish : Asked) (old new : Option (List ℕ)) → 14 ≤ limits.line
+    → HasAnswerOver limits wish old new
 RunsOver-exists limits wish None new le = (Err (Open Old), refl)
 RunsOver-exists limits wish (Some old) None le = answer_beside_none limits wish old le
-RunsOver-exists limits wish (Some old) (Some new) le = let run = Runs-exists limits wish old new le in (given run.0, (run.0, run.1, refl))
+RunsOver-exists limits wish (Some old) (Some new) le =
+    let run = Runs-exists limits wish old new le in (given run.0, (run.0, run.1, refl))
 
 -- the first fault of an old text is the answer
 old_fault : (limits : Limits) (wish : Asked) (old : List ℕ) (new : Option (List ℕ)) (fault : DbFault) (r : Result Report RunFault)
@@ -48,7 +51,8 @@ old_fault limits wish old (Some new) fault r first runs =
     runs.2 ∙ ap given (Runs-unique limits wish old new runs.0 (Err fault) runs.1 (inl first))
 
 -- beside a sound old text, a new side that is not there is refused
-new_refused : (limits : Limits) (wish : Asked) (old : List ℕ) (r : Result Report RunFault) → IsSound limits old → RunsOver limits wish (Some old) None r → r ≡ Err (Open New)
+new_refused : (limits : Limits) (wish : Asked) (old : List ℕ) (r : Result Report RunFault) → IsSound limits old
+    → RunsOver limits wish (Some old) None r → r ≡ Err (Open New)
 new_refused limits wish old r sound runs = elim runs [
   | inl refused ↦ refused.1
   | inr bad ↦ absurd (first_fault_unsound limits old bad.0.line bad.0.kind bad.1.1 sound)
@@ -56,7 +60,8 @@ new_refused limits wish old r sound runs = elim runs [
 
 -- and the first fault of a new text is the answer
 new_fault : (limits : Limits) (wish : Asked) (old new : List ℕ) (fault : DbFault) (r : Result Report RunFault)
-    → IsSound limits old → IsFirstFaultOf limits New new fault → RunsOver limits wish (Some old) (Some new) r → r ≡ Err (Database fault)
+    → IsSound limits old → IsFirstFaultOf limits New new fault → RunsOver limits wish (Some old) (Some new) r
+    → r ≡ Err (Database fault)
 new_fault limits wish old new fault r sound first runs =
     runs.2 ∙ ap given (Runs-unique limits wish old new runs.0 (Err fault) runs.1 (inr (sound, first)))
 
@@ -67,45 +72,53 @@ RunsOver-unique limits wish (Some old) None r s a b = elim a [
   | inl refused ↦ refused.1 ∙ sym (new_refused limits wish old s refused.0 b)
   | inr bad ↦ bad.2 ∙ sym (old_fault limits wish old None bad.0 s bad.1 b)
 ]
-RunsOver-unique limits wish (Some old) (Some new) r s a b = a.2 ∙ ap given (Runs-unique limits wish old new a.0 b.0 a.1 b.1) ∙ sym b.2
+RunsOver-unique limits wish (Some old) (Some new) r s a b =
+    a.2 ∙ ap given (Runs-unique limits wish old new a.0 b.0 a.1 b.1) ∙ sym b.2
 
 -- ---- why a run was given up
 
 true_false : true ≡ false → ⊥
 true_false e = cc
 
-pub stops_hindered : (r : Result Report RunFault) (hindered : RunFault → Type 0) (fault : RunFault) → hindered fault → StopsFor r hindered fault
+pub stops_hindered : (r : Result Report RunFault) (hindered : RunFault → Type 0) (fault : RunFault) → hindered fault
+    → StopsFor r hindered fault
 stops_hindered (Ok report) hindered fault h = h
 stops_hindered (Err right) hindered fault h = inr h
 
-stops_right : (r : Result Report RunFault) (hindered : RunFault → Type 0) (fault : RunFault) → r ≡ Err fault → StopsFor r hindered fault
+stops_right : (r : Result Report RunFault) (hindered : RunFault → Type 0) (fault : RunFault) → r ≡ Err fault
+    → StopsFor r hindered fault
 stops_right r hindered fault is = subst (λ (x : Result Report RunFault). StopsFor x hindered fault) (sym is) (inl refl)
 
 -- the same for a cause that follows
-pub stops_by : (r : Result Report RunFault) (one more : RunFault → Type 0) (fault : RunFault) → (one fault → more fault) → StopsFor r one fault → StopsFor r more fault
+pub stops_by : (r : Result Report RunFault) (one more : RunFault → Type 0) (fault : RunFault) → (one fault → more fault)
+    → StopsFor r one fault → StopsFor r more fault
 stops_by (Ok report) one more fault then h = then h
 stops_by (Err right) one more fault then h = elim h [ inl is ↦ inl is | inr p ↦ inr (then p) ]
 
-pub hindered_by : (old new : Option (List ℕ)) (sources sink : Type 0) (fault : RunFault) → IsHindered old new sources ⊥ fault → IsHindered old new sources sink fault
+pub hindered_by : (old new : Option (List ℕ)) (sources sink : Type 0) (fault : RunFault)
+    → IsHindered old new sources ⊥ fault → IsHindered old new sources sink fault
 hindered_by old new sources sink (Open side) h = h
 hindered_by old new sources sink (Database fault) h = h
 hindered_by old new sources sink (Changed side) h = h
 hindered_by old new sources sink (Write written) h = absurd h
 
 -- a fault of a database is of its text, or hinders the run
-of_text_or_hindered : (kind : DbFaultKind) (sources first : Type 0) → (kind ≡ Read → sources) → (is_outside kind ≡ false → first) → first ⊎ StandsOn kind sources ⊥
+of_text_or_hindered : (kind : DbFaultKind) (sources first : Type 0) → (kind ≡ Read → sources)
+    → (is_outside kind ≡ false → first) → first ⊎ StandsOn kind sources ⊥
 of_text_or_hindered Memory sources first read inside = inr tt
 of_text_or_hindered Read sources first read inside = inr (read refl)
 of_text_or_hindered kind sources first read inside = inl (inside refl)
 
-outside_hinders : (kind : DbFaultKind) (sources : Type 0) → (kind ≡ Read → sources) → is_outside kind ≡ true → StandsOn kind sources ⊥
+outside_hinders : (kind : DbFaultKind) (sources : Type 0) → (kind ≡ Read → sources) → is_outside kind ≡ true
+    → StandsOn kind sources ⊥
 outside_hinders Memory sources read outside = tt
 outside_hinders Read sources read outside = read refl
 outside_hinders kind sources read outside = true_false (sym outside)
 
 -- the first reading of the old side
 pub first_over : (limits : Limits) (wish : Asked) (bytes_of : Side → Option (List ℕ)) (is_missing : Side → Bool) (old new : Option (List ℕ)) (sources : Type 0) (fault : RunFault)
-    → TellsSide (bytes_of Old) (is_missing Old) old → IsFirst limits bytes_of Old fault → IsCaused sources ⊥ fault → (is_missing Old ≡ true → fault ≡ Open Old)
+    → TellsSide (bytes_of Old) (is_missing Old) old → IsFirst limits bytes_of Old fault → IsCaused sources ⊥ fault
+    → (is_missing Old ≡ true → fault ≡ Open Old)
     → (r : Result Report RunFault) → RunsOver limits wish old new r → StopsFor r (IsHindered old new sources ⊥) fault
 first_over limits wish bytes_of is_missing None new sources fault told first caused gone r runs =
     stops_right r (IsHindered None new sources ⊥) fault (runs ∙ ap (λ (f : RunFault). Err f) (sym (gone told)))
@@ -117,16 +130,20 @@ first_over limits wish bytes_of is_missing (Some old) new sources (Database faul
       | inl bad ↦ stops_right r (IsHindered (Some old) new sources ⊥) (Database fault) (old_fault limits wish old new fault r bad runs)
       | inr hinders ↦ stops_hindered r (IsHindered (Some old) new sources ⊥) (Database fault) hinders
     ]
-first_over limits wish bytes_of is_missing (Some old) new sources (Changed side) told first caused gone r runs = absurd first
-first_over limits wish bytes_of is_missing (Some old) new sources (Write written) told first caused gone r runs = absurd first
+first_over limits wish bytes_of is_missing (Some old) new sources (Changed side) told first caused gone r runs =
+    absurd first
+first_over limits wish bytes_of is_missing (Some old) new sources (Write written) told first caused gone r runs =
+    absurd first
 
 -- the first reading of the new side, behind an old one that is sound
 pub second_over : (limits : Limits) (wish : Asked) (bytes_of : Side → Option (List ℕ)) (is_missing : Side → Bool) (old new : Option (List ℕ)) (sources : Type 0) (fault : RunFault)
-    → TellsSide (bytes_of Old) (is_missing Old) old → TellsSide (bytes_of New) (is_missing New) new → is_missing Old ≡ false
+    → TellsSide (bytes_of Old) (is_missing Old) old → TellsSide (bytes_of New) (is_missing New) new
+    → is_missing Old ≡ false
     → ((text : List ℕ) → bytes_of Old ≡ Some text → IsSound limits text)
     → IsFirst limits bytes_of New fault → IsCaused sources ⊥ fault → (is_missing New ≡ true → fault ≡ Open New)
     → (r : Result Report RunFault) → RunsOver limits wish old new r → StopsFor r (IsHindered old new sources ⊥) fault
-second_over limits wish bytes_of is_missing None new sources fault told told_new there sound first caused gone r runs = absurd (true_false (sym told ∙ there))
+second_over limits wish bytes_of is_missing None new sources fault told told_new there sound first caused gone r runs =
+    absurd (true_false (sym told ∙ there))
 second_over limits wish bytes_of is_missing (Some old) None sources fault told told_new there sound first caused gone r runs =
     stops_right r (IsHindered (Some old) None sources ⊥) fault (new_refused limits wish old r (sound old told) runs ∙ ap (λ (f : RunFault). Err f) (sym (gone told_new)))
 second_over limits wish bytes_of is_missing (Some old) (Some new) sources (Open side) told told_new there sound first caused gone r runs =
@@ -137,50 +154,69 @@ second_over limits wish bytes_of is_missing (Some old) (Some new) sources (Datab
       | inl bad ↦ stops_right r (IsHindered (Some old) (Some new) sources ⊥) (Database fault) (new_fault limits wish old new fault r (sound old told) bad runs)
       | inr hinders ↦ stops_hindered r (IsHindered (Some old) (Some new) sources ⊥) (Database fault) hinders
     ]
-second_over limits wish bytes_of is_missing (Some old) (Some new) sources (Changed side) told told_new there sound first caused gone r runs = absurd first
-second_over limits wish bytes_of is_missing (Some old) (Some new) sources (Write written) told told_new there sound first caused gone r runs = absurd first
+second_over limits wish bytes_of is_missing (Some old) (Some new) sources (Changed side) told told_new there sound first caused gone r runs =
+    absurd first
+second_over limits wish bytes_of is_missing (Some old) (Some new) sources (Write written) told told_new there sound first caused gone r runs =
+    absurd first
 
 -- any reading behind those, where both sides are there and sound
 pub later_over : (limits : Limits) (bytes_of : Side → Option (List ℕ)) (is_missing : Side → Bool) (old new : Option (List ℕ)) (sources sink : Type 0) (fault : RunFault)
-    → TellsSide (bytes_of Old) (is_missing Old) old → TellsSide (bytes_of New) (is_missing New) new → ((side : Side) → is_missing side ≡ false)
+    → TellsSide (bytes_of Old) (is_missing Old) old → TellsSide (bytes_of New) (is_missing New) new
+    → ((side : Side) → is_missing side ≡ false)
     → ((side : Side) (text : List ℕ) → bytes_of side ≡ Some text → IsSound limits text)
     → IsLater limits bytes_of fault → IsCaused sources sink fault → IsHindered old new sources sink fault
-later_over limits bytes_of is_missing None new sources sink fault told told_new there sound later caused = absurd (true_false (sym told ∙ there Old))
-later_over limits bytes_of is_missing (Some old) None sources sink fault told told_new there sound later caused = absurd (true_false (sym told_new ∙ there New))
-later_over limits bytes_of is_missing (Some old) (Some new) sources sink (Open Old) told told_new there sound later caused = (refl, caused)
-later_over limits bytes_of is_missing (Some old) (Some new) sources sink (Open New) told told_new there sound later caused = (refl, caused)
-later_over limits bytes_of is_missing (Some old) (Some new) sources sink (Database fault) told told_new there sound later caused = outside_hinders fault.kind sources caused later
-later_over limits bytes_of is_missing (Some old) (Some new) sources sink (Changed Old) told told_new there sound later caused = later old told (sound Old old told)
-later_over limits bytes_of is_missing (Some old) (Some new) sources sink (Changed New) told told_new there sound later caused = later new told_new (sound New new told_new)
-later_over limits bytes_of is_missing (Some old) (Some new) sources sink (Write written) told told_new there sound later caused = caused
+later_over limits bytes_of is_missing None new sources sink fault told told_new there sound later caused =
+    absurd (true_false (sym told ∙ there Old))
+later_over limits bytes_of is_missing (Some old) None sources sink fault told told_new there sound later caused =
+    absurd (true_false (sym told_new ∙ there New))
+later_over limits bytes_of is_missing (Some old) (Some new) sources sink (Open Old) told told_new there sound later caused =
+    (refl, caused)
+later_over limits bytes_of is_missing (Some old) (Some new) sources sink (Open New) told told_new there sound later caused =
+    (refl, caused)
+later_over limits bytes_of is_missing (Some old) (Some new) sources sink (Database fault) told told_new there sound later caused =
+    outside_hinders fault.kind sources caused later
+later_over limits bytes_of is_missing (Some old) (Some new) sources sink (Changed Old) told told_new there sound later caused =
+    later old told (sound Old old told)
+later_over limits bytes_of is_missing (Some old) (Some new) sources sink (Changed New) told told_new there sound later caused =
+    later new told_new (sound New new told_new)
+later_over limits bytes_of is_missing (Some old) (Some new) sources sink (Write written) told told_new there sound later caused =
+    caused
 
 -- of both sides, from each
-pub both_there : (is_missing : Side → Bool) → is_missing Old ≡ false → is_missing New ≡ false → (side : Side) → is_missing side ≡ false
+pub both_there : (is_missing : Side → Bool) → is_missing Old ≡ false → is_missing New ≡ false → (side : Side)
+    → is_missing side ≡ false
 both_there is_missing old new Old = old
 both_there is_missing old new New = new
 
 -- ---- what went out
 
-whole_given : (run : Result Report DbFault) (outcome : Outcome) (before after : Option (List ℕ)) → EndsWell run outcome before after → SendsWhole (given run) outcome before after
+whole_given : (run : Result Report DbFault) (outcome : Outcome) (before after : Option (List ℕ))
+    → EndsWell run outcome before after → SendsWhole (given run) outcome before after
 whole_given (Ok report) outcome before after well = well
 whole_given (Err fault) outcome before after well = well
 
-front_given : (run : Result Report DbFault) (before after : Option (List ℕ)) → EndsEarly run before after → SendsFront (given run) before after
+front_given : (run : Result Report DbFault) (before after : Option (List ℕ)) → EndsEarly run before after
+    → SendsFront (given run) before after
 front_given (Ok report) before after early = early
 front_given (Err fault) before after early = early
 
 -- what is so of the right answer over both texts is so of that over what stands at both sides, where both are there
 over_texts : (limits : Limits) (wish : Asked) (bytes_of : Side → Option (List ℕ)) (is_missing : Side → Bool) (old new : Option (List ℕ)) (P : Result Report RunFault → Type 0)
-    → TellsSide (bytes_of Old) (is_missing Old) old → TellsSide (bytes_of New) (is_missing New) new → ((side : Side) → is_missing side ≡ false)
+    → TellsSide (bytes_of Old) (is_missing Old) old → TellsSide (bytes_of New) (is_missing New) new
+    → ((side : Side) → is_missing side ≡ false)
     → ((old_text new_text : List ℕ) → bytes_of Old ≡ Some old_text → bytes_of New ≡ Some new_text
     → (run : Result Report DbFault) → Runs limits wish old_text new_text run → P (given run))
     → (r : Result Report RunFault) → RunsOver limits wish old new r → P r
-over_texts limits wish bytes_of is_missing None new P told told_new there all r runs = absurd (true_false (sym told ∙ there Old))
-over_texts limits wish bytes_of is_missing (Some old) None P told told_new there all r runs = absurd (true_false (sym told_new ∙ there New))
-over_texts limits wish bytes_of is_missing (Some old) (Some new) P told told_new there all r runs = subst P (sym runs.2) (all old new told told_new runs.0 runs.1)
+over_texts limits wish bytes_of is_missing None new P told told_new there all r runs =
+    absurd (true_false (sym told ∙ there Old))
+over_texts limits wish bytes_of is_missing (Some old) None P told told_new there all r runs =
+    absurd (true_false (sym told_new ∙ there New))
+over_texts limits wish bytes_of is_missing (Some old) (Some new) P told told_new there all r runs =
+    subst P (sym runs.2) (all old new told told_new runs.0 runs.1)
 
 pub whole_over : (limits : Limits) (wish : Asked) (bytes_of : Side → Option (List ℕ)) (is_missing : Side → Bool) (old new : Option (List ℕ)) (outcome : Outcome) (before after : Option (List ℕ))
-    → TellsSide (bytes_of Old) (is_missing Old) old → TellsSide (bytes_of New) (is_missing New) new → ((side : Side) → is_missing side ≡ false)
+    → TellsSide (bytes_of Old) (is_missing Old) old → TellsSide (bytes_of New) (is_missing New) new
+    → ((side : Side) → is_missing side ≡ false)
     → ((old_text new_text : List ℕ) → bytes_of Old ≡ Some old_text → bytes_of New ≡ Some new_text
     → (run : Result Report DbFault) → Runs limits wish old_text new_text run → EndsWell run outcome before after)
     → (r : Result Report RunFault) → RunsOver limits wish old new r → SendsWhole r outcome before after
@@ -189,7 +225,8 @@ whole_over limits wish bytes_of is_missing old new outcome before after told tol
     (λ old_text new_text is_old is_new run runs. whole_given run outcome before after (all old_text new_text is_old is_new run runs))
 
 pub front_over : (limits : Limits) (wish : Asked) (bytes_of : Side → Option (List ℕ)) (is_missing : Side → Bool) (old new : Option (List ℕ)) (before after : Option (List ℕ))
-    → TellsSide (bytes_of Old) (is_missing Old) old → TellsSide (bytes_of New) (is_missing New) new → ((side : Side) → is_missing side ≡ false)
+    → TellsSide (bytes_of Old) (is_missing Old) old → TellsSide (bytes_of New) (is_missing New) new
+    → ((side : Side) → is_missing side ≡ false)
     → ((old_text new_text : List ℕ) → bytes_of Old ≡ Some old_text → bytes_of New ≡ Some new_text
     → (run : Result Report DbFault) → Runs limits wish old_text new_text run → EndsEarly run before after)
     → (r : Result Report RunFault) → RunsOver limits wish old new r → SendsFront r before after

@@ -5,7 +5,9 @@ use Rattle.aide_db.specs.Count.{one_more, sum_of}
 use Rattle.aide_db.specs.Side.{by_side}
 use Rattle.aide_db.specs.declared.fault.DbFault.{DbFault}
 use Rattle.aide_db.specs.declared.fault.DbFaultKind.{DbFaultKind}
-use Rattle.aide_db.specs.declared.fault.DbFaultKind.TheVariants.{LineTooLong, NoBegin, BadDirective, BadSpec, NoSpec, FieldCount, BadName, OutOfOrder, BadNumber, BadTime, BadDigest, NoEnd, Memory, Read, TooManyBytes}
+use Rattle.aide_db.specs.declared.fault.DbFaultKind.TheVariants.{LineTooLong, NoBegin, BadDirective, BadSpec, NoSpec}
+use Rattle.aide_db.specs.declared.fault.DbFaultKind.TheVariants.{FieldCount, BadName, OutOfOrder, BadNumber, BadTime}
+use Rattle.aide_db.specs.declared.fault.DbFaultKind.TheVariants.{BadDigest, NoEnd, Memory, Read, TooManyBytes}
 use Rattle.aide_db.specs.declared.limits.Limits.{Limits}
 use Rattle.aide_db.specs.declared.side.Side.{Side}
 use Rattle.aide_db.specs.declared.side.Side.TheVariants.{Old, New}
@@ -21,14 +23,18 @@ use Rattle.aide_text.proofs.Sending.{Appends-nothing}
 
 -- the old side is refused where it was opened once more, the new one where both were
 pub refused_first : (limits : Limits) (bytes_of : Side → Option (List ℕ)) (side : Side) (before after : Side → ℕ) (fault : RunFault)
-    → after Old ≡ one_more (before Old) → after New ≡ sum_of (before New) (by_side 0 1 side) → IsFirst limits bytes_of side fault → IsRefusedThere before after fault
-refused_first limits bytes_of Old before after (Open side) of_old of_new is = subst (IsRefusedIn before after) (sym is) (record { passes = 0; of_old = of_old; of_new = of_new })
-refused_first limits bytes_of New before after (Open side) of_old of_new is = subst (IsRefusedIn before after) (sym is) (record { passes = 0; of_old = of_old; of_new = of_new })
+    → after Old ≡ one_more (before Old) → after New ≡ sum_of (before New) (by_side 0 1 side)
+    → IsFirst limits bytes_of side fault → IsRefusedThere before after fault
+refused_first limits bytes_of Old before after (Open side) of_old of_new is =
+    subst (IsRefusedIn before after) (sym is) (record { passes = 0; of_old = of_old; of_new = of_new })
+refused_first limits bytes_of New before after (Open side) of_old of_new is =
+    subst (IsRefusedIn before after) (sym is) (record { passes = 0; of_old = of_old; of_new = of_new })
 refused_first limits bytes_of side before after (Database fault) of_old of_new is = tt
 refused_first limits bytes_of side before after (Changed changed) of_old of_new is = tt
 refused_first limits bytes_of side before after (Write written) of_old of_new is = tt
 
-refused_in : (side : Side) (before middle after : Side → ℕ) (n : ℕ) → OpensExactly before middle n → IsRefusedIn middle after side → IsRefusedIn before after side
+refused_in : (side : Side) (before middle after : Side → ℕ) (n : ℕ) → OpensExactly before middle n
+    → IsRefusedIn middle after side → IsRefusedIn before after side
 refused_in Old before middle after n opens is = record {
   passes = n + is.passes;
   of_old = omega (arith, opens.of_old, is.of_old);
@@ -41,13 +47,15 @@ refused_in New before middle after n opens is = record {
 }
 
 -- the same after further passes
-pub refused_later : (before middle after : Side → ℕ) (n : ℕ) (fault : RunFault) → OpensExactly before middle n → IsRefusedThere middle after fault → IsRefusedThere before after fault
+pub refused_later : (before middle after : Side → ℕ) (n : ℕ) (fault : RunFault) → OpensExactly before middle n
+    → IsRefusedThere middle after fault → IsRefusedThere before after fault
 refused_later before middle after n (Open side) opens is = refused_in side before middle after n opens is
 refused_later before middle after n (Database fault) opens is = tt
 refused_later before middle after n (Changed side) opens is = tt
 refused_later before middle after n (Write written) opens is = tt
 
-refused_by : (before after : Side → ℕ) (fault : DbFault) (kind : DbFaultKind) → IsRefusedThere before after (later_by kind fault)
+refused_by : (before after : Side → ℕ) (fault : DbFault) (kind : DbFaultKind)
+    → IsRefusedThere before after (later_by kind fault)
 refused_by before after fault LineTooLong = tt
 refused_by before after fault NoBegin = tt
 refused_by before after fault BadDirective = tt
@@ -65,7 +73,8 @@ refused_by before after fault Read = tt
 refused_by before after fault TooManyBytes = tt
 
 -- the end of a pass refuses no side
-pub refused_pass : (before after : Side → ℕ) (fault : PassFault) (sent : ℕ) → IsRefusedThere before after (pass_fault_of fault sent)
+pub refused_pass : (before after : Side → ℕ) (fault : PassFault) (sent : ℕ)
+    → IsRefusedThere before after (pass_fault_of fault sent)
 refused_pass before after (passes.Database fault) sent = refused_by before after fault fault.kind
 refused_pass before after passes.Write sent = tt
 
@@ -77,29 +86,36 @@ comes_opened before after (Changed side) is = record { passes = 0; of_old = is }
 comes_opened before after (Write written) is = tt
 
 was_opened : (before middle after n : ℕ) → middle ≡ sum_of before n → WasOpened middle after → WasOpened before after
-was_opened before middle after n is opened = record { passes = n + opened.passes; of_old = omega (arith, is, opened.of_old) }
+was_opened before middle after n is opened =
+    record { passes = n + opened.passes; of_old = omega (arith, is, opened.of_old) }
 
 -- the same after further passes
-pub comes_later : (before middle after n : ℕ) (fault : RunFault) → middle ≡ sum_of before n → ComesOpened middle after fault → ComesOpened before after fault
+pub comes_later : (before middle after n : ℕ) (fault : RunFault) → middle ≡ sum_of before n
+    → ComesOpened middle after fault → ComesOpened before after fault
 comes_later before middle after n (Open side) is opened = was_opened before middle after n is opened
 comes_later before middle after n (Database fault) is opened = was_opened before middle after n is opened
 comes_later before middle after n (Changed side) is opened = was_opened before middle after n is opened
 comes_later before middle after n (Write written) is opened = tt
 
 -- where nothing has gone out
-pub silent_nothing : (opened_old opened_new : ℕ) (bytes : Option (List ℕ)) (fault : RunFault) → IsSilent opened_old opened_new bytes bytes fault
+pub silent_nothing : (opened_old opened_new : ℕ) (bytes : Option (List ℕ)) (fault : RunFault)
+    → IsSilent opened_old opened_new bytes bytes fault
 silent_nothing opened_old opened_new bytes (Open side) = λ below twice. Appends-nothing bytes
 silent_nothing opened_old opened_new bytes (Database fault) = λ below twice. Appends-nothing bytes
 silent_nothing opened_old opened_new bytes (Changed side) = λ below twice. Appends-nothing bytes
 silent_nothing opened_old opened_new bytes (Write written) = tt
 
-silent_opened : (before middle after : ℕ) (old new : Option (List ℕ)) → middle ≡ sum_of before 2 → WasOpened middle after
+silent_opened : (before middle after : ℕ) (old new : Option (List ℕ)) → middle ≡ sum_of before 2
+    → WasOpened middle after
     → after < 2 ^ 64 - 1 → after ≤ before + 2 → Appends old new []
-silent_opened before middle after old new is opened below twice = absurd (omega (arith, is, opened.of_old, below, twice))
+silent_opened before middle after old new is opened below twice =
+    absurd (omega (arith, is, opened.of_old, below, twice))
 
 -- once the old side is opened a third time, what has gone out is left open
-pub silent_begun : (before middle after : ℕ) (old new : Option (List ℕ)) (fault : RunFault) → middle ≡ sum_of before 2 → ComesOpened middle after fault → IsSilent before after old new fault
+pub silent_begun : (before middle after : ℕ) (old new : Option (List ℕ)) (fault : RunFault) → middle ≡ sum_of before 2
+    → ComesOpened middle after fault → IsSilent before after old new fault
 silent_begun before middle after old new (Open side) is opened = silent_opened before middle after old new is opened
-silent_begun before middle after old new (Database fault) is opened = silent_opened before middle after old new is opened
+silent_begun before middle after old new (Database fault) is opened =
+    silent_opened before middle after old new is opened
 silent_begun before middle after old new (Changed side) is opened = silent_opened before middle after old new is opened
 silent_begun before middle after old new (Write written) is opened = tt

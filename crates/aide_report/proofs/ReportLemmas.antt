@@ -18,25 +18,33 @@ use Rattle.aide_report.specs.declared.run_fault.RunFault.TheVariants.{Open, Data
 use Rattle.aide_text.proofs.Sending.{Appends-Keeps}
 use Rattle.aide_text.proofs.Sheets.{from_fresh, wrote_whole}
 
-pub silent_text : (options : Options) (old_origin new_origin : Origin) (counts : Counts) (entries : List PathChange) → is_silent options (differs counts) ≡ true
+pub silent_text : (options : Options) (old_origin new_origin : Origin) (counts : Counts) (entries : List PathChange)
+    → is_silent options (differs counts) ≡ true
     → text_of options old_origin new_origin counts entries ≡ []
 unfolding text_of
-silent_text options old_origin new_origin counts entries e = ap (λ b. if b then [] else parts_of options old_origin new_origin counts entries) e
+silent_text options old_origin new_origin counts entries e =
+    ap (λ b. if b then [] else parts_of options old_origin new_origin counts entries) e
 
-pub full_text : (options : Options) (old_origin new_origin : Origin) (counts : Counts) (entries : List PathChange) → is_silent options (differs counts) ≡ false
+pub full_text : (options : Options) (old_origin new_origin : Origin) (counts : Counts) (entries : List PathChange)
+    → is_silent options (differs counts) ≡ false
     → text_of options old_origin new_origin counts entries ≡ parts_of options old_origin new_origin counts entries
 unfolding text_of
-full_text options old_origin new_origin counts entries e = ap (λ b. if b then [] else parts_of options old_origin new_origin counts entries) e
+full_text options old_origin new_origin counts entries e =
+    ap (λ b. if b then [] else parts_of options old_origin new_origin counts entries) e
 
 -- ---- after a flush
 
-pub flushed_whole : {text : List ℕ} {a b : Sheet} (c : Option (List ℕ)) → a.failed ≡ false → b.failed ≡ false → Wrote text a b → Keeps b.bytes c → Appends a.bytes c text
+pub flushed_whole : {text : List ℕ} {a b : Sheet} (c : Option (List ℕ)) → a.failed ≡ false → b.failed ≡ false
+    → Wrote text a b → Keeps b.bytes c → Appends a.bytes c text
 flushed_whole {text} {a} {b} c fresh on p kept = Appends-Keeps a.bytes b.bytes c text (wrote_whole fresh on p) kept
 
-pub flushed_part : {text : List ℕ} {a b : Sheet} (c : Option (List ℕ)) → a.failed ≡ false → b.failed ≡ false → Wrote text a b → Keeps b.bytes c → SendsPart text a.bytes c
-flushed_part {text} {a} {b} c fresh on p kept = record { front = text; rest = []; whole = sym (append-nil text); bytes = flushed_whole c fresh on p kept }
+pub flushed_part : {text : List ℕ} {a b : Sheet} (c : Option (List ℕ)) → a.failed ≡ false → b.failed ≡ false
+    → Wrote text a b → Keeps b.bytes c → SendsPart text a.bytes c
+flushed_part {text} {a} {b} c fresh on p kept =
+    record { front = text; rest = []; whole = sym (append-nil text); bytes = flushed_whole c fresh on p kept }
 
-pub flushed_count : {a b : Sheet} (c : Option (List ℕ)) → a.failed ≡ false → a.sent ≡ 0 → WritesSome a b → Keeps b.bytes c → IsCounted a.bytes c 0 b.sent
+pub flushed_count : {a b : Sheet} (c : Option (List ℕ)) → a.failed ≡ false → a.sent ≡ 0 → WritesSome a b
+    → Keeps b.bytes c → IsCounted a.bytes c 0 b.sent
 flushed_count {a} {b} c fresh start p kept =
     let sent = from_fresh fresh p in
     record { sent = sent.0; bytes = Appends-Keeps a.bytes b.bytes c sent.0 sent.1 kept; count = omega (arith, sent.2, start) }
@@ -47,9 +55,11 @@ never_falls {a} {b} fresh p = (from_fresh fresh p).3
 -- ---- the fault of a report
 
 pub count_of_pen : {a b : Sheet} → a.failed ≡ false → a.sent ≡ 0 → WritesSome a b → IsCounted a.bytes b.bytes 0 b.sent
-count_of_pen {a} {b} fresh start p = let sent = from_fresh fresh p in record { sent = sent.0; bytes = sent.1; count = omega (arith, sent.2, start) }
+count_of_pen {a} {b} fresh start p =
+    let sent = from_fresh fresh p in record { sent = sent.0; bytes = sent.1; count = omega (arith, sent.2, start) }
 
-pub written_of_pen : (pen : Pen) (before after : Option (List ℕ)) (fault : RunFault) → IsCounted before after 0 pen.sent → HasPenWritten pen fault → HasWrittenIfAny before after fault
+pub written_of_pen : (pen : Pen) (before after : Option (List ℕ)) (fault : RunFault) → IsCounted before after 0 pen.sent
+    → HasPenWritten pen fault → HasWrittenIfAny before after fault
 written_of_pen pen before after (Open side) is counts = tt
 written_of_pen pen before after (Database fault) is counts = tt
 written_of_pen pen before after (Changed side) is counts = tt
@@ -58,7 +68,8 @@ written_of_pen pen before after (Write written) is counts = subst (λ n. IsCount
 pub rose_of_pen : {a b : Sheet} → a.failed ≡ false → WritesSome a b → b.failed ≡ true → Rose a.failures b.failures
 rose_of_pen {a} {b} fresh p failed below = let e = (from_fresh fresh p).4 failed in omega (arith, e)
 
-pub caused_as : (sources first second : Type 0) (fault : RunFault) → (first → second) → IsCaused sources first fault → IsCaused sources second fault
+pub caused_as : (sources first second : Type 0) (fault : RunFault) → (first → second) → IsCaused sources first fault
+    → IsCaused sources second fault
 caused_as sources first second (Open side) f p = p
 caused_as sources first second (Database fault) f p = p
 caused_as sources first second (Changed side) f p = tt

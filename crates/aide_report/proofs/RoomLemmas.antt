@@ -3,7 +3,9 @@ use Rattle.std.proofs.Common.{◌≡◌, ◌≤◌, ℕ, Bool, true, false, refl
 use Rattle.aide_db.specs.Memory.{is_memory, wanted_memory}
 use Rattle.aide_db.specs.declared.fault.DbFault.{DbFault}
 use Rattle.aide_db.specs.declared.fault.DbFaultKind.{DbFaultKind}
-use Rattle.aide_db.specs.declared.fault.DbFaultKind.TheVariants.{LineTooLong, NoBegin, BadDirective, BadSpec, NoSpec, FieldCount, BadName, OutOfOrder, BadNumber, BadTime, BadDigest, NoEnd, Memory, Read, TooManyBytes}
+use Rattle.aide_db.specs.declared.fault.DbFaultKind.TheVariants.{LineTooLong, NoBegin, BadDirective, BadSpec, NoSpec}
+use Rattle.aide_db.specs.declared.fault.DbFaultKind.TheVariants.{FieldCount, BadName, OutOfOrder, BadNumber, BadTime}
+use Rattle.aide_db.specs.declared.fault.DbFaultKind.TheVariants.{BadDigest, NoEnd, Memory, Read, TooManyBytes}
 use Rattle.aide_db.specs.declared.limits.Limits.{Limits}
 use Rattle.aide_db.specs.declared.stage.Stage.{Stage}
 use Rattle.aide_db.specs.declared.stage.Stage.TheVariants.{Start, Begun, Entries, Ended, Failed}
@@ -19,7 +21,8 @@ not_true false h = refl
 not_true true h = sym (h refl)
 
 -- a cursor that has not failed wants no memory
-pub not_memory : (stage : Stage) (fault : DbFault) → IsUnfailed stage → (is_memory fault.kind ≡ true → wanted_memory stage ≡ true) → IsNotMemory fault
+pub not_memory : (stage : Stage) (fault : DbFault) → IsUnfailed stage
+    → (is_memory fault.kind ≡ true → wanted_memory stage ≡ true) → IsNotMemory fault
 not_memory Start fault unfailed h = not_true (is_memory fault.kind) h
 not_memory Begun fault unfailed h = not_true (is_memory fault.kind) h
 not_memory Entries fault unfailed h = not_true (is_memory fault.kind) h
@@ -28,7 +31,8 @@ not_memory (Failed failure) fault unfailed h = absurd unfailed
 
 -- the limits and the room are what they were
 pub still_fits : (a b : Limits) (m n : ℕ) → b ≡ a → n ≡ m → a.line ≤ m → b.line ≤ n
-still_fits a b m n same kept le = subst (λ (limits : Limits). limits.line ≤ n) (sym same) (subst (λ x. a.line ≤ x) (sym kept) le)
+still_fits a b m n same kept le =
+    subst (λ (limits : Limits). limits.line ≤ n) (sym same) (subst (λ x. a.line ≤ x) (sym kept) le)
 
 later_at : (fault : DbFault) → IsNotMemory fault → (kind : DbFaultKind) → IsNotOfMemory (later_by kind fault)
 later_at fault is LineTooLong = tt

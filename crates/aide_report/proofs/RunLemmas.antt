@@ -39,7 +39,8 @@ pass_is_changes limits old new sound_old sound_new =
     ∙ (λ i. merged path_cmp (entries-database_of limits old sound_old i) (entries-database_of limits new sound_new i))
 
 -- the counts of a whole pass are those of the maps
-pub counts_are : (limits : Limits) (options : Options) (counts : Counts) (old new : List ℕ) → IsSound limits old → IsSound limits new
+pub counts_are : (limits : Limits) (options : Options) (counts : Counts) (old new : List ℕ) → IsSound limits old
+    → IsSound limits new
     → Completes options counts [] (pass_of old new) → counts ≡ counts_of options (database_of old) (database_of new)
 counts_are limits options counts old new sound_old sound_new done =
     let pass = pass_is_changes limits old new sound_old sound_new in
@@ -61,7 +62,8 @@ pub record HasDigests (finding : Finding) (old new : List ℕ) : Type 0 where
   pub of_new : finding.digests.of_new ≡ sha256 new
 
 -- the text that the finding calls for is the report
-pub text_is : (limits : Limits) (task : Task) (finding : Finding) (old new : List ℕ) → IsSound limits old → IsSound limits new
+pub text_is : (limits : Limits) (task : Task) (finding : Finding) (old new : List ℕ) → IsSound limits old
+    → IsSound limits new
     → IsFinding task.options finding old new → HasDigests finding old new
     → text_of task.options (old_origin task finding) (new_origin task finding) finding.counts (pass_of old new) ≡ (report_over (asked task) old new).text
 unfolding report_over
@@ -86,15 +88,18 @@ right_report : (limits : Limits) (task : Task) (old new : List ℕ) → IsSound 
 right_report limits task old new sound_old sound_new r runs =
     Runs-unique limits (asked task) old new (Ok (report_over (asked task) old new)) r (sound_old, sound_new, refl) runs
 
-pub ends_well : (limits : Limits) (task : Task) (finding : Finding) (old new : List ℕ) (before after : Option (List ℕ)) → IsSound limits old → IsSound limits new
+pub ends_well : (limits : Limits) (task : Task) (finding : Finding) (old new : List ℕ) (before after : Option (List ℕ))
+    → IsSound limits old → IsSound limits new
     → IsFinding task.options finding old new → HasDigests finding old new
     → Appends before after (text_of task.options (old_origin task finding) (new_origin task finding) finding.counts (pass_of old new))
-    → (r : Result Report DbFault) → Runs limits (asked task) old new r → EndsWell r (outcome_by finding.counts finding.skipped_old finding.skipped_new) before after
+    → (r : Result Report DbFault) → Runs limits (asked task) old new r
+    → EndsWell r (outcome_by finding.counts finding.skipped_old finding.skipped_new) before after
 ends_well limits task finding old new before after sound_old sound_new is digests sent r runs =
     subst (λ answer. EndsWell answer (outcome_by finding.counts finding.skipped_old finding.skipped_new) before after) (right_report limits task old new sound_old sound_new r runs)
     (outcome_is task finding old new is, subst (λ text. Appends before after text) (text_is limits task finding old new sound_old sound_new is digests) sent)
 
-pub ends_early : (limits : Limits) (task : Task) (finding : Finding) (old new : List ℕ) (before after : Option (List ℕ)) → IsSound limits old → IsSound limits new
+pub ends_early : (limits : Limits) (task : Task) (finding : Finding) (old new : List ℕ) (before after : Option (List ℕ))
+    → IsSound limits old → IsSound limits new
     → IsFinding task.options finding old new → HasDigests finding old new
     → SendsPart (text_of task.options (old_origin task finding) (new_origin task finding) finding.counts (pass_of old new)) before after
     → (r : Result Report DbFault) → Runs limits (asked task) old new r → EndsEarly r before after

@@ -12,12 +12,14 @@ use Rattle.aide_db.specs.Attributes.{Attributes, sides_between, is_different}
 use Rattle.aide_db.proofs.ValueLaws.{never_different}
 use Rattle.aide_report.specs.Changed.{differ_by}
 
-none_bool : (d b i j k : Bool) → d ≡ false → ((((d && b && b) && i) || ((b && not b) && j)) || ((b && not b) && k)) ≡ false
+none_bool : (d b i j k : Bool) → d ≡ false
+    → ((((d && b && b) && i) || ((b && not b) && j)) || ((b && not b) && k)) ≡ false
 none_bool d true i j k e = rw e refl
 none_bool d false i j k e = rw e refl
 
 none_reported : (i : Ignore) (old : Attributes) (a : Attr) → is_reported (sides_between old old) i a ≡ false
-none_reported i old a = none_bool (is_different (old a) (old a)) (is_some (old a)) (not (has i.changed a)) (not (has i.added a)) (not (has i.removed a)) (never_different (old a))
+none_reported i old a =
+    none_bool (is_different (old a) (old a)) (is_some (old a)) (not (has i.changed a)) (not (has i.added a)) (not (has i.removed a)) (never_different (old a))
 
 none_any : (p : Attr → Bool) (xs : List Attr) → ((a : Attr) → p a ≡ false) → list_any p xs ≡ false
 none_any p [] h = refl
@@ -27,6 +29,7 @@ pub never_differs : (i : Ignore) (old new : Attributes) → old ≡ new → diff
 unfolding differ_by
 never_differs i old new e = rw (← e) (none_any (is_reported (sides_between old old) i) all_attrs (none_reported i old))
 
-pub never_shown : (i : Ignore) (level : Level) (a : Attr) (old new : Attributes) → old ≡ new → is_shown (sides_between old new) i level a ≡ false
+pub never_shown : (i : Ignore) (level : Level) (a : Attr) (old new : Attributes) → old ≡ new
+    → is_shown (sides_between old new) i level a ≡ false
 unfolding differ_by
 never_shown i level a old new e = ap (λ b. b && shown_at (sides_between old new) i level a) (never_differs i old new e)

@@ -14,7 +14,8 @@ use Rattle.aide_report.specs.Entries.{is_shown_entry}
 use Rattle.aide_report.specs.Report.{counts_of}
 use Rattle.aide_report.specs.Sections.{has_entry, is_in}
 use Rattle.aide_text.specs.declared.section.Section.{Section}
-use Rattle.aide_text.specs.declared.section.Section.TheVariants.{AddedEntries, RemovedEntries, ChangedEntries, AllEntries, Details}
+use Rattle.aide_text.specs.declared.section.Section.TheVariants.{AddedEntries, RemovedEntries, ChangedEntries}
+use Rattle.aide_text.specs.declared.section.Section.TheVariants.{AllEntries, Details}
 use Rattle.aide_report.proofs.Laws.{added_count, removed_count, changed_count}
 
 none_more : (n : ℕ) → 0 + n ≡ n
@@ -33,7 +34,8 @@ first_counted p x xs = omega (arith, sum_by-append (λ y. cond (p y) 1 0) (x ∷
 -- a count is not nought exactly where the test holds of some item
 some_counted : {X : Type 0} (p : X → Bool) (xs : List X) → not (count_by p xs == 0) ≡ list_any p xs
 some_counted p [] = refl
-some_counted p (x ∷ xs) = ap (λ k. not (k == 0)) (first_counted p x xs) ∙ more_counted (p x) (count_by p xs) (list_any p xs) (some_counted p xs)
+some_counted p (x ∷ xs) =
+    ap (λ k. not (k == 0)) (first_counted p x xs) ∙ more_counted (p x) (count_by p xs) (list_any p xs) (some_counted p xs)
 
 either_item : (a b c d : Bool) → (a || b) || (c || d) ≡ (a || c) || (b || d)
 either_item true b c d = refl
@@ -42,9 +44,11 @@ either_item false true false d = refl
 either_item false false c d = refl
 
 -- some item passes either test exactly where some item passes the one, or some item the other
-any_either : {X : Type 0} (p q : X → Bool) (xs : List X) → list_any (λ x. p x || q x) xs ≡ list_any p xs || list_any q xs
+any_either : {X : Type 0} (p q : X → Bool) (xs : List X)
+    → list_any (λ x. p x || q x) xs ≡ list_any p xs || list_any q xs
 any_either p q [] = refl
-any_either p q (x ∷ xs) = ap (λ b. (p x || q x) || b) (any_either p q xs) ∙ either_item (p x) (q x) (list_any p xs) (list_any q xs)
+any_either p q (x ∷ xs) =
+    ap (λ b. (p x || q x) || b) (any_either p q xs) ∙ either_item (p x) (q x) (list_any p xs) (list_any q xs)
 
 module _ (options : Options) (old new : Database) where
   some_added : not (length (added old new) == 0) ≡ list_any is_added (changes old new)
@@ -57,7 +61,8 @@ module _ (options : Options) (old new : Database) where
   some_changed = ap (λ n. not (n == 0)) (sym (changed_count path_cmp path_cmp_total (differ_by options.ignore) path_cmp-IsAntisymmetric old new))
       ∙ some_counted (is_changed (differ_by options.ignore)) (changes old new)
 
-  pub has_entry_law : (section : Section) → has_entry (counts_of options old new) section ≡ list_any (is_in options section) (changes old new)
+  pub has_entry_law : (section : Section)
+      → has_entry (counts_of options old new) section ≡ list_any (is_in options section) (changes old new)
   has_entry_law AddedEntries = some_added
   has_entry_law RemovedEntries = some_removed
   has_entry_law ChangedEntries = some_changed

@@ -1,5 +1,6 @@
 -- The sections that have an entry, one after another.
-use Rattle.std.proofs.Common.{◌≡◌, ◌∙◌, ℕ, ◌+◌, ◌<◌, ◌≤◌, Bool, true, false, cond, List, [], ◌∷◌, ◌++◌, length, take, drop, get_or, refl, sym, ap, append-nil, length-append, arith}
+use Rattle.std.proofs.Common.{◌≡◌, ◌∙◌, ℕ, ◌+◌, ◌<◌, ◌≤◌, Bool, true, false, cond, List, [], ◌∷◌, ◌++◌, length, take}
+use Rattle.std.proofs.Common.{drop, get_or, refl, sym, ap, append-nil, length-append, arith}
 use Rattle.std.specs.List.{flat_map, filter}
 use Rattle.std.proofs.lemmas.List.{drop_more, drop_all, take_more, take_all, take-append-drop}
 use Rattle.std.proofs.lemmas.List.Elements.{filter-append}
@@ -40,13 +41,15 @@ module _ {X : Type 0} (h : X → Bool) where
   pub passed : List X → ℕ → ℕ
   passed xs i = length (filter h (take i xs))
 
-  pub passed_yes : (xs : List X) (i : ℕ) (d : X) → i < length xs → h (get_or xs i d) ≡ true → passed xs (i + 1) ≡ passed xs i + 1
+  pub passed_yes : (xs : List X) (i : ℕ) (d : X) → i < length xs → h (get_or xs i d) ≡ true
+      → passed xs (i + 1) ≡ passed xs i + 1
   unfolding passed
   passed_yes xs i d less e =
       ap (λ ys. length (filter h ys)) (take_more xs i d less) ∙ ap length (filter-append h (take i xs) (get_or xs i d ∷ []) ∙ ap (λ ys. filter h (take i xs) ++ ys) (filter_yes (get_or xs i d) [] e))
       ∙ length-append (filter h (take i xs)) (get_or xs i d ∷ [])
 
-  pub passed_no : (xs : List X) (i : ℕ) (d : X) → i < length xs → h (get_or xs i d) ≡ false → passed xs (i + 1) ≡ passed xs i
+  pub passed_no : (xs : List X) (i : ℕ) (d : X) → i < length xs → h (get_or xs i d) ≡ false
+      → passed xs (i + 1) ≡ passed xs i
   unfolding passed
   passed_no xs i d less e =
       ap (λ ys. length (filter h ys)) (take_more xs i d less) ∙ ap length (filter-append h (take i xs) (get_or xs i d ∷ []) ∙ ap (λ ys. filter h (take i xs) ++ ys) (filter_no (get_or xs i d) [] e))
@@ -73,27 +76,33 @@ module _ {X : Type 0} (h : X → Bool) where
 pub opens_none : (a : Side → ℕ) (n : ℕ) → n ≡ 0 → OpensExactly a a n
 opens_none a n none = record { of_old = omega arith; of_new = omega arith }
 
-pub opens_more : (a b c : Side → ℕ) (m n k : ℕ) → k ≡ m + n → OpensExactly a b m → OpensExactly b c n → OpensExactly a c k
-opens_more a b c m n k is p q = record { of_old = omega (arith, p.of_old, q.of_old); of_new = omega (arith, p.of_new, q.of_new) }
+pub opens_more : (a b c : Side → ℕ) (m n k : ℕ) → k ≡ m + n → OpensExactly a b m → OpensExactly b c n
+    → OpensExactly a c k
+opens_more a b c m n k is p q =
+    record { of_old = omega (arith, p.of_old, q.of_old); of_new = omega (arith, p.of_new, q.of_new) }
 
 pub opens_then : (a b c : Side → ℕ) (m n k : ℕ) → m + n ≤ k → OpensExactly a b m → OpensAtMost b c n → OpensAtMost a c k
-opens_then a b c m n k less p q = record { of_old = omega (arith, p.of_old, q.of_old); of_new = omega (arith, p.of_new, q.of_new) }
+opens_then a b c m n k less p q =
+    record { of_old = omega (arith, p.of_old, q.of_old); of_new = omega (arith, p.of_new, q.of_new) }
 
 -- ---- how many sections there are
 
 count_filter : {X : Type 0} (h : X → Bool) (xs : List X) → length (filter h xs) ≤ length xs
 count_filter h xs = omega (arith, length-filter h xs, count_by-le-length h xs)
 
-asked_few : (grouped : Bool) (listed detailed : Bool) → length ((if listed then list_sections grouped else []) ++ (if detailed then Details ∷ [] else [])) ≤ 4
+asked_few : (grouped : Bool) (listed detailed : Bool)
+    → length ((if listed then list_sections grouped else []) ++ (if detailed then Details ∷ [] else [])) ≤ 4
 asked_few true true true = omega arith
 asked_few _ true true = omega arith
 asked_few _ _ true = omega arith
 asked_few _ _ _ = omega arith
 
-by_silent : (options : Options) (counts : Counts) (silent : Bool) → (if silent then 0 else length (sections_of options counts)) ≤ 4
+by_silent : (options : Options) (counts : Counts) (silent : Bool)
+    → (if silent then 0 else length (sections_of options counts)) ≤ 4
 unfolding asked_sections
 by_silent options counts true = omega arith
-by_silent options counts false = omega (arith, count_filter (has_entry counts) (asked_sections options), asked_few options.grouped (reaches options.level ListEntries) (reaches options.level ChangedAttributes))
+by_silent options counts false =
+    omega (arith, count_filter (has_entry counts) (asked_sections options), asked_few options.grouped (reaches options.level ListEntries) (reaches options.level ChangedAttributes))
 
 pub sections_few : (options : Options) (counts : Counts) → section_count options counts ≤ 4
 sections_few options counts = by_silent options counts (is_silent options (differs counts))

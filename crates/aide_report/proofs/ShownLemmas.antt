@@ -1,5 +1,6 @@
 -- Whether a set of attributes has any, and what an entry's change shows.
-use Rattle.std.proofs.Common.{ℕ, ◌<◌, ◌≡◌, Bool, true, false, List, [], ◌∷◌, suc, zero, length, refl, sym, ap, ◌∙◌, arith, get_or, inl, inr}
+use Rattle.std.proofs.Common.{ℕ, ◌<◌, ◌≡◌, Bool, true, false, List, [], ◌∷◌, suc, zero, length, refl, sym, ap, ◌∙◌}
+use Rattle.std.proofs.Common.{arith, get_or, inl, inr}
 use Rattle.std.specs.Prelude.{◌||◌, not, IsTrue, ◌↔◌}
 use Rattle.std.specs.List.{list_any}
 use Rattle.aide_attr.specs.declared.attr.Attr.{Attr}
@@ -12,7 +13,8 @@ use Rattle.aide_attr.proofs.AttrLemmas.{at_number, number_small}
 use Rattle.aide_attr.proofs.WalkLemmas.{bool_cases}
 use Rattle.aide_db.specs.Attributes.{Attributes, sides_between}
 
-none_any : (p : Attr → Bool) (xs : List Attr) (k : ℕ) (d : Attr) → list_any p xs ≡ false → k < length xs → p (get_or xs k d) ≡ false
+none_any : (p : Attr → Bool) (xs : List Attr) (k : ℕ) (d : Attr) → list_any p xs ≡ false → k < length xs
+    → p (get_or xs k d) ≡ false
 none_any p [] k d h l = absurd (omega arith)
 none_any p (x ∷ xs) zero d h l = first (p x) (list_any p xs) h
   where
@@ -37,15 +39,18 @@ some_of p k = elim (bool_cases (list_any p all_attrs)) [
 ]
 
 -- a set is empty exactly where no attribute passes its test
-pub any_in : (r : AttrSet) (p : Attr → Bool) (empty : Bool) → ((a : Attr) → has r a ≡ p a) → (IsTrue empty ↔ ((a : Attr) → has r a ≡ false)) → not empty ≡ list_any p all_attrs
+pub any_in : (r : AttrSet) (p : Attr → Bool) (empty : Bool) → ((a : Attr) → has r a ≡ p a)
+    → (IsTrue empty ↔ ((a : Attr) → has r a ≡ false)) → not empty ≡ list_any p all_attrs
 any_in r p true same tells = sym (none_of p (λ a. sym (same a) ∙ tells.0 refl a) all_attrs)
 any_in r p false same tells = sym (some_of p (λ h. let e = tells.1 (λ a. same a ∙ h a) in cc))
 
 -- two entries differ as the difference between them says
 pub same_sides : (d : Delta) (old new : Attributes)
-    → ((a : Attr) → (sides_of d).in_old a ≡ (sides_between old new).in_old a) → ((a : Attr) → (sides_of d).in_new a ≡ (sides_between old new).in_new a)
+    → ((a : Attr) → (sides_of d).in_old a ≡ (sides_between old new).in_old a)
+    → ((a : Attr) → (sides_of d).in_new a ≡ (sides_between old new).in_new a)
     → ((a : Attr) → (sides_of d).differs a ≡ (sides_between old new).differs a)
-    → (sides_of d).size ≡ (sides_between old new).size → (sides_of d).old_type ≡ (sides_between old new).old_type → (sides_of d).new_type ≡ (sides_between old new).new_type
+    → (sides_of d).size ≡ (sides_between old new).size → (sides_of d).old_type ≡ (sides_between old new).old_type
+    → (sides_of d).new_type ≡ (sides_between old new).new_type
     → sides_of d ≡ sides_between old new
 same_sides d old new in_old in_new differs size old_type new_type i = record {
   in_old = λ a. in_old a i;

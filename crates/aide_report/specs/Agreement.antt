@@ -12,7 +12,8 @@ use Rattle.aide_report.specs.declared.outcome.Outcome.{Outcome}
 -- the head and the summary, nothing in a silent report
 abbrev pub beginning_of : Options → (total added removed changed : ℕ) → List ℕ
 beginning_of options total added removed changed =
-    if is_silent options (is_different added removed changed) then [] else overview_of options.level total added removed changed
+    if is_silent options (is_different added removed changed) then []
+    else overview_of options.level total added removed changed
 
 -- whether anything follows: in no silent report, and at no level below that of the databases
 abbrev pub goes_on : Options → (added removed changed : ℕ) → Bool
@@ -35,5 +36,6 @@ pub record BeginsWith (text : List ℕ) (wants_more : Bool) (old new : Option (L
 
 -- what has gone out is a report of this outcome, as far as its numbers say
 abbrev pub IsOfOutcome : Options → Outcome → Option (List ℕ) → Option (List ℕ) → Type 0
-IsOfOutcome options outcome old new = BeginsWith (beginning_of options outcome.total outcome.added outcome.removed outcome.changed)
+IsOfOutcome options outcome old new =
+    BeginsWith (beginning_of options outcome.total outcome.added outcome.removed outcome.changed)
     (goes_on options outcome.added outcome.removed outcome.changed) old new

@@ -11,7 +11,8 @@ use Rattle.aide_db.specs.Map.{Database}
 use Rattle.aide_text.specs.declared.counts.Counts.{Counts}
 
 -- the counts so far, and those of the rest, are those of all
-pub record Completes (options : Options) (counts : Counts) (rest all : List (Change (List ℕ) Attributes)) : Type 0 where
+pub record Completes (options : Options) (counts : Counts)
+    (rest all : List (Change (List ℕ) Attributes)) : Type 0 where
   pub added : counts.added + count_by is_added rest ≡ count_by is_added all
   pub removed : counts.removed + count_by is_removed rest ≡ count_by is_removed all
   pub changed : counts.changed + count_by (is_changed (differ_by options.ignore)) rest

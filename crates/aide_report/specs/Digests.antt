@@ -11,4 +11,5 @@ digest_on digests side = by_side digests.of_old digests.of_new side
 
 -- of each side that tells its text, the digest of that
 abbrev pub AreDigests : (Side → Option (List ℕ)) → Digests → Type 0
-AreDigests bytes_of digests = (side : Side) (text : List ℕ) → bytes_of side ≡ Some text → digest_on digests side ≡ sha256 text
+AreDigests bytes_of digests = (side : Side) (text : List ℕ) → bytes_of side ≡ Some text
+    → digest_on digests side ≡ sha256 text

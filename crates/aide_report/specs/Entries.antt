@@ -1,5 +1,6 @@
 -- What a report tells of one change: its line in a list, and its details.
-use Rattle.std.specs.Prelude.{ℕ, Bool, true, false, ◌&&◌, if◌then◌else◌, List, [], ◌++◌, Option, Some, None, is_some, codes}
+use Rattle.std.specs.Prelude.{ℕ, Bool, true, false, ◌&&◌, if◌then◌else◌, List, [], ◌++◌, Option}
+use Rattle.std.specs.Prelude.{Some, None, is_some, codes}
 use Rattle.std.specs.List.{flat_map, filter, list_any}
 use Rattle.aide_attr.specs.Attr.{all_attrs, detail_name_of}
 use Rattle.aide_attr.specs.Difference.{is_shown}
@@ -8,7 +9,8 @@ use Rattle.aide_attr.specs.declared.attr.Attr.{Attr}
 use Rattle.aide_attr.specs.declared.attr.Attr.TheVariants.{Ftype}
 use Rattle.aide_attr.specs.declared.delta.Ignore.{Ignore}
 use Rattle.aide_attr.specs.declared.file_type.FileType.{FileType}
-use Rattle.aide_attr.specs.declared.file_type.FileType.TheVariants.{File, Directory, Link, Char, Block, Fifo, Socket, Other}
+use Rattle.aide_attr.specs.declared.file_type.FileType.TheVariants.{File, Directory, Link, Char}
+use Rattle.aide_attr.specs.declared.file_type.FileType.TheVariants.{Block, Fifo, Socket, Other}
 use Rattle.aide_attr.specs.declared.level.Level.{Level}
 use Rattle.aide_attr.specs.declared.level.Level.TheVariants.{AddedRemovedEntries}
 use Rattle.aide_attr.specs.declared.summary_string.Alone.TheVariants.{Added, Removed}
@@ -95,7 +97,8 @@ title_of (old, new) = title_word (first_type (type_on new) (type_on old))
 
 -- an attribute: the old value beside the new one
 unfoldable pub attribute_text : Bool → Pair → Attr → List ℕ
-attribute_text base16 pair a = side_by_side (detail_name_of a) (side_text base16 a pair.0) (side_text base16 a pair.1)
+attribute_text base16 pair a =
+    side_by_side (detail_name_of a) (side_text base16 a pair.0) (side_text base16 a pair.1)
 
 -- an attribute, where it passes
 unfoldable pub shown_text : Bool → Pair → (Attr → Bool) → Attr → List ℕ
@@ -108,4 +111,6 @@ attributes_text base16 pair shows attrs = flat_map (attribute_text base16 pair) 
 -- an empty line, the title and the path, and the attributes that are shown
 unfoldable pub entry_details : Options → PathChange → List ℕ
 entry_details options entry =
-    empty_line ++ (path_line (title_of entry.1) entry.0 ++ attributes_text options.base16 entry.1 (shows_at options entry.1) all_attrs)
+    empty_line
+    ++ (path_line (title_of entry.1) entry.0
+    ++ attributes_text options.base16 entry.1 (shows_at options entry.1) all_attrs)

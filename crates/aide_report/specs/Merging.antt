@@ -17,8 +17,10 @@ use Rattle.aide_report.specs.declared.merge.Held.TheVariants.{Here, Ended}
 use Rattle.aide_report.specs.declared.merge.Merge.{Merge}
 
 -- the changes that a merge has still to give, of databases of these texts
-abbrev pub remaining : {R : Type 0} → Merge R → DeskView → List ℕ → List ℕ → List (Change (List ℕ) Attributes)
-remaining m desk old new = merged path_cmp (ahead m.old_held (desk_entry Old desk) (rest_of m.old_cursor old))
+abbrev pub remaining : {R : Type 0} → Merge R → DeskView → List ℕ → List ℕ
+    → List (Change (List ℕ) Attributes)
+remaining m desk old new =
+    merged path_cmp (ahead m.old_held (desk_entry Old desk) (rest_of m.old_cursor old))
     (ahead m.new_held (desk_entry New desk) (rest_of m.new_cursor new))
 
 -- the cursors are of their sides and have not failed, and what is held stands on the desk

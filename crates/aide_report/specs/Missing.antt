@@ -1,5 +1,6 @@
 -- What a run answers over what stands at both sides, where a side may not be there.
-use Rattle.std.specs.Prelude.{◌≡◌, ℕ, Bool, true, ◌⊎◌, Option, Some, None, IsSome, Result, Ok, Err, List, [], ⊤}
+use Rattle.std.specs.Prelude.{◌≡◌, ℕ, Bool, true, ◌⊎◌, Option, Some, None, IsSome, Result, Ok, Err}
+use Rattle.std.specs.Prelude.{List, [], ⊤}
 use Rattle.std.specs.Io.KnownBytes.{Appends}
 use Rattle.aide_db.specs.Database.{IsSound}
 use Rattle.aide_db.specs.Side.{by_side}
@@ -25,21 +26,22 @@ abbrev pub given : Result Report DbFault → Result Report RunFault
 given (Ok report) = Ok report
 given (Err fault) = Err (Database fault)
 
--- The right answer over what stands at both sides: that the old side is not opened, where it is not there; that the new side
--- is not opened, where it alone is not there and the old text is sound, otherwise the first fault of the old text; and the
--- right answer over both texts, where both are there.
+-- The right answer over what stands at both sides: that the old side is not opened, where it is not there; that the new
+-- side is not opened, where it alone is not there and the old text is sound, otherwise the first fault of the old text;
+-- and the right answer over both texts, where both are there.
 abbrev pub RunsOver : Limits → Asked → Option (List ℕ) → Option (List ℕ) → Result Report RunFault → Type 0
 RunsOver limits asked None new r = r ≡ Err (Open Old)
 RunsOver limits asked (Some old) None r = (IsSound limits old × (r ≡ Err (Open New)))
     ⊎ ((fault : DbFault) × IsFirstFaultOf limits Old old fault × (r ≡ Err (Database fault)))
-RunsOver limits asked (Some old) (Some new) r = (run : Result Report DbFault) × Runs limits asked old new run × (r ≡ given run)
+RunsOver limits asked (Some old) (Some new) r = (run : Result Report DbFault)
+    × Runs limits asked old new run × (r ≡ given run)
 
 -- there is a right answer
 abbrev pub HasAnswerOver : Limits → Asked → Option (List ℕ) → Option (List ℕ) → Type 0
 HasAnswerOver limits asked old new = (r : Result Report RunFault) × RunsOver limits asked old new r
 
--- A fault that keeps a run from its answer: the sources have failed at a side that is there, memory was wanted, or the sink
--- has failed.
+-- A fault that keeps a run from its answer: the sources have failed at a side that is there, memory was wanted, or the
+-- sink has failed.
 abbrev pub IsHindered : Option (List ℕ) → Option (List ℕ) → (sources sink : Type 0) → RunFault → Type 0
 IsHindered old new sources sink (Open side) = IsSome (by_side old new side) × sources
 IsHindered old new sources sink (Database fault) = StandsOn fault.kind sources ⊥
@@ -62,7 +64,8 @@ SendsWhole (Ok report) outcome before after = (report.outcome ≡ outcome) × Ap
 SendsWhole (Err right) outcome before after = ⊥
 
 -- a run ends with this answer, but where a fault keeps it from that
-abbrev pub EndsOver : Result Report RunFault → (RunFault → Type 0) → Result Outcome RunFault → Option (List ℕ) → Option (List ℕ) → Type 0
+abbrev pub EndsOver : Result Report RunFault → (RunFault → Type 0) → Result Outcome RunFault
+    → Option (List ℕ) → Option (List ℕ) → Type 0
 EndsOver r hindered (Ok outcome) before after = SendsWhole r outcome before after
 EndsOver r hindered (Err fault) before after = StopsFor r hindered fault × SendsFront r before after
 

@@ -1,5 +1,6 @@
 -- The report over two databases, the outcome and the status.
-use Rattle.std.specs.Prelude.{ℕ, ◌+◌, ◌==◌, ◌&&◌, not, Bool, if◌then◌else◌, List, [], ◌∷◌, ◌++◌, length, count_by, codes}
+use Rattle.std.specs.Prelude.{ℕ, ◌+◌, ◌==◌, ◌&&◌, not, Bool, if◌then◌else◌, List, [], ◌∷◌, ◌++◌}
+use Rattle.std.specs.Prelude.{length, count_by, codes}
 use Rattle.std.specs.List.{flat_map}
 use Rattle.std.specs.FinMap.{len}
 use Rattle.aide_attr.specs.declared.level.Level.TheVariants.{DatabaseAttributes}
@@ -26,7 +27,8 @@ pub record Origin : Type 0 where
 
 -- the path of a database below a word, and its digest
 unfoldable pub origin_lines : Bool → List ℕ → List ℕ → List ℕ → List ℕ
-origin_lines base16 word path digest = path_line word path ++ alone (codes "SHA256") (digest_text base16 digest)
+origin_lines base16 word path digest = path_line word path
+    ++ alone (codes "SHA256") (digest_text base16 digest)
 
 -- the same of an origin
 abbrev pub origin_text : Bool → List ℕ → Origin → List ℕ
@@ -39,7 +41,9 @@ databases_title = titled (codes "The attributes of the databases:") ++ 10 ∷ []
 -- the title, the old database and the new one
 unfoldable pub databases_of : Bool → Origin → Origin → List ℕ
 databases_of base16 old_origin new_origin =
-    databases_title ++ (origin_text base16 (codes "Old database") old_origin ++ origin_text base16 (codes "New database") new_origin)
+    databases_title
+    ++ (origin_text base16 (codes "Old database") old_origin
+    ++ origin_text base16 (codes "New database") new_origin)
 
 -- ---- the whole
 
@@ -65,7 +69,8 @@ databases_text options old_origin new_origin =
 -- the head and the summary, the sections, the databases
 unfoldable pub parts_of : Options → Origin → Origin → Counts → List PathChange → List ℕ
 parts_of options old_origin new_origin counts entries =
-    overview_by options.level counts ++ (sections_text options counts entries ++ databases_text options old_origin new_origin)
+    overview_by options.level counts
+    ++ (sections_text options counts entries ++ databases_text options old_origin new_origin)
 
 -- a quiet report of no differences is empty
 abbrev pub is_silent : Options → Bool → Bool
@@ -78,11 +83,13 @@ text_of options old_origin new_origin counts entries =
 
 -- how many sections of entries it has
 abbrev pub section_count : Options → Counts → ℕ
-section_count options counts = if is_silent options (differs counts) then 0 else length (sections_of options counts)
+section_count options counts =
+    if is_silent options (differs counts) then 0 else length (sections_of options counts)
 
 -- the report over two maps
 abbrev pub report_of : Options → Origin → Origin → Database → Database → List ℕ
-report_of options old_origin new_origin old new = text_of options old_origin new_origin (counts_of options old new) (changes old new)
+report_of options old_origin new_origin old new =
+    text_of options old_origin new_origin (counts_of options old new) (changes old new)
 
 -- what a run answers, with the numbers of the columns that it passed over
 abbrev pub outcome_by : Counts → ℕ → ℕ → Outcome
@@ -97,4 +104,5 @@ outcome_by counts skipped_old skipped_new = record {
 
 -- 1 if an entry was added, 2 if one was removed and 4 if one is changed, in all
 abbrev pub status_of : ℕ → ℕ → ℕ → ℕ
-status_of added removed changed = (if added == 0 then 0 else 1) + ((if removed == 0 then 0 else 2) + (if changed == 0 then 0 else 4))
+status_of added removed changed =
+    (if added == 0 then 0 else 1) + ((if removed == 0 then 0 else 2) + (if changed == 0 then 0 else 4))

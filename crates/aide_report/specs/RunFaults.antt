@@ -22,11 +22,12 @@ abbrev pub HasWrittenIfAny : Option (List ℕ) → Option (List ℕ) → RunFaul
 HasWrittenIfAny old new (Write written) = IsCounted old new 0 written
 HasWrittenIfAny old new _ = ⊤
 
--- Where no write failed and the old side was opened at most twice, which is before the report is begun, nothing has gone out. This
--- speaks of runs in which the count of openings stays below its last value.
+-- Where no write failed and the old side was opened at most twice, which is before the report is begun, nothing has
+-- gone out. This speaks of runs in which the count of openings stays below its last value.
 abbrev pub IsSilent : (opened_old opened_new : ℕ) → Option (List ℕ) → Option (List ℕ) → RunFault → Type 0
 IsSilent opened_old opened_new old new (Write written) = ⊤
-IsSilent opened_old opened_new old new _ = opened_new < 2 ^ 64 - 1 → opened_new ≤ opened_old + 2 → Appends old new []
+IsSilent opened_old opened_new old new _ = opened_new < 2 ^ 64 - 1 → opened_new ≤ opened_old + 2
+    → Appends old new []
 
 -- A side is not opened or not read only where the sources have failed, and a write fails only where the sink has.
 abbrev pub IsCaused : Type 0 → Type 0 → RunFault → Type 0
@@ -38,15 +39,17 @@ IsCaused sources sink (Write written) = sink
 -- A side that tells its text is never called changed, and a fault of its text is the first one.
 abbrev pub IsRight : Limits → (Side → Option (List ℕ)) → RunFault → Type 0
 IsRight limits bytes_of (Open side) = ⊤
-IsRight limits bytes_of (Database fault) = (text : List ℕ) → bytes_of fault.side ≡ Some text → IsFaultOf limits text fault
+IsRight limits bytes_of (Database fault) = (text : List ℕ) → bytes_of fault.side ≡ Some text
+    → IsFaultOf limits text fault
 IsRight limits bytes_of (Changed side) = (text : List ℕ) → bytes_of side ≡ Some text → ⊥
 IsRight limits bytes_of (Write written) = ⊤
 
--- A fault of a later pass: of memory or of a device, or a side that is not sound, or does not tell its text, is called changed.
+-- A fault of a later pass: of memory or of a device; or a side is called changed, and is not sound or tells no text.
 abbrev pub IsLater : Limits → (Side → Option (List ℕ)) → RunFault → Type 0
 IsLater limits bytes_of (Open side) = ⊤
 IsLater limits bytes_of (Database fault) = is_outside fault.kind ≡ true
-IsLater limits bytes_of (Changed side) = (text : List ℕ) → bytes_of side ≡ Some text → IsSound limits text → ⊥
+IsLater limits bytes_of (Changed side) = (text : List ℕ) → bytes_of side ≡ Some text
+    → IsSound limits text → ⊥
 IsLater limits bytes_of (Write written) = ⊤
 
 -- a write failed, and the pen has the number of bytes that went out

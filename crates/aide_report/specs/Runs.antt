@@ -32,14 +32,18 @@ origin_of path text = record { path = path; digest = sha256 text }
 -- the report over two sound texts
 unfoldable pub report_over : Asked → List ℕ → List ℕ → Report
 report_over asked old new = record {
-  text = report_of asked.options (origin_of asked.old_path old) (origin_of asked.new_path new) (database_of old) (database_of new);
-  outcome = outcome_by (counts_of asked.options (database_of old) (database_of new)) (skipped_in (columns_of_text old))
+  text = report_of asked.options (origin_of asked.old_path old) (origin_of asked.new_path new)
+      (database_of old) (database_of new);
+  outcome =
+      outcome_by (counts_of asked.options (database_of old) (database_of new))
+      (skipped_in (columns_of_text old))
       (skipped_in (columns_of_text new));
 }
 
 -- how many sections of entries that report has
 unfoldable pub sections_over : Asked → List ℕ → List ℕ → ℕ
-sections_over asked old new = section_count asked.options (counts_of asked.options (database_of old) (database_of new))
+sections_over asked old new =
+    section_count asked.options (counts_of asked.options (database_of old) (database_of new))
 
 -- how often each database is opened for it: to be read whole, to count, and for each of these sections
 abbrev pub openings_over : Asked → List ℕ → List ℕ → ℕ
@@ -49,11 +53,13 @@ openings_over asked old new = 2 + sections_over asked old new
 abbrev pub IsFirstFaultOf : Limits → Side → List ℕ → DbFault → Type 0
 IsFirstFaultOf limits side text fault = (fault.side ≡ side) × IsFirstFault limits text fault.line fault.kind
 
--- The right answer over two texts: the report where both are sound, otherwise the first fault, the old one's before
--- the new one's.
+-- The right answer over two texts: the report where both are sound, otherwise the first fault, that of the old one
+-- before that of the new one.
 abbrev pub Runs : Limits → Asked → List ℕ → List ℕ → Result Report DbFault → Type 0
-Runs limits asked old new (Ok report) = IsSound limits old × IsSound limits new × (report ≡ report_over asked old new)
-Runs limits asked old new (Err fault) = IsFirstFaultOf limits Old old fault ⊎ (IsSound limits old × IsFirstFaultOf limits New new fault)
+Runs limits asked old new (Ok report) = IsSound limits old × IsSound limits new
+    × (report ≡ report_over asked old new)
+Runs limits asked old new (Err fault) = IsFirstFaultOf limits Old old fault
+    ⊎ (IsSound limits old × IsFirstFaultOf limits New new fault)
 
 -- there is a right answer
 abbrev pub HasAnswer : Limits → Asked → List ℕ → List ℕ → Type 0
@@ -61,7 +67,8 @@ HasAnswer limits asked old new = (r : Result Report DbFault) × Runs limits aske
 
 -- a fault of a text is the right answer
 abbrev pub IsAnswer : Limits → Asked → (Side → Option (List ℕ)) → RunFault → Type 0
-IsAnswer limits asked bytes_of (Database fault) = (old new : List ℕ) → bytes_of Old ≡ Some old → bytes_of New ≡ Some new
+IsAnswer limits asked bytes_of (Database fault) = (old new : List ℕ) → bytes_of Old ≡ Some old
+    → bytes_of New ≡ Some new
     → is_outside fault.kind ≡ false → Runs limits asked old new (Err fault)
 IsAnswer limits asked bytes_of _ = ⊤
 

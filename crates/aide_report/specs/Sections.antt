@@ -11,13 +11,16 @@ use Rattle.aide_attr.specs.Level.{reaches}
 use Rattle.aide_text.specs.Titles.{section_head}
 use Rattle.aide_text.specs.declared.counts.Counts.{Counts}
 use Rattle.aide_text.specs.declared.section.Section.{Section}
-use Rattle.aide_text.specs.declared.section.Section.TheVariants.{AddedEntries, RemovedEntries, ChangedEntries, AllEntries, Details}
+use Rattle.aide_text.specs.declared.section.Section.TheVariants.{AddedEntries, RemovedEntries}
+use Rattle.aide_text.specs.declared.section.Section.TheVariants.{ChangedEntries, AllEntries}
+use Rattle.aide_text.specs.declared.section.Section.TheVariants.{Details}
 
 -- ---- which sections there are
 
 -- three lists, or one
 abbrev pub list_sections : Bool → List Section
-list_sections grouped = if grouped then AddedEntries ∷ RemovedEntries ∷ ChangedEntries ∷ [] else (AllEntries ∷ [])
+list_sections grouped =
+    if grouped then AddedEntries ∷ RemovedEntries ∷ ChangedEntries ∷ [] else (AllEntries ∷ [])
 
 -- the sections that the options ask for, in their order
 unfoldable pub asked_sections : Options → List Section
@@ -44,7 +47,8 @@ abbrev pub is_in : Options → Section → PathChange → Bool
 is_in options AddedEntries entry = is_added entry
 is_in options RemovedEntries entry = is_removed entry
 is_in options ChangedEntries entry = is_changed (differ_by options.ignore) entry
-is_in options AllEntries entry = is_added entry || (is_removed entry || is_changed (differ_by options.ignore) entry)
+is_in options AllEntries entry = is_added entry
+    || (is_removed entry || is_changed (differ_by options.ignore) entry)
 is_in options Details entry = shows_any options entry.1
 
 -- what it says of a change that it has
@@ -57,11 +61,13 @@ entry_text options Details entry = entry_details options entry
 
 -- the same, nothing of a change that it has not
 unfoldable pub one_text : Options → Section → PathChange → List ℕ
-one_text options section entry = if is_in options section entry then entry_text options section entry else []
+one_text options section entry =
+    if is_in options section entry then entry_text options section entry else []
 
 -- what it says of all changes, in their order
 unfoldable pub entries_text : Options → Section → List PathChange → List ℕ
-entries_text options section entries = flat_map (entry_text options section) (filter (is_in options section) entries)
+entries_text options section entries =
+    flat_map (entry_text options section) (filter (is_in options section) entries)
 
 -- its title lines, and what it says of all changes
 unfoldable pub section_text : Options → List PathChange → Section → List ℕ

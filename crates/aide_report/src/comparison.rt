@@ -182,8 +182,7 @@ pub fn run<S: Sources, W: Sink, A: Allocator + Copy>(
     ensures written { IfErr result (HasWrittenIfAny (W.delivered out.old) (W.delivered out.new)) }
 
     // Where it is told of each side what stands there, a text or nothing: the run ends with the right answer, but where
-    // memory was wanted, or a side that is there or the sink has failed. Over reliable sources no side that is there
-    // fails.
+    // memory was wanted, or a side that is there or the sink has failed. Over reliable sources no such side fails.
     ensures over { (old new : Option (List ℕ))
         → TellsSide (S.bytes_of sources.old Side.Old) (S.is_missing sources.old Side.Old) old
         → TellsSide (S.bytes_of sources.old Side.New) (S.is_missing sources.old Side.New) new

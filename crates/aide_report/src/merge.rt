@@ -18,8 +18,7 @@ use aide_db::{Cursor, DbFault, DbFaultKind, Desk, Reel, Side, Step, View, cmp_na
 use std::alloc::Allocator;
 use std::cmp::Ordering;
 
-/// How far a side has come: its next entry has to be read, it stands on the desk and is not passed on yet, or there
-/// is none.
+/// How far a side has come: its next entry has to be read, is on the desk and not passed on yet, or there is none.
 #[derive(Clone, Copy, Debug, PartialEq, Eq)]
 pub(crate) enum Held {
     Due,

@@ -1,5 +1,6 @@
 -- How a session closes over any site.
-use Rattle.std.proofs.Common.{◌≡◌, ◌∙◌, ℕ, ◌≤◌, List, [], Option, Some, None, refl, sym, ap, Bool, true, false, Ok, Err, inl, inr, ◌⊎◌}
+use Rattle.std.proofs.Common.{◌≡◌, ◌∙◌, ℕ, ◌≤◌, List, [], Option, Some, None, refl, sym, ap, Bool, true, false, Ok, Err}
+use Rattle.std.proofs.Common.{inl, inr, ◌⊎◌}
 use Rattle.std.specs.Prelude.{Result, ⊤}
 use Rattle.std.specs.Io.KnownBytes.{Keeps}
 use Rattle.std.proofs.Math.Path.{subst}
@@ -22,8 +23,10 @@ use Rattle.aide_report.specs.Runs.{HasCause, StandsOn}
 use Rattle.aide_report.specs.declared.run_fault.RunFault.{RunFault}
 use Rattle.aide_report.specs.declared.run_fault.RunFault.TheVariants.{Open, Database, Changed, Write}
 use Rattle.aide_session.specs.Answer.{Named, limits, need_of}
-use Rattle.aide_session.specs.Closing.{Asks, AsksAndReads, AsksToCompare, Closes, Closing, Course, course_between, ClosingCause, closing_line, HasText, RunCause}
-use Rattle.aide_session.specs.Closing.{no_job, no_memory, no_config, large_config, bad_config, good_config, bad_run, good_run}
+use Rattle.aide_session.specs.Closing.{Asks, AsksAndReads, AsksToCompare, Closes, Closing, Course, course_between}
+use Rattle.aide_session.specs.Closing.{ClosingCause, closing_line, HasText, RunCause}
+use Rattle.aide_session.specs.Closing.{no_job, no_memory, no_config, large_config, bad_config, good_config, bad_run}
+use Rattle.aide_session.specs.Closing.{good_run}
 use Rattle.aide_session.specs.Ends.{Sinks}
 use Rattle.aide_session.specs.Files.{Files, IsLarge, is_too_large}
 use Rattle.aide_session.specs.Job.{JobText, job_of}
@@ -40,32 +43,43 @@ course_of opened_before opened_after flushes_before flushes_after is_flushed =
 abbrev pub only_config : List ℕ → Named
 only_config config = record { config = config; old_path = []; new_path = [] }
 
-pub closes_misused : (files : Files) (words : List (List ℕ)) (d e f : Option (List ℕ)) (m n : ℕ) (course : Course) (site out : Type 0) → job_of words ≡ None → Put usage_line e f m n
-    → course.opened_after ≡ course.opened_before → course.flushes_after ≡ course.flushes_before → Closes files words 15 (sinks d d e f m n) course site out
+pub closes_misused : (files : Files) (words : List (List ℕ)) (d e f : Option (List ℕ)) (m n : ℕ) (course : Course) (site out : Type 0)
+    → job_of words ≡ None → Put usage_line e f m n
+    → course.opened_after ≡ course.opened_before → course.flushes_after ≡ course.flushes_before
+    → Closes files words 15 (sinks d d e f m n) course site out
 closes_misused files words d e f m n course site out none put unopened unflushed =
     record { closing = no_job; named = only_config []; cause = none; status_is = refl; output = (appends_none d, unopened, unflushed); put = put }
 
-pub closes_starved : (files : Files) (words : List (List ℕ)) (d e f : Option (List ℕ)) (m n : ℕ) (course : Course) (site out : Type 0) → Put memory_line e f m n
-    → course.opened_after ≡ course.opened_before → course.flushes_after ≡ course.flushes_before → Closes files words 22 (sinks d d e f m n) course site out
+pub closes_starved : (files : Files) (words : List (List ℕ)) (d e f : Option (List ℕ)) (m n : ℕ) (course : Course) (site out : Type 0)
+    → Put memory_line e f m n
+    → course.opened_after ≡ course.opened_before → course.flushes_after ≡ course.flushes_before
+    → Closes files words 22 (sinks d d e f m n) course site out
 closes_starved files words d e f m n course site out put unopened unflushed =
     record { closing = no_memory; named = only_config []; cause = tt; status_is = refl; output = (appends_none d, unopened, unflushed); put = put }
 
 asks : (words : List (List ℕ)) (job : JobText) → job_of words ≡ Some job → Asks words (only_config job.config)
 asks words job is = record { job = job; job_is = is; config_is = refl }
 
-pub closes_unread : (files : Files) (words : List (List ℕ)) (job : JobText) (d e f : Option (List ℕ)) (m n : ℕ) (course : Course) (site out : Type 0) → job_of words ≡ Some job → site
-    → Put (unread_line job.config) e f m n → course.opened_after ≡ course.opened_before → course.flushes_after ≡ course.flushes_before → Closes files words 18 (sinks d d e f m n) course site out
+pub closes_unread : (files : Files) (words : List (List ℕ)) (job : JobText) (d e f : Option (List ℕ)) (m n : ℕ) (course : Course) (site out : Type 0)
+    → job_of words ≡ Some job → site
+    → Put (unread_line job.config) e f m n → course.opened_after ≡ course.opened_before
+    → course.flushes_after ≡ course.flushes_before → Closes files words 18 (sinks d d e f m n) course site out
 closes_unread files words job d e f m n course site out is failed put unopened unflushed =
     record { closing = no_config; named = only_config job.config; cause = (asks words job is, failed); status_is = refl; output = (appends_none d, unopened, unflushed); put = put }
 
-pub closes_large : (files : Files) (words : List (List ℕ)) (job : JobText) (d e f : Option (List ℕ)) (m n : ℕ) (course : Course) (site out : Type 0) → job_of words ≡ Some job
-    → ((file : Option (List ℕ)) → files job.config ≡ Some file → IsLarge file) → Put too_large_line e f m n → course.opened_after ≡ course.opened_before → course.flushes_after ≡ course.flushes_before → Closes files words 17 (sinks d d e f m n) course site out
+pub closes_large : (files : Files) (words : List (List ℕ)) (job : JobText) (d e f : Option (List ℕ)) (m n : ℕ) (course : Course) (site out : Type 0)
+    → job_of words ≡ Some job
+    → ((file : Option (List ℕ)) → files job.config ≡ Some file → IsLarge file) → Put too_large_line e f m n
+    → course.opened_after ≡ course.opened_before → course.flushes_after ≡ course.flushes_before
+    → Closes files words 17 (sinks d d e f m n) course site out
 closes_large files words job d e f m n course site out is large put unopened unflushed =
     record { closing = large_config; named = only_config job.config; cause = (asks words job is, large); status_is = refl; output = (appends_none d, unopened, unflushed); put = put }
 
 -- the configuration of a job was read, and reads as this
-pub asks_and_reads : (files : Files) (words : List (List ℕ)) (job : JobText) (text : List ℕ) (compare : Bool) (read : Result Configured ConfFault) → job_of words ≡ Some job
-    → is_too_large text ≡ false → ((file : Option (List ℕ)) → files job.config ≡ Some file → file ≡ Some text) → job.compare ≡ compare
+pub asks_and_reads : (files : Files) (words : List (List ℕ)) (job : JobText) (text : List ℕ) (compare : Bool) (read : Result Configured ConfFault)
+    → job_of words ≡ Some job
+    → is_too_large text ≡ false → ((file : Option (List ℕ)) → files job.config ≡ Some file → file ≡ Some text)
+    → job.compare ≡ compare
     → ReadsAs (need_of job.compare) job.before text job.after read → AsksAndReads files words job.config compare read
 asks_and_reads files words job text compare read is small text_is compare_is reads = record {
   job = job;
@@ -79,12 +93,15 @@ asks_and_reads files words job text compare read is small text_is compare_is rea
 }
 
 pub closes_bad_config : (files : Files) (words : List (List ℕ)) (config : List ℕ) (compare : Bool) (fault : ConfFault) (d e f : Option (List ℕ)) (m n : ℕ) (course : Course) (site out : Type 0)
-    → AsksAndReads files words config compare (Err fault) → Put (conf_line fault) e f m n → course.opened_after ≡ course.opened_before → course.flushes_after ≡ course.flushes_before → Closes files words 17 (sinks d d e f m n) course site out
+    → AsksAndReads files words config compare (Err fault) → Put (conf_line fault) e f m n
+    → course.opened_after ≡ course.opened_before → course.flushes_after ≡ course.flushes_before
+    → Closes files words 17 (sinks d d e f m n) course site out
 closes_bad_config files words config compare fault d e f m n course site out read put unopened unflushed =
     record { closing = bad_config fault; named = only_config config; cause = (compare, read); status_is = refl; output = (appends_none d, unopened, unflushed); put = put }
 
 pub closes_good_config : (files : Files) (words : List (List ℕ)) (config : List ℕ) (s : Configured) (d e : Option (List ℕ)) (m : ℕ) (course : Course) (site out : Type 0)
-    → AsksAndReads files words config false (Ok s) → course.opened_after ≡ course.opened_before → course.flushes_after ≡ course.flushes_before → Closes files words 0 (sinks d d e e m m) course site out
+    → AsksAndReads files words config false (Ok s) → course.opened_after ≡ course.opened_before
+    → course.flushes_after ≡ course.flushes_before → Closes files words 0 (sinks d d e e m m) course site out
 closes_good_config files words config s d e m course site out read unopened unflushed =
     record { closing = good_config; named = only_config config; cause = (s, read); status_is = refl; output = (appends_none d, unopened, unflushed); put = put_none e m }
 
@@ -93,7 +110,8 @@ read_cause kind site first stands is = subst (λ (k : DbFaultKind). StandsOn k s
 
 -- the cause of a run's fault, over files that the sources tell
 pub run_cause : (files : Files) (named : Named) (bytes_of : Side → Option (List ℕ)) (fault : RunFault) (site out : Type 0) (first : DbFault → Type 0) (silent : Side → Type 0)
-    → ((side : Side) (text : List ℕ) → HasText files named side text → bytes_of side ≡ Some text) → HasCause fault site out first silent → IsRight limits bytes_of fault → IsNotOfMemory fault
+    → ((side : Side) (text : List ℕ) → HasText files named side text → bytes_of side ≡ Some text)
+    → HasCause fault site out first silent → IsRight limits bytes_of fault → IsNotOfMemory fault
     → RunCause files named fault site out
 run_cause files named bytes_of (Open side) site out first silent tells cause right fed = cause
 run_cause files named bytes_of (Database fault) site out first silent tells cause right fed =
@@ -101,16 +119,19 @@ run_cause files named bytes_of (Database fault) site out first silent tells caus
 run_cause files named bytes_of (Changed side) site out first silent tells cause right fed = λ text has. right text (tells side text has)
 run_cause files named bytes_of (Write written) site out first silent tells cause right fed = cause
 
-run_cause_by : (files : Files) (named : Named) (fault : RunFault) (site more out : Type 0) → (site → more) → RunCause files named fault site out → RunCause files named fault more out
+run_cause_by : (files : Files) (named : Named) (fault : RunFault) (site more out : Type 0) → (site → more)
+    → RunCause files named fault site out → RunCause files named fault more out
 run_cause_by files named (Open side) site more out then cause = then cause
 run_cause_by files named (Database fault) site more out then cause = (λ is. then (cause.0 is), cause.1, cause.2)
 run_cause_by files named (Changed side) site more out then cause = cause
 run_cause_by files named (Write written) site more out then cause = cause
 
-cause_by : (files : Files) (words : List (List ℕ)) (named : Named) (closing : Closing) (site more out : Type 0) → (site → more) → ClosingCause files words named closing site out
+cause_by : (files : Files) (words : List (List ℕ)) (named : Named) (closing : Closing) (site more out : Type 0)
+    → (site → more) → ClosingCause files words named closing site out
     → ClosingCause files words named closing more out
 cause_by files words named no_config site more out then cause = (cause.0, then cause.1)
-cause_by files words named (bad_run fault) site more out then cause = (cause.0, run_cause_by files named fault site more out then cause.1)
+cause_by files words named (bad_run fault) site more out then cause =
+    (cause.0, run_cause_by files named fault site more out then cause.1)
 cause_by files words named no_job site more out then cause = cause
 cause_by files words named no_memory site more out then cause = cause
 cause_by files words named large_config site more out then cause = cause
@@ -119,7 +140,8 @@ cause_by files words named good_config site more out then cause = cause
 cause_by files words named (good_run options outcome) site more out then cause = cause
 
 -- the same closing, for a cause that follows
-pub closes_by : (files : Files) (words : List (List ℕ)) (status : ℕ) (s : Sinks) (course : Course) (site more out : Type 0) → (site → more) → Closes files words status s course site out
+pub closes_by : (files : Files) (words : List (List ℕ)) (status : ℕ) (s : Sinks) (course : Course) (site more out : Type 0)
+    → (site → more) → Closes files words status s course site out
     → Closes files words status s course more out
 closes_by files words status s course site more out then closes = record {
   closing = closes.closing;
@@ -138,7 +160,8 @@ pub old_is_not_new : Old ≡ New → ⊥
 old_is_not_new e = subst denies_old (sym e) tt
 
 -- a configuration reads as this for the same need and the same texts
-pub reads_same : (need job_need : Need) (before job_before text after job_after : List ℕ) (read : Result Configured ConfFault) → need ≡ job_need → before ≡ job_before → after ≡ job_after
+pub reads_same : (need job_need : Need) (before job_before text after job_after : List ℕ) (read : Result Configured ConfFault)
+    → need ≡ job_need → before ≡ job_before → after ≡ job_after
     → ReadsAs need before text after read → ReadsAs job_need job_before text job_after read
 reads_same need job_need before job_before text after job_after read is_need is_before is_after reads =
     subst (λ (x : List ℕ). ReadsAs job_need job_before text x read) is_after
@@ -146,29 +169,35 @@ reads_same need job_need before job_before text after job_after read is_need is_
     (subst (λ (x : Need). ReadsAs x before text after read) is_need reads))
 
 -- sides that were pointed at the paths that are named, the old one first, have the bytes of their files
-pub pointed_texts : (files middle : Files) (named : Named) (old_pointed both_pointed : Side → Option (List ℕ)) → middle ≡ files
+pub pointed_texts : (files middle : Files) (named : Named) (old_pointed both_pointed : Side → Option (List ℕ))
+    → middle ≡ files
     → ((bytes : List ℕ) → files named.old_path ≡ Some (Some bytes) → old_pointed Old ≡ Some bytes)
     → ((bytes : List ℕ) → middle named.new_path ≡ Some (Some bytes) → both_pointed New ≡ Some bytes)
-    → both_pointed Old ≡ old_pointed Old → (side : Side) (text : List ℕ) → HasText files named side text → both_pointed side ≡ Some text
+    → both_pointed Old ≡ old_pointed Old → (side : Side) (text : List ℕ) → HasText files named side text
+    → both_pointed side ≡ Some text
 pointed_texts files middle named old_pointed both_pointed same old_is new_is kept Old text has = kept ∙ old_is text has
-pointed_texts files middle named old_pointed both_pointed same old_is new_is kept New text has = new_is text (subst (λ (f : Files). f named.new_path ≡ Some (Some text)) (sym same) has)
+pointed_texts files middle named old_pointed both_pointed same old_is new_is kept New text has =
+    new_is text (subst (λ (f : Files). f named.new_path ≡ Some (Some text)) (sym same) has)
 
 -- a side that was pointed at a path is told as what stands there
 pub told_side : (there : Option (Option (List ℕ))) (bytes : Option (List ℕ)) (is_missing : Bool) (file : Option (List ℕ))
-    → ((text : List ℕ) → there ≡ Some (Some text) → bytes ≡ Some text) → (there ≡ Some None → is_missing ≡ true) → there ≡ Some file → TellsSide bytes is_missing file
+    → ((text : List ℕ) → there ≡ Some (Some text) → bytes ≡ Some text) → (there ≡ Some None → is_missing ≡ true)
+    → there ≡ Some file → TellsSide bytes is_missing file
 told_side there bytes is_missing None pointed gone is = gone is
 told_side there bytes is_missing (Some text) pointed gone is = pointed text is
 
 -- a comparison that closes over the same files, the same openings and the same count of failures
 pub closes_over : (files later : Files) (words : List (List ℕ)) (status : ℕ) (s : Sinks) (course later_course : Course) (count later_count end : ℕ) (out : Type 0)
     → later ≡ files → later_course ≡ course → later_count ≡ count
-    → Closes later words status s later_course (Rose later_count end) out → Closes files words status s course (Rose count end) out
+    → Closes later words status s later_course (Rose later_count end) out
+    → Closes files words status s course (Rose count end) out
 closes_over files later words status s course later_course count later_count end out same same_course same_count closes =
     subst (λ (n : ℕ). Closes files words status s course (Rose n end) out) same_count
     (subst (λ (d : Course). Closes files words status s d (Rose later_count end) out) same_course
     (subst (λ (f : Files). Closes f words status s later_course (Rose later_count end) out) same closes))
 
-pub asks_over : (files later : Files) (words : List (List ℕ)) (named : Named) → later ≡ files → AsksToCompare files words named → AsksToCompare later words named
+pub asks_over : (files later : Files) (words : List (List ℕ)) (named : Named) → later ≡ files
+    → AsksToCompare files words named → AsksToCompare later words named
 asks_over files later words named same asks = record {
   settings = asks.settings;
   asks = subst (λ (f : Files). AsksAndReads f words named.config true (Ok asks.settings)) (sym same) asks.asks;
@@ -183,7 +212,8 @@ unfolding asks_over
 same_options files later words named same asks = refl
 
 -- a refusal that is not for want of memory is that of the configuration
-pub refused_as : (need : Need) (before text after : List ℕ) (fault : ConfFault) → IsRefused need (places before text after) fault ⊎ IsStarved need (places before text after) fault
+pub refused_as : (need : Need) (before text after : List ℕ) (fault : ConfFault)
+    → IsRefused need (places before text after) fault ⊎ IsStarved need (places before text after) fault
     → (fault.kind ≡ Memory → ⊥) → ReadsAs need before text after (Err fault)
 refused_as need before text after fault refused other = elim refused [
   | inl is ↦ is
@@ -193,7 +223,8 @@ refused_as need before text after fault refused other = elim refused [
 -- a closing over the same files and openings, after a call that may have counted failures
 pub closes_later : (files later : Files) (words : List (List ℕ)) (status : ℕ) (s : Sinks) (course later_course : Course) (count later_count end : ℕ) (out : Type 0)
     → later ≡ files → later_course ≡ course → count ≤ later_count
-    → Closes later words status s later_course (Rose later_count end) out → Closes files words status s course (Rose count end) out
+    → Closes later words status s later_course (Rose later_count end) out
+    → Closes files words status s course (Rose count end) out
 closes_later files later words status s course later_course count later_count end out same same_course more closes =
     closes_by files words status s course (Rose later_count end) (Rose count end) out (rose_later count later_count end more)
     (subst (λ (d : Course). Closes files words status s d (Rose later_count end) out) same_course
@@ -201,13 +232,16 @@ closes_later files later words status s course later_course count later_count en
 
 -- the sides were opened as often
 pub same_course : {S W : Type 0} (openings : S → Side → ℕ) (flushes : W → ℕ) (is_flushed : W → Bool) (before later after : S) (out_old out_new : W)
-    → openings later ≡ openings before → course_between openings flushes is_flushed later after out_old out_new ≡ course_between openings flushes is_flushed before after out_old out_new
+    → openings later ≡ openings before
+    → course_between openings flushes is_flushed later after out_old out_new ≡ course_between openings flushes is_flushed before after out_old out_new
 same_course openings flushes is_flushed before later after out_old out_new same =
     ap (λ (opened : Side → ℕ). course_of opened (openings after) (flushes out_old) (flushes out_new) (is_flushed out_new)) same
 
 -- the same closing once its lines are passed on
-pub closes_passed : (files : Files) (words : List (List ℕ)) (status : ℕ) (c d e f g : Option (List ℕ)) (m n k : ℕ) (course : Course) (site out : Type 0) → Keeps f g → n ≤ k
-    → Closes files words status (sinks c d e f m n) course site out → Closes files words status (sinks c d e g m k) course site out
+pub closes_passed : (files : Files) (words : List (List ℕ)) (status : ℕ) (c d e f g : Option (List ℕ)) (m n k : ℕ) (course : Course) (site out : Type 0)
+    → Keeps f g → n ≤ k
+    → Closes files words status (sinks c d e f m n) course site out
+    → Closes files words status (sinks c d e g m k) course site out
 closes_passed files words status c d e f g m n k course site out kept more closes = record {
   closing = closes.closing;
   named = closes.named;

@@ -1,5 +1,6 @@
 -- How a session ends.
-use Rattle.std.proofs.Common.{◌≡◌, ◌∙◌, ℕ, ◌≤◌, List, [], Option, Some, None, refl, sym, ap, arith, Bool, true, false, Ok, Err, inl, inr, ◌⊎◌}
+use Rattle.std.proofs.Common.{◌≡◌, ◌∙◌, ℕ, ◌≤◌, List, [], Option, Some, None, refl, sym, ap, arith, Bool, true, false}
+use Rattle.std.proofs.Common.{Ok, Err, inl, inr, ◌⊎◌}
 use Rattle.std.specs.Prelude.{Result, IsSome, unwrap_or}
 use Rattle.std.specs.Io.KnownBytes.{Keeps}
 use Rattle.std.proofs.Math.Path.{subst}
@@ -11,7 +12,8 @@ use Rattle.aide_db.specs.declared.side.Side.TheVariants.{Old, New}
 use Rattle.aide_conf.specs.declared.options.Options.{Options}
 use Rattle.aide_report.specs.Asked.{Asked}
 use Rattle.aide_report.specs.Failures.{Rose}
-use Rattle.aide_report.specs.Missing.{IsHindered, IsOfReliable, RunsOver, SendsFront, SendsWhole, StopsFor, TellsSide, given}
+use Rattle.aide_report.specs.Missing.{IsHindered, IsOfReliable, RunsOver, SendsFront, SendsWhole, StopsFor, TellsSide}
+use Rattle.aide_report.specs.Missing.{given}
 use Rattle.aide_report.specs.Runs.{HasCause, StandsOn}
 use Rattle.aide_report.specs.Runs.{Report}
 use Rattle.aide_report.specs.Sent.{SendsPart}
@@ -24,7 +26,8 @@ use Rattle.aide_report.specs.declared.outcome.Outcome.{Outcome}
 use Rattle.aide_report.specs.declared.run_fault.RunFault.{RunFault}
 use Rattle.aide_report.specs.declared.run_fault.RunFault.TheVariants.{Open, Database, Changed, Write}
 use Rattle.aide_session.specs.Answer.{Answer, Named, IsCompared, asked_by, limits, refused, answer_of_run}
-use Rattle.aide_session.specs.Ends.{Sinks, Failure, failure_line, FailureCause, HasFailed, Ends, Whole, Starved, config_unread, unopened, unread, unwritten}
+use Rattle.aide_session.specs.Ends.{Sinks, Failure, failure_line, FailureCause, HasFailed, Ends, Whole, Starved}
+use Rattle.aide_session.specs.Ends.{config_unread, unopened, unread, unwritten}
 use Rattle.aide_session.specs.Lines.{memory_line, open_line, database_line, kind_line, outcome_lines, run_fault_line}
 use Rattle.aide_session.specs.Put.{IsQuiet, Put}
 use Rattle.aide_session.proofs.PutLemmas.{appends_none, put_passed}
@@ -36,30 +39,36 @@ abbrev pub none_sent : (text : List ℕ) (d : Option (List ℕ)) → SendsPart t
 none_sent text d = record { front = []; rest = text; whole = refl; bytes = appends_none d }
 
 -- an answer that is a line and a status
-pub ends_refused : (a : Answer) (named : Named) (line : List ℕ) (status : ℕ) (d e f : Option (List ℕ)) (m n : ℕ) (site out : Type 0) → a ≡ refused line status → Put line e f m n
+pub ends_refused : (a : Answer) (named : Named) (line : List ℕ) (status : ℕ) (d e f : Option (List ℕ)) (m n : ℕ) (site out : Type 0)
+    → a ≡ refused line status → Put line e f m n
     → Ends a named status (sinks d d e f m n) site out
 ends_refused a named line status d e f m n site out is put =
     subst (λ (x : Answer). Ends x named status (sinks d d e f m n) site out) (sym is) (inl (record { status_is = refl; output = appends_none d; put = put }))
 
 -- want of memory before anything went out
-pub ends_starved : (a : Answer) (named : Named) (d e f : Option (List ℕ)) (m n : ℕ) (site out : Type 0) → Put memory_line e f m n
+pub ends_starved : (a : Answer) (named : Named) (d e f : Option (List ℕ)) (m n : ℕ) (site out : Type 0)
+    → Put memory_line e f m n
     → Ends a named 22 (sinks d d e f m n) site out
-ends_starved a named d e f m n site out put = inr (inl (record { status_is = refl; output = appends_none d; put = put }))
+ends_starved a named d e f m n site out put =
+    inr (inl (record { status_is = refl; output = appends_none d; put = put }))
 
 -- a failure before anything went out
-pub ends_broken : (a : Answer) (named : Named) (failure : Failure) (d e f : Option (List ℕ)) (m n : ℕ) (site out : Type 0) → FailureCause failure site out
+pub ends_broken : (a : Answer) (named : Named) (failure : Failure) (d e f : Option (List ℕ)) (m n : ℕ) (site out : Type 0)
+    → FailureCause failure site out
     → Put (failure_line named failure) e f m n → Ends a named 18 (sinks d d e f m n) site out
 ends_broken a named failure d e f m n site out cause put =
     inr (inr (record { status_is = refl; output = none_sent a.output d; failure = failure; cause = cause; put = put }))
 
-cause_by : (failure : Failure) (site more out : Type 0) → (site → more) → FailureCause failure site out → FailureCause failure more out
+cause_by : (failure : Failure) (site more out : Type 0) → (site → more) → FailureCause failure site out
+    → FailureCause failure more out
 cause_by config_unread site more out then cause = then cause
 cause_by (unopened side) site more out then cause = then cause
 cause_by (unread fault) site more out then cause = (cause.0, then cause.1)
 cause_by unwritten site more out then cause = cause
 
 -- the same ending for a cause that follows
-pub ends_by : (a : Answer) (named : Named) (status : ℕ) (s : Sinks) (site more out : Type 0) → (site → more) → Ends a named status s site out → Ends a named status s more out
+pub ends_by : (a : Answer) (named : Named) (status : ℕ) (s : Sinks) (site more out : Type 0) → (site → more)
+    → Ends a named status s site out → Ends a named status s more out
 ends_by a named status s site more out then ends = elim ends [
   | inl whole ↦ inl whole
   | inr rest ↦ elim rest [
@@ -81,7 +90,8 @@ no_cause (unread fault) site out quiet_site quiet_out cause = quiet_site cause.1
 no_cause unwritten site out quiet_site quiet_out cause = quiet_out cause
 
 -- an ending without a failure
-pub ends_quietly : (a : Answer) (named : Named) (status : ℕ) (s : Sinks) (site out : Type 0) → (site → ⊥) → (out → ⊥) → Ends a named status s site out
+pub ends_quietly : (a : Answer) (named : Named) (status : ℕ) (s : Sinks) (site out : Type 0) → (site → ⊥) → (out → ⊥)
+    → Ends a named status s site out
     → Whole a status s ⊎ Starved a status s
 ends_quietly a named status s site out quiet_site quiet_out ends = elim ends [
   | inl whole ↦ inl whole
@@ -134,7 +144,8 @@ given_answer named (Ok report) = refl
 given_answer named (Err fault) = refl
 
 -- an answer over what stands at both paths is that of a run
-pub compared_by : (options : Options) (named : Named) (old new : Option (List ℕ)) (a : Answer) → IsCompared options named old new a
+pub compared_by : (options : Options) (named : Named) (old new : Option (List ℕ)) (a : Answer)
+    → IsCompared options named old new a
     → (r : Result Report RunFault) × RunsOver limits (asked_by options named) old new r × (a ≡ answer_by named r)
 compared_by options named None new a is = (Err (Open Old), refl, is)
 compared_by options named (Some old) None a is = elim is [
@@ -146,7 +157,8 @@ compared_by options named (Some old) (Some new) a is = (given is.0, (is.0, is.1,
 -- ---- how a run ends
 
 -- a good run
-pub ends_well : (r : Result Report RunFault) (o : Outcome) (named : Named) (c d e f : Option (List ℕ)) (m n : ℕ) (site out : Type 0) → SendsWhole r o c d → Put (outcome_lines o) e f m n
+pub ends_well : (r : Result Report RunFault) (o : Outcome) (named : Named) (c d e f : Option (List ℕ)) (m n : ℕ) (site out : Type 0)
+    → SendsWhole r o c d → Put (outcome_lines o) e f m n
     → Ends (answer_by named r) named (status_of o.added o.removed o.changed) (sinks c d e f m n) site out
 ends_well (Ok report) o named c d e f m n site out well put = inl (record {
   status_is = sym (ap (λ (x : Outcome). status_of x.added x.removed x.changed) well.0);
@@ -155,24 +167,29 @@ ends_well (Ok report) o named c d e f m n site out well put = inl (record {
 })
 ends_well (Err fault) o named c d e f m n site out well put = absurd well
 
-early_part : (named : Named) (r : Result Report RunFault) (c d : Option (List ℕ)) → SendsFront r c d → SendsPart (answer_by named r).output c d
+early_part : (named : Named) (r : Result Report RunFault) (c d : Option (List ℕ)) → SendsFront r c d
+    → SendsPart (answer_by named r).output c d
 early_part named (Ok report) c d sent = sent
 early_part named (Err fault) c d sent = record { front = []; rest = []; whole = refl; bytes = sent }
 
-run_broken : (r : Result Report RunFault) (named : Named) (failure : Failure) (c d e f : Option (List ℕ)) (m n : ℕ) (site out : Type 0) → SendsFront r c d → FailureCause failure site out
+run_broken : (r : Result Report RunFault) (named : Named) (failure : Failure) (c d e f : Option (List ℕ)) (m n : ℕ) (site out : Type 0)
+    → SendsFront r c d → FailureCause failure site out
     → Put (failure_line named failure) e f m n → Ends (answer_by named r) named 18 (sinks c d e f m n) site out
 run_broken r named failure c d e f m n site out sent cause put =
     inr (inr (record { status_is = refl; output = early_part named r c d sent; failure = failure; cause = cause; put = put }))
 
 -- the fault is the answer
-run_right : (r : Result Report RunFault) (fault : RunFault) (named : Named) (c d e f : Option (List ℕ)) (m n : ℕ) (site out : Type 0) → SendsFront r c d
-    → Put (right_line named fault) e f m n → r ≡ Err fault → Ends (answer_by named r) named (right_status fault) (sinks c d e f m n) site out
+run_right : (r : Result Report RunFault) (fault : RunFault) (named : Named) (c d e f : Option (List ℕ)) (m n : ℕ) (site out : Type 0)
+    → SendsFront r c d
+    → Put (right_line named fault) e f m n → r ≡ Err fault
+    → Ends (answer_by named r) named (right_status fault) (sinks c d e f m n) site out
 run_right r fault named c d e f m n site out sent put is =
     subst (λ (x : Result Report RunFault). Ends (answer_by named x) named (right_status fault) (sinks c d e f m n) site out) (sym is)
     (inl (record { status_is = refl; output = subst (λ (x : Result Report RunFault). SendsFront x c d) is sent; put = put }))
 
 -- a run stops for the fault that is the answer, or for one that hindered it
-by_stop : (r : Result Report RunFault) (hindered : RunFault → Type 0) (fault : RunFault) (P : Type 0) → (r ≡ Err fault → P) → (hindered fault → P) → StopsFor r hindered fault → P
+by_stop : (r : Result Report RunFault) (hindered : RunFault → Type 0) (fault : RunFault) (P : Type 0)
+    → (r ≡ Err fault → P) → (hindered fault → P) → StopsFor r hindered fault → P
 by_stop (Ok report) hindered fault P f g stops = g stops
 by_stop (Err right) hindered fault P f g stops = elim stops [ inl is ↦ f (ap (λ (x : RunFault). Err x) (sym is)) | inr h ↦ g h ]
 
@@ -180,32 +197,40 @@ abbrev fault_at : Side → ℕ → DbFaultKind → DbFault
 fault_at side line kind = record { side = side; line = line; kind = kind }
 
 run_database : (side : Side) (line : ℕ) (kind : DbFaultKind) (r : Result Report RunFault) (named : Named) (reliable : Bool) (rose first out : Type 0) (old new c d e f : Option (List ℕ)) (m n : ℕ)
-    → SendsFront r c d → StopsFor r (IsHindered old new rose out) (Database (fault_at side line kind)) → is_memory kind ≡ false → StandsOn kind rose first
+    → SendsFront r c d → StopsFor r (IsHindered old new rose out) (Database (fault_at side line kind))
+    → is_memory kind ≡ false → StandsOn kind rose first
     → (reliable ≡ true → kind ≡ db.Read → ⊥) → Put (kind_line (fault_at side line kind) kind) e f m n
     → Ends (answer_by named r) named (kind_status kind) (sinks c d e f m n) ((reliable ≡ false) × rose) out
 run_database side line db.Read r named reliable rose first out old new c d e f m n sent stops fed cause quiet put =
     run_broken r named (unread (fault_at side line db.Read)) c d e f m n ((reliable ≡ false) × rose) out sent (refl, (never_true reliable (λ is. quiet is refl), cause)) put
-run_database side line db.Memory r named reliable rose first out old new c d e f m n sent stops fed cause quiet put = absurd (true_is_not_false fed)
+run_database side line db.Memory r named reliable rose first out old new c d e f m n sent stops fed cause quiet put =
+    absurd (true_is_not_false fed)
 run_database side line kind r named reliable rose first out old new c d e f m n sent stops fed cause quiet put =
     by_stop r (IsHindered old new rose out) (Database (fault_at side line kind)) (Ends (answer_by named r) named 24 (sinks c d e f m n) ((reliable ≡ false) × rose) out)
     (run_right r (Database (fault_at side line kind)) named c d e f m n ((reliable ≡ false) × rose) out sent put) (λ hindered. absurd hindered) stops
 
 -- a side that is there gives its bytes
-told_given : (bytes : Option (List ℕ)) (is_missing : Bool) (file : Option (List ℕ)) → TellsSide bytes is_missing file → IsSome file → bytes ≡ None → ⊥
+told_given : (bytes : Option (List ℕ)) (is_missing : Bool) (file : Option (List ℕ)) → TellsSide bytes is_missing file
+    → IsSome file → bytes ≡ None → ⊥
 told_given bytes is_missing None put there none = cc
 told_given bytes is_missing (Some text) put there none = cc
 
-there_given : (bytes_of : Side → Option (List ℕ)) (is_missing : Side → Bool) (old new : Option (List ℕ)) (side : Side) → TellsSide (bytes_of Old) (is_missing Old) old
+there_given : (bytes_of : Side → Option (List ℕ)) (is_missing : Side → Bool) (old new : Option (List ℕ)) (side : Side)
+    → TellsSide (bytes_of Old) (is_missing Old) old
     → TellsSide (bytes_of New) (is_missing New) new → IsSome (by_side old new side) → bytes_of side ≡ None → ⊥
-there_given bytes_of is_missing old new Old told_old told_new there none = told_given (bytes_of Old) (is_missing Old) old told_old there none
-there_given bytes_of is_missing old new New told_old told_new there none = told_given (bytes_of New) (is_missing New) new told_new there none
+there_given bytes_of is_missing old new Old told_old told_new there none =
+    told_given (bytes_of Old) (is_missing Old) old told_old there none
+there_given bytes_of is_missing old new New told_old told_new there none =
+    told_given (bytes_of New) (is_missing New) new told_new there none
 
 -- a run that was given up
 pub ends_fault : (fault : RunFault) (r : Result Report RunFault) (named : Named) (reliable : Bool) (rose out : Type 0) (first : DbFault → Type 0) (silent : Side → Type 0)
     (bytes_of : Side → Option (List ℕ)) (is_missing : Side → Bool) (old new c d e f : Option (List ℕ)) (m n : ℕ)
     → TellsSide (bytes_of Old) (is_missing Old) old → TellsSide (bytes_of New) (is_missing New) new
-    → StopsFor r (IsHindered old new rose out) fault × SendsFront r c d → IsNotOfMemory fault → HasCause fault rose out first silent → (reliable ≡ true → IsOfReliable bytes_of fault)
-    → Put (run_fault_line named.old_path named.new_path fault) e f m n → Ends (answer_by named r) named (fault_status fault) (sinks c d e f m n) ((reliable ≡ false) × rose) out
+    → StopsFor r (IsHindered old new rose out) fault × SendsFront r c d → IsNotOfMemory fault
+    → HasCause fault rose out first silent → (reliable ≡ true → IsOfReliable bytes_of fault)
+    → Put (run_fault_line named.old_path named.new_path fault) e f m n
+    → Ends (answer_by named r) named (fault_status fault) (sinks c d e f m n) ((reliable ≡ false) × rose) out
 ends_fault (Open side) r named reliable rose out first silent bytes_of is_missing old new c d e f m n told_old told_new ends fed cause quiet put =
     by_stop r (IsHindered old new rose out) (Open side) (Ends (answer_by named r) named 18 (sinks c d e f m n) ((reliable ≡ false) × rose) out)
     (run_right r (Open side) named c d e f m n ((reliable ≡ false) × rose) out ends.1 put)
@@ -222,50 +247,62 @@ ends_fault (Write written) r named reliable rose out first silent bytes_of is_mi
     (λ hindered. run_broken r named unwritten c d e f m n ((reliable ≡ false) × rose) out ends.1 hindered put) ends.0
 
 pub same_some : (o : Option (List ℕ)) (x y : List ℕ) → o ≡ Some x → o ≡ Some y → x ≡ y
-same_some o x y p q = sym (ap (λ (k : Option (List ℕ)). unwrap_or k []) p) ∙ ap (λ (k : Option (List ℕ)). unwrap_or k []) q
+same_some o x y p q =
+    sym (ap (λ (k : Option (List ℕ)). unwrap_or k []) p) ∙ ap (λ (k : Option (List ℕ)). unwrap_or k []) q
 
 abbrev asking : Options → List ℕ → List ℕ → Asked
 asking options old_path new_path = record { options = options; old_path = old_path; new_path = new_path }
 
 -- the same options and the same paths ask for the same
-pub same_asked : (options wish : Options) (old_path old_task new_path new_task : List ℕ) → options ≡ wish → old_path ≡ old_task → new_path ≡ new_task
+pub same_asked : (options wish : Options) (old_path old_task new_path new_task : List ℕ) → options ≡ wish
+    → old_path ≡ old_task → new_path ≡ new_task
     → asking options old_path new_path ≡ asking wish old_task new_task
-same_asked options wish old_path old_task new_path new_task o p q i = record { options = o i; old_path = p i; new_path = q i }
+same_asked options wish old_path old_task new_path new_task o p q i =
+    record { options = o i; old_path = p i; new_path = q i }
 
 -- the line of a run's fault over the paths that are named
-pub put_paths : (fault : RunFault) (named : Named) (old_path new_path : List ℕ) (e f : Option (List ℕ)) (m n : ℕ) → named.old_path ≡ old_path → named.new_path ≡ new_path
-    → Put (run_fault_line old_path new_path fault) e f m n → Put (run_fault_line named.old_path named.new_path fault) e f m n
+pub put_paths : (fault : RunFault) (named : Named) (old_path new_path : List ℕ) (e f : Option (List ℕ)) (m n : ℕ)
+    → named.old_path ≡ old_path → named.new_path ≡ new_path
+    → Put (run_fault_line old_path new_path fault) e f m n
+    → Put (run_fault_line named.old_path named.new_path fault) e f m n
 put_paths fault named old_path new_path e f m n is_old is_new put =
     subst (λ (x : List ℕ). Put (run_fault_line x named.new_path fault) e f m n) (sym is_old)
     (subst (λ (x : List ℕ). Put (run_fault_line old_path x fault) e f m n) (sym is_new) put)
 
 -- the same ending for an answer that is equal
-pub ends_as : (a b : Answer) (named : Named) (status : ℕ) (s : Sinks) (site out : Type 0) → a ≡ b → Ends b named status s site out → Ends a named status s site out
+pub ends_as : (a b : Answer) (named : Named) (status : ℕ) (s : Sinks) (site out : Type 0) → a ≡ b
+    → Ends b named status s site out → Ends a named status s site out
 ends_as a b named status s site out is ends = subst (λ (x : Answer). Ends x named status s site out) (sym is) ends
 
 -- a failure that was counted after a call that kept the site as reliable as it was
-pub failed_later : (reliable later_reliable : Bool) (count later_count end : ℕ) → later_reliable ≡ reliable → count ≤ later_count → HasFailed later_reliable later_count end
+pub failed_later : (reliable later_reliable : Bool) (count later_count end : ℕ) → later_reliable ≡ reliable
+    → count ≤ later_count → HasFailed later_reliable later_count end
     → HasFailed reliable count end
-failed_later reliable later_reliable count later_count end same more failed = (sym same ∙ failed.0, rose_later count later_count end more failed.1)
+failed_later reliable later_reliable count later_count end same more failed =
+    (sym same ∙ failed.0, rose_later count later_count end more failed.1)
 
 -- an ending where neither the site nor the output has counted a failure
-pub ends_exactly : (a : Answer) (named : Named) (reliable : Bool) (status : ℕ) (s : Sinks) (m n k l : ℕ) → IsQuiet m n → IsQuiet k l → Ends a named status s (HasFailed reliable m n) (Rose k l)
+pub ends_exactly : (a : Answer) (named : Named) (reliable : Bool) (status : ℕ) (s : Sinks) (m n k l : ℕ) → IsQuiet m n
+    → IsQuiet k l → Ends a named status s (HasFailed reliable m n) (Rose k l)
     → Whole a status s ⊎ Starved a status s
 ends_exactly a named reliable status s m n k l quiet_site quiet_out ends =
     ends_quietly a named status s (HasFailed reliable m n) (Rose k l) (λ failed. quiet_never_rose m n quiet_site failed.1) (quiet_never_rose k l quiet_out) ends
 
 -- an ending where the site is reliable and the output has counted no failure
-pub ends_reliably : (a : Answer) (named : Named) (reliable : Bool) (status : ℕ) (s : Sinks) (m n k l : ℕ) → reliable ≡ true → IsQuiet k l → Ends a named status s (HasFailed reliable m n) (Rose k l)
+pub ends_reliably : (a : Answer) (named : Named) (reliable : Bool) (status : ℕ) (s : Sinks) (m n k l : ℕ)
+    → reliable ≡ true → IsQuiet k l → Ends a named status s (HasFailed reliable m n) (Rose k l)
     → Whole a status s ⊎ Starved a status s
 ends_reliably a named reliable status s m n k l is quiet_out ends =
     ends_quietly a named status s (HasFailed reliable m n) (Rose k l) (λ failed. true_is_not_false (sym is ∙ failed.0)) (quiet_never_rose k l quiet_out) ends
 
 -- the same ending by a status that is equal
-pub ends_status : (a : Answer) (named : Named) (status put : ℕ) (s : Sinks) (site out : Type 0) → status ≡ put → Ends a named put s site out → Ends a named status s site out
+pub ends_status : (a : Answer) (named : Named) (status put : ℕ) (s : Sinks) (site out : Type 0) → status ≡ put
+    → Ends a named put s site out → Ends a named status s site out
 ends_status a named status put s site out same ends = subst (λ (n : ℕ). Ends a named n s site out) (sym same) ends
 
 -- the same ending once its lines are passed on
-pub ends_passed : (a : Answer) (named : Named) (status : ℕ) (c d e f g : Option (List ℕ)) (m n k : ℕ) (site out : Type 0) → Keeps f g → n ≤ k
+pub ends_passed : (a : Answer) (named : Named) (status : ℕ) (c d e f g : Option (List ℕ)) (m n k : ℕ) (site out : Type 0)
+    → Keeps f g → n ≤ k
     → Ends a named status (sinks c d e f m n) site out → Ends a named status (sinks c d e g m k) site out
 ends_passed a named status c d e f g m n k site out kept more ends = elim ends [
   | inl whole ↦ inl (record { status_is = whole.status_is; output = whole.output; put = put_passed a.errors e f g m n k kept more whole.put })

@@ -1,5 +1,6 @@
 -- There is an answer, where it is told what stands at the paths that are named.
-use Rattle.std.proofs.Common.{◌≡◌, ℕ, List, [], Option, Some, None, refl, sym, arith, Bool, true, false, Ok, Err, inl, inr}
+use Rattle.std.proofs.Common.{◌≡◌, ℕ, List, [], Option, Some, None, refl, sym, arith, Bool, true, false, Ok, Err, inl}
+use Rattle.std.proofs.Common.{inr}
 use Rattle.std.specs.Prelude.{Result, IsSome}
 use Rattle.std.proofs.Math.Path.{subst}
 use Rattle.aide_conf.specs.Answer.{ReadsAs}
@@ -12,7 +13,9 @@ use Rattle.aide_db.specs.declared.fault.DbFault.{DbFault}
 use Rattle.aide_db.specs.declared.side.Side.TheVariants.{Old, New}
 use Rattle.aide_db.proofs.FaultExists.{sound_or_fault}
 use Rattle.aide_report.proofs.FirstFaults.{Runs-exists}
-use Rattle.aide_session.specs.Answer.{Answer, Named, Compares, IsCompared, IsFileAnswer, IsJobAnswer, IsReadAnswer, IsSizedAnswer, IsWordsAnswer, answer_of_run, asked_by, checked, limits, need_of, refused}
+use Rattle.aide_session.specs.Answer.{Answer, Named, Compares, IsCompared, IsFileAnswer, IsJobAnswer, IsReadAnswer}
+use Rattle.aide_session.specs.Answer.{IsSizedAnswer, IsWordsAnswer, answer_of_run, asked_by, checked, limits, need_of}
+use Rattle.aide_session.specs.Answer.{refused}
 use Rattle.aide_session.specs.Closing.{AsksToCompare}
 use Rattle.aide_session.specs.Existence.{HasAnswer, TellsNamed}
 use Rattle.aide_session.specs.Files.{Files, is_too_large}
@@ -21,7 +24,8 @@ use Rattle.aide_session.specs.Lines.{usage_line, too_large_line, unread_line, co
 use Rattle.aide_session.proofs.Closings.{only_config}
 
 -- what stands at both paths has an answer
-compared : (options : Options) (named : Named) (old new : Option (List ℕ)) → (a : Answer) × IsCompared options named old new a
+compared : (options : Options) (named : Named) (old new : Option (List ℕ))
+    → (a : Answer) × IsCompared options named old new a
 compared options named None new = (refused (open_line Old named.old_path) 18, refl)
 compared options named (Some old) None = elim (sound_or_fault limits old (omega arith)) [
   | inr bad ↦
@@ -37,7 +41,8 @@ value_of None some = cc
 value_of (Some value) some = (value, refl)
 
 -- what is known of a file is one thing
-one_file : (there : Option (Option (List ℕ))) (one other : Option (List ℕ)) → there ≡ Some one → there ≡ Some other → other ≡ one
+one_file : (there : Option (Option (List ℕ))) (one other : Option (List ℕ)) → there ≡ Some one → there ≡ Some other
+    → other ≡ one
 one_file there one other p q = cc
 
 -- an answer to a job, and the paths that are named on the way there
@@ -49,7 +54,8 @@ module _ (files : Files) (words : List (List ℕ)) (tells : TellsNamed files wor
     abbrev Read : Bool → Result Configured ConfFault → Type 0
     Read compare read = (named : Named) × (a : Answer) × (named.config ≡ job.config) × IsReadAnswer files compare read named a
 
-    of_settings : (s : Configured) → job.compare ≡ true → ReadsAs Compare job.before text job.after (Ok s) → Read true (Ok s)
+    of_settings : (s : Configured) → job.compare ≡ true → ReadsAs Compare job.before text job.after (Ok s)
+        → Read true (Ok s)
     of_settings s compare_is reads =
         let both = what_is_compared_is_named job.before text job.after s reads in
         let old_path = value_of s.old_path both.0 in
@@ -84,7 +90,8 @@ module _ (files : Files) (words : List (List ℕ)) (tells : TellsNamed files wor
         } in
         (named, answer.0, refl, compares)
 
-    of_read : (compare : Bool) (read : Result Configured ConfFault) → job.compare ≡ compare → ReadsAs (need_of compare) job.before text job.after read → Read compare read
+    of_read : (compare : Bool) (read : Result Configured ConfFault) → job.compare ≡ compare
+        → ReadsAs (need_of compare) job.before text job.after read → Read compare read
     of_read true (Ok s) compare_is reads = of_settings s compare_is reads
     of_read false (Ok s) compare_is reads = (only_config job.config, checked, refl, refl)
     of_read true (Err fault) compare_is reads = (only_config job.config, refused (conf_line fault) 17, refl, refl)
@@ -98,7 +105,8 @@ module _ (files : Files) (words : List (List ℕ)) (tells : TellsNamed files wor
         subst (λ (b : Bool). IsSizedAnswer files job b text answer.0 answer.1) (sym small) (record { read = read.0; reads = read.1; then_is = answer.3 }) in
         (answer.0, answer.1, record { config_is = answer.2; file = Some text; known = known; then_is = of_size })
 
-  of_size : (text : List ℕ) → files job.config ≡ Some (Some text) → (large : Bool) → is_too_large text ≡ large → Answered files job
+  of_size : (text : List ℕ) → files job.config ≡ Some (Some text) → (large : Bool) → is_too_large text ≡ large
+      → Answered files job
   of_size text known true large =
       let answer = refused too_large_line 17 in
       let named = only_config job.config in
@@ -110,7 +118,8 @@ module _ (files : Files) (words : List (List ℕ)) (tells : TellsNamed files wor
   of_file None known = (only_config job.config, refused (unread_line job.config) 18, record { config_is = refl; file = None; known = known; then_is = refl })
   of_file (Some text) known = of_size text known (is_too_large text) refl
 
-of_words : (files : Files) (words : List (List ℕ)) → TellsNamed files words → (job : Option JobText) → job_of words ≡ job → HasAnswer files words
+of_words : (files : Files) (words : List (List ℕ)) → TellsNamed files words → (job : Option JobText)
+    → job_of words ≡ job → HasAnswer files words
 of_words files words tells None is =
     (only_config [], refused usage_line 15, subst (λ (o : Option JobText). IsWordsAnswer files o (only_config []) (refused usage_line 15)) (sym is) refl)
 of_words files words tells (Some job) is =

@@ -1,5 +1,6 @@
 -- From what the matches hold to the job of the words.
-use Rattle.std.proofs.Common.{◌≡◌, ◌∙◌, List, [], ap, refl, sym, Bool, true, false, Option, Some, None, codes, if◌then◌else◌}
+use Rattle.std.proofs.Common.{◌≡◌, ◌∙◌, List, [], ap, refl, sym, Bool, true, false, Option, Some, None, codes}
+use Rattle.std.proofs.Common.{if◌then◌else◌}
 use Rattle.std.specs.Prelude.{option_and_then}
 use Rattle.clap.specs.Walk.{Row, Text, first_of, is_empty}
 use Rattle.clap.specs.Simple.{matches_of}
@@ -8,7 +9,8 @@ use Rattle.clap.specs.Faults.{fault_of}
 use Rattle.aide_session.specs.Job.{JobText, aide_command, exactly_one, flag_of, job_for, job_of, job_of_rows, text_of}
 
 -- where the parse succeeds, the job is that of the rows
-pub job-rows : (v words : List Text) (rows : List Row) → v ≡ words → (fault_of aide_command v ≡ []) × (rows ≡ matches_of aide_command v) → job_of words ≡ job_of_rows rows
+pub job-rows : (v words : List Text) (rows : List Row) → v ≡ words
+    → (fault_of aide_command v ≡ []) × (rows ≡ matches_of aide_command v) → job_of words ≡ job_of_rows rows
 job-rows v words rows same is =
     sym (ap job_of same)
     ∙ ap (λ (k : Kinds). if is_empty k then job_of_rows (matches_of aide_command v) else None) is.0
@@ -20,7 +22,8 @@ Option-of-JobText j = Some j
 pub job-none : (rows : List Row) → first_of (codes "config") rows ≡ None → job_of_rows rows ≡ None
 job-none rows e = ap (option_and_then (job_for rows)) e
 
-pub choose_none : (rows : List Row) (o : Option Text) → exactly_one (flag_of (codes "compare") rows) (flag_of (codes "config-check") rows) ≡ false
+pub choose_none : (rows : List Row) (o : Option Text)
+    → exactly_one (flag_of (codes "compare") rows) (flag_of (codes "config-check") rows) ≡ false
     → option_and_then (job_for rows) o ≡ None
 choose_none rows None e = refl
 choose_none rows (Some t) e = ap (λ (b : Bool). if b then Some (record {
@@ -30,7 +33,8 @@ choose_none rows (Some t) e = ap (λ (b : Bool). if b then Some (record {
   after = text_of (codes "after") rows;
 }) else None) e
 
-pub job-some : (rows : List Row) (t : Text) → exactly_one (flag_of (codes "compare") rows) (flag_of (codes "config-check") rows) ≡ true
+pub job-some : (rows : List Row) (t : Text)
+    → exactly_one (flag_of (codes "compare") rows) (flag_of (codes "config-check") rows) ≡ true
     → first_of (codes "config") rows ≡ Some t
     → job_of_rows rows ≡ Some (record {
       compare = flag_of (codes "compare") rows;
@@ -45,7 +49,8 @@ job-some rows t e is = ap (option_and_then (job_for rows)) is ∙ ap (λ (b : Bo
   after = text_of (codes "after") rows;
 }) else None) e
 
-pub job-made : (rows : List Row) (compare : Bool) (config before after t : Text) → compare ≡ flag_of (codes "compare") rows → config ≡ t
+pub job-made : (rows : List Row) (compare : Bool) (config before after t : Text)
+    → compare ≡ flag_of (codes "compare") rows → config ≡ t
     → before ≡ text_of (codes "before") rows → after ≡ text_of (codes "after") rows
     → Option-of-JobText (record {
       compare = flag_of (codes "compare") rows;

@@ -1,5 +1,6 @@
 -- What was put on standard error, piece by piece.
-use Rattle.std.proofs.Common.{◌≡◌, ◌∙◌, ℕ, ◌+◌, ◌≤◌, List, [], ◌∷◌, ◌++◌, Option, Some, None, sym, ap, append_assoc, arith, suc}
+use Rattle.std.proofs.Common.{◌≡◌, ◌∙◌, ℕ, ◌+◌, ◌≤◌, List, [], ◌∷◌, ◌++◌, Option, Some, None, sym, ap, append_assoc}
+use Rattle.std.proofs.Common.{arith, suc}
 use Rattle.std.proofs.Math.Path.{subst}
 use Rattle.std.proofs.lemmas.Grind.{flat_map-append}
 use Rattle.std.proofs.lemmas.List.{append-nil}
@@ -20,7 +21,8 @@ pub appends_none : (a : Option (List ℕ)) → Appends a a []
 appends_none None = tt
 appends_none (Some x) = sym (append-nil x)
 
-pub put_more : {a b c : Option (List ℕ)} {m n k : ℕ} {xs ys : List ℕ} → Put xs a b m n → Put ys b c n k → Put (xs ++ ys) a c m k
+pub put_more : {a b c : Option (List ℕ)} {m n k : ℕ} {xs ys : List ℕ} → Put xs a b m n → Put ys b c n k
+    → Put (xs ++ ys) a c m k
 put_more {a} {b} {c} {m} {n} {k} {xs} {ys} p q = record {
   never_falls = let h = p.never_falls in let i = q.never_falls in omega arith;
   exact = λ quiet. let h = p.never_falls in let i = q.never_falls in
@@ -34,7 +36,8 @@ pub put_as : (xs ys : List ℕ) {a b : Option (List ℕ)} {m n : ℕ} → xs ≡
 put_as xs ys {a} {b} {m} {n} e p = subst (λ (l : List ℕ). Put l a b m n) e p
 
 -- the same text once it is passed on
-pub put_passed : (text : List ℕ) (a b c : Option (List ℕ)) (m n k : ℕ) → Keeps b c → n ≤ k → Put text a b m n → Put text a c m k
+pub put_passed : (text : List ℕ) (a b c : Option (List ℕ)) (m n k : ℕ) → Keeps b c → n ≤ k → Put text a b m n
+    → Put text a c m k
 put_passed text a b c m n k kept more p = record {
   never_falls = let h = p.never_falls in omega (arith, h, more);
   exact = λ quiet. let h = p.never_falls in
@@ -45,21 +48,27 @@ below_more : (n : ℕ) → below (n + 1) ≡ below n ++ n ∷ []
 unfolding below
 below_more n = let e : n + 1 ≡ suc n = omega arith in ap below e
 
-lines_more : (side : Side) (columns n : ℕ) → flat_map (place_line side columns) (below (n + 1)) ≡ flat_map (place_line side columns) (below n) ++ place_line side columns n
+lines_more : (side : Side) (columns n : ℕ)
+    → flat_map (place_line side columns) (below (n + 1)) ≡ flat_map (place_line side columns) (below n) ++ place_line side columns n
 lines_more side columns n =
     ap (λ (l : List ℕ). flat_map (place_line side columns) l) (below_more n)
     ∙ flat_map-append (place_line side columns) (below n) (n ∷ [])
     ∙ ap (λ (l : List ℕ). flat_map (place_line side columns) (below n) ++ l) (append-nil (place_line side columns n))
 
 -- the lines of the places so far, and the next one
-pub put_place : (side : Side) (columns place : ℕ) (a b c : Option (List ℕ)) (m n k : ℕ) → Put (flat_map (place_line side columns) (below place)) a b m n → Put (place_line side columns place) b c n k
+pub put_place : (side : Side) (columns place : ℕ) (a b c : Option (List ℕ)) (m n k : ℕ)
+    → Put (flat_map (place_line side columns) (below place)) a b m n → Put (place_line side columns place) b c n k
     → Put (flat_map (place_line side columns) (below (place + 1))) a c m k
-put_place side columns place a b c m n k p q = subst (λ (l : List ℕ). Put l a c m k) (sym (lines_more side columns place)) (put_more p q)
+put_place side columns place a b c m n k p q =
+    subst (λ (l : List ℕ). Put l a c m k) (sym (lines_more side columns place)) (put_more p q)
 
-pub no_places : (side : Side) (columns : ℕ) (a : Option (List ℕ)) (n : ℕ) → Put (flat_map (place_line side columns) (below 0)) a a n n
+pub no_places : (side : Side) (columns : ℕ) (a : Option (List ℕ)) (n : ℕ)
+    → Put (flat_map (place_line side columns) (below 0)) a a n n
 unfolding below
 no_places side columns a n = put_none a n
 
-pub put_to : (side : Side) (columns place end : ℕ) (a b : Option (List ℕ)) (m n : ℕ) → place ≡ end → Put (flat_map (place_line side columns) (below place)) a b m n
+pub put_to : (side : Side) (columns place end : ℕ) (a b : Option (List ℕ)) (m n : ℕ) → place ≡ end
+    → Put (flat_map (place_line side columns) (below place)) a b m n
     → Put (flat_map (place_line side columns) (below end)) a b m n
-put_to side columns place end a b m n e p = subst (λ (k : ℕ). Put (flat_map (place_line side columns) (below k)) a b m n) e p
+put_to side columns place end a b m n e p =
+    subst (λ (k : ℕ). Put (flat_map (place_line side columns) (below k)) a b m n) e p

@@ -1,11 +1,13 @@
 -- Reading a file whole.
-use Rattle.std.proofs.Common.{◌≡◌, ◌∙◌, ℕ, ◌≤◌, List, [], ◌++◌, Option, Some, None, refl, sym, ap, append_assoc, arith, length, length-append, true, false}
+use Rattle.std.proofs.Common.{◌≡◌, ◌∙◌, ℕ, ◌≤◌, List, [], ◌++◌, Option, Some, None, refl, sym, ap, append_assoc, arith}
+use Rattle.std.proofs.Common.{length, length-append, true, false}
 use Rattle.std.proofs.Math.Path.{subst}
 use Rattle.std.proofs.lemmas.List.{append-nil}
 use Rattle.std.specs.Io.KnownBytes.{Consumes, IsAtEnd}
 use Rattle.aide_session.specs.Files.{GivesFile, IsLarge, is_too_large}
 
-pub consumes_more : (a b c : Option (List ℕ)) (xs ys : List ℕ) → Consumes a b xs → Consumes b c ys → Consumes a c (xs ++ ys)
+pub consumes_more : (a b c : Option (List ℕ)) (xs ys : List ℕ) → Consumes a b xs → Consumes b c ys
+    → Consumes a c (xs ++ ys)
 consumes_more None b c xs ys h k = tt
 consumes_more (Some x) None c xs ys h k = absurd h
 consumes_more (Some x) (Some y) None xs ys h k = absurd k
@@ -26,14 +28,18 @@ longer_some : (b : Option (List ℕ)) (xs text : List ℕ) → Consumes (Some xs
 longer_some None xs text h = absurd h
 longer_some (Some y) xs text h = rw h (simp (length-append) (omega arith))
 
-pub consumed_length : (a b : Option (List ℕ)) (xs text : List ℕ) → a ≡ Some xs → Consumes a b text → length text ≤ length xs
+pub consumed_length : (a b : Option (List ℕ)) (xs text : List ℕ) → a ≡ Some xs → Consumes a b text
+    → length text ≤ length xs
 consumed_length a b xs text is h = longer_some b xs text (subst (λ (o : Option (List ℕ)). Consumes o b text) is h)
 
-pub given_file : (file to_come : Option (List ℕ)) (text : List ℕ) → GivesFile file to_come → ((xs : List ℕ) → to_come ≡ Some xs → (xs ≡ text) × (is_too_large xs ≡ false))
+pub given_file : (file to_come : Option (List ℕ)) (text : List ℕ) → GivesFile file to_come
+    → ((xs : List ℕ) → to_come ≡ Some xs → (xs ≡ text) × (is_too_large xs ≡ false))
     → (file ≡ Some text) × (is_too_large text ≡ false)
 given_file None to_come text gives all = absurd gives
-given_file (Some xs) to_come text gives all = let p = all xs gives in (ap (λ (l : List ℕ). Some l) p.0, subst (λ (l : List ℕ). is_too_large l ≡ false) p.0 p.1)
+given_file (Some xs) to_come text gives all =
+    let p = all xs gives in (ap (λ (l : List ℕ). Some l) p.0, subst (λ (l : List ℕ). is_too_large l ≡ false) p.0 p.1)
 
-pub large_file : (file to_come : Option (List ℕ)) → GivesFile file to_come → ((xs : List ℕ) → to_come ≡ Some xs → is_too_large xs ≡ true) → IsLarge file
+pub large_file : (file to_come : Option (List ℕ)) → GivesFile file to_come
+    → ((xs : List ℕ) → to_come ≡ Some xs → is_too_large xs ≡ true) → IsLarge file
 large_file None to_come gives all = absurd gives
 large_file (Some xs) to_come gives all = all xs gives

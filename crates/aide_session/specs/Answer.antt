@@ -1,5 +1,6 @@
 -- The answer of a session: its output, its error lines and its status, as the words and the files give them.
-use Rattle.std.specs.Prelude.{◌≡◌, ◌⊎◌, ℕ, ◌^◌, Bool, true, false, List, [], Ok, Err, Result, Option, Some, None}
+use Rattle.std.specs.Prelude.{◌≡◌, ◌⊎◌, ℕ, ◌^◌, Bool, true, false, List, [], Ok, Err, Result}
+use Rattle.std.specs.Prelude.{Option, Some, None}
 use Rattle.aide_conf.specs.Settings.{Configured}
 use Rattle.aide_conf.specs.Answer.{ReadsAs}
 use Rattle.aide_conf.specs.declared.fault.ConfFault.{ConfFault}
@@ -15,7 +16,8 @@ use Rattle.aide_report.specs.Runs.{Report, Runs, IsFirstFaultOf}
 use Rattle.aide_report.specs.Report.{status_of}
 use Rattle.aide_session.specs.Files.{Files, is_too_large}
 use Rattle.aide_session.specs.Job.{JobText, job_of}
-use Rattle.aide_session.specs.Lines.{usage_line, unread_line, too_large_line, conf_line, open_line, database_line, outcome_lines}
+use Rattle.aide_session.specs.Lines.{usage_line, unread_line, too_large_line, conf_line, open_line}
+use Rattle.aide_session.specs.Lines.{database_line, outcome_lines}
 
 -- what a session writes to standard output and to standard error, and its status
 pub record Answer : Type 0 where
@@ -54,15 +56,17 @@ answer_of_run (Ok report) = record {
 }
 answer_of_run (Err fault) = refused (database_line fault) 24
 
--- The answer by what stands at the paths of the two databases: that the old one is not opened, where it is not there; that the
--- new one is not opened, where it alone is not there and the old one is sound, otherwise the old one's first fault; and the
--- answer of their comparison, where both are there.
+-- The answer by what stands at the paths of the two databases: that the old one is not opened, where it is not there;
+-- that the new one is not opened, where it alone is not there and the old one is sound, otherwise the old one's first
+-- fault; and the answer of their comparison, where both are there.
 abbrev pub IsCompared : Options → Named → Option (List ℕ) → Option (List ℕ) → Answer → Type 0
 IsCompared options named None new a = a ≡ refused (open_line Old named.old_path) 18
-IsCompared options named (Some old) None a = (IsSound limits old × (a ≡ refused (open_line New named.new_path) 18))
+IsCompared options named (Some old) None a =
+    (IsSound limits old × (a ≡ refused (open_line New named.new_path) 18))
     ⊎ ((fault : DbFault) × IsFirstFaultOf limits Old old fault × (a ≡ refused (database_line fault) 24))
 IsCompared options named (Some old) (Some new) a =
-    (run : Result Report DbFault) × Runs limits (asked_by options named) old new run × (a ≡ answer_of_run run)
+    (run : Result Report DbFault) × Runs limits (asked_by options named) old new run
+    × (a ≡ answer_of_run run)
 
 -- the comparison of what stands at the two paths that the settings name, of each a database or that there is no file
 pub record Compares (files : Files) (s : Configured) (named : Named) (a : Answer) : Type 0 where
@@ -86,7 +90,8 @@ IsReadAnswer files false (Ok s) named a = a ≡ checked
 IsReadAnswer files compare (Err fault) named a = a ≡ refused (conf_line fault) 17
 
 -- the answer where the configuration has this text
-pub record IsTextAnswer (files : Files) (job : JobText) (text : List ℕ) (named : Named) (a : Answer) : Type 0 where
+pub record IsTextAnswer (files : Files) (job : JobText) (text : List ℕ) (named : Named)
+    (a : Answer) : Type 0 where
   pub read : Result Configured ConfFault
   pub reads : ReadsAs (need_of job.compare) job.before text job.after read
   pub then_is : IsReadAnswer files job.compare read named a
@@ -113,7 +118,7 @@ abbrev pub IsWordsAnswer : Files → Option JobText → Named → Answer → Typ
 IsWordsAnswer files None named a = a ≡ refused usage_line 15
 IsWordsAnswer files (Some job) named a = IsJobAnswer files job named a
 
--- The answer to the words, over these files: the first fault of the words, of the configuration or of a database, a file that
--- is not there counted among them, or what the job asks for. `named` has the paths that are named on the way there.
+-- The answer to the words, over these files: the first fault of the words, of the configuration or of a database, a
+-- file that is not there counted among them, or what the job asks for. `named` has the paths that are named on the way.
 abbrev pub IsAnswer : Files → List (List ℕ) → Named → Answer → Type 0
 IsAnswer files words named a = IsWordsAnswer files (job_of words) named a

@@ -1,5 +1,6 @@
--- How a session closes over any site, also over one that does not tell its files: what it comes to, and what that stands on.
-use Rattle.std.specs.Prelude.{◌≡◌, ℕ, Bool, true, false, List, [], Ok, Err, Result, Option, Some, None, ⊤}
+-- How a session closes over any site, also one that does not tell its files: what it comes to, and on what that stands.
+use Rattle.std.specs.Prelude.{◌≡◌, ℕ, Bool, true, false, List, [], Ok, Err, Result, Option, Some}
+use Rattle.std.specs.Prelude.{None, ⊤}
 use Rattle.std.specs.Io.KnownBytes.{Appends}
 use Rattle.aide_conf.specs.Settings.{Configured}
 use Rattle.aide_conf.specs.Answer.{ReadsAs}
@@ -25,7 +26,8 @@ use Rattle.aide_session.specs.Answer.{Named, limits, need_of}
 use Rattle.aide_session.specs.Ends.{Sinks, Puts}
 use Rattle.aide_session.specs.Files.{Files, IsLarge, is_too_large}
 use Rattle.aide_session.specs.Job.{JobText, job_of}
-use Rattle.aide_session.specs.Lines.{usage_line, memory_line, unread_line, too_large_line, conf_line, run_fault_line, outcome_lines}
+use Rattle.aide_session.specs.Lines.{usage_line, memory_line, unread_line, too_large_line}
+use Rattle.aide_session.specs.Lines.{conf_line, run_fault_line, outcome_lines}
 
 -- what a session comes to
 pub data Closing : Type 0 where
@@ -78,15 +80,17 @@ course_between openings flushes is_flushed site_old site_new out_old out_new = r
   is_flushed = is_flushed out_new;
 }
 
--- A good run sends a report that begins with the head and the summary of its outcome, and is these alone where no more is wanted,
--- and flushes it once, after its last byte; any other closing flushes nothing. A run that is given up has sent nothing where no write
--- failed and the report was not begun, and a side that it could not open is the one that was opened last. Every other closing sends
--- nothing and opens no side.
+-- A good run sends a report that begins with the head and the summary of its outcome, and is these alone where no more
+-- is wanted, and flushes it once, after its last byte; any other closing flushes nothing. A run that is given up has
+-- sent nothing where no write failed and the report was not begun, and a side that it could not open is the one that
+-- was opened last. Every other closing sends nothing and opens no side.
 abbrev pub ClosingOutput : Closing → Course → Option (List ℕ) → Option (List ℕ) → Type 0
 ClosingOutput (good_run options outcome) course before after = IsOfOutcome options outcome before after
     × (course.is_flushed ≡ true) × (course.flushes_after ≡ one_more course.flushes_before)
-ClosingOutput (bad_run fault) course before after = IsSilent (course.opened_before Old) (course.opened_after Old) before after fault
-    × IsRefusedThere course.opened_before course.opened_after fault × (course.flushes_after ≡ course.flushes_before)
+ClosingOutput (bad_run fault) course before after =
+    IsSilent (course.opened_before Old) (course.opened_after Old) before after fault
+    × IsRefusedThere course.opened_before course.opened_after fault
+    × (course.flushes_after ≡ course.flushes_before)
 ClosingOutput _ course before after = Appends before after [] × (course.opened_after ≡ course.opened_before)
     × (course.flushes_after ≡ course.flushes_before)
 
@@ -96,8 +100,8 @@ pub record Asks (words : List (List ℕ)) (named : Named) : Type 0 where
   pub job_is : job_of words ≡ Some job
   pub config_is : named.config ≡ job.config
 
--- The words ask for a job with this configuration, and what it reads as. The text that was read is that of the file, where this
--- is known.
+-- The words ask for a job with this configuration, and what it reads as. The text that was read is that of the file,
+-- where this is known.
 pub record AsksAndReads (files : Files) (words : List (List ℕ)) (config : List ℕ) (compare : Bool)
     (read : Result Configured ConfFault) : Type 0 where
   pub job : JobText
@@ -120,8 +124,8 @@ pub record AsksToCompare (files : Files) (words : List (List ℕ)) (named : Name
 abbrev pub HasText : Files → Named → Side → List ℕ → Type 0
 HasText files named side text = files (by_side named.old_path named.new_path side) ≡ Some (Some text)
 
--- Why a run is given up: the site or the output has counted a failure, or the fault of a database is its first one, where
--- its text is known, and never want of memory; a database whose text is known is never called changed.
+-- Why a run is given up: the site or the output has counted a failure, or the fault of a database is its first one,
+-- where its text is known, and never want of memory; a database whose text is known is never called changed.
 abbrev pub RunCause : Files → Named → RunFault → (site out : Type 0) → Type 0
 RunCause files named (Open side) site out = site
 RunCause files named (Database fault) site out = (fault.kind ≡ Read → site)
@@ -141,14 +145,18 @@ ClosingCause files words named no_memory site out = ⊤
 ClosingCause files words named no_config site out = Asks words named × site
 ClosingCause files words named large_config site out = Asks words named
     × ((file : Option (List ℕ)) → files named.config ≡ Some file → IsLarge file)
-ClosingCause files words named (bad_config fault) site out = (compare : Bool) × AsksAndReads files words named.config compare (Err fault)
-ClosingCause files words named good_config site out = (s : Configured) × AsksAndReads files words named.config false (Ok s)
-ClosingCause files words named (bad_run fault) site out = AsksToCompare files words named × RunCause files named fault site out
+ClosingCause files words named (bad_config fault) site out = (compare : Bool)
+    × AsksAndReads files words named.config compare (Err fault)
+ClosingCause files words named good_config site out = (s : Configured)
+    × AsksAndReads files words named.config false (Ok s)
+ClosingCause files words named (bad_run fault) site out = AsksToCompare files words named
+    × RunCause files named fault site out
 ClosingCause files words named (good_run options outcome) site out =
     ((asks : AsksToCompare files words named) × (asks.settings.options ≡ options)) × AreSound files named
 
 -- The status, the lines on standard error and what goes out are those of a closing that stands on its cause.
-pub record Closes (files : Files) (words : List (List ℕ)) (status : ℕ) (sinks : Sinks) (course : Course) (site out : Type 0) : Type 0 where
+pub record Closes (files : Files) (words : List (List ℕ)) (status : ℕ) (sinks : Sinks)
+    (course : Course) (site out : Type 0) : Type 0 where
   pub closing : Closing
   pub named : Named
   pub cause : ClosingCause files words named closing site out

@@ -11,8 +11,8 @@ use Rattle.aide_session.specs.Answer.{Answer, Named}
 use Rattle.aide_session.specs.Lines.{memory_line, unread_line, open_line, database_line, write_line}
 use Rattle.aide_session.specs.Put.{Put}
 
--- What went out, by the sinks before and after: the bytes of the output, those of standard error, and
--- the failures that standard error has counted.
+-- What went out, by the sinks before and after: the bytes of the output, those of standard error, and the failures that
+-- standard error has counted.
 pub record Sinks : Type 0 where
   pub out_old : Option (List ℕ)
   pub out_new : Option (List ℕ)
@@ -22,7 +22,8 @@ pub record Sinks : Type 0 where
   pub err_after : ℕ
 
 -- what went out between two moments, by what the devices tell of their bytes and failures
-abbrev pub sinks_between : {W E : Type 0} → (W → Option (List ℕ)) → (E → Option (List ℕ)) → (E → ℕ) → W → W → E → E → Sinks
+abbrev pub sinks_between : {W E : Type 0} → (W → Option (List ℕ)) → (E → Option (List ℕ)) → (E → ℕ)
+    → W → W → E → E → Sinks
 sinks_between delivered put failures out_old out_new err_old err_new = record {
   out_old = delivered out_old;
   out_new = delivered out_new;
@@ -50,8 +51,8 @@ failure_line named (unopened side) = open_line side (by_side named.old_path name
 failure_line named (unread fault) = database_line fault
 failure_line named unwritten = write_line
 
--- A site that is not reliable has counted a failure, by the counts before and after. Of a reliable one nothing fails but the
--- opening of a file that is not there, and that is an answer.
+-- A site that is not reliable has counted a failure, by the counts before and after. Of a reliable one nothing fails
+-- but the opening of a file that is not there, and that is an answer.
 abbrev pub HasFailed : (is_reliable : Bool) → (before after : ℕ) → Type 0
 HasFailed is_reliable before after = (is_reliable ≡ false) × Rose before after
 
@@ -84,4 +85,5 @@ pub record Broken (a : Answer) (named : Named) (status : ℕ) (sinks : Sinks) (s
 
 -- In one of these three ways; `site` and `out` say that these have counted a failure.
 abbrev pub Ends : Answer → Named → ℕ → Sinks → (site out : Type 0) → Type 0
-Ends a named status sinks site out = Whole a status sinks ⊎ (Starved a status sinks ⊎ Broken a named status sinks site out)
+Ends a named status sinks site out = Whole a status sinks
+    ⊎ (Starved a status sinks ⊎ Broken a named status sinks site out)

@@ -9,7 +9,8 @@ use Rattle.aide_session.specs.Job.{JobText, job_of}
 
 -- what stands at the configuration's path is known, and so is what stands at the paths of the databases that it names
 pub record TellsNamed (files : Files) (words : List (List ℕ)) : Type 0 where
-  pub config : (job : JobText) → job_of words ≡ Some job → (file : Option (List ℕ)) × (files job.config ≡ Some file)
+  pub config : (job : JobText) → job_of words ≡ Some job → (file : Option (List ℕ))
+      × (files job.config ≡ Some file)
   pub databases : (named : Named) → AsksToCompare files words named → (side : Side)
       → (file : Option (List ℕ)) × (files (by_side named.old_path named.new_path side) ≡ Some file)
 

@@ -1,5 +1,6 @@
 -- The lines on standard error.
-use Rattle.std.specs.Prelude.{◌==◌, ◌+◌, ℕ, List, [], ◌∷◌, ◌++◌, codes, decimal, if◌then◌else◌, zero, suc}
+use Rattle.std.specs.Prelude.{◌==◌, ◌+◌, ℕ, List, [], ◌∷◌, ◌++◌, codes, decimal, if◌then◌else◌}
+use Rattle.std.specs.Prelude.{zero, suc}
 use Rattle.std.specs.Int.{bit_at}
 use Rattle.std.specs.List.{flat_map}
 use Rattle.aide_report.specs.Printed.{printed}
@@ -95,7 +96,9 @@ database_place fault = side_word fault.side ++ (database_word ++ (decimal fault.
 -- `aide: SIDE database:LINE: WORDS`
 unfoldable pub database_line : DbFault → List ℕ
 database_line fault =
-    program_word ++ (database_place fault ++ (words_of_kind fault.kind ++ (fault_column fault.kind ++ end_of_line)))
+    program_word
+    ++ (database_place fault ++ (words_of_kind fault.kind
+    ++ (fault_column fault.kind ++ end_of_line)))
 
 -- the words before the side that was not opened
 unfoldable pub open_start : List ℕ
@@ -131,7 +134,8 @@ skipped_end = codes " skipped\n"
 
 -- `aide: SIDE database: column N skipped`
 unfoldable pub skipped_line : Side → ℕ → List ℕ
-skipped_line side column = program_word ++ (side_word side ++ (column_start ++ (decimal column ++ skipped_end)))
+skipped_line side column = program_word
+    ++ (side_word side ++ (column_start ++ (decimal column ++ skipped_end)))
 
 -- the line of the column after a place, if the set of skipped columns has it
 unfoldable pub place_line : Side → ℕ → ℕ → List ℕ

@@ -1,12 +1,13 @@
 -- What contracts see of sites: files in memory, and those of the machine.
-use Rattle.std.specs.Prelude.{ℕ, List, [], ◌∷◌, Option, Some, None, option_and_then, is_none, Bool, if◌then◌else◌}
+use Rattle.std.specs.Prelude.{ℕ, List, [], ◌∷◌, Option, Some, None, option_and_then, is_none, Bool}
+use Rattle.std.specs.Prelude.{if◌then◌else◌}
 use Rattle.std.specs.Str.{bytes_eq}
 use Rattle.aide_db.specs.Side.{by_side}
 use Rattle.aide_db.specs.declared.side.Side.{Side}
 use Rattle.aide_session.specs.Files.{Files}
 
--- A site in memory: files by their paths, in the order in which they were added; the paths of the two sides, how
--- often each was opened; failures.
+-- A site in memory: files by their paths, in the order in which they were added; the paths of the two sides, how often
+-- each was opened; failures.
 pub record Shelf : Type 0 where
   pub files : List (List ℕ × List ℕ)
   pub old_path : Option (List ℕ)

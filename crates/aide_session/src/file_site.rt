@@ -12,8 +12,7 @@ use std::fs;
 use std::marker::Model;
 use std::rt::Files;
 
-/// The machine's files, of whose bytes nothing is told. A read asks the machine for just the bytes
-/// that it is asked for.
+/// The machine's files, of whose bytes nothing is told. A read asks the machine for no more than it is asked for.
 #[derive(Drop)]
 pub struct FileSite<F> {
     files: F,

@@ -105,8 +105,7 @@ fn text<'a>(matches: &ArgMatches<'a>, id: &str) -> &'a str
 /// Reads the words of a command line, the first of which is the program's name:
 /// `aide (-E | --compare | -D | --config-check) (-c | --config) FILE [-B | --before TEXT] [-A | --after TEXT]`.
 ///
-/// Exactly one of `-E` and `-D` is wanted, and each option at most once. Everything else is
-/// `Usage`, also what asks for help.
+/// Exactly one of `-E` and `-D` is wanted, and each option at most once. All else is `Usage`, also what asks for help.
 pub fn read_words(alloc: Global, words: &Words) -> Result<Job, WordsFault>
     ensures ok { IfOk result (λ job. job_of words.now ≡ Some (text_of_job job)) }
     ensures usage { IsErrOf result WordsFault.Usage → job_of words.now ≡ None }

@@ -19,9 +19,8 @@ fn take_words(rt: &HostRuntime, alloc: Global) -> Result<Words, Memory> {
     Ok(words)
 }
 
-/// Runs the session of the command line over the machine's files: the report goes to standard
-/// output, and the lines to standard error. Answers the exit status, 22 where no memory is left for
-/// the words.
+/// Runs the session of the command line over the machine's files: the report goes to standard output, and the lines to
+/// standard error. Answers the exit status, 22 where no memory is left for the words.
 pub fn start(rt: &HostRuntime) -> u8 {
     let alloc = rt.alloc();
     let Ok(words) = take_words(rt, alloc) else {

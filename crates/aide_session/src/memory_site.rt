@@ -28,8 +28,8 @@ impl<'a> Model for StoredFile<'a> {
     ghost view = { λ h. (h.path.now, h.bytes.now) };
 }
 
-/// Files in memory, which are lent to it. Of one path the file added last counts. It tells what
-/// stands at every path, and nothing of it fails but the opening of a file that is not there.
+/// Files in memory, which are lent to it. Of one path the file added last counts. It tells what stands at every path,
+/// and nothing of it fails but the opening of a file that is not there.
 #[derive(Drop)]
 pub struct MemorySite<'a> {
     files: Vec<StoredFile<'a>>,

@@ -10,12 +10,12 @@ use aide_report::{Sink, emit};
 use arrayvec::ArrayVec;
 use std::marker::Model;
 
-/// How many bytes a page has: more than the longest line about a database, whose path has at most
-/// 4,096 bytes, each printed as at most four.
+/// How many bytes a page has: more than the longest line about a database, whose path has at most 4,096 bytes, each
+/// printed as at most four.
 const PAGE: usize = 32_768;
 
-/// Gathers what it takes in a page of fixed size, and passes the page on to another sink when it is
-/// full, and when it is flushed. It takes no memory.
+/// Gathers what it takes in a page of fixed size, and passes the page on to another sink when it is full, and when it
+/// is flushed. It takes no memory.
 ///
 /// Bytes on the page count as delivered; after a failure those that were not passed on stay there.
 #[derive(Drop)]

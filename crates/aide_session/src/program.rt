@@ -109,8 +109,7 @@ fn compare_sides<S: Site, W: Sink, E: Sink>(
     }
 }
 
-/// Points a site at the databases that the settings name, reserves what a comparison may hold, and
-/// compares them.
+/// Points a site at the databases that the settings name, reserves what a comparison may hold, and compares them.
 fn compare<S: Site, W: Sink, E: Sink>(
     alloc: Global,
     settings: &Settings,
@@ -277,13 +276,12 @@ fn run_words<S: Site, W: Sink, E: Sink>(
     }
 }
 
-/// The whole program over any site: reads the words, reads the configuration, and compares the two
-/// databases where it is asked to. The report goes to `out`, one line for a fault to `err`, or
-/// after a good comparison one line for each column that was skipped; `err` is flushed at the end.
-/// Answers the exit status.
+/// The whole program over any site: reads the words, reads the configuration, and compares the two databases where it
+/// is asked to. The report goes to `out`, one line for a fault to `err`, or after a good comparison one line for each
+/// column that was skipped; `err` is flushed at the end. Answers the exit status.
 ///
-/// A file that is named and not there is told like a fault, in its turn: the configuration, the old
-/// database, and, behind a sound old one, the new database. A failure of `err` changes nothing.
+/// A file that is named and not there is told like a fault, in its turn: the configuration, the old database, and,
+/// behind a sound old one, the new database. A failure of `err` changes nothing.
 pub fn session<S: Site, W: Sink, E: Sink>(
     alloc: Global,
     words: &Words,
@@ -291,8 +289,8 @@ pub fn session<S: Site, W: Sink, E: Sink>(
     out: &mut W,
     err: &mut E,
 ) -> u8
-    // The answer to the words; or want of memory, with nothing of its output; or a failure that was
-    // counted, of the output or of a site that is not reliable, with a front of its output.
+    // The answer to the words; or want of memory, with nothing of its output; or a failure that was counted, of the
+    // output or of a site that is not reliable, with a front of its output.
     ensures ends { (named : Named) (a : Answer) → IsAnswer (S.file_at site.old) words.now named a
         → Ends a named result
         (sinks_between W.delivered E.delivered E.failures out.old out.new err.old err.new)
@@ -306,8 +304,8 @@ pub fn session<S: Site, W: Sink, E: Sink>(
         (sinks_between W.delivered E.delivered E.failures out.old out.new err.old err.new)
         ⊎ Starved a result
         (sinks_between W.delivered E.delivered E.failures out.old out.new err.old err.new) }
-    // Over a reliable site, where a file that is not there counts as a failure but is an answer, and
-    // an output that counts no failure: the answer to the words, or want of memory.
+    // Over a reliable site, where a file that is not there counts as a failure but is an answer, and an output that
+    // counts no failure: the answer to the words, or want of memory.
     ensures reliable { (named : Named) (a : Answer)
         → IsAnswer (S.file_at site.old) words.now named a
         → S.is_reliable site.old ≡ true → IsQuiet (W.failures out.old) (W.failures out.new)

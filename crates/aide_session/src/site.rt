@@ -16,7 +16,7 @@ pub trait Site: Sources {
 
     /// Opens the file of a path. The reel is to be closed like every other.
     ///
-    /// A path that is not there is a fault.
+    /// Where no file is there it is refused, and the failure is counted.
     fn config(&mut self, path: &str) -> Result<Self::R, OpenFault>
         ensures fresh { IfOk result (λ r. Self.R.failures r ≡ 0) }
         ensures gives { IfOk result (λ r. (file : Option (List ℕ))

@@ -1,25 +1,30 @@
 -- Cutting a text into pieces, and the lines that they make.
-use Rattle.std.proofs.Common.{◌≡◌, ℕ, zero, suc, ◌+◌, ◌≤◌, ◌<◌, max, List, [], ◌∷◌, ◌++◌, length, take, drop, refl, sym, ap, ◌∙◌, arith, length-drop, true, false, Bool, if◌then◌else◌, append_assoc, subst}
+use Rattle.std.proofs.Common.{◌≡◌, ℕ, zero, suc, ◌+◌, ◌≤◌, ◌<◌, max, List, [], ◌∷◌, ◌++◌, length, take, drop, refl, sym}
+use Rattle.std.proofs.Common.{ap, ◌∙◌, arith, length-drop, true, false, Bool, if◌then◌else◌, append_assoc, subst}
 use Rattle.std.specs.Prelude.{slice_set, not, ◌==◌}
 use Rattle.std.proofs.lemmas.List.{append-nil, take_more_set, take_all, drop_all, length-take}
 use Rattle.std.proofs.Math.Seq.{take-append_seam, drop-append_seam}
-use Rattle.aide_text.specs.Text.{piece_count, pair_line, pair_lines, next_line, has_lines, margin, heading, line_count, side_by_side, single_line, single_lines, next_single, has_bytes, alone}
+use Rattle.aide_text.specs.Text.{piece_count, pair_line, pair_lines, next_line, has_lines, margin, heading, line_count}
+use Rattle.aide_text.specs.Text.{side_by_side, single_line, single_lines, next_single, has_bytes, alone}
 
 -- one more byte of the text stands in the buffer
-pub one_byte : (bytes before after text : List ℕ) (len c : ℕ) → len < length bytes → take len bytes ++ before ≡ text → before ≡ c ∷ after
+pub one_byte : (bytes before after text : List ℕ) (len c : ℕ) → len < length bytes → take len bytes ++ before ≡ text
+    → before ≡ c ∷ after
     → take (len + 1) (slice_set bytes len c) ++ after ≡ text
 one_byte bytes before after text len c h whole is =
     ap (λ ds. ds ++ after) (take_more_set bytes len c h) ∙ append_assoc (take len bytes) (c ∷ []) after ∙ ap (λ ds. take len bytes ++ ds) (sym is) ∙ whole
 
 -- the buffer is full
-pub cut_full : (piece rest text : List ℕ) → piece ++ rest ≡ text → length piece ≡ 32 → (piece ≡ take 32 text) × (rest ≡ drop 32 text)
+pub cut_full : (piece rest text : List ℕ) → piece ++ rest ≡ text → length piece ≡ 32
+    → (piece ≡ take 32 text) × (rest ≡ drop 32 text)
 cut_full piece rest text whole full = (
   sym (ap (take 32) (sym whole) ∙ ap (λ n. take n (piece ++ rest)) (sym full) ∙ take-append_seam piece rest),
   sym (ap (drop 32) (sym whole) ∙ ap (λ n. drop n (piece ++ rest)) (sym full) ∙ drop-append_seam piece rest),
 )
 
 -- the text has ended
-pub cut_short : (piece rest text : List ℕ) → piece ++ rest ≡ text → rest ≡ [] → length piece ≤ 32 → (piece ≡ take 32 text) × (rest ≡ drop 32 text)
+pub cut_short : (piece rest text : List ℕ) → piece ++ rest ≡ text → rest ≡ [] → length piece ≤ 32
+    → (piece ≡ take 32 text) × (rest ≡ drop 32 text)
 cut_short piece rest text whole none short =
     let is : piece ≡ text = sym (append-nil piece) ∙ ap (λ ds. piece ++ ds) (sym none) ∙ whole in
     let fits : length text ≤ 32 = subst (λ t. length t ≤ 32) is short in (
@@ -42,10 +47,12 @@ unfolding pair_lines
 lines_none a b none_a none_b = ap (λ x. later_lines x b) none_a ∙ ap (λ y. later_lines [] y) none_b
 
 -- The count of lines falls by one with each piece.
-pub count_falls : (a b : List ℕ) → 0 < length a + length b → max (piece_count a) (piece_count b) ≡ suc (max (piece_count (drop 32 a)) (piece_count (drop 32 b)))
+pub count_falls : (a b : List ℕ) → 0 < length a + length b
+    → max (piece_count a) (piece_count b) ≡ suc (max (piece_count (drop 32 a)) (piece_count (drop 32 b)))
 count_falls a b some = omega (arith, length-drop 32 a, length-drop 32 b)
 
-pub lines_some : (a b : List ℕ) → 0 < length a + length b → later_lines a b ≡ pair_line margin (take 32 a) (take 32 b) ++ later_lines (drop 32 a) (drop 32 b)
+pub lines_some : (a b : List ℕ) → 0 < length a + length b
+    → later_lines a b ≡ pair_line margin (take 32 a) (take 32 b) ++ later_lines (drop 32 a) (drop 32 b)
 unfolding pair_lines
 lines_some a b some = ap (λ n. pair_lines margin n a b) (count_falls a b some)
 
@@ -53,7 +60,8 @@ lines_some a b some = ap (λ n. pair_lines margin n a b) (count_falls a b some)
 pub first_count : (a b : List ℕ) → line_count a b ≡ suc (max (piece_count (drop 32 a)) (piece_count (drop 32 b)))
 first_count a b = omega (arith, length-drop 32 a, length-drop 32 b)
 
-pub first_line : (name a b : List ℕ) → side_by_side name a b ≡ pair_line (heading name) (take 32 a) (take 32 b) ++ later_lines (drop 32 a) (drop 32 b)
+pub first_line : (name a b : List ℕ)
+    → side_by_side name a b ≡ pair_line (heading name) (take 32 a) (take 32 b) ++ later_lines (drop 32 a) (drop 32 b)
 unfolding pair_lines
 first_line name a b = ap (λ n. pair_lines (heading name) n a b) (first_count a b)
 
@@ -61,13 +69,15 @@ pub next_and_later : (a b : List ℕ) → later_lines a b ≡ next_line a b ++ l
 unfolding next_line
 next_and_later a b = by_more (has_lines a b) refl
   where
-    by_more : (m : Bool) → has_lines a b ≡ m → later_lines a b ≡ (if m then pair_line margin (take 32 a) (take 32 b) else []) ++ later_lines (drop 32 a) (drop 32 b)
+    by_more : (m : Bool) → has_lines a b ≡ m
+        → later_lines a b ≡ (if m then pair_line margin (take 32 a) (take 32 b) else []) ++ later_lines (drop 32 a) (drop 32 b)
     by_more true e = lines_some a b (grind (arith, e))
     by_more false e = lines_none a b (no_length a (grind (arith, e))) (no_length b (grind (arith, e)))
         ∙ sym (lines_none (drop 32 a) (drop 32 b) (drop_all 32 a (grind (arith, e))) (drop_all 32 b (grind (arith, e))))
 
 pub lines_ended : (a b : List ℕ) → has_lines a b ≡ false → later_lines (drop 32 a) (drop 32 b) ≡ []
-lines_ended a b e = lines_none (drop 32 a) (drop 32 b) (drop_all 32 a (grind (arith, e))) (drop_all 32 b (grind (arith, e)))
+lines_ended a b e =
+    lines_none (drop 32 a) (drop 32 b) (drop_all 32 a (grind (arith, e))) (drop_all 32 b (grind (arith, e)))
 
 -- while there are lines, the texts get shorter
 pub lines_fall : (a b : List ℕ) → has_lines a b ≡ true → length (drop 32 a) + length (drop 32 b) < length a + length b
@@ -82,7 +92,8 @@ pub single_none : (a : List ℕ) → a ≡ [] → later_single a ≡ []
 unfolding single_lines
 single_none a none = ap later_single none
 
-pub single_some : (a : List ℕ) → 0 < length a → later_single a ≡ single_line margin (take 32 a) ++ later_single (drop 32 a)
+pub single_some : (a : List ℕ) → 0 < length a
+    → later_single a ≡ single_line margin (take 32 a) ++ later_single (drop 32 a)
 unfolding single_lines
 single_some a some = ap (λ n. single_lines margin n a) count
   where
@@ -100,7 +111,8 @@ pub single_next : (a : List ℕ) → later_single a ≡ next_single a ++ later_s
 unfolding next_single
 single_next a = by_more (has_bytes a) refl
   where
-    by_more : (m : Bool) → has_bytes a ≡ m → later_single a ≡ (if m then single_line margin (take 32 a) else []) ++ later_single (drop 32 a)
+    by_more : (m : Bool) → has_bytes a ≡ m
+        → later_single a ≡ (if m then single_line margin (take 32 a) else []) ++ later_single (drop 32 a)
     by_more true e = single_some a (grind (arith, e))
     by_more false e = single_none a (no_length a (grind (arith, e))) ∙ sym (single_none (drop 32 a) (drop_all 32 a (grind (arith, e))))
 
@@ -125,6 +137,7 @@ pub has_pieces : (a b : List ℕ) → has_lines (take 32 a) (take 32 b) ≡ has_
 has_pieces a b = same_test (length (take 32 a) + length (take 32 b)) (length a + length b)
     (λ h. omega (arith, h, length-take 32 a, length-take 32 b)) (λ h. omega (arith, h, length-take 32 a, length-take 32 b))
 
-pub next_by : (more : Bool) (a b : List ℕ) → more ≡ has_lines a b → (if more then pair_line margin (take 32 a) (take 32 b) else []) ≡ next_line a b
+pub next_by : (more : Bool) (a b : List ℕ) → more ≡ has_lines a b
+    → (if more then pair_line margin (take 32 a) (take 32 b) else []) ≡ next_line a b
 unfolding next_line
 next_by more a b e = ap (λ m. if m then pair_line margin (take 32 a) (take 32 b) else []) e

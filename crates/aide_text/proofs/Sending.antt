@@ -1,5 +1,6 @@
 -- What has gone out, piece by piece.
-use Rattle.std.proofs.Common.{◌≡◌, ◌∙◌, ℕ, ◌+◌, ◌-◌, ◌^◌, ◌<◌, List, [], ◌++◌, length, take, drop, min, get_or, sym, ap, subst, append_assoc, length-append, arith}
+use Rattle.std.proofs.Common.{◌≡◌, ◌∙◌, ℕ, ◌+◌, ◌-◌, ◌^◌, ◌<◌, List, [], ◌++◌, length, take, drop, min, get_or, sym, ap}
+use Rattle.std.proofs.Common.{subst, append_assoc, length-append, arith}
 use Rattle.std.specs.Prelude.{Option, Some, None}
 use Rattle.std.proofs.Math.Seq.{take-add, take-append-add}
 use Rattle.std.proofs.lemmas.List.{take-append-le, take-append-drop, drop_more, append-nil}
@@ -8,11 +9,13 @@ use Rattle.std.specs.Io.KnownBytes.{Appends, Keeps}
 use Rattle.aide_text.specs.Printed.{printed, printed_byte}
 use Rattle.aide_text.specs.Sent.{SendsPart, IsCut}
 
-pub Appends-Appends : (a b c : Option (List ℕ)) (xs ys : List ℕ) → Appends a b xs → Appends b c ys → Appends a c (xs ++ ys)
+pub Appends-Appends : (a b c : Option (List ℕ)) (xs ys : List ℕ) → Appends a b xs → Appends b c ys
+    → Appends a c (xs ++ ys)
 Appends-Appends None b c xs ys first then = tt
 Appends-Appends (Some x) None c xs ys first then = absurd first
 Appends-Appends (Some x) (Some y) None xs ys first then = absurd then
-Appends-Appends (Some x) (Some y) (Some z) xs ys first then = then ∙ ap (λ bytes. bytes ++ ys) first ∙ append_assoc x xs ys
+Appends-Appends (Some x) (Some y) (Some z) xs ys first then =
+    then ∙ ap (λ bytes. bytes ++ ys) first ∙ append_assoc x xs ys
 
 pub Appends-Keeps : (a b c : Option (List ℕ)) (xs : List ℕ) → Appends a b xs → Keeps b c → Appends a c xs
 Appends-Keeps None b c xs grown kept = tt
@@ -44,11 +47,13 @@ IsCut-later text before piece after a b c count number whole so_far more fewer i
   count = is;
 }
 
-pub printed_split : (bytes : List ℕ) (i : ℕ) → i < length bytes → printed bytes ≡ printed (take i bytes) ++ (printed_byte (get_or bytes i 0) ++ printed (drop (i + 1) bytes))
+pub printed_split : (bytes : List ℕ) (i : ℕ) → i < length bytes
+    → printed bytes ≡ printed (take i bytes) ++ (printed_byte (get_or bytes i 0) ++ printed (drop (i + 1) bytes))
 printed_split bytes i h =
     ap printed (sym (take-append-drop i bytes)) ∙ flat_map-append printed_byte (take i bytes) (drop i bytes)
     ∙ ap (λ ds. printed (take i bytes) ++ printed ds) (drop_more bytes i 0 h)
 
 -- the first bytes of a text have gone out
 pub SendsPart-take : (text : List ℕ) (a b : Option (List ℕ)) (n : ℕ) → Appends a b (take n text) → SendsPart text a b
-SendsPart-take text a b n sent = record { front = take n text; rest = drop n text; whole = sym (take-append-drop n text); bytes = sent }
+SendsPart-take text a b n sent =
+    record { front = take n text; rest = drop n text; whole = sym (take-append-drop n text); bytes = sent }

@@ -1,5 +1,6 @@
 -- What a pen has written, piece by piece.
-use Rattle.std.proofs.Common.{◌≡◌, ◌∙◌, ℕ, ◌+◌, ◌<◌, ◌≤◌, Bool, true, false, List, [], ◌∷◌, ◌++◌, length, take, drop, get_or, Option, None, Some, refl, sym, ap, subst, append_assoc, length-append, arith}
+use Rattle.std.proofs.Common.{◌≡◌, ◌∙◌, ℕ, ◌+◌, ◌<◌, ◌≤◌, Bool, true, false, List, [], ◌∷◌, ◌++◌, length, take, drop}
+use Rattle.std.proofs.Common.{get_or, Option, None, Some, refl, sym, ap, subst, append_assoc, length-append, arith}
 use Rattle.std.proofs.lemmas.List.{append-nil, take-append-drop, length-take-le, take_more}
 use Rattle.std.proofs.lemmas.Grind.{flat_map-append}
 use Rattle.std.specs.Io.KnownBytes.{Appends}
@@ -20,7 +21,8 @@ adds_more x y a b c p q = record {
   count = omega (arith, p.count, q.count, length-append x y);
 }
 
-more_by : (x y : List ℕ) (a b c : Sheet) (f g h : Bool) → WroteBy f g x a b → WroteBy g h y b c → WroteBy f h (x ++ y) a c
+more_by : (x y : List ℕ) (a b c : Sheet) (f g h : Bool) → WroteBy f g x a b → WroteBy g h y b c
+    → WroteBy f h (x ++ y) a c
 more_by x y a b c true true h p q = (q.0, q.1 ∙ p.1)
 more_by x y a b c true false h p q = absurd (true_false (sym p.0))
 more_by x y a b c false true true p q = record {
@@ -51,7 +53,8 @@ nothing_by : (f : Bool) (a : Sheet) → f ≡ a.failed → WroteBy f f [] a a
 nothing_by true a e = (refl, refl)
 nothing_by false a e = (record { bytes = Appends-nothing a.bytes; count = omega arith }, refl)
 
-by_flags : (text : List ℕ) (a b : Sheet) (f h : Bool) → a.failed ≡ f → b.failed ≡ h → b.flushes ≡ a.flushes → WroteBy f h text a b → Wrote text a b
+by_flags : (text : List ℕ) (a b : Sheet) (f h : Bool) → a.failed ≡ f → b.failed ≡ h → b.flushes ≡ a.flushes
+    → WroteBy f h text a b → Wrote text a b
 by_flags text a b f h is_f is_h unflushed p = record {
   as_flags = subst (λ x. WroteBy x b.failed text a b) (sym is_f) (subst (λ x. WroteBy f x text a b) (sym is_h) p);
   flushes = unflushed;
@@ -59,14 +62,16 @@ by_flags text a b f h is_f is_h unflushed p = record {
 
 -- the sink has failed within the text
 pub wrote_cut : (text : List ℕ) (a b : Sheet) (n : ℕ) → a.failed ≡ false → b.failed ≡ true → n ≤ length text
-    → Appends a.bytes b.bytes (take n text) → b.failures ≡ one_more a.failures → b.sent ≡ sum_of a.sent n → b.flushes ≡ a.flushes → Wrote text a b
-wrote_cut text a b n fresh broken short bytes failures count unflushed = by_flags text a b false true fresh broken unflushed (record {
-  front = take n text;
-  rest = drop n text;
-  whole = sym (take-append-drop n text);
-  adds = record { bytes = bytes; count = count ∙ ap (sum_of a.sent) (sym (length-take-le n text short)) };
-  failures = failures;
-})
+    → Appends a.bytes b.bytes (take n text) → b.failures ≡ one_more a.failures → b.sent ≡ sum_of a.sent n
+    → b.flushes ≡ a.flushes → Wrote text a b
+wrote_cut text a b n fresh broken short bytes failures count unflushed =
+    by_flags text a b false true fresh broken unflushed (record {
+      front = take n text;
+      rest = drop n text;
+      whole = sym (take-append-drop n text);
+      adds = record { bytes = bytes; count = count ∙ ap (sum_of a.sent) (sym (length-take-le n text short)) };
+      failures = failures;
+    })
 
 -- nothing was to be written
 pub wrote_nothing : (a : Sheet) → Wrote [] a a
@@ -75,8 +80,10 @@ wrote_nothing a = by_flags [] a a a.failed a.failed refl refl refl (nothing_by a
 pub wrote_as : {x y : List ℕ} {a b : Sheet} → x ≡ y → Wrote x a b → Wrote y a b
 wrote_as {x} {y} {a} {b} e p = subst (λ l. Wrote l a b) e p
 
-pub printed_more : (bytes : List ℕ) (i : ℕ) → i < length bytes → printed (take i bytes) ++ printed_byte (get_or bytes i 0) ≡ printed (take (i + 1) bytes)
-printed_more bytes i h = sym (ap printed (take_more bytes i 0 h) ∙ flat_map-append printed_byte (take i bytes) (get_or bytes i 0 ∷ []) ∙ ap (λ l. printed (take i bytes) ++ l) (append-nil (printed_byte (get_or bytes i 0))))
+pub printed_more : (bytes : List ℕ) (i : ℕ) → i < length bytes
+    → printed (take i bytes) ++ printed_byte (get_or bytes i 0) ≡ printed (take (i + 1) bytes)
+printed_more bytes i h =
+    sym (ap printed (take_more bytes i 0 h) ∙ flat_map-append printed_byte (take i bytes) (get_or bytes i 0 ∷ []) ∙ ap (λ l. printed (take i bytes) ++ l) (append-nil (printed_byte (get_or bytes i 0))))
 
 -- a feed that gives no byte has none
 pub none_left : (o : Option ℕ) (before after : List ℕ) → ((c : ℕ) → o ≡ Some c → ⊥) → Taken o before after → before ≡ []
@@ -88,7 +95,8 @@ none_left (Some c) before after none taken = absurd (none c refl)
 pub writing_start : (text : List ℕ) (a : Sheet) → Writing text text a a
 writing_start text a = record { front = []; whole = refl; wrote = wrote_nothing a }
 
-pub writing_more : {text rest piece more : List ℕ} {a b c : Sheet} → rest ≡ piece ++ more → Writing text rest a b → Wrote piece b c → Writing text more a c
+pub writing_more : {text rest piece more : List ℕ} {a b c : Sheet} → rest ≡ piece ++ more → Writing text rest a b
+    → Wrote piece b c → Writing text more a c
 writing_more {text} {rest} {piece} {more} {a} {b} {c} is p q = record {
   front = p.front ++ piece;
   whole = p.whole ∙ ap (λ l. p.front ++ l) is ∙ sym (append_assoc p.front piece more);
@@ -96,7 +104,8 @@ writing_more {text} {rest} {piece} {more} {a} {b} {c} is p q = record {
 }
 
 -- a piece of the rest was written, not all of it
-pub writing_part : {text rest piece : List ℕ} (more : List ℕ) {a b c : Sheet} → rest ≡ piece ++ more → Writing text rest a b → WritesPart piece b c → WritesPart text a c
+pub writing_part : {text rest piece : List ℕ} (more : List ℕ) {a b c : Sheet} → rest ≡ piece ++ more
+    → Writing text rest a b → WritesPart piece b c → WritesPart text a c
 writing_part {text} {rest} {piece} more {a} {b} {c} is p q = record {
   rest = q.rest ++ more;
   writing = record {
@@ -107,7 +116,8 @@ writing_part {text} {rest} {piece} more {a} {b} {c} is p q = record {
 }
 
 pub writing_done : {text rest : List ℕ} {a b : Sheet} → rest ≡ [] → Writing text rest a b → Wrote text a b
-writing_done {text} {rest} {a} {b} none p = wrote_as (sym (p.whole ∙ ap (λ l. p.front ++ l) none ∙ append-nil p.front)) p.wrote
+writing_done {text} {rest} {a} {b} none p =
+    wrote_as (sym (p.whole ∙ ap (λ l. p.front ++ l) none ∙ append-nil p.front)) p.wrote
 
 pub writing_so_far : {text rest : List ℕ} {a b : Sheet} → Writing text rest a b → WritesPart text a b
 writing_so_far {text} {rest} {a} {b} p = record { rest = rest; writing = p }
@@ -120,7 +130,8 @@ pub part_as : {x y : List ℕ} {a b : Sheet} → x ≡ y → WritesPart x a b �
 part_as {x} {y} {a} {b} e p = subst (λ l. WritesPart l a b) e p
 
 pub part_whole : {text : List ℕ} {a b : Sheet} → Wrote text a b → WritesPart text a b
-part_whole {text} {a} {b} p = record { rest = []; writing = record { front = text; whole = sym (append-nil text); wrote = p } }
+part_whole {text} {a} {b} p =
+    record { rest = []; writing = record { front = text; whole = sym (append-nil text); wrote = p } }
 
 pub part_nothing : (text : List ℕ) (a : Sheet) → WritesPart text a a
 part_nothing text a = writing_so_far (writing_start text a)
@@ -153,27 +164,32 @@ writing_as {text} {rest} {more} {a} {b} e p = subst (λ l. Writing text l a b) e
 some_by : (text : List ℕ) (a b : Sheet) (f h : Bool) → a.failed ≡ f → b.failed ≡ h → f ≡ false → WroteBy f h text a b
     → (sent : List ℕ) × Appends a.bytes b.bytes sent × (b.sent ≡ sum_of a.sent (length sent)) × (a.failures ≤ b.failures) × (h ≡ true → b.failures ≡ one_more a.failures)
 some_by text a b true h is_f is_h fresh p = absurd (true_false fresh)
-some_by text a b false true is_f is_h fresh p = (p.front, p.adds.bytes, p.adds.count, omega (arith, p.failures), λ e. p.failures)
-some_by text a b false false is_f is_h fresh p = (text, p.0.bytes, p.0.count, omega (arith, p.1), λ e. absurd (true_false (sym e)))
+some_by text a b false true is_f is_h fresh p =
+    (p.front, p.adds.bytes, p.adds.count, omega (arith, p.failures), λ e. p.failures)
+some_by text a b false false is_f is_h fresh p =
+    (text, p.0.bytes, p.0.count, omega (arith, p.1), λ e. absurd (true_false (sym e)))
 
 -- what a fresh pen has written: some bytes, which it counts, and its sink's failures
 pub from_fresh : {a b : Sheet} → a.failed ≡ false → WritesSome a b
     → (sent : List ℕ) × Appends a.bytes b.bytes sent × (b.sent ≡ sum_of a.sent (length sent)) × (a.failures ≤ b.failures) × (b.failed ≡ true → b.failures ≡ one_more a.failures)
 from_fresh {a} {b} fresh p = some_by p.text a b a.failed b.failed refl refl fresh p.wrote.as_flags
 
-whole_by : (text : List ℕ) (a b : Sheet) (f h : Bool) → f ≡ false → h ≡ false → WroteBy f h text a b → Appends a.bytes b.bytes text
+whole_by : (text : List ℕ) (a b : Sheet) (f h : Bool) → f ≡ false → h ≡ false → WroteBy f h text a b
+    → Appends a.bytes b.bytes text
 whole_by text a b true h fresh on p = absurd (true_false fresh)
 whole_by text a b false true fresh on p = absurd (true_false on)
 whole_by text a b false false fresh on p = p.0.bytes
 
 -- a pen that goes on has written all of its text
-pub wrote_whole : {text : List ℕ} {a b : Sheet} → a.failed ≡ false → b.failed ≡ false → Wrote text a b → Appends a.bytes b.bytes text
+pub wrote_whole : {text : List ℕ} {a b : Sheet} → a.failed ≡ false → b.failed ≡ false → Wrote text a b
+    → Appends a.bytes b.bytes text
 wrote_whole {text} {a} {b} fresh on p = whole_by text a b a.failed b.failed fresh on p.as_flags
 
 part_by : (text : List ℕ) (a b : Sheet) (f h : Bool) → f ≡ false → WroteBy f h text a b → SendsPart text a.bytes b.bytes
 part_by text a b true h fresh p = absurd (true_false fresh)
 part_by text a b false true fresh p = record { front = p.front; rest = p.rest; whole = p.whole; bytes = p.adds.bytes }
-part_by text a b false false fresh p = record { front = text; rest = []; whole = sym (append-nil text); bytes = p.0.bytes }
+part_by text a b false false fresh p =
+    record { front = text; rest = []; whole = sym (append-nil text); bytes = p.0.bytes }
 
 -- a part of a text that a pen has written has gone out
 pub wrote_part : {text : List ℕ} {a b : Sheet} → a.failed ≡ false → WritesPart text a b → SendsPart text a.bytes b.bytes

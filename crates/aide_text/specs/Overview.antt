@@ -35,21 +35,25 @@ number_line label n = label ++ ended (decimal n)
 -- the first two lines of the summary
 unfoldable pub first_numbers : (total added : ℕ) → List ℕ
 first_numbers total added =
-    number_line (codes "  Total number of entries: ") total ++ number_line (codes "  Added entries:           ") added
+    number_line (codes "  Total number of entries: ") total
+    ++ number_line (codes "  Added entries:           ") added
 
 -- its last two lines
 unfoldable pub last_numbers : (removed changed : ℕ) → List ℕ
 last_numbers removed changed =
-    number_line (codes "  Removed entries:         ") removed ++ number_line (codes "  Changed entries:         ") changed
+    number_line (codes "  Removed entries:         ") removed
+    ++ number_line (codes "  Changed entries:         ") changed
 
 -- the summary: the numbers of entries
 unfoldable pub summary_of : (total added removed changed : ℕ) → List ℕ
-summary_of total added removed changed = summary_title ++ (first_numbers total added ++ last_numbers removed changed)
+summary_of total added removed changed = summary_title
+    ++ (first_numbers total added ++ last_numbers removed changed)
 
 -- the head, and the summary from its level on
 unfoldable pub overview_of : Level → (total added removed changed : ℕ) → List ℕ
 overview_of level total added removed changed =
-    head_of (is_different added removed changed) ++ when (reaches level Summary) (summary_of total added removed changed)
+    head_of (is_different added removed changed)
+    ++ when (reaches level Summary) (summary_of total added removed changed)
 
 -- the same of counts
 abbrev pub overview_by : Level → Counts → List ℕ

@@ -4,8 +4,8 @@ use Rattle.std.specs.Io.KnownBytes.{Appends}
 use Rattle.aide_db.specs.Count.{sum_of}
 use Rattle.aide_text.specs.Failures.{one_more}
 
--- The bytes that the sink has taken, how often it has failed and was flushed, how many bytes are counted, and whether the
--- pen writes no more.
+-- The bytes that the sink has taken, how often it has failed and was flushed, how many bytes are counted, and whether
+-- the pen writes no more.
 pub record Sheet : Type 0 where
   pub bytes : Option (List ℕ)
   pub failures : ℕ
@@ -32,7 +32,8 @@ WroteBy true after text a b = (after ≡ true) × (b ≡ a)
 WroteBy false true text a b = Breaks text a b
 WroteBy false false text a b = Adds text a b × (b.failures ≡ a.failures)
 
--- The text has gone out, or a front of it and the sink has failed. A pen that has failed before writes nothing. No flush.
+-- The text has gone out, or a front of it and the sink has failed. A pen that has failed before writes nothing.
+-- In no case is the sink flushed.
 pub record Wrote (text : List ℕ) (a b : Sheet) : Type 0 where
   pub as_flags : WroteBy a.failed b.failed text a b
   pub flushes : b.flushes ≡ a.flushes

@@ -1,5 +1,6 @@
 -- Texts of the report: what is padded and cut.
-use Rattle.std.specs.Prelude.{ℕ, zero, suc, ◌+◌, ◌-◌, ◌/◌, ◌==◌, if◌then◌else◌, Bool, List, [], ◌∷◌, ◌++◌, not, max, take, drop, length}
+use Rattle.std.specs.Prelude.{ℕ, zero, suc, ◌+◌, ◌-◌, ◌/◌, ◌==◌, if◌then◌else◌, Bool, List, [], ◌∷◌}
+use Rattle.std.specs.Prelude.{◌++◌, not, max, take, drop, length}
 use Rattle.std.specs.Prelude.{replicate, codes}
 use Rattle.aide_text.specs.Printed.{printed}
 
@@ -60,7 +61,8 @@ pair_line head a b = head ++ pair_body a b
 -- the first lines, as many as are said, the first one with this head
 unfoldable pub pair_lines : List ℕ → ℕ → List ℕ → List ℕ → List ℕ
 pair_lines head zero a b = []
-pair_lines head (suc n) a b = pair_line head (take 32 a) (take 32 b) ++ pair_lines margin n (drop 32 a) (drop 32 b)
+pair_lines head (suc n) a b = pair_line head (take 32 a) (take 32 b)
+    ++ pair_lines margin n (drop 32 a) (drop 32 b)
 
 -- whether either text has a byte
 abbrev pub has_lines : List ℕ → List ℕ → Bool

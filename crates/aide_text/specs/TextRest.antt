@@ -5,7 +5,8 @@ use Rattle.aide_text.specs.declared.value.ValueText.{ValueText}
 use Rattle.aide_text.specs.declared.value.ValueText.TheVariants.{Short, Link, Field}
 
 -- the bytes that a text has still to give, by its form
-abbrev pub text_rest : {S L F : Type 0} → (S → List ℕ) → (L → List ℕ) → (F → List ℕ) → ValueText S L F → List ℕ
+abbrev pub text_rest : {S L F : Type 0} → (S → List ℕ) → (L → List ℕ) → (F → List ℕ)
+    → ValueText S L F → List ℕ
 text_rest short_rest link_rest field_rest (Short text) = short_rest text
 text_rest short_rest link_rest field_rest (Link printed) = printed_rest link_rest printed
 text_rest short_rest link_rest field_rest (Field printed) = printed_rest field_rest printed

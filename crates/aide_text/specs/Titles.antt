@@ -2,7 +2,9 @@
 use Rattle.std.specs.Prelude.{ℕ, List, [], ◌∷◌, ◌++◌, codes}
 use Rattle.aide_text.specs.Text.{ended}
 use Rattle.aide_text.specs.declared.section.Section.{Section}
-use Rattle.aide_text.specs.declared.section.Section.TheVariants.{AddedEntries, RemovedEntries, ChangedEntries, AllEntries, Details}
+use Rattle.aide_text.specs.declared.section.Section.TheVariants.{AddedEntries, RemovedEntries}
+use Rattle.aide_text.specs.declared.section.Section.TheVariants.{ChangedEntries, AllEntries}
+use Rattle.aide_text.specs.declared.section.Section.TheVariants.{Details}
 
 -- an empty line and a line of 51 hyphens
 unfoldable pub rule_before : List ℕ

@@ -1,5 +1,6 @@
 -- How the values of attributes are written.
-use Rattle.std.specs.Prelude.{ℕ, ℤ, ◌+◌, ◌/◌, ◌%◌, Bool, if◌then◌else◌, List, [], ◌∷◌, Option, Some, None, nat_abs, codes}
+use Rattle.std.specs.Prelude.{ℕ, ℤ, ◌+◌, ◌/◌, ◌%◌, Bool, if◌then◌else◌, List, [], ◌∷◌, Option, Some}
+use Rattle.std.specs.Prelude.{None, nat_abs, codes}
 use Rattle.std.specs.Fmt.{signed_decimal}
 use Rattle.base64.specs.Engines.{standard}
 use Rattle.base64.specs.GeneralPurpose.{encode_of}
@@ -7,7 +8,9 @@ use Rattle.hex.specs.Hex.{encode_lower}
 use Rattle.aide_attr.specs.Attr.{form_of}
 use Rattle.aide_attr.specs.declared.attr.Attr.{Attr}
 use Rattle.aide_attr.specs.declared.file_type.FileType.{FileType}
-use Rattle.aide_attr.specs.declared.file_type.FileType.TheVariants.{File, Directory, Link as LinkFile, Char, Block, Fifo, Socket, Other}
+use Rattle.aide_attr.specs.declared.file_type.FileType.TheVariants.{File, Directory}
+use Rattle.aide_attr.specs.declared.file_type.FileType.TheVariants.{Link as LinkFile, Char, Block}
+use Rattle.aide_attr.specs.declared.file_type.FileType.TheVariants.{Fifo, Socket, Other}
 use Rattle.aide_attr.specs.declared.form.Form.{Form}
 use Rattle.aide_attr.specs.declared.form.Form.TheVariants.{Kind, Mode, Number, Time, Link, Digest, Opaque}
 use Rattle.aide_db.specs.Attributes.{Attributes, Value, type_in, link_in, number_in, digest_in, opaque_in}

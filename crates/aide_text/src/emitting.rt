@@ -7,8 +7,7 @@ ghost use Rattle.aide_text.specs.Sent.{IsCut};
 
 use crate::sink::Sink;
 
-/// Writes all of these bytes. Where the sink fails, it answers how many went out: exactly the first of them, fewer
-/// than all.
+/// Writes all of these bytes. Where the sink fails, it answers how many went out: exactly the first of them, not all.
 pub fn emit<W: Sink>(out: &mut W, bytes: &[u8]) -> Result<(), u64>
     ensures ok { OnOk result (Appends (W.delivered out.old) (W.delivered out.new) bytes.now) }
     ensures fewer { IfErr result (λ n. n < length bytes.now) }
@@ -27,8 +26,8 @@ pub fn emit<W: Sink>(out: &mut W, bytes: &[u8]) -> Result<(), u64>
     Ok(())
 }
 
-/// Writes these bytes as a path is printed: a control byte or a backslash as a backslash and three octal digits.
-/// Where the sink fails, it answers how many printed bytes went out, `u64::MAX` where there were more.
+/// Writes these bytes as a path is printed: a control byte or a backslash as a backslash and three octal digits. Where
+/// the sink fails, it answers how many printed bytes went out, `u64::MAX` where there were more.
 pub fn emit_path<W: Sink>(out: &mut W, bytes: &[u8]) -> Result<(), u64>
     ensures ok { OnOk result (Appends (W.delivered out.old) (W.delivered out.new)
         (printed bytes.now)) }

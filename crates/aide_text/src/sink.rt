@@ -8,8 +8,8 @@ use aide_db::DeviceFault;
 use std::io::Write;
 use std::marker::Model;
 
-/// A device that takes bytes. Contracts see the bytes delivered, where the device tells them, a count of failures,
-/// how often it was flushed, and whether all that was delivered has been flushed. Both counts stop at `u64::MAX`.
+/// A device that takes bytes. Contracts see the bytes delivered, where the device tells them, a count of failures, how
+/// often it was flushed, and whether all that was delivered has been flushed. Both counts stop at `u64::MAX`.
 pub trait Sink {
     /// The bytes delivered so far, where the device tells them.
     ghost delivered: { Self → Option (List ℕ) };

@@ -14,8 +14,8 @@ use aide_attr::FileType;
 use base64::engine::general_purpose::STANDARD;
 use itoa::Buffer;
 
-/// The text of a value, as it is handed out: a short one that is kept in place, or a link name or a field as a path is
-/// printed.
+/// The text of a value, as it is handed out: a short one that is kept in place, or a link name or a field, which are
+/// printed as a path is.
 #[derive(Clone, Copy, Drop)]
 pub enum ValueText<S, L, F> {
     /// A text that is kept in place.

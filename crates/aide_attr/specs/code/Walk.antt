@@ -1,6 +1,7 @@
--- A plain program that reads an expression byte by byte, as the code does. What an expression means is in `Expression`; that
--- the two agree is proved.
-use Rattle.std.specs.Prelude.{ℕ, ◌+◌, Bool, true, false, not, ◌&&◌, ◌||◌, ◌==◌, List, [], ◌∷◌, Option, Some, None, Result}
+-- A plain program that reads an expression byte by byte, as the code does. What an expression means is in `Expression`;
+-- that the two agree is proved.
+use Rattle.std.specs.Prelude.{ℕ, ◌+◌, Bool, true, false, not, ◌&&◌, ◌||◌, ◌==◌, List, [], ◌∷◌}
+use Rattle.std.specs.Prelude.{Option, Some, None, Result}
 use Rattle.std.specs.Prelude.{Ok, Err, option_and_then, cond, if◌then◌else◌, codes}
 use Rattle.aide_attr.specs.declared.attr.Attr.{Attr}
 use Rattle.aide_attr.specs.declared.expression.Stage.{Stage}
@@ -28,7 +29,8 @@ after_step s b =
 
 -- the same after a byte at any stage
 abbrev pub step : Stage → Bool → ℕ → Option Spot
-step BeforeName s b = cond (is_blank b) (Some (BeforeName, s)) (cond (is_name_byte b) (Some (InName, s)) None)
+step BeforeName s b =
+    cond (is_blank b) (Some (BeforeName, s)) (cond (is_name_byte b) (Some (InName, s)) None)
 step InName s b = cond (is_name_byte b) (Some (InName, s)) (after_step s b)
 step AfterName s b = after_step s b
 
@@ -54,7 +56,8 @@ finish BeforeName acc i = Err (BadExpression i)
 finish _ acc i = Ok acc
 
 -- the answer after a byte: a fault there, or what the rest gives
-abbrev pub after_byte : Option Spot → Option (Attr → Bool) → ℕ → (Spot → (Attr → Bool) → Result (Attr → Bool) ExprFault)
+abbrev pub after_byte : Option Spot → Option (Attr → Bool) → ℕ
+    → (Spot → (Attr → Bool) → Result (Attr → Bool) ExprFault)
     → Result (Attr → Bool) ExprFault
 after_byte None known i next = Err (BadExpression i)
 after_byte (Some q) None i next = Err (UnknownName i)

@@ -1,5 +1,6 @@
 -- Bytes that are kept up to a limit, so that no more is ever held however much comes.
-use Rattle.std.specs.Prelude.{ℕ, ◌≡◌, ◌==◌, Bool, true, false, not, ◌&&◌, nat_lt, List, [], ◌∷◌, ◌++◌, length, if◌then◌else◌}
+use Rattle.std.specs.Prelude.{ℕ, ◌≡◌, ◌==◌, Bool, true, false, not, ◌&&◌, nat_lt, List, [], ◌∷◌}
+use Rattle.std.specs.Prelude.{◌++◌, length, if◌then◌else◌}
 use Rattle.aide_conf.specs.declared.bounded.Bounded.{Bounded}
 use Rattle.aide_conf.specs.Lines.{is_blank, is_no_blank, bytes_from}
 

@@ -1,5 +1,6 @@
 -- What comes of a text by expansion.
-use Rattle.std.specs.Prelude.{ℕ, ◌≡◌, ◌<◌, ◌≤◌, true, false, nat_lt, List, Option, Some, None, length, Vec}
+use Rattle.std.specs.Prelude.{ℕ, ◌≡◌, ◌<◌, ◌≤◌, true, false, nat_lt, List, Option, Some, None}
+use Rattle.std.specs.Prelude.{length, Vec}
 use Rattle.aide_conf.specs.declared.expansion.Expanded.{Expanded}
 use Rattle.aide_conf.specs.declared.expansion.Expanded.TheVariants.{Skipped, TooLong, Line}
 use Rattle.aide_attr.specs.Table.{Names}
@@ -16,9 +17,11 @@ expanded_by variables text = expansion_after (value_by (values_of variables)) 0 
 -- what a line is whose expansion has these bytes
 abbrev pub IsExpandedLine : {A : Type 0} → List ℕ → Expanded A → Type 0
 IsExpandedLine out Skipped = is_skipped (strip out) ≡ true
-IsExpandedLine out TooLong = (is_skipped (strip out) ≡ false) × (nat_lt longest_line (length (strip out)) ≡ true)
+IsExpandedLine out TooLong = (is_skipped (strip out) ≡ false)
+    × (nat_lt longest_line (length (strip out)) ≡ true)
 IsExpandedLine out (Line bytes) =
-    (bytes.items ≡ strip out) × (is_skipped (strip out) ≡ false) × (nat_lt longest_line (length (strip out)) ≡ false)
+    (bytes.items ≡ strip out) × (is_skipped (strip out) ≡ false)
+    × (nat_lt longest_line (length (strip out)) ≡ false)
 
 -- the value whose expansion has these bytes, where they are not too many
 abbrev pub IsExpandedValue : {A : Type 0} → List ℕ → Option (Vec ℕ A) → Type 0

@@ -43,7 +43,8 @@ use Rattle.aide_conf.specs.declared.setting.Database.TheVariants.{Old, New}
 use Rattle.aide_conf.specs.declared.setting.Switch.{Switch}
 use Rattle.aide_conf.specs.declared.setting.Switch.TheVariants.{Grouped, Summarize, Base16, Quiet}
 use Rattle.aide_conf.specs.declared.setting.AttrList.{AttrList}
-use Rattle.aide_conf.specs.declared.setting.AttrList.TheVariants.{IgnoreAdded, IgnoreRemoved, IgnoreChanged, Force}
+use Rattle.aide_conf.specs.declared.setting.AttrList.TheVariants.{IgnoreAdded, IgnoreRemoved}
+use Rattle.aide_conf.specs.declared.setting.AttrList.TheVariants.{IgnoreChanged, Force}
 use Rattle.aide_conf.specs.declared.pass.Pass.{Pass}
 use Rattle.aide_conf.specs.declared.blocks.Frame.{Frame}
 use Rattle.aide_conf.specs.Lines.{Place}
@@ -145,7 +146,8 @@ IsAnswered fault (Ok u) = fault ≡ None
 IsAnswered fault (Err kind) = (fault ≡ Some kind) ⊎ (kind ≡ Memory)
 
 -- What is taken where this is what a line says, so deep in blocks, and in the second part of the innermost or not.
-abbrev pub TakesReading : {A E : Type 0} → List Marked → ℕ → Bool → Reading → Pass A → Result E ConfFaultKind → Type 0
+abbrev pub TakesReading : {A E : Type 0} → List Marked → ℕ → Bool → Reading → Pass A
+    → Result E ConfFaultKind → Type 0
 TakesReading earlier depth divided r p (Ok u) =
     (v : Option (Result AttrSet ExprFault)) × IsJudgedWell (stands_after earlier) (expression_in r) v
     × (line_fault earlier depth divided r v ≡ None)
@@ -158,7 +160,8 @@ TakesReading earlier depth divided r p (Err kind) =
 -- ---- places
 
 -- what is taken at one place, after which these blocks are open
-abbrev pub TakesOne : {A E : Type 0} → Need → List Marked → Place → Pass A → List Frame → Result E ConfFaultKind → Type 0
+abbrev pub TakesOne : {A E : Type 0} → Need → List Marked → Place → Pass A → List Frame
+    → Result E ConfFaultKind → Type 0
 TakesOne need earlier at p fs (Ok u) =
     (x : Marked) × (x.place ≡ at) × IsMarkedWell earlier x × (fault_at need earlier x ≡ None)
     × StandsFor (earlier ++ x ∷ []) p × IsOpen (seen_in at.text (earlier ++ x ∷ [])) fs
@@ -168,7 +171,8 @@ TakesOne need earlier at p fs (Err kind) =
 
 -- some more places
 abbrev pub Takes : {A : Type 0} → Need → List Marked → List Place → Pass A → Type 0
-Takes need earlier ps p = (xs : List Marked) × (map (λ x. x.place) xs ≡ ps) × AreSound need earlier xs × StandsFor (earlier ++ xs) p
+Takes need earlier ps p = (xs : List Marked) × (map (λ x. x.place) xs ≡ ps)
+    × AreSound need earlier xs × StandsFor (earlier ++ xs) p
 
 -- a fault within them
 pub record Stops (need : Need) (earlier : List Marked) (ps : List Place) (e : ConfFault) : Type 0 where
@@ -180,11 +184,13 @@ pub record Stops (need : Need) (earlier : List Marked) (ps : List Place) (e : Co
   pub text : e.text ≡ at.text
   pub line : e.line ≡ at.number
   pub kind :
-      ((x : Marked) × (x.place ≡ at) × IsMarkedWell (earlier ++ lines) x × (fault_at need (earlier ++ lines) x ≡ Some e.kind))
+      ((x : Marked) × (x.place ≡ at) × IsMarkedWell (earlier ++ lines) x
+      × (fault_at need (earlier ++ lines) x ≡ Some e.kind))
       ⊎ ((e.kind ≡ Memory) × Grows (earlier ++ lines) at)
 
 -- what comes of some more places: all are taken, or a fault stops the pass at one of them
-abbrev pub TakesAll : {A E : Type 0} → Need → List Marked → List Place → Pass A → Result E ConfFault → Type 0
+abbrev pub TakesAll : {A E : Type 0} → Need → List Marked → List Place → Pass A → Result E ConfFault
+    → Type 0
 TakesAll need earlier ps p (Ok u) = Takes need earlier ps p
 TakesAll need earlier ps p (Err e) = Stops need earlier ps e
 
@@ -192,7 +198,8 @@ TakesAll need earlier ps p (Err e) = Stops need earlier ps e
 
 -- the kind of an expression's fault
 abbrev pub IsMisjudged : (List ℕ → Option (Attr → Bool)) → List ℕ → ConfFaultKind → Type 0
-IsMisjudged look text kind = (e : ExprFault) × IsFault look text e × (verdict_fault (Some (Err e)) ≡ Some kind)
+IsMisjudged look text kind = (e : ExprFault) × IsFault look text e
+    × (verdict_fault (Some (Err e)) ≡ Some kind)
 
 -- a group cannot be defined: there are too many, or memory is wanted
 abbrev pub HasNoRoom : {A : Type 0} → List ℕ → Pass A → ConfFaultKind → Type 0

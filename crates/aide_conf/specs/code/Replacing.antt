@@ -1,6 +1,7 @@
--- A plain program that replaces the names of a text by their values.
--- What an expansion is stands in `Expansion`; that the two agree is proved.
-use Rattle.std.specs.Prelude.{ℕ, zero, suc, ◌≡◌, ◌+◌, List, [], ◌∷◌, ◌++◌, codes, length, drop, Option, Some, None, if◌then◌else◌}
+-- A plain program that replaces the names of a text by their values. What an expansion is stands in `Expansion`; that
+-- the two agree is proved.
+use Rattle.std.specs.Prelude.{ℕ, zero, suc, ◌≡◌, ◌+◌, List, [], ◌∷◌, ◌++◌, codes, length, drop}
+use Rattle.std.specs.Prelude.{Option, Some, None, if◌then◌else◌}
 use Rattle.aide_conf.specs.Lines.{bytes_before, bytes_after}
 use Rattle.aide_conf.specs.Reading.{begins}
 use Rattle.aide_conf.specs.Expansion.{is_brace, NoneOpens, NoBrace, IsExpansion}
@@ -15,7 +16,8 @@ abbrev pub expansion_after : (List ℕ → List ℕ) → ℕ → List ℕ → Li
 expansion_after value zero [] = []
 expansion_after value zero (b ∷ bs) =
     if begins (b ∷ bs) (codes "@@{") then ended (bytes_after is_brace (drop 2 bs)) (b ∷ bs)
-    (value (bytes_before is_brace (drop 2 bs)) ++ expansion_after value (length (bytes_before is_brace (drop 2 bs)) + 3) bs)
+    (value (bytes_before is_brace (drop 2 bs))
+    ++ expansion_after value (length (bytes_before is_brace (drop 2 bs)) + 3) bs)
     else b ∷ expansion_after value zero bs
 expansion_after value (suc n) [] = []
 expansion_after value (suc n) (b ∷ bs) = expansion_after value n bs

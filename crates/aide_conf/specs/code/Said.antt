@@ -7,9 +7,11 @@ use Rattle.aide_conf.specs.declared.reading.Said.{Said}
 use Rattle.aide_conf.specs.declared.reading.Said.TheVariants as code
 use Rattle.aide_conf.specs.declared.directive.Directive.{Directive}
 use Rattle.aide_conf.specs.declared.directive.Directive.TheVariants as directive
-use Rattle.aide_conf.specs.Directive.{Item, Define, Undef, IfDef, IfNotDef, IfOther, Else, EndIf, Omitted, Unknown}
+use Rattle.aide_conf.specs.Directive.{Item, Define, Undef, IfDef, IfNotDef, IfOther, Else, EndIf}
+use Rattle.aide_conf.specs.Directive.{Omitted, Unknown}
 use Rattle.aide_conf.specs.Reading.{Reading, Nothing, Faulty}
-use Rattle.aide_conf.specs.Reading.{NamesDatabase, SetsLevel, SetsSwitch, SetsAttributes, EndsOptions, DefinesGroup}
+use Rattle.aide_conf.specs.Reading.{NamesDatabase, SetsLevel, SetsSwitch, SetsAttributes}
+use Rattle.aide_conf.specs.Reading.{EndsOptions, DefinesGroup}
 
 -- the bytes that are borrowed, where some are
 abbrev pub bytes_at : Option (Bor (List ℕ)) → Option (List ℕ)

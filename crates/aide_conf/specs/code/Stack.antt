@@ -2,7 +2,8 @@
 use Rattle.std.specs.Prelude.{◌≡◌, Bool, true, false, not, ◌&&◌, List, [], ◌∷◌, ◌++◌, reverse}
 use Rattle.aide_conf.specs.declared.blocks.Frame.{Frame}
 use Rattle.aide_conf.specs.declared.blocks.Blocks.{Blocks}
-use Rattle.aide_conf.specs.Blocks.{Shape, Opens, Divides, Closes, Single, Seen, opens, divides, Balanced, IsUsedRight}
+use Rattle.aide_conf.specs.Blocks.{Shape, Opens, Divides, Closes, Single, Seen, opens, divides}
+use Rattle.aide_conf.specs.Blocks.{Balanced, IsUsedRight}
 
 -- one is true and the other is not
 abbrev pub differ : Bool → Bool → Bool
@@ -50,15 +51,18 @@ frames_after Single used first fs = fs
 
 -- ---- what the frames stand for
 
--- The lines between an opening line and the line that is read: one part, or one part, a dividing line and more; `second` says which.
+-- The lines between an opening line and the line that is read: one part, or one part, a dividing line and more;
+-- `second` says which.
 abbrev pub Body : Bool → List Seen → Type 0
 Body false w = Balanced w
 Body true w =
-    (ys : List Seen) × (d : Seen) × (zs : List Seen) × (w ≡ ys ++ d ∷ zs) × Balanced ys × (divides d.shape ≡ true) × Balanced zs
+    (ys : List Seen) × (d : Seen) × (zs : List Seen) × (w ≡ ys ++ d ∷ zs) × Balanced ys
+    × (divides d.shape ≡ true) × Balanced zs
 
 -- the lines of a text so far, with their open blocks, the innermost first
 abbrev pub IsOpen : List Seen → List Frame → Type 0
 IsOpen here [] = Balanced here
 IsOpen here (f ∷ fs) =
-    (outer : List Seen) × (o : Seen) × (w : List Seen) × (here ≡ outer ++ o ∷ w) × (opens o.shape ≡ true) × Body f.second w
+    (outer : List Seen) × (o : Seen) × (w : List Seen) × (here ≡ outer ++ o ∷ w)
+    × (opens o.shape ≡ true) × Body f.second w
     × (o.used ≡ f.used) × (o.first ≡ f.first) × IsUsedRight outer o × IsOpen outer fs

@@ -2,8 +2,7 @@
 use aide_attr::{Attr, Known, Level, is_blank, is_group_name, is_word};
 use std::test::Fail;
 
-/// A name with what it is: whether it has the form of one, whether a group may have it, and whether it stands for no
-/// attribute.
+/// A name: whether it has the form of one, whether a group may have it, and whether it stands for no attribute.
 struct Name {
     name: &'static [u8],
     is_word: bool,

@@ -132,8 +132,7 @@ New database: /new
               USEm3ta8sYo=
 ";
 
-/// A level: the line of a configuration that sets it, how often each side is opened, and the parts of the report behind
-/// its head.
+/// A level: the line that sets it in a configuration, how often each side is opened, and the report behind its head.
 pub(super) struct LevelRow {
     pub(super) options: &'static [u8],
     pub(super) openings: u64,

@@ -17,8 +17,7 @@ pub(super) struct Trial<'a> {
     pub(super) openings: u64,
 }
 
-/// What is wrong with a run: how its databases are given, the fault that it is to answer, and how often each side is
-/// opened.
+/// What is wrong with a run: how its databases are given, the fault that it answers, and how often each side is opened.
 #[derive(Clone, Copy)]
 pub(super) struct Wrong<'a> {
     pub(super) old: SidePlan<'a>,

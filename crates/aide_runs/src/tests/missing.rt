@@ -16,8 +16,8 @@ const NO_OLD: &str = "aide: cannot open the old database /old\n";
 
 const NO_NEW: &str = "aide: cannot open the new database /new\n";
 
-/// What stands at the paths of a configuration and two databases, and the error lines and the
-/// status of their comparison, which writes no report.
+/// What stands at the paths of a configuration and two databases, and the error lines and the status of their
+/// comparison, which writes no report.
 struct Row {
     name: &'static str,
     conf: Option<&'static [u8]>,

@@ -40,8 +40,7 @@ pub(super) fn site_of<'a>(
     Ok(site)
 }
 
-/// Runs a session whose standard output is to stay empty, and looks at its error lines and its
-/// status.
+/// Runs a session whose standard output is to stay empty, and looks at its error lines and its status.
 pub(super) fn assert_silent(
     rt: &impl Abort,
     alloc: Global,

@@ -10,4 +10,5 @@ returns-in-Some c =
     take_rest c.args.bytes.now c.in-Some.start ∙ sym (first_parts _ is_no_blank not_in_blanks c.args.bytes.now c.in-Some.start h.0.high h.0.before h.1).1
 
 pub returns-in-None : goal.returns-in-None
-returns-in-None c = c.as_slice.ensures ∙ sym (none_parts _ is_no_blank not_in_blanks c.args.bytes.now c.in-None.ensures).1
+returns-in-None c =
+    c.as_slice.ensures ∙ sym (none_parts _ is_no_blank not_in_blanks c.args.bytes.now c.in-None.ensures).1

@@ -7,4 +7,5 @@ pub returns-in_default : goal.returns-in_default
 returns-in_default c = no_bits c.args.field.now (grind (arith, common_steps))
 
 pub returns : goal.returns
-returns c = c.is_natural.ensures ∙ sym (bits_plainly c.args.field.now _ _ c.in-Some.ensures.cases.0 c.if-first-eq45.false)
+returns c =
+    c.is_natural.ensures ∙ sym (bits_plainly c.args.field.now _ _ c.in-Some.ensures.cases.0 c.if-first-eq45.false)

@@ -12,7 +12,7 @@ returns-then-from-line-clause-all c =
 
 pub returns-in-Some-clause-all : goal.returns-in-Some-clause-all
 returns-in-Some-clause-all c =
-    rw c.in-Some.ensures.put.1 (last_field c.args.line.now (take c.args.count c.args.spanned.now) c.args.from (omega (arith, c.requires.within, c.if-from-line.false)) c.requires.plain c.requires.found).0
+    rw c.in-Some.ensures.added.1 (last_field c.args.line.now (take c.args.count c.args.spanned.now) c.args.from (omega (arith, c.requires.within, c.if-from-line.false)) c.requires.plain c.requires.found).0
 
 pub returns-in-None-clause-many : goal.returns-in-None-clause-many
 returns-in-None-clause-many c =

@@ -5,11 +5,12 @@ use Rattle.aide_db.proofs.SpanLemmas.{blank_passed, run_field, too_many}
 use Rattle.aide_db.proofs.runs.run_ends.Goals as goal
 
 pub returns-then-from-at-clause-found : goal.returns-then-from-at-clause-found
-returns-then-from-at-clause-found c = ap (λ fs. fields_at c.args.line.now (take c.args.count c.args.spanned.now) ++ fs) (sym (ap (λ n. fields (drop n c.args.line.now)) c.if-from-at.true ∙ blank_passed c.args.line.now c.args.at c.requires.short c.requires.blank)) ∙ c.requires.found
+returns-then-from-at-clause-found c =
+    ap (λ fs. fields_at c.args.line.now (take c.args.count c.args.spanned.now) ++ fs) (sym (ap (λ n. fields (drop n c.args.line.now)) c.if-from-at.true ∙ blank_passed c.args.line.now c.args.at c.requires.short c.requires.blank)) ∙ c.requires.found
 
 pub returns-in-Some-clause-found : goal.returns-in-Some-clause-found
 returns-in-Some-clause-found c =
-    rw c.in-Some.ensures.put.1 (run_field c.args.line.now (take c.args.count c.args.spanned.now) c.args.from c.args.at (omega (arith, c.requires.order, c.if-from-at.false)) c.requires.short c.requires.plain c.requires.blank c.requires.found).0
+    rw c.in-Some.ensures.added.1 (run_field c.args.line.now (take c.args.count c.args.spanned.now) c.args.from c.args.at (omega (arith, c.requires.order, c.if-from-at.false)) c.requires.short c.requires.plain c.requires.blank c.requires.found).0
 
 pub returns-in-None-clause-many : goal.returns-in-None-clause-many
 returns-in-None-clause-many c =

@@ -8,7 +8,8 @@ use Rattle.aide_report.specs.RunFaults.{IsLater}
 use Rattle.aide_report.proofs.BoundLemmas.{fits_limit, fits_within, fits_later}
 use Rattle.aide_report.proofs.FaultLemmas.{has_cause, right_later, answer_later, first_later, rose_later}
 use Rattle.aide_report.proofs.FirstFaults.{Runs-exists}
-use Rattle.aide_report.proofs.MissingLemmas.{RunsOver-exists, front_over, hindered_by, later_over, nothing_front, stops_by, stops_hindered, whole_over}
+use Rattle.aide_report.proofs.MissingLemmas.{RunsOver-exists, front_over, hindered_by, later_over, nothing_front}
+use Rattle.aide_report.proofs.MissingLemmas.{stops_by, stops_hindered, whole_over}
 use Rattle.aide_report.proofs.OpeningLemmas.{refused_later, silent_nothing, silent_begun}
 use Rattle.aide_report.proofs.ReportLemmas.{caused_as}
 use Rattle.aide_report.proofs.RunLemmas.{ends_well, ends_early, nothing_early, sections_are}
@@ -16,7 +17,8 @@ use Rattle.aide_report.proofs.SectionsLemmas.{opens_more, opens_then, sections_f
 use Rattle.aide_report.proofs.comparison.run.Goals as goal
 
 pub write_report-requires-clause-digests : goal.write_report-requires-clause-digests
-write_report-requires-clause-digests g c side text told = c.in-Ok.ensures.digests side text (ap (λ bytes. bytes side) (sym c.compare.ensures.same) ∙ told)
+write_report-requires-clause-digests g c side text told =
+    c.in-Ok.ensures.digests side text (ap (λ bytes. bytes side) (sym c.compare.ensures.same) ∙ told)
 
 pub returns-in-Err-clause-cause : goal.returns-in-Err-clause-cause
 returns-in-Err-clause-cause g c =
@@ -34,7 +36,8 @@ returns-in-Ok-write_report-clause-ok g c old new told_old told_new r runs =
     (c.in-Ok-write_report.ensures.sends old new (ap (λ bytes. bytes Old) same ∙ told_old) (ap (λ bytes. bytes New) same ∙ told_new)) r runs)
 
 pub returns-in-Ok-write_report-clause-nothing : goal.returns-in-Ok-write_report-clause-nothing
-returns-in-Ok-write_report-clause-nothing g c side text told unsound = absurd (unsound (c.in-Ok.ensures.sound side text told))
+returns-in-Ok-write_report-clause-nothing g c side text told unsound =
+    absurd (unsound (c.in-Ok.ensures.sound side text told))
 
 pub returns-in-Ok-write_report-clause-opens : goal.returns-in-Ok-write_report-clause-opens
 returns-in-Ok-write_report-clause-opens g c old new told_old told_new =
@@ -61,7 +64,8 @@ returns-in-Err-write_report-clause-part g c old new told_old told_new r runs =
     (c.in-Err-write_report.ensures.sends old new (ap (λ bytes. bytes Old) same ∙ told_old) (ap (λ bytes. bytes New) same ∙ told_new)) r runs
 
 pub returns-in-Err-write_report-clause-nothing : goal.returns-in-Err-write_report-clause-nothing
-returns-in-Err-write_report-clause-nothing g c side text told unsound = absurd (unsound (c.in-Ok.ensures.sound side text told))
+returns-in-Err-write_report-clause-nothing g c side text told unsound =
+    absurd (unsound (c.in-Ok.ensures.sound side text told))
 
 pub returns-in-Err-write_report-clause-right : goal.returns-in-Err-write_report-clause-right
 returns-in-Err-write_report-clause-right g c =
@@ -103,7 +107,8 @@ returns-in-Err-clause-below g c =
     (fits_limit (g.S.Sources.bytes_of c.args.sources.now) c.args.limits c.args.desk.now c.compare.new.desk c.compare.ensures.fits).1
 
 pub returns-in-Err-clause-bound : goal.returns-in-Err-clause-bound
-returns-in-Err-clause-bound g c = fits_within (g.S.Sources.bytes_of c.args.sources.now) c.args.limits c.args.desk.now c.compare.new.desk c.compare.ensures.fits
+returns-in-Err-clause-bound g c =
+    fits_within (g.S.Sources.bytes_of c.args.sources.now) c.args.limits c.args.desk.now c.compare.new.desk c.compare.ensures.fits
 
 pub returns-in-Ok-write_report-clause-peak : goal.returns-in-Ok-write_report-clause-peak
 returns-in-Ok-write_report-clause-peak g c =
@@ -173,19 +178,24 @@ pub returns-in-Err-clause-answered : goal.returns-in-Err-clause-answered
 returns-in-Err-clause-answered g c old new = Runs-exists c.args.limits (asked c.args.task.now) old new c.requires.line
 
 pub returns-in-Ok-write_report-clause-answered : goal.returns-in-Ok-write_report-clause-answered
-returns-in-Ok-write_report-clause-answered g c old new = Runs-exists c.args.limits (asked c.args.task.now) old new c.requires.line
+returns-in-Ok-write_report-clause-answered g c old new =
+    Runs-exists c.args.limits (asked c.args.task.now) old new c.requires.line
 
 pub returns-in-Err-write_report-clause-answered : goal.returns-in-Err-write_report-clause-answered
-returns-in-Err-write_report-clause-answered g c old new = Runs-exists c.args.limits (asked c.args.task.now) old new c.requires.line
+returns-in-Err-write_report-clause-answered g c old new =
+    Runs-exists c.args.limits (asked c.args.task.now) old new c.requires.line
 
 pub returns-in-Err-clause-answered_over : goal.returns-in-Err-clause-answered_over
-returns-in-Err-clause-answered_over g c old new = RunsOver-exists c.args.limits (asked c.args.task.now) old new c.requires.line
+returns-in-Err-clause-answered_over g c old new =
+    RunsOver-exists c.args.limits (asked c.args.task.now) old new c.requires.line
 
 pub returns-in-Ok-write_report-clause-answered_over : goal.returns-in-Ok-write_report-clause-answered_over
-returns-in-Ok-write_report-clause-answered_over g c old new = RunsOver-exists c.args.limits (asked c.args.task.now) old new c.requires.line
+returns-in-Ok-write_report-clause-answered_over g c old new =
+    RunsOver-exists c.args.limits (asked c.args.task.now) old new c.requires.line
 
 pub returns-in-Err-write_report-clause-answered_over : goal.returns-in-Err-write_report-clause-answered_over
-returns-in-Err-write_report-clause-answered_over g c old new = RunsOver-exists c.args.limits (asked c.args.task.now) old new c.requires.line
+returns-in-Err-write_report-clause-answered_over g c old new =
+    RunsOver-exists c.args.limits (asked c.args.task.now) old new c.requires.line
 
 pub returns-in-Err-clause-over : goal.returns-in-Err-clause-over
 returns-in-Err-clause-over g c = λ old new told_old told_new r runs.

@@ -12,8 +12,10 @@ invariant-pass g l = record {
   ready : IsReady l.merge l.desk;
   small : AreBelow l.counts (2 ^ 62 - total_work l.merge);
   limits : (side : Side) → limits_at l.merge side ≡ limits_at l.fn.merge side;
-  stands : (side : Side) (text : List ℕ) → StandsAt g.R.Reel.to_come l.fn.merge l.fn.desk side text → StandsAt g.R.Reel.to_come l.merge l.desk side text;
-  counts : (old new : List ℕ) → StandsAt g.R.Reel.to_come l.fn.merge l.fn.desk Old old → StandsAt g.R.Reel.to_come l.fn.merge l.fn.desk New new
+  stands : (side : Side) (text : List ℕ) → StandsAt g.R.Reel.to_come l.fn.merge l.fn.desk side text
+      → StandsAt g.R.Reel.to_come l.merge l.desk side text;
+  counts : (old new : List ℕ) → StandsAt g.R.Reel.to_come l.fn.merge l.fn.desk Old old
+      → StandsAt g.R.Reel.to_come l.fn.merge l.fn.desk New new
       → Completes l.options l.counts (remaining l.merge l.desk old new) (remaining l.fn.merge l.fn.desk old new);
   room : l.desk.room ≡ l.fn.desk.room;
   fits : FitsAfterBoth g.R.Reel.to_come l.fn.merge l.fn.desk l.desk;

@@ -9,5 +9,6 @@ use Rattle.aide_report.proofs.details.put_details.Goals as goal
 
 pub returns : goal.returns
 unfolding entry_details
-returns g c = wrote_more c.put_newline.ensures (wrote_more (wrote_as (λ i. path_line (c.title.ensures i) (c.path_of.ensures i)) c.put_path_line.ensures)
+returns g c =
+    wrote_more c.put_newline.ensures (wrote_more (wrote_as (λ i. path_line (c.title.ensures i) (c.path_of.ensures i)) c.put_path_line.ensures)
     (wrote_as (shown_as c.args.options.now.base16 (change_of c.args.change).1 (has c.shown_in-shown.result) (shows_at c.args.options.now (change_of c.args.change).1) all_attrs c.shown_in-shown.ensures) c.put_attributes.ensures))

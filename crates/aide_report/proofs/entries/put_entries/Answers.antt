@@ -6,7 +6,8 @@ use Rattle.aide_report.specs.Turn.{change_at}
 use Rattle.aide_report.specs.Merging.{remaining, StandsAt, limits_at}
 use Rattle.aide_report.proofs.BoundLemmas.{fits_further}
 use Rattle.aide_report.proofs.EntriesLemmas.{entries_step, entries_same, entries_end}
-use Rattle.aide_text.proofs.Sheets.{writing_start, writing_more, writing_done, writing_so_far, some_nothing, some_more, some_of}
+use Rattle.aide_text.proofs.Sheets.{writing_start, writing_more, writing_done, writing_so_far, some_nothing, some_more}
+use Rattle.aide_text.proofs.Sheets.{some_of}
 use Rattle.aide_text.specs.Sheet.{Writing}
 use Rattle.aide_text.specs.PenSheet.{sheet}
 use Rattle.aide_report.specs.Sections.{entries_text}

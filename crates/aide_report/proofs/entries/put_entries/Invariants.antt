@@ -14,8 +14,10 @@ invariant-pass g l = record {
   ready : IsReady l.merge l.desk;
   writes_on : l.pen.failed ≡ false;
   limits : (side : Side) → limits_at l.merge side ≡ limits_at l.fn.merge side;
-  stands : (side : Side) (text : List ℕ) → StandsAt g.R.Reel.to_come l.fn.merge l.fn.desk side text → StandsAt g.R.Reel.to_come l.merge l.desk side text;
-  writes : (old new : List ℕ) → StandsAt g.R.Reel.to_come l.fn.merge l.fn.desk Old old → StandsAt g.R.Reel.to_come l.fn.merge l.fn.desk New new
+  stands : (side : Side) (text : List ℕ) → StandsAt g.R.Reel.to_come l.fn.merge l.fn.desk side text
+      → StandsAt g.R.Reel.to_come l.merge l.desk side text;
+  writes : (old new : List ℕ) → StandsAt g.R.Reel.to_come l.fn.merge l.fn.desk Old old
+      → StandsAt g.R.Reel.to_come l.fn.merge l.fn.desk New new
       → Writing (entries_text l.options l.section (remaining l.fn.merge l.fn.desk old new)) (entries_text l.options l.section (remaining l.merge l.desk old new))
       (sheet g.W.Sink.delivered g.W.Sink.failures g.W.Sink.flushes l.fn.out l.fn.pen) (sheet g.W.Sink.delivered g.W.Sink.failures g.W.Sink.flushes l.out l.pen);
   some : WritesSome (sheet g.W.Sink.delivered g.W.Sink.failures g.W.Sink.flushes l.fn.out l.fn.pen) (sheet g.W.Sink.delivered g.W.Sink.failures g.W.Sink.flushes l.out l.pen);

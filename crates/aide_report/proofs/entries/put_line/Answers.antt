@@ -6,4 +6,5 @@ use Rattle.aide_report.proofs.entries.put_line.Goals as goal
 
 pub returns : goal.returns
 unfolding path_line
-returns g c = wrote_more c.put_label.ensures (wrote_as (ap (λ path. colon ++ ended (printed path)) c.path_of.ensures) c.put_path_end.ensures)
+returns g c =
+    wrote_more c.put_label.ensures (wrote_as (ap (λ path. colon ++ ended (printed path)) c.path_of.ensures) c.put_path_end.ensures)

@@ -28,7 +28,8 @@ returns-then-pen-2-clause-writes g c old new told_old told_new =
     part_whole (wrote_more c.put_overview.ensures (wrote_more (c.in-Ok.ensures.writes old new told_old told_new) c.put_databases.ensures))
 
 pub returns-then-pen-2-clause-some : goal.returns-then-pen-2-clause-some
-returns-then-pen-2-clause-some g c = some_more (some_of c.put_overview.ensures) (some_more c.in-Ok.ensures.some (some_of c.put_databases.ensures))
+returns-then-pen-2-clause-some g c =
+    some_more (some_of c.put_overview.ensures) (some_more c.in-Ok.ensures.some (some_of c.put_databases.ensures))
 
 pub returns-clause-writes : goal.returns-clause-writes
 unfolding parts_of
@@ -36,7 +37,8 @@ returns-clause-writes g c old new told_old told_new =
     wrote_more c.put_overview.ensures (wrote_more (c.in-Ok.ensures.writes old new told_old told_new) c.put_databases.ensures)
 
 pub returns-clause-some : goal.returns-clause-some
-returns-clause-some g c = some_more (some_of c.put_overview.ensures) (some_more c.in-Ok.ensures.some (some_of c.put_databases.ensures))
+returns-clause-some g c =
+    some_more (some_of c.put_overview.ensures) (some_more c.in-Ok.ensures.some (some_of c.put_databases.ensures))
 
 pub returns-clause-first : goal.returns-clause-first
 returns-clause-first g c =

@@ -1,7 +1,8 @@
 use Rattle.std.proofs.Common.{◌≡◌, ◌∙◌, ap, true, arith}
 use Rattle.aide_text.specs.Failures.{one_more, Rose}
 use Rattle.aide_report.proofs.AgreementLemmas.{begins, unflushed}
-use Rattle.aide_report.proofs.ReportLemmas.{flushed_whole, flushed_part, flushed_count, never_falls, count_of_pen, written_of_pen, rose_of_pen, caused_as}
+use Rattle.aide_report.proofs.ReportLemmas.{flushed_whole, flushed_part, flushed_count, never_falls, count_of_pen}
+use Rattle.aide_report.proofs.ReportLemmas.{written_of_pen, rose_of_pen, caused_as}
 use Rattle.aide_text.proofs.Sheets.{wrote_part}
 use Rattle.aide_report.proofs.report.write_report.Goals as goal
 

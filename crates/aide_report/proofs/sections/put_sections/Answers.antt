@@ -13,8 +13,10 @@ use Rattle.aide_report.proofs.AgreementLemmas.{none_asked, first_nothing, first_
 use Rattle.aide_report.proofs.OpeningLemmas.{comes_later, refused_later}
 use Rattle.aide_text.specs.Sheet.{Wrote, WritesPart}
 use Rattle.aide_text.specs.declared.section.Section.TheVariants.{AddedEntries}
-use Rattle.aide_report.proofs.SectionsLemmas.{rest_yes, rest_no, rest_end, passed, passed_yes, passed_no, passed_none, passed_all, passed_some, opens_none, opens_more, opens_then}
-use Rattle.aide_text.proofs.Sheets.{writing_start, writing_as, writing_more, writing_part, writing_done, some_nothing, some_more}
+use Rattle.aide_report.proofs.SectionsLemmas.{rest_yes, rest_no, rest_end, passed, passed_yes, passed_no, passed_none}
+use Rattle.aide_report.proofs.SectionsLemmas.{passed_all, passed_some, opens_none, opens_more, opens_then}
+use Rattle.aide_text.proofs.Sheets.{writing_start, writing_as, writing_more, writing_part, writing_done, some_nothing}
+use Rattle.aide_text.proofs.Sheets.{some_more}
 use Rattle.aide_report.proofs.sections.put_sections.Goals as goal
 
 pub loop-section-init : goal.loop-section-init

@@ -20,7 +20,8 @@ invariant-loop-section g l = record {
   reliable_same : g.S.Sources.is_reliable l.sources ≡ g.S.Sources.is_reliable l.fn.sources;
   writes_on : l.pen.failed ≡ false;
   opens : OpensExactly (g.S.Sources.openings l.fn.sources) (g.S.Sources.openings l.sources) (passed (has_entry l.counts) l.asked l.section-index);
-  writes : (old new : List ℕ) → g.S.Sources.bytes_of l.fn.sources Old ≡ Some old → g.S.Sources.bytes_of l.fn.sources New ≡ Some new
+  writes : (old new : List ℕ) → g.S.Sources.bytes_of l.fn.sources Old ≡ Some old
+      → g.S.Sources.bytes_of l.fn.sources New ≡ Some new
       → Writing (flat_map (section_text l.options (pass_of old new)) (filter (has_entry l.counts) l.asked))
       (flat_map (section_text l.options (pass_of old new)) (filter (has_entry l.counts) (drop l.section-index l.asked)))
       (sheet g.W.Sink.delivered g.W.Sink.failures g.W.Sink.flushes l.fn.out l.fn.pen) (sheet g.W.Sink.delivered g.W.Sink.failures g.W.Sink.flushes l.out l.pen);
@@ -29,6 +30,7 @@ invariant-loop-section g l = record {
   never_falls : g.S.Sources.failures l.fn.sources ≤ g.S.Sources.failures l.sources;
   room : l.desk.room ≡ l.fn.desk.room;
   fits : (old_line new_line before : ℕ)
-      → OpensWithin (g.S.Sources.bytes_of l.fn.sources) l.limits Old old_line → OpensWithin (g.S.Sources.bytes_of l.fn.sources) l.limits New new_line
+      → OpensWithin (g.S.Sources.bytes_of l.fn.sources) l.limits Old old_line
+      → OpensWithin (g.S.Sources.bytes_of l.fn.sources) l.limits New new_line
       → Fits old_line new_line before l.fn.desk → Fits old_line new_line before l.desk;
 }

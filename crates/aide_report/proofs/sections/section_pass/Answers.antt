@@ -7,18 +7,21 @@ use Rattle.aide_report.proofs.sections.section_pass.Goals as goal
 
 pub returns-then-pen-clause-writes : goal.returns-then-pen-clause-writes
 unfolding section_text
-returns-then-pen-clause-writes g c old new told_old told_new = part_of_wrote (entries_text c.args.options.now c.args.section (pass_of old new)) c.put_section_head.ensures
+returns-then-pen-clause-writes g c old new told_old told_new =
+    part_of_wrote (entries_text c.args.options.now c.args.section (pass_of old new)) c.put_section_head.ensures
 
 pub returns-in-Ok-clause-writes : goal.returns-in-Ok-clause-writes
 unfolding section_text
-returns-in-Ok-clause-writes g c old new told_old told_new = wrote_more c.put_section_head.ensures (c.in-Ok.ensures.writes old new told_old told_new)
+returns-in-Ok-clause-writes g c old new told_old told_new =
+    wrote_more c.put_section_head.ensures (c.in-Ok.ensures.writes old new told_old told_new)
 
 pub returns-in-Ok-clause-some : goal.returns-in-Ok-clause-some
 returns-in-Ok-clause-some g c = some_more (some_of c.put_section_head.ensures) c.in-Ok.ensures.some
 
 pub returns-in-Err-clause-writes : goal.returns-in-Err-clause-writes
 unfolding section_text
-returns-in-Err-clause-writes g c old new told_old told_new = part_after c.put_section_head.ensures (c.in-Err.ensures.writes old new told_old told_new)
+returns-in-Err-clause-writes g c old new told_old told_new =
+    part_after c.put_section_head.ensures (c.in-Err.ensures.writes old new told_old told_new)
 
 pub returns-in-Err-clause-some : goal.returns-in-Err-clause-some
 returns-in-Err-clause-some g c = some_more (some_of c.put_section_head.ensures) c.in-Err.ensures.some

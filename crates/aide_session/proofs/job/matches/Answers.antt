@@ -22,7 +22,8 @@ unfolding aide_command clap_on_literals
 aide_is_simple = refl
 
 -- an error that is no want of memory comes only where a step fails
-fault_there : (a : App) (v w : List Text) (e : Error) → a ≡ aide_command → v ≡ w → (is_simple_and_free a ≡ true → HasKind (fault_of a v) e)
+fault_there : (a : App) (v w : List Text) (e : Error) → a ≡ aide_command → v ≡ w
+    → (is_simple_and_free a ≡ true → HasKind (fault_of a v) e)
     → (kind_of e ≡ OutOfMemory → ⊥) → fault_of aide_command w ≡ [] → ⊥
 fault_there a v w e is same has kept none =
     let k : HasKind [] e = subst (λ (ks : Kinds). HasKind ks e) (ap₂ fault_of is same ∙ none) (has (ap is_simple_and_free is ∙ aide_is_free)) in
@@ -31,7 +32,8 @@ fault_there a v w e is same has kept none =
       | inr x ↦ x
     ]
 
-matches_there : (a : App) (v w : List Text) (m : ArgMatches) → a ≡ aide_command → v ≡ w → (is_simple_and_free a ≡ true → fault_of a v ≡ [])
+matches_there : (a : App) (v w : List Text) (m : ArgMatches) → a ≡ aide_command → v ≡ w
+    → (is_simple_and_free a ≡ true → fault_of a v ≡ [])
     → HasMatchesOf a v m → (fault_of aide_command w ≡ []) × (rows_of (found_of m) ≡ matches_of aide_command w)
 matches_there a v w m is same none has = (
   sym (ap₂ fault_of is same) ∙ none (ap is_simple_and_free is ∙ aide_is_free),

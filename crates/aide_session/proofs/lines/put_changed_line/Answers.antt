@@ -5,4 +5,5 @@ use Rattle.aide_session.proofs.lines.put_changed_line.Goals as goal
 
 pub returns : goal.returns
 unfolding changed_line
-returns g c = put_more c.put_changed_start.ensures (put_more (put_as _ _ (c.as_bytes.ensures.value ∙ c.side_name.ensures) c.put.ensures) c.put_changed_end.ensures)
+returns g c =
+    put_more c.put_changed_start.ensures (put_more (put_as _ _ (c.as_bytes.ensures.value ∙ c.side_name.ensures) c.put.ensures) c.put_changed_end.ensures)

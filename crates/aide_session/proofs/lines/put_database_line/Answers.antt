@@ -4,4 +4,5 @@ use Rattle.aide_session.proofs.lines.put_database_line.Goals as goal
 
 pub returns : goal.returns
 unfolding database_line
-returns g c = put_more c.put_program_word.ensures (put_more c.put_database_place.ensures (put_more (put_as _ _ c.words.ensures c.put.ensures) (put_more c.put_fault_column.ensures c.put_end_of_line.ensures)))
+returns g c =
+    put_more c.put_program_word.ensures (put_more c.put_database_place.ensures (put_more (put_as _ _ c.words.ensures c.put.ensures) (put_more c.put_fault_column.ensures c.put_end_of_line.ensures)))

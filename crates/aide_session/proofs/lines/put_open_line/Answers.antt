@@ -6,4 +6,5 @@ use Rattle.aide_session.proofs.lines.put_open_line.Goals as goal
 
 pub returns : goal.returns
 unfolding open_line
-returns g c = put_more c.put_open_start.ensures (put_more (put_as _ _ (c.as_bytes.ensures.value ∙ c.side_name.ensures) c.put.ensures) (put_more c.put_database_blank.ensures (put_more (put_as _ _ (ap printed c.as_bytes-2.ensures.value) c.put_path.ensures) c.put_end_of_line.ensures)))
+returns g c =
+    put_more c.put_open_start.ensures (put_more (put_as _ _ (c.as_bytes.ensures.value ∙ c.side_name.ensures) c.put.ensures) (put_more c.put_database_blank.ensures (put_more (put_as _ _ (ap printed c.as_bytes-2.ensures.value) c.put_path.ensures) c.put_end_of_line.ensures)))

@@ -5,4 +5,5 @@ use Rattle.aide_session.proofs.lines.put_skipped_line.Goals as goal
 
 pub returns : goal.returns
 unfolding skipped_line
-returns g c = put_more c.put_program_word.ensures (put_more (put_as _ _ (c.as_bytes.ensures.value ∙ c.side_name.ensures) c.put.ensures) (put_more c.put_column_start.ensures (put_more c.put_number.ensures c.put_skipped_end.ensures)))
+returns g c =
+    put_more c.put_program_word.ensures (put_more (put_as _ _ (c.as_bytes.ensures.value ∙ c.side_name.ensures) c.put.ensures) (put_more c.put_column_start.ensures (put_more c.put_number.ensures c.put_skipped_end.ensures)))

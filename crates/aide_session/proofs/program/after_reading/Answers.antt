@@ -1,7 +1,8 @@
 use Rattle.std.proofs.Common.{◌∙◌, [], sym, refl, true, false, Ok, Err}
 use Rattle.aide_session.specs.Job.{text_of_job}
 use Rattle.aide_session.specs.Lines.{conf_line}
-use Rattle.aide_session.proofs.Closings.{asks_and_reads, closes_bad_config, closes_good_config, closes_starved, reads_same, refused_as}
+use Rattle.aide_session.proofs.Closings.{asks_and_reads, closes_bad_config, closes_good_config, closes_starved}
+use Rattle.aide_session.proofs.Closings.{reads_same, refused_as}
 use Rattle.aide_session.proofs.Endings.{ends_refused, ends_starved}
 use Rattle.aide_session.proofs.PutLemmas.{put_none}
 use Rattle.aide_session.proofs.AnswerSteps.{checked_is, compares_is, fault_is}

@@ -5,7 +5,8 @@ use Rattle.aide_db.specs.declared.side.Side.TheVariants.{Old, New}
 use Rattle.aide_session.specs.Answer.{IsCompared, Named}
 use Rattle.aide_session.specs.Closing.{AsksToCompare, HasText}
 use Rattle.aide_session.specs.Files.{Files}
-use Rattle.aide_session.proofs.Closings.{asks_over, closes_over, closes_starved, old_is_not_new, pointed_texts, same_course, same_options, told_side}
+use Rattle.aide_session.proofs.Closings.{asks_over, closes_over, closes_starved, old_is_not_new, pointed_texts}
+use Rattle.aide_session.proofs.Closings.{same_course, same_options, told_side}
 use Rattle.aide_session.proofs.Endings.{ends_by, ends_starved, failed_later, same_some}
 use Rattle.aide_session.proofs.program.compare.Goals as goal
 

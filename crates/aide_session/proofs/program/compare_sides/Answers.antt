@@ -6,7 +6,8 @@ use Rattle.aide_report.specs.Missing.{RunsOver}
 use Rattle.aide_session.specs.Answer.{limits}
 use Rattle.aide_session.specs.Closing.{bad_run, good_run}
 use Rattle.aide_session.proofs.Closings.{run_cause}
-use Rattle.aide_session.proofs.Endings.{answer_by, compared_by, ends_as, ends_fault, ends_status, ends_well, same_asked, put_paths}
+use Rattle.aide_session.proofs.Endings.{answer_by, compared_by, ends_as, ends_fault, ends_status, ends_well, same_asked}
+use Rattle.aide_session.proofs.Endings.{put_paths}
 use Rattle.aide_session.proofs.program.compare_sides.Goals as goal
 
 pub returns-in-Ok-clause-ends : goal.returns-in-Ok-clause-ends

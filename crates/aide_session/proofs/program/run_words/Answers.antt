@@ -26,4 +26,5 @@ pub returns-in-Err-Memory-clause-ends : goal.returns-in-Err-Memory-clause-ends
 returns-in-Err-Memory-clause-ends g c = λ named a is. ends_starved a named _ _ _ _ _ _ _ c.put_memory_line.ensures
 
 pub returns-in-Err-Memory-clause-closes : goal.returns-in-Err-Memory-clause-closes
-returns-in-Err-Memory-clause-closes g c = closes_starved _ c.args.words.now _ _ _ _ _ _ _ _ c.put_memory_line.ensures refl refl
+returns-in-Err-Memory-clause-closes g c =
+    closes_starved _ c.args.words.now _ _ _ _ _ _ _ _ c.put_memory_line.ensures refl refl

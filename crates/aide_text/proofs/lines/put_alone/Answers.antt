@@ -11,7 +11,8 @@ lines-init g c =
     (writing_more (single_first c.args.name.now c.args.text.now) (writing_start (alone c.args.name.now c.args.text.now) (sheet g.W.Sink.delivered g.W.Sink.failures g.W.Sink.flushes c.args.out.now c.args.pen.now)) c.put_first.ensures)
 
 pub lines-smaller : goal.lines-smaller
-lines-smaller g c = rw c.behind-rest-in-lines.ensures (single_shorter c.lines.rest.now (grind (arith, c.lines-test.ensures)))
+lines-smaller g c =
+    rw c.behind-rest-in-lines.ensures (single_shorter c.lines.rest.now (grind (arith, c.lines-test.ensures)))
 
 pub lines-preserved : goal.lines-preserved
 lines-preserved g c =
@@ -19,4 +20,5 @@ lines-preserved g c =
     (writing_more (single_some c.lines.rest.now (grind (arith, c.lines-test.ensures))) c.lines.invariant c.put_more.ensures)
 
 pub returns : goal.returns
-returns g c = writing_done (single_none c.lines.rest.now (no_length c.lines.rest.now (grind (arith, c.lines-test.ensures)))) c.lines.invariant
+returns g c =
+    writing_done (single_none c.lines.rest.now (no_length c.lines.rest.now (grind (arith, c.lines-test.ensures)))) c.lines.invariant

@@ -7,7 +7,8 @@ use Rattle.aide_text.proofs.Pieces.{later_single}
 use Rattle.aide_text.proofs.lines.put_alone.Given as goal
 
 abbrev pub invariant-lines : goal.invariant-lines
-invariant-lines g l = Writing (alone l.fn.name l.fn.text) (later_single l.rest) (sheet g.W.Sink.delivered g.W.Sink.failures g.W.Sink.flushes l.fn.out l.fn.pen) (sheet g.W.Sink.delivered g.W.Sink.failures g.W.Sink.flushes l.out l.pen)
+invariant-lines g l =
+    Writing (alone l.fn.name l.fn.text) (later_single l.rest) (sheet g.W.Sink.delivered g.W.Sink.failures g.W.Sink.flushes l.fn.out l.fn.pen) (sheet g.W.Sink.delivered g.W.Sink.failures g.W.Sink.flushes l.out l.pen)
 
 abbrev pub decreases-lines : goal.decreases-lines
 decreases-lines g l = length l.rest

@@ -6,4 +6,5 @@ use Rattle.aide_text.proofs.lines.put_padded.Goals as goal
 
 pub returns : goal.returns
 unfolding padded
-returns g c = wrote_more c.put.ensures (wrote_as (c.blanks.ensures ∙ ap (λ n. replicate n 32) c.saturating_sub.ensures) c.put-2.ensures)
+returns g c =
+    wrote_more c.put.ensures (wrote_as (c.blanks.ensures ∙ ap (λ n. replicate n 32) c.saturating_sub.ensures) c.put-2.ensures)

@@ -5,7 +5,8 @@ use Rattle.aide_text.proofs.Sheets.{writing_start, writing_more, writing_done, n
 use Rattle.aide_text.proofs.pen.put_path.Goals as goal
 
 pub bytes-init : goal.bytes-init
-bytes-init g c = writing_start (printed (g.B.Feed.rest c.args.path)) (sheet g.W.Sink.delivered g.W.Sink.failures g.W.Sink.flushes c.args.out.now c.args.pen.now)
+bytes-init g c =
+    writing_start (printed (g.B.Feed.rest c.args.path)) (sheet g.W.Sink.delivered g.W.Sink.failures g.W.Sink.flushes c.args.out.now c.args.pen.now)
 
 pub bytes-preserved : goal.bytes-preserved
 bytes-preserved g c = writing_more (ap printed c.in-Some.ensures) c.bytes.invariant c.put_byte.ensures

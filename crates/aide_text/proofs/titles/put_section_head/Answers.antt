@@ -5,4 +5,5 @@ use Rattle.aide_text.proofs.titles.put_section_head.Goals as goal
 
 pub returns : goal.returns
 unfolding section_head
-returns g c = wrote_more (wrote_as (ap titled c.title.ensures) c.put_titled.ensures) (wrote_as c.gap.ensures c.put.ensures)
+returns g c =
+    wrote_more (wrote_as (ap titled c.title.ensures) c.put_titled.ensures) (wrote_as c.gap.ensures c.put.ensures)

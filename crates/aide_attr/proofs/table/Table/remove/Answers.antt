@@ -4,5 +4,6 @@ use Rattle.aide_attr.proofs.TableLemmas.{remove_name}
 use Rattle.aide_attr.proofs.table.Table.remove.Goals as goal
 
 pub returns : goal.returns
-returns g c = remove_name c.self.inside.values.entries c.remove.new.self.entries c.args.name.now c.remove.ensures.updates.1 c.remove.ensures.updates.3
+returns g c =
+    remove_name c.self.inside.values.entries c.remove.new.self.entries c.args.name.now c.remove.ensures.updates.1 c.remove.ensures.updates.3
     ∙ ap (λ m. remove m c.args.name.now) c.self.view_is

@@ -8,7 +8,8 @@ use Rattle.aide_conf.specs.code.Replacing.{expansion_after}
 use Rattle.aide_conf.specs.Marks.{value}
 use Rattle.aide_conf.specs.Reading.{Faulty, Nothing, OpensBlock, DividesBlock, ClosesBlock}
 use Rattle.aide_conf.specs.code.Stack.{frames_of, top_used, top_divided}
-use Rattle.aide_conf.proofs.Takes.{by_item, nothing, answered_open, answered_other, answered_divide, answered_close, refused_if}
+use Rattle.aide_conf.proofs.Takes.{by_item, nothing, answered_open, answered_other, answered_divide, answered_close}
+use Rattle.aide_conf.proofs.Takes.{refused_if}
 use Rattle.aide_conf.proofs.pass.Pass.take_directive.Goals as goal
 
 pub returns-then-used-clause-taken : goal.returns-then-used-clause-taken

@@ -2,7 +2,8 @@
 use Rattle.std.proofs.Common.{◌≡◌, ℕ, true, false, [], ◌∷◌, Ok, Err, refl, w64}
 use Rattle.std.proofs.raw_atomic.Walks.{proved, leaves}
 use Rattle.std.proofs.VecSteps.Shapes.{after}
-use Rattle.std.proofs.alloc.Calls.{Al, token, Answer, answer_val, Answer-typed, Answer-Ok, Answer-err, Takes, at_takes, Answered, Takes-goes, Takes-gives, answers}
+use Rattle.std.proofs.alloc.Calls.{Al, token, Answer, answer_val, Answer-typed, Answer-Ok, Answer-err, Takes, at_takes}
+use Rattle.std.proofs.alloc.Calls.{Answered, Takes-goes, Takes-gives, answers}
 use mir.Syntax.{Args, Fn, a_type, dnil, dcons}
 use mir.Val.{vint, vptr}
 use mir.MapTy.{inst_fn}
@@ -11,7 +12,8 @@ use prog.Memory.{size, align, capped}
 use contract.BorrowLft.{◌⊑◌, ⊑_trans}
 use contract.Monad.{fact}
 use contract.Running.{tables}
-use types.Kit.{Sq, ‵, raw, ◌⊛◌, some, later, prop, at_ret, ◌$◌, ◌∵◌, !, qed, done, move, keep, drop, use0, use1, use2, split, split3, pick, learn, fsplit, fjoin, await, suffices, group}
+use types.Kit.{Sq, ‵, raw, ◌⊛◌, some, later, prop, at_ret, ◌$◌, ◌∵◌, !, qed, done, move, keep, drop, use0, use1, use2}
+use types.Kit.{split, split3, pick, learn, fsplit, fjoin, await, suffices, group}
 use types.Part.{agg}
 use types.Run.{enter, lit, addr, stop, fld, no_more, and_then, first, branches, skips, exec, returns, returns_within}
 use types.ByLocal.{alloc_all, pass_all, free_all, look_at, get, through, sets, lands_as, env}

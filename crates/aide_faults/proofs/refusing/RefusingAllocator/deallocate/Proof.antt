@@ -13,7 +13,8 @@ use contract.BorrowLft.{◌⊑◌, ⊑_trans}
 use contract.Monad.{fact}
 use contract.Running.{tables}
 use types.Logic.{sem}
-use types.Kit.{‵, raw, ◌⊛◌, later, given, prop, ◌$◌, ◌∵◌, !, qed, done, move, keep, drop, use1, split, split3, learn, fsplit, fjoin, feq_i, await, regoal, suffices, group}
+use types.Kit.{‵, raw, ◌⊛◌, later, given, prop, ◌$◌, ◌∵◌, !, qed, done, move, keep, drop, use1, split, split3, learn}
+use types.Kit.{fsplit, fjoin, feq_i, await, regoal, suffices, group}
 use types.Run.{enter, of_opd, unit_lit, addr, stop, fld, no_more, and_then, returns}
 use types.ByLocal.{alloc_all, pass_all, free_all, look_at, get, through, sets, lands_as}
 use denote.Builtin.{usize, RawPtr, RefOf}
