@@ -13,7 +13,7 @@ use Rattle.aide_conf.specs.Lines.{Place, places_from, places_of, lines_of}
 use Rattle.aide_conf.specs.Marks.{Marked, AreSound, end_fault, fault_at, line_says, missing, path_by, path_in, path_set}
 use Rattle.aide_conf.specs.Marks.{place_fault, says}
 use Rattle.aide_conf.specs.Settings.{Configured}
-use Rattle.aide_conf.proofs.Steps.{last_given-silent}
+use Rattle.aide_conf.proofs.Steps.{last_given-same}
 
 abbrev places_in : List Marked → List Place
 places_in lines = map (λ (x : Marked). x.place) lines
@@ -42,9 +42,9 @@ unfolding fault_at says
 at_end earlier x no_line text sound =
     let here : place_fault Compare earlier x None ≡ None = subst (λ (l : Option (List ℕ)). place_fault Compare earlier x l ≡ None) no_line sound in
     let both = none_missing _ _ (subst (λ t. end_fault Compare t earlier ≡ None) text (no_later _ _ here)) in
-    let silent : (d : Database) → path_in d x ≡ None = λ d. ap (λ (l : Option (List ℕ)). path_by d (line_says l x.used x.expanded)) no_line in (
-      subst IsSome (sym (last_given-silent (path_in Old) earlier x (silent Old))) (some_path (path_set Old earlier) both.0),
-      subst IsSome (sym (last_given-silent (path_in New) earlier x (silent New))) (some_path (path_set New earlier) both.1),
+    let unnamed : (d : Database) → path_in d x ≡ None = λ d. ap (λ (l : Option (List ℕ)). path_by d (line_says l x.used x.expanded)) no_line in (
+      subst IsSome (sym (last_given-same (path_in Old) earlier x (unnamed Old))) (some_path (path_set Old earlier) both.0),
+      subst IsSome (sym (last_given-same (path_in New) earlier x (unnamed New))) (some_path (path_set New earlier) both.1),
     )
 
 -- behind the last text

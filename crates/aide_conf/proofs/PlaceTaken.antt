@@ -36,7 +36,7 @@ use Rattle.aide_conf.specs.code.Pass.{StandsFor, TakesOne, TakesReading, fault_o
 use Rattle.aide_conf.proofs.StackLemmas.{used_right, depth_right, divided_right, single_next, opens_next, divides_next}
 use Rattle.aide_conf.proofs.StackLemmas.{closes_next}
 use Rattle.aide_conf.proofs.ExpansionLemmas.{is_expansion}
-use Rattle.aide_conf.proofs.Stands.{stands_silent}
+use Rattle.aide_conf.proofs.Stands.{stands_same}
 
 -- ---- lines of one text
 
@@ -363,7 +363,7 @@ module _ (need : Need) (earlier : List Marked) (text : ConfText) (n : ℕ) (fs :
     refl,
     well_end,
     fault-end ∙ no_block h ∙ e,
-    stands_silent earlier end_marked p s Nothing says-end
+    stands_same earlier end_marked p s Nothing says-end
         (record { group = refl; fixing = refl; level = refl; switch = λ t. refl; attrs = λ l v. refl; path = λ d. refl }) (record { value = λ m. refl; name = refl }),
     subst (λ z. IsOpen z fs) (sym (seen_in-more text earlier end_marked refl)) (single_next (seen_in text earlier) fs (seen end_marked) o refl),
   )

@@ -34,7 +34,7 @@ use Rattle.aide_attr.specs.Table.{HasRoom, IsFull}
 use Rattle.aide_conf.specs.code.Pass.{StandsFor, TakesReading, IsAnswered, unless_fixed, with_level, with_switch}
 use Rattle.aide_conf.specs.code.Pass.{with_attrs, NamesPath, HasNewGroup, IsMisjudged, HasNoRoom}
 use Rattle.aide_conf.proofs.Steps.{options_tell, options_turn, options_list}
-use Rattle.aide_conf.proofs.Stands.{IsQuiet, SetsNone, stands_silent, stands_set, stands_unset, stands_option}
+use Rattle.aide_conf.proofs.Stands.{SetsOnlyVariables, SetsNone, stands_same, stands_set, stands_unset, stands_option}
 use Rattle.aide_conf.proofs.Stands.{stands_fixed, stands_named, stands_defined, few, many, looks}
 use Rattle.aide_conf.proofs.VariableSteps.{room_left, no_room}
 
@@ -52,7 +52,7 @@ module _ {A : Type 0} (E : Type 0) (earlier : List Marked) (depth : ℕ) (divide
     None,
     refl,
     refl,
-    λ x e w. stands_silent earlier x p s Nothing e
+    λ x e w. stands_same earlier x p s Nothing e
         (record { group = refl; fixing = refl; level = refl; switch = λ t. refl; attrs = λ l v. refl; path = λ d. refl }) (record { value = λ n. refl; name = refl }),
   )
 
@@ -167,13 +167,13 @@ module _ {A : Type 0} (E : Type 0) (earlier : List Marked) (depth : ℕ) (divide
 
   -- ---- blocks
 
-  silent : (r : Reading) → IsQuiet r → SetsNone r → expression_in r ≡ None → (u : E)
+  unchanged : (r : Reading) → SetsOnlyVariables r → SetsNone r → expression_in r ≡ None → (u : E)
       → line_fault earlier depth divided r None ≡ None → Taken r p (Ok u)
-  silent r q n e u f = (None, subst (λ z. IsJudgedWell (stands_after earlier) z None) (sym e) refl, f, λ x h w. stands_silent earlier x p s r h q n)
+  unchanged r q n e u f = (None, subst (λ z. IsJudgedWell (stands_after earlier) z None) (sym e) refl, f, λ x h w. stands_same earlier x p s r h q n)
 
-  answered : (r : Reading) → IsQuiet r → SetsNone r → expression_in r ≡ None → (result : Result E ConfFaultKind)
+  answered : (r : Reading) → SetsOnlyVariables r → SetsNone r → expression_in r ≡ None → (result : Result E ConfFaultKind)
       → IsAnswered (line_fault earlier depth divided r None) result → Taken r p result
-  answered r q n e (Ok u) h = silent r q n e u h
+  answered r q n e (Ok u) h = unchanged r q n e u h
   answered r q n e (Err kind) (inl h) = inl (None, subst (λ z. IsJudgedWell (stands_after earlier) z None) (sym e) refl, h)
   answered r q n e (Err kind) (inr h) = inr h
 

@@ -61,8 +61,8 @@ impl<A: Allocator + Copy> Pass<A> {
         ensures memory { result ≡ Err Memory → is_word name.now ≡ true }
         ensures taken { (earlier : List Marked) (depth : ℕ) (divided : Bool)
             → StandsFor earlier self.old
-            → TakesReading earlier depth divided (set_reading name.now
-            (expansion_after (value earlier) 0 text.now)) self.new result }
+            → TakesReading earlier depth divided
+            (set_reading name.now (expansion_after (value earlier) 0 text.now)) self.new result }
     {
         if !is_word(name) {
             return Err(ConfFaultKind::BadName);
@@ -116,8 +116,8 @@ impl<A: Allocator + Copy> Pass<A> {
             → item_grows (top_used (frames_of blocks.old)) (length (frames_of blocks.old))
             (item directive.entry) ≡ true }
         ensures blocks { (earlier : List Marked) → StandsFor earlier self.old
-            → OnOk result (frames_of blocks.new ≡ frames_after (shape_of (item directive.entry))
-            (top_used (frames_of blocks.old))
+            → OnOk result (frames_of blocks.new
+            ≡ frames_after (shape_of (item directive.entry)) (top_used (frames_of blocks.old))
             (item_chooses (is_defined earlier) (item directive.entry)) (frames_of blocks.old)) }
     {
         let used = blocks.is_used();
@@ -207,8 +207,8 @@ impl<A: Allocator + Copy> Pass<A> {
 
     /// Asks for both databases.
     fn need_databases(&self) -> Result<(), ConfFaultKind>
-        ensures lacks { fault_of result ≡ missing (is_none self.now.old_path)
-            (is_none self.now.new_path) }
+        ensures lacks { fault_of result
+            ≡ missing (is_none self.now.old_path) (is_none self.now.new_path) }
         ensures named { OnOk result (IsSome self.now.old_path × IsSome self.now.new_path) }
     {
         if self.old_path.is_none() {

@@ -1,5 +1,5 @@
 pub mod Failures
-pub mod Counted
+pub mod SinkViews
 pub mod Printed
 pub mod Sent
 pub mod Text

@@ -25,8 +25,8 @@ unfoldable pub indent : List ℕ
 indent = codes "  "
 
 -- what stands behind a name
-unfoldable pub colon : List ℕ
-colon = codes ": "
+unfoldable pub colon_blank : List ℕ
+colon_blank = codes ": "
 
 -- the end of a line
 unfoldable pub empty_line : List ℕ
@@ -34,11 +34,11 @@ empty_line = 10 ∷ []
 
 -- a word, a colon and a path
 unfoldable pub path_line : List ℕ → List ℕ → List ℕ
-path_line word path = word ++ (colon ++ ended (printed path))
+path_line word path = word ++ (colon_blank ++ ended (printed path))
 
 -- the head of a line: a name left in ten columns
 unfoldable pub heading : List ℕ → List ℕ
-heading name = indent ++ (padded 10 name ++ colon)
+heading name = indent ++ (padded 10 name ++ colon_blank)
 
 -- how many pieces of 32 bytes a text has
 abbrev pub piece_count : List ℕ → ℕ

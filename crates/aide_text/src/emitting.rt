@@ -11,8 +11,8 @@ use crate::sink::Sink;
 pub fn emit<W: Sink>(out: &mut W, bytes: &[u8]) -> Result<(), u64>
     ensures ok { OnOk result (Appends (W.delivered out.old) (W.delivered out.new) bytes.now) }
     ensures fewer { IfErr result (λ n. n < length bytes.now) }
-    ensures cut { IfErr result (λ n. Appends (W.delivered out.old) (W.delivered out.new)
-        (take n bytes.now)) }
+    ensures cut { IfErr result (λ n.
+        Appends (W.delivered out.old) (W.delivered out.new) (take n bytes.now)) }
     ensures fault { CountsFault (W.failures out.old) (W.failures out.new) result }
     ensures flushes { W.flushes out.new ≡ W.flushes out.old }
 {
@@ -31,8 +31,8 @@ pub fn emit<W: Sink>(out: &mut W, bytes: &[u8]) -> Result<(), u64>
 pub fn emit_path<W: Sink>(out: &mut W, bytes: &[u8]) -> Result<(), u64>
     ensures ok { OnOk result (Appends (W.delivered out.old) (W.delivered out.new)
         (printed bytes.now)) }
-    ensures cut { IfErr result (IsCut (printed bytes.now) (W.delivered out.old)
-        (W.delivered out.new)) }
+    ensures cut { IfErr result (IsCut (printed bytes.now)
+        (W.delivered out.old) (W.delivered out.new)) }
     ensures fault { CountsFault (W.failures out.old) (W.failures out.new) result }
     ensures flushes { W.flushes out.new ≡ W.flushes out.old }
 {
@@ -50,8 +50,8 @@ fn emit_byte<W: Sink>(out: &mut W, c: u8) -> Result<(), u64>
     ensures ok { OnOk result (Appends (W.delivered out.old) (W.delivered out.new)
         (printed_byte c)) }
     ensures fewer { IfErr result (λ n. n < length (printed_byte c)) }
-    ensures cut { IfErr result (λ n. Appends (W.delivered out.old) (W.delivered out.new)
-        (take n (printed_byte c))) }
+    ensures cut { IfErr result (λ n.
+        Appends (W.delivered out.old) (W.delivered out.new) (take n (printed_byte c))) }
     ensures fault { CountsFault (W.failures out.old) (W.failures out.new) result }
     ensures flushes { W.flushes out.new ≡ W.flushes out.old }
 {

@@ -2,7 +2,7 @@
 
 ghost use Rattle.std.specs.Prelude.{◌≡◌, ◌<◌, ◌≤◌, ◌++◌, ◌∷◌, [], ◌-◌, ℕ, List, length, take, drop};
 ghost use Rattle.std.specs.Prelude.{Some, None};
-ghost use Rattle.aide_text.specs.Feed.{Taken};
+ghost use Rattle.aide_text.specs.Feed.{HandsOut};
 ghost use Rattle.aide_text.specs.Printed.{printed};
 
 use crate::emitting::{needs_escape, octal_escape};
@@ -14,7 +14,7 @@ pub trait Feed: Drop {
 
     /// Hands out the next byte, where there is one.
     fn next_byte(&mut self) -> Option<u8>
-        ensures { Taken result (rest self.old) (rest self.new) };
+        ensures { HandsOut result (rest self.old) (rest self.new) };
 }
 
 /// Bytes as a path is printed.

@@ -2,7 +2,8 @@
 ghost use Rattle.std.specs.Prelude.{◌≡◌, ◌≤◌, replicate, take, drop, if◌then◌else◌, []};
 ghost use Rattle.aide_text.specs.PenSheet.{sheet};
 ghost use Rattle.aide_text.specs.Sheet.{Wrote};
-ghost use Rattle.aide_text.specs.Text.{padded, margin, indent, colon, heading, single_line, alone};
+ghost use Rattle.aide_text.specs.Text.{padded, margin, indent, colon_blank, heading};
+ghost use Rattle.aide_text.specs.Text.{single_line, alone};
 ghost use Rattle.aide_text.specs.Text.{bar, left_part, pair_body, pair_line};
 ghost use Rattle.aide_text.specs.Text.{next_line, has_lines, side_by_side};
 ghost use Rattle.aide_text.specs.PieceText.{piece_text};
@@ -25,8 +26,7 @@ fn blanks(count: usize) -> &'static [u8]
 /// A text, left in a width.
 fn put_padded<W: Sink>(out: &mut W, pen: &mut Pen, width: usize, text: &[u8])
     requires { width ≤ 32 }
-    ensures { Wrote (padded width text.now)
-        (sheet W.delivered W.failures W.flushes out.old pen.old)
+    ensures { Wrote (padded width text.now) (sheet W.delivered W.failures W.flushes out.old pen.old)
         (sheet W.delivered W.failures W.flushes out.new pen.new) }
 {
     put(out, pen, text);
@@ -35,8 +35,7 @@ fn put_padded<W: Sink>(out: &mut W, pen: &mut Pen, width: usize, text: &[u8])
 
 #[tactic(auto, unfolding(crate::specs::Text::margin))]
 fn put_margin<W: Sink>(out: &mut W, pen: &mut Pen)
-    ensures { Wrote margin
-        (sheet W.delivered W.failures W.flushes out.old pen.old)
+    ensures { Wrote margin (sheet W.delivered W.failures W.flushes out.old pen.old)
         (sheet W.delivered W.failures W.flushes out.new pen.new) }
 {
     put(out, pen, b"              ");
@@ -44,17 +43,15 @@ fn put_margin<W: Sink>(out: &mut W, pen: &mut Pen)
 
 #[tactic(auto, unfolding(crate::specs::Text::indent))]
 fn put_indent<W: Sink>(out: &mut W, pen: &mut Pen)
-    ensures { Wrote indent
-        (sheet W.delivered W.failures W.flushes out.old pen.old)
+    ensures { Wrote indent (sheet W.delivered W.failures W.flushes out.old pen.old)
         (sheet W.delivered W.failures W.flushes out.new pen.new) }
 {
     put(out, pen, b"  ");
 }
 
-#[tactic(auto, unfolding(crate::specs::Text::colon))]
+#[tactic(auto, unfolding(crate::specs::Text::colon_blank))]
 fn put_separator<W: Sink>(out: &mut W, pen: &mut Pen)
-    ensures { Wrote colon
-        (sheet W.delivered W.failures W.flushes out.old pen.old)
+    ensures { Wrote colon_blank (sheet W.delivered W.failures W.flushes out.old pen.old)
         (sheet W.delivered W.failures W.flushes out.new pen.new) }
 {
     put(out, pen, b": ");
@@ -62,8 +59,7 @@ fn put_separator<W: Sink>(out: &mut W, pen: &mut Pen)
 
 /// The head of a line: a name left in ten columns.
 fn put_heading<W: Sink>(out: &mut W, pen: &mut Pen, name: &[u8])
-    ensures { Wrote (heading name.now)
-        (sheet W.delivered W.failures W.flushes out.old pen.old)
+    ensures { Wrote (heading name.now) (sheet W.delivered W.failures W.flushes out.old pen.old)
         (sheet W.delivered W.failures W.flushes out.new pen.new) }
 {
     put_indent(out, pen);
@@ -119,8 +115,7 @@ pub(crate) fn put_alone<W: Sink>(out: &mut W, pen: &mut Pen, name: &[u8], text: 
 
 #[tactic(auto, unfolding(crate::specs::Text::bar))]
 fn put_bar<W: Sink>(out: &mut W, pen: &mut Pen)
-    ensures { Wrote bar
-        (sheet W.delivered W.failures W.flushes out.old pen.old)
+    ensures { Wrote bar (sheet W.delivered W.failures W.flushes out.old pen.old)
         (sheet W.delivered W.failures W.flushes out.new pen.new) }
 {
     put(out, pen, b" | ");
@@ -128,8 +123,7 @@ fn put_bar<W: Sink>(out: &mut W, pen: &mut Pen)
 
 /// The old piece left in 32 columns, and what parts it from the new one.
 fn put_left<W: Sink>(out: &mut W, pen: &mut Pen, text: &[u8])
-    ensures { Wrote (left_part text.now)
-        (sheet W.delivered W.failures W.flushes out.old pen.old)
+    ensures { Wrote (left_part text.now) (sheet W.delivered W.failures W.flushes out.old pen.old)
         (sheet W.delivered W.failures W.flushes out.new pen.new) }
 {
     put_padded(out, pen, 32, text);
@@ -197,8 +191,8 @@ fn put_name_line<W: Sink, B: Feed, C: Feed>(
 }
 
 fn put_pieces<W: Sink>(out: &mut W, pen: &mut Pen, more: bool, old_piece: &Piece, new_piece: &Piece)
-    ensures { Wrote (if more then pair_line margin (piece_text old_piece.now)
-        (piece_text new_piece.now) else [])
+    ensures { Wrote (if more
+        then pair_line margin (piece_text old_piece.now) (piece_text new_piece.now) else [])
         (sheet W.delivered W.failures W.flushes out.old pen.old)
         (sheet W.delivered W.failures W.flushes out.new pen.new) }
 {

@@ -15,9 +15,9 @@ pub struct MemorySink<A: Allocator + Copy> {
 }
 
 impl<A: Allocator + Copy> Model for MemorySink<A> {
-    ghost use Rattle.aide_text.specs.Counted.{Kept};
+    ghost use Rattle.aide_text.specs.SinkViews.{MemorySinkView};
 
-    ghost Value = { Kept };
+    ghost Value = { MemorySinkView };
 
     ghost view = { λ sink. record {
       bytes = sink.bytes.items;

@@ -15,8 +15,7 @@ use aide_attr::Level;
 /// The first line: whether the databases differ.
 #[tactic(auto, unfolding(crate::specs::Overview::head_of))]
 fn put_head<W: Sink>(out: &mut W, pen: &mut Pen, differ: bool)
-    ensures { Wrote (head_of differ)
-        (sheet W.delivered W.failures W.flushes out.old pen.old)
+    ensures { Wrote (head_of differ) (sheet W.delivered W.failures W.flushes out.old pen.old)
         (sheet W.delivered W.failures W.flushes out.new pen.new) }
 {
     if differ {
@@ -36,8 +35,7 @@ fn put_head<W: Sink>(out: &mut W, pen: &mut Pen, differ: bool)
 
 #[tactic(auto, unfolding(crate::specs::Overview::summary_title))]
 fn put_summary_title<W: Sink>(out: &mut W, pen: &mut Pen)
-    ensures { Wrote summary_title
-        (sheet W.delivered W.failures W.flushes out.old pen.old)
+    ensures { Wrote summary_title (sheet W.delivered W.failures W.flushes out.old pen.old)
         (sheet W.delivered W.failures W.flushes out.new pen.new) }
 {
     put(out, pen, b"\nSummary:\n");
@@ -73,8 +71,8 @@ fn put_last_numbers<W: Sink>(out: &mut W, pen: &mut Pen, removed: u64, changed: 
 
 /// The numbers of entries.
 fn put_summary<W: Sink>(out: &mut W, pen: &mut Pen, counts: &Counts)
-    ensures { Wrote (summary_of counts.now.total counts.now.added counts.now.removed
-        counts.now.changed)
+    ensures { Wrote (summary_of
+        counts.now.total counts.now.added counts.now.removed counts.now.changed)
         (sheet W.delivered W.failures W.flushes out.old pen.old)
         (sheet W.delivered W.failures W.flushes out.new pen.new) }
 {

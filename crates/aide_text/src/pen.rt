@@ -1,6 +1,6 @@
 //! Writing a report piece by piece.
 ghost use Rattle.std.specs.Prelude.{◌≡◌, ◌++◌, ◌∷◌, [], false, decimal};
-ghost use Rattle.aide_text.specs.Text.{empty_line, colon, ended};
+ghost use Rattle.aide_text.specs.Text.{empty_line, colon_blank, ended};
 ghost use Rattle.aide_text.specs.PenSheet.{sheet};
 ghost use Rattle.aide_text.specs.Printed.{printed, printed_byte};
 ghost use Rattle.aide_text.specs.Sheet.{Wrote};
@@ -33,8 +33,7 @@ impl Pen {
 
 /// Writes these bytes.
 pub fn put<W: Sink>(out: &mut W, pen: &mut Pen, bytes: &[u8])
-    ensures { Wrote bytes.now
-        (sheet W.delivered W.failures W.flushes out.old pen.old)
+    ensures { Wrote bytes.now (sheet W.delivered W.failures W.flushes out.old pen.old)
         (sheet W.delivered W.failures W.flushes out.new pen.new) }
 {
     if pen.failed {
@@ -51,8 +50,7 @@ pub fn put<W: Sink>(out: &mut W, pen: &mut Pen, bytes: &[u8])
 
 /// Writes a byte as it is printed in a path.
 fn put_byte<W: Sink>(out: &mut W, pen: &mut Pen, c: u8)
-    ensures { Wrote (printed_byte c)
-        (sheet W.delivered W.failures W.flushes out.old pen.old)
+    ensures { Wrote (printed_byte c) (sheet W.delivered W.failures W.flushes out.old pen.old)
         (sheet W.delivered W.failures W.flushes out.new pen.new) }
 {
     if needs_escape(c) {
@@ -64,8 +62,7 @@ fn put_byte<W: Sink>(out: &mut W, pen: &mut Pen, c: u8)
 
 /// Writes the bytes of a feed as a path is printed.
 fn put_path<W: Sink, B: Feed>(out: &mut W, pen: &mut Pen, mut path: B)
-    ensures { Wrote (printed (B.rest path))
-        (sheet W.delivered W.failures W.flushes out.old pen.old)
+    ensures { Wrote (printed (B.rest path)) (sheet W.delivered W.failures W.flushes out.old pen.old)
         (sheet W.delivered W.failures W.flushes out.new pen.new) }
 {
     'bytes: while let Some(c) = path.next_byte() {
@@ -75,8 +72,7 @@ fn put_path<W: Sink, B: Feed>(out: &mut W, pen: &mut Pen, mut path: B)
 
 /// Writes a number in decimal.
 pub(crate) fn put_number<W: Sink>(out: &mut W, pen: &mut Pen, number: u64)
-    ensures { Wrote (decimal number)
-        (sheet W.delivered W.failures W.flushes out.old pen.old)
+    ensures { Wrote (decimal number) (sheet W.delivered W.failures W.flushes out.old pen.old)
         (sheet W.delivered W.failures W.flushes out.new pen.new) }
 {
     let mut buffer = Buffer::new();
@@ -86,8 +82,7 @@ pub(crate) fn put_number<W: Sink>(out: &mut W, pen: &mut Pen, number: u64)
 /// Writes the end of a line.
 #[tactic(auto, unfolding(crate::specs::Text::empty_line))]
 pub fn put_newline<W: Sink>(out: &mut W, pen: &mut Pen)
-    ensures { Wrote empty_line
-        (sheet W.delivered W.failures W.flushes out.old pen.old)
+    ensures { Wrote empty_line (sheet W.delivered W.failures W.flushes out.old pen.old)
         (sheet W.delivered W.failures W.flushes out.new pen.new) }
 {
     put(out, pen, b"\n");
@@ -95,18 +90,16 @@ pub fn put_newline<W: Sink>(out: &mut W, pen: &mut Pen)
 
 /// Writes these bytes and the end of the line.
 pub(crate) fn put_ended<W: Sink>(out: &mut W, pen: &mut Pen, bytes: &[u8])
-    ensures { Wrote (ended bytes.now)
-        (sheet W.delivered W.failures W.flushes out.old pen.old)
+    ensures { Wrote (ended bytes.now) (sheet W.delivered W.failures W.flushes out.old pen.old)
         (sheet W.delivered W.failures W.flushes out.new pen.new) }
 {
     put(out, pen, bytes);
     put_newline(out, pen);
 }
 
-#[tactic(auto, unfolding(crate::specs::Text::colon))]
+#[tactic(auto, unfolding(crate::specs::Text::colon_blank))]
 fn put_colon<W: Sink>(out: &mut W, pen: &mut Pen)
-    ensures { Wrote colon
-        (sheet W.delivered W.failures W.flushes out.old pen.old)
+    ensures { Wrote colon_blank (sheet W.delivered W.failures W.flushes out.old pen.old)
         (sheet W.delivered W.failures W.flushes out.new pen.new) }
 {
     put(out, pen, b": ");
@@ -114,7 +107,7 @@ fn put_colon<W: Sink>(out: &mut W, pen: &mut Pen)
 
 /// Writes a colon, a path and the end of the line.
 pub fn put_path_end<W: Sink, B: Feed>(out: &mut W, pen: &mut Pen, path: B)
-    ensures { Wrote (colon ++ ended (printed (B.rest path)))
+    ensures { Wrote (colon_blank ++ ended (printed (B.rest path)))
         (sheet W.delivered W.failures W.flushes out.old pen.old)
         (sheet W.delivered W.failures W.flushes out.new pen.new) }
 {

@@ -49,9 +49,9 @@ pub struct WriteSink<W> {
 }
 
 impl<W> Model for WriteSink<W> {
-    ghost use Rattle.aide_text.specs.Counted.{Counted};
+    ghost use Rattle.aide_text.specs.SinkViews.{WriteSinkView};
 
-    ghost Value = { Counted W };
+    ghost Value = { WriteSinkView W };
 
     ghost view = { λ sink. record {
       device = sink.writer;

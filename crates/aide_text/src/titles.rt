@@ -13,8 +13,7 @@ use crate::sink::Sink;
 
 #[tactic(auto, unfolding(crate::specs::Titles::rule_before))]
 fn put_rule_before<W: Sink>(out: &mut W, pen: &mut Pen)
-    ensures { Wrote rule_before
-        (sheet W.delivered W.failures W.flushes out.old pen.old)
+    ensures { Wrote rule_before (sheet W.delivered W.failures W.flushes out.old pen.old)
         (sheet W.delivered W.failures W.flushes out.new pen.new) }
 {
     put(
@@ -26,8 +25,7 @@ fn put_rule_before<W: Sink>(out: &mut W, pen: &mut Pen)
 
 #[tactic(auto, unfolding(crate::specs::Titles::rule_after))]
 fn put_rule_after<W: Sink>(out: &mut W, pen: &mut Pen)
-    ensures { Wrote rule_after
-        (sheet W.delivered W.failures W.flushes out.old pen.old)
+    ensures { Wrote rule_after (sheet W.delivered W.failures W.flushes out.old pen.old)
         (sheet W.delivered W.failures W.flushes out.new pen.new) }
 {
     put(
@@ -39,8 +37,7 @@ fn put_rule_after<W: Sink>(out: &mut W, pen: &mut Pen)
 
 /// A title between rules.
 pub fn put_titled<W: Sink>(out: &mut W, pen: &mut Pen, title: &[u8])
-    ensures { Wrote (titled title.now)
-        (sheet W.delivered W.failures W.flushes out.old pen.old)
+    ensures { Wrote (titled title.now) (sheet W.delivered W.failures W.flushes out.old pen.old)
         (sheet W.delivered W.failures W.flushes out.new pen.new) }
 {
     put_rule_before(out, pen);
@@ -74,8 +71,7 @@ fn gap(section: Section) -> &'static [u8]
 
 /// The title lines of a section.
 pub fn put_section_head<W: Sink>(out: &mut W, pen: &mut Pen, section: Section)
-    ensures { Wrote (section_head section)
-        (sheet W.delivered W.failures W.flushes out.old pen.old)
+    ensures { Wrote (section_head section) (sheet W.delivered W.failures W.flushes out.old pen.old)
         (sheet W.delivered W.failures W.flushes out.new pen.new) }
 {
     put_titled(out, pen, title(section));
