@@ -12,7 +12,7 @@ use Rattle.std.proofs.lemmas.List.{map-append, get_or-take, take-take, take-appe
 use Rattle.std.proofs.lemmas.List.{length-drop}
 use Rattle.percent_encoding.specs.Percent.{percent_decode, is_escape}
 use Rattle.std.specs.Char.{digit_value}
-use Rattle.aide_db.specs.Path.{path_cmp, rank_of, IsCut}
+use Rattle.aide_db.specs.Path.{path_cmp, rank_of, IsBetweenEscapes}
 use Rattle.aide_db.proofs.PathLemmas.{path_cmp_ranks}
 
 plain_first : (b : ℕ) (r : List ℕ) → (b == 37) ≡ false → percent_decode (b ∷ r) ≡ b ∷ percent_decode r
@@ -22,7 +22,7 @@ plain_first b (h ∷ []) e = refl
 plain_first b (h ∷ l ∷ r) e = rw e refl
 
 -- a text is decoded in two parts where no escape reaches over the cut
-decode_cut : (n : ℕ) (x : List ℕ) → n ≤ length x → IsCut x n
+decode_cut : (n : ℕ) (x : List ℕ) → n ≤ length x → IsBetweenEscapes x n
     → percent_decode x ≡ percent_decode (take n x) ++ percent_decode (drop n x)
 unfolding percent_decode
 decode_cut zero x le cut = refl
@@ -41,7 +41,7 @@ decode_cut (suc (suc (suc n))) (b ∷ h ∷ l ∷ r) le cut =
       | false ↦ ap (λ (t : List ℕ). b ∷ t) more
     ]
 
-cut_same : (x y : List ℕ) (n : ℕ) → n ≤ length x → n ≤ length y → take n x ≡ take n y → IsCut x n → IsCut y n
+cut_same : (x y : List ℕ) (n : ℕ) → n ≤ length x → n ≤ length y → take n x ≡ take n y → IsBetweenEscapes x n → IsBetweenEscapes y n
 cut_same x y n left right same cut k lt near =
     ap (λ (b : ℕ). b == 37) (sym (get_or-take n y k 0 lt) ∙ (ap (λ (t : List ℕ). get_or t k 0) (sym same) ∙ get_or-take n x k 0 lt)) ∙ cut k lt near
 
@@ -52,11 +52,11 @@ behind_front (b ∷ p) x y =
 
 -- the order of two texts is that of what is left of them behind a common front
 pub path_behind : (x y : List ℕ) (n : ℕ) (found : Ordering) → n ≤ length x → n ≤ length y → take n x ≡ take n y
-    → IsCut x n
+    → IsBetweenEscapes x n
     → found ≡ slice_cmp nat_cmp (map rank_of (percent_decode (drop n x))) (map rank_of (percent_decode (drop n y)))
     → found ≡ path_cmp (percent_decode x) (percent_decode y)
 path_behind x y n found left right same cut is =
-    let there : IsCut y n = cut_same x y n left right same cut in
+    let there : IsBetweenEscapes y n = cut_same x y n left right same cut in
     let front = map rank_of (percent_decode (take n x)) in
     let one : map rank_of (percent_decode x) ≡ front ++ map rank_of (percent_decode (drop n x)) = ap (map rank_of) (decode_cut n x left cut) ∙ map-append rank_of (percent_decode (take n x)) (percent_decode (drop n x)) in
     let two : map rank_of (percent_decode y) ≡ front ++ map rank_of (percent_decode (drop n y)) =

@@ -6,6 +6,7 @@ pub mod BlockReaderLemmas
 pub mod BlankLemmas
 pub mod HashLemmas
 pub mod SpanLemmas
+pub mod ShapeLemmas
 pub mod PieceLemmas
 pub mod Front
 pub mod PathLemmas

@@ -28,14 +28,14 @@ plain_front xs n le none = λ k d lt.
     let small : k < n = omega (arith, length-take-le n xs le) in
     subst (λ (x : ℕ). is_newline x ≡ false) (sym (get_or-take n xs k d small ∙ get_or_default xs k d 0 (omega arith))) (not_true (is_newline (get_or xs k 0)) (none k small))
 
-pub piece_some : (ahead near piece : List ℕ) (room at : ℕ) → near ≡ take room ahead
-    → IsFirstByte (is_byte 10) near (Some at) → piece ≡ take at near → IsPiece ahead room piece true
-piece_some ahead near piece room at e f g =
-    let n : length near ≡ min room (length ahead) = ap length e ∙ length-take room ahead in
+pub piece_some : (ahead near piece : List ℕ) (most at : ℕ) → near ≡ take most ahead
+    → IsFirstByte (is_byte 10) near (Some at) → piece ≡ take at near → IsPiece ahead most piece true
+piece_some ahead near piece most at e f g =
+    let n : length near ≡ min most (length ahead) = ap length e ∙ length-take most ahead in
     let small : at < length near = f.0.high in
-    let here : get_or ahead at 0 ≡ 10 = sym (get_or-take room ahead at 0 (omega (arith, n, small))) ∙ (ap (λ xs. get_or xs at 0) (sym e) ∙ eqb-true (get_or near at 0) 10 f.1) in
-    let whole : near ++ drop room ahead ≡ ahead = ap (λ xs. xs ++ drop room ahead) e ∙ take-append-drop room ahead in
-    let front : piece ≡ take at ahead = g ∙ (sym (take-append-le at near (drop room ahead) (omega (arith, small))) ∙ ap (take at) whole) in
+    let here : get_or ahead at 0 ≡ 10 = sym (get_or-take most ahead at 0 (omega (arith, n, small))) ∙ (ap (λ xs. get_or xs at 0) (sym e) ∙ eqb-true (get_or near at 0) 10 f.1) in
+    let whole : near ++ drop most ahead ≡ ahead = ap (λ xs. xs ++ drop most ahead) e ∙ take-append-drop most ahead in
+    let front : piece ≡ take at ahead = g ∙ (sym (take-append-le at near (drop most ahead) (omega (arith, small))) ∙ ap (take at) whole) in
     let count : length piece ≡ at = ap length g ∙ length-take-le at near (omega (arith, small)) in
     let more : drop at ahead ≡ 10 ∷ drop 1 (drop at ahead) = drop_more ahead at 0 (omega (arith, n, small)) ∙ (ap (λ b. b ∷ drop (at + 1) ahead) here ∙ ap (λ xs. 10 ∷ xs) (sym (drop-drop 1 at ahead))) in
     record {
@@ -50,22 +50,22 @@ none_left : (xs : List ℕ) (n : ℕ) → is_filled (drop n xs) ≡ true → n <
 none_left xs n e = elim (cases_lt n (length xs)) [ inl lt ↦ lt | inr ge ↦ let z : is_filled (drop n xs) ≡ false = ap is_filled (drop_all n xs ge) in cc ]
 
 -- the first bytes, so many at most, and the others
-pub near_parts : (ahead near : List ℕ) (room : ℕ) → near ≡ take room ahead → ahead ≡ near ++ drop (length near) ahead
-near_parts ahead near room e =
-    let n : length near ≡ min room (length ahead) = ap length e ∙ length-take room ahead in
+pub near_parts : (ahead near : List ℕ) (most : ℕ) → near ≡ take most ahead → ahead ≡ near ++ drop (length near) ahead
+near_parts ahead near most e =
+    let n : length near ≡ min most (length ahead) = ap length e ∙ length-take most ahead in
     let front : take (length near) ahead ≡ near =
-    elim (cases_lt room (length ahead)) [
-      | inl lt ↦ ap (λ k. take k ahead) (let z : length near ≡ room = omega (arith, n, lt) in z) ∙ sym e
-      | inr ge ↦ ap (λ k. take k ahead) (let z : length near ≡ length ahead = omega (arith, n, ge) in z) ∙ (take_all (length ahead) ahead (omega arith) ∙ (sym (take_all room ahead ge) ∙ sym e))
+    elim (cases_lt most (length ahead)) [
+      | inl lt ↦ ap (λ k. take k ahead) (let z : length near ≡ most = omega (arith, n, lt) in z) ∙ sym e
+      | inr ge ↦ ap (λ k. take k ahead) (let z : length near ≡ length ahead = omega (arith, n, ge) in z) ∙ (take_all (length ahead) ahead (omega arith) ∙ (sym (take_all most ahead ge) ∙ sym e))
     ] in
     sym (ap (λ p. p ++ drop (length near) ahead) (sym front) ∙ take-append-drop (length near) ahead)
 
-pub piece_none : (ahead near : List ℕ) (room : ℕ) → near ≡ take room ahead → IsFirstByte (is_byte 10) near None
-    → IsPiece ahead room near false
-piece_none ahead near room e f =
-    let n : length near ≡ min room (length ahead) = ap length e ∙ length-take room ahead in
+pub piece_none : (ahead near : List ℕ) (most : ℕ) → near ≡ take most ahead → IsFirstByte (is_byte 10) near None
+    → IsPiece ahead most near false
+piece_none ahead near most e f =
+    let n : length near ≡ min most (length ahead) = ap length e ∙ length-take most ahead in
     record {
-      parts = near_parts ahead near room e;
+      parts = near_parts ahead near most e;
       none = subst (λ (p : List ℕ). HasNoNewline p) (take_all (length near) near (omega arith)) (plain_front near (length near) (omega arith) (λ k lt. f k (omega arith) lt));
       short = omega (arith, n);
       newline = λ t. cc;
@@ -87,21 +87,21 @@ gives_more a b c h i j x y =
     record { given = x.given ++ y.given; parts = x.parts ∙ (ap (λ r. x.given ++ r) y.parts ∙ sym (append_assoc x.given y.given c)); hashed = λ m g. subst (Holds256 j) (append_assoc m x.given y.given) (y.hashed (m ++ x.given) (x.hashed m g)) }
 
 -- a piece more of a line, of the bytes ahead
-pub begun_more : (limits : Limits) (bytes line ahead rest left piece : List ℕ) (used used_now room : ℕ) (ends : Bool)
-    → HaveBegun limits bytes used line left used_now → ahead ++ rest ≡ left → IsPiece ahead room piece ends
+pub begun_more : (limits : Limits) (bytes line ahead rest left piece : List ℕ) (used used_now most : ℕ) (ends : Bool)
+    → HaveBegun limits bytes used line left used_now → ahead ++ rest ≡ left → IsPiece ahead most piece ends
     → HaveBegun limits bytes used (line ++ piece) (drop (length piece) ahead ++ rest) (used_now + length piece)
-begun_more limits bytes line ahead rest left piece used used_now room ends h same p = record {
+begun_more limits bytes line ahead rest left piece used used_now most ends h same p = record {
   parts = h.parts ∙ (ap (λ r. line ++ r) (sym same ∙ (ap (λ r. r ++ rest) p.parts ∙ append_assoc piece (drop (length piece) ahead) rest)) ∙ sym (append_assoc line piece (drop (length piece) ahead ++ rest)));
   none = All-append (λ b. is_newline b ≡ false) line piece h.none p.none;
   count = omega (arith, h.count, length-append line piece);
 }
 
 -- a line with too many bytes
-pub begun_too_long : (limits : Limits) (bytes line ahead rest left piece : List ℕ) (used used_now room over : ℕ) (ends : Bool)
-    → HaveBegun limits bytes used line left used_now → ahead ++ rest ≡ left → IsPiece ahead room piece ends
+pub begun_too_long : (limits : Limits) (bytes line ahead rest left piece : List ℕ) (used used_now most over : ℕ) (ends : Bool)
+    → HaveBegun limits bytes used line left used_now → ahead ++ rest ≡ left → IsPiece ahead most piece ends
     → over ≤ length piece → length line + over ≡ limits.line + 1
     → (front : List ℕ) × HaveBegun limits bytes used front (drop over ahead ++ rest) (used_now + over) × (length front ≡ limits.line + 1)
-begun_too_long limits bytes line ahead rest left piece used used_now room over ends h same p le sum =
+begun_too_long limits bytes line ahead rest left piece used used_now most over ends h same p le sum =
     let part : take over ahead ≡ take over piece = ap (take over) p.parts ∙ take-append-le over piece (drop (length piece) ahead) le in
     let cut : ahead ≡ take over piece ++ drop over ahead = sym (ap (λ f. f ++ drop over ahead) (sym part) ∙ take-append-drop over ahead) in
     let count : length (take over piece) ≡ over = length-take-le over piece le in
@@ -128,13 +128,13 @@ filled_length [] e = cc
 filled_length (x ∷ xs) e = omega arith
 
 -- a byte too many behind a piece
-pub begun_too_many : (limits : Limits) (bytes line ahead rest left piece : List ℕ) (used used_now room : ℕ)
-    → HaveBegun limits bytes used line left used_now → ahead ++ rest ≡ left → IsPiece ahead room piece false
+pub begun_too_many : (limits : Limits) (bytes line ahead rest left piece : List ℕ) (used used_now most : ℕ)
+    → HaveBegun limits bytes used line left used_now → ahead ++ rest ≡ left → IsPiece ahead most piece false
     → is_filled (drop (length piece) ahead) ≡ true → length line + length piece ≤ limits.line
-    → used_now + room ≡ limits.bytes
+    → used_now + most ≡ limits.bytes
     → HaveBegun limits bytes used (line ++ piece) (drop (length piece) ahead ++ rest) (used_now + length piece) × (is_filled (drop (length piece) ahead ++ rest) ≡ true) × (length (line ++ piece) ≤ limits.line) × (used_now + length piece ≡ limits.bytes)
-begun_too_many limits bytes line ahead rest left piece used used_now room h same p some short sum =
-    let b = begun_more limits bytes line ahead rest left piece used used_now room false h same p in
+begun_too_many limits bytes line ahead rest left piece used used_now most h same p some short sum =
+    let b = begun_more limits bytes line ahead rest left piece used used_now most false h same p in
     (b, filled_more (drop (length piece) ahead) rest some, omega (arith, short, length-append line piece), omega (arith, p.all refl some, sum))
 
 -- a line that has begun stands at the front
@@ -147,19 +147,19 @@ pub filled_from : (xs ys zs : List ℕ) → false ≡ (length xs == 0) → xs �
 filled_from [] ys zs e f g = cc
 filled_from (x ∷ xs) ys zs e f g = ap is_filled (sym (f ∙ g))
 
-pub piece_length : (ahead piece : List ℕ) (room : ℕ) (ends : Bool) → IsPiece ahead room piece ends
+pub piece_length : (ahead piece : List ℕ) (most : ℕ) (ends : Bool) → IsPiece ahead most piece ends
     → length piece + length (drop (length piece) ahead) ≡ length ahead
-piece_length ahead piece room ends p = sym (ap length p.parts ∙ length-append piece (drop (length piece) ahead))
+piece_length ahead piece most ends p = sym (ap length p.parts ∙ length-append piece (drop (length piece) ahead))
 
-pub near_whole : (ahead near : List ℕ) (room : ℕ) → near ≡ take room ahead → is_filled (drop (length near) ahead) ≡ true
-    → length near ≡ room
-near_whole ahead near room e some =
-    omega (arith, ap length e, length-take room ahead, none_left ahead (length near) some)
+pub near_whole : (ahead near : List ℕ) (most : ℕ) → near ≡ take most ahead → is_filled (drop (length near) ahead) ≡ true
+    → length near ≡ most
+near_whole ahead near most e some =
+    omega (arith, ap length e, length-take most ahead, none_left ahead (length near) some)
 
-pub near_short : (ahead near : List ℕ) (room : ℕ) → near ≡ take room ahead → length near ≤ room
-near_short ahead near room e = omega (arith, ap length e, length-take room ahead)
+pub near_short : (ahead near : List ℕ) (most : ℕ) → near ≡ take most ahead → length near ≤ most
+near_short ahead near most e = omega (arith, ap length e, length-take most ahead)
 
-pub near_length : (ahead near : List ℕ) (room : ℕ) → near ≡ take room ahead
+pub near_length : (ahead near : List ℕ) (most : ℕ) → near ≡ take most ahead
     → length near + length (drop (length near) ahead) ≡ length ahead
-near_length ahead near room e =
-    sym (ap length (near_parts ahead near room e) ∙ length-append near (drop (length near) ahead))
+near_length ahead near most e =
+    sym (ap length (near_parts ahead near most e) ∙ length-append near (drop (length near) ahead))

@@ -20,7 +20,7 @@ pub record HasAccepted (side : Side) (columns : List Column) (old new : DeskView
 
 -- what a judgement leaves of a desk: only an entry changes it
 abbrev pub IsAccepted : Side → List Column → DeskView → DeskView → Judgement → Type 0
-IsAccepted side columns old now (Pass stage after) = now ≡ old
+IsAccepted side columns old now (Pass stage) = now ≡ old
 IsAccepted side columns old now Entry = HasAccepted side columns old now
 IsAccepted side columns old now End = now ≡ old
 IsAccepted side columns old now (Fault kind) = now ≡ old

@@ -11,6 +11,7 @@ pub mod Codes
 pub mod Columns
 pub mod DeskView
 pub mod Desk
+pub mod Alike
 pub mod CursorView
 pub mod TakeLine
 pub mod Cause
@@ -29,6 +30,7 @@ pub mod Answer
 pub mod Drain
 pub mod Piece
 pub mod Spans
+pub mod Shapes
 pub mod Hashed
 pub mod Accept
 pub mod BlockReaderView

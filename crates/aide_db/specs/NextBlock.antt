@@ -26,8 +26,8 @@ after_filled Nothing n = n
 after_filled Failed n = one_more n
 
 -- so many bytes, which stand at the front of the block, have come
-abbrev pub IsFront : ℕ → List ℕ → List ℕ → List ℕ → Type 0
-IsFront count block bytes left = bytes ≡ take count block ++ left
+abbrev pub IsBlockFront : ℕ → List ℕ → List ℕ → List ℕ → Type 0
+IsBlockFront count block bytes left = bytes ≡ take count block ++ left
 
 -- the bytes still to use stay, and none are left where none came
 abbrev pub IsLeft : List ℕ → List ℕ → Filled → Type 0

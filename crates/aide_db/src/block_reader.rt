@@ -3,7 +3,8 @@ ghost use Rattle.sha2.specs.Hashers.{Holds256};
 ghost use Rattle.sha2.specs.Sha256.{sha256};
 ghost use Rattle.std.specs.Prelude.{ℕ, List, true, [], ◌++◌, Some, drop, length, IfOk, OnErr, OnOk};
 ghost use Rattle.std.specs.Prelude.{◌≡◌, ◌<◌, ◌≤◌, ◌==◌};
-ghost use Rattle.aide_db.specs.NextBlock.{IsFilled, IsLeft, Gives, IsAhead, IsFront, after_filled};
+ghost use Rattle.aide_db.specs.NextBlock.{IsFilled, IsLeft, Gives, IsAhead, IsBlockFront};
+ghost use Rattle.aide_db.specs.NextBlock.{after_filled};
 ghost use Rattle.aide_db.specs.Count.{one_more};
 ghost use Rattle.aide_db.specs.Told.{told, tells};
 ghost use Rattle.aide_db.specs.BlockReaderView.{BlockReaderView, left_in};
@@ -162,10 +163,10 @@ impl<R: Reel> BlockReader<R> {
 fn take_front<R: Reel>(reel: &mut R, block: &mut [u8], size: usize) -> Result<usize, DeviceFault>
     requires some { 0 < size }
     requires room { size ≤ length block.old }
-    ensures room { length block.new ≡ length block.old }
+    ensures length { length block.new ≡ length block.old }
     ensures most { IfOk result (λ count. count ≤ size) }
     ensures front { IfOk result (λ count. tells (R.to_come reel.old) ≡ true
-        → IsFront count block.new (told (R.to_come reel.old)) (told (R.to_come reel.new))) }
+        → IsBlockFront count block.new (told (R.to_come reel.old)) (told (R.to_come reel.new))) }
     ensures end { IfOk result (λ count. count ≡ 0 → tells (R.to_come reel.old) ≡ true
         → told (R.to_come reel.old) ≡ []) }
     ensures kept { OnErr result (tells (R.to_come reel.old) ≡ true

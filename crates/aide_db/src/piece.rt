@@ -5,11 +5,11 @@ ghost use Rattle.aide_db.specs.Piece.{IsPiece};
 use memchr::memchr;
 
 /// The first bytes, so many at most.
-pub fn front_of(bytes: &[u8], room: u64) -> &[u8]
-    ensures { result.now ≡ take room bytes.now }
+pub fn front_of(bytes: &[u8], most: u64) -> &[u8]
+    ensures { result.now ≡ take most bytes.now }
 {
-    if bytes.len() as u64 > room {
-        let (front, _) = bytes.split_at(room as usize);
+    if bytes.len() as u64 > most {
+        let (front, _) = bytes.split_at(most as usize);
         front
     } else {
         bytes
@@ -17,10 +17,10 @@ pub fn front_of(bytes: &[u8], room: u64) -> &[u8]
 }
 
 /// The bytes before the first newline, so many at most, and whether a newline stands behind them among so many.
-pub fn first_piece(ahead: &[u8], room: u64) -> (&[u8], bool)
-    ensures { IsPiece ahead.now room result.0.now result.1 }
+pub fn first_piece(ahead: &[u8], most: u64) -> (&[u8], bool)
+    ensures { IsPiece ahead.now most result.0.now result.1 }
 {
-    let near = front_of(ahead, room);
+    let near = front_of(ahead, most);
     match memchr(b'\n', near) {
         Some(at) => {
             let (piece, _) = near.split_at(at);

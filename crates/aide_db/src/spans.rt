@@ -26,7 +26,7 @@ impl Span {
     ghost use Rattle.aide_db.specs.Spans.{field_at};
 
     /// The bytes of this span.
-    fn of<'a>(self, line: &'a [u8]) -> &'a [u8]
+    pub fn of<'a>(self, line: &'a [u8]) -> &'a [u8]
         ensures { result.now ≡ field_at line.now self }
     {
         let start = self.start as usize;
@@ -80,6 +80,14 @@ impl Spans {
         ensures few { result ≤ 64 }
     {
         self.count as usize
+    }
+
+    /// The spans, in their order.
+    pub fn as_slice(&self) -> &[Span]
+        ensures { result.now ≡ spans_in self.now }
+    {
+        let (front, _) = self.spans.split_at(self.count as usize);
+        front
     }
 
     /// Adds a span, where there are fewer than 64.

@@ -8,7 +8,7 @@ ghost use Rattle.aide_attr.specs.Attr.{most_bytes};
 ghost use Rattle.aide_db.specs.Numbers.{mode_of};
 ghost use Rattle.aide_db.specs.Values.{is_nought, type_of_bits, type_of_mode, begins_number};
 ghost use Rattle.aide_db.specs.Values.{time_of, digest_of, link_text};
-ghost use Rattle.aide_db.specs.Values.{link_of, value_of, is_field};
+ghost use Rattle.aide_db.specs.Values.{link_of, value_of};
 ghost use Rattle.aide_db.specs.Attributes.{number_of_type, is_different};
 ghost use Rattle.aide_db.specs.Lent.{IsDecoded, IsDigest, lent_link, differs_by, same_number};
 ghost use Rattle.aide_db.specs.Lent.{same_mode, same_type, same_link_name};
@@ -132,7 +132,8 @@ pub fn read_digest(least: u8, most: u8, field: &[u8], buffer: &mut [u8; 64]) -> 
     }
 }
 
-fn is_digest(least: u8, most: u8, field: &[u8]) -> bool
+/// Whether a field is base64 of so many bytes.
+pub fn is_digest(least: u8, most: u8, field: &[u8]) -> bool
     requires { most ≤ 64 }
     ensures { result ≡ is_some (digest_of least most field.now) }
 {
@@ -178,22 +179,6 @@ pub fn has_value(form: Form, field: &[u8]) -> bool
         Form::Link => true,
         Form::Digest(least, most) => is_digest(least, most, field),
         Form::Opaque => !is_nought(field),
-    }
-}
-
-/// Whether a field has this form.
-pub fn is_field(form: Form, field: &[u8]) -> bool
-    requires { most_bytes form ≤ 64 }
-    ensures { result ≡ is_field form field.now }
-{
-    match form {
-        Form::Kind => is_mode(field),
-        Form::Mode => is_mode(field),
-        Form::Number => is_number(field),
-        Form::Time => is_time(field),
-        Form::Link => true,
-        Form::Digest(least, most) => is_nought(field) || is_digest(least, most, field),
-        Form::Opaque => true,
     }
 }
 

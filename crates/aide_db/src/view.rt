@@ -22,7 +22,7 @@ pub struct View<'a> {
 }
 
 impl<'a> View<'a> {
-    ghost use Rattle.std.specs.Prelude.{◌≡◌, true, is_some, option_map};
+    ghost use Rattle.std.specs.Prelude.{◌≡◌, is_some, option_map};
     ghost use Rattle.std.specs.Option.{option_copied};
     ghost use Rattle.percent_encoding.specs.Iter.{decoded_bytes};
     ghost use Rattle.aide_db.specs.Columns.{columns_in};
@@ -40,15 +40,6 @@ impl<'a> View<'a> {
     {
         let name = name_of(self.columns.as_slice(), self.line, self.spans);
         (name, percent_decode(name))
-    }
-
-    /// Whether two entries are written alike: the same line under the same columns. They have the same values then.
-    pub fn is_alike(&self, other: &View<'_>) -> bool
-        ensures only { result ≡ true → entry_in self.now ≡ entry_in other.now }
-        ensures alike { self.now.line.now ≡ other.now.line.now
-            → columns_in self.now.columns.now ≡ columns_in other.now.columns.now → result ≡ true }
-    {
-        self.line == other.line && self.columns.same(other.columns)
     }
 
     /// The field of an attribute's column, where it counts.
