@@ -21,7 +21,7 @@ use Rattle.aide_report.specs.RunFaults.{IsCaused, IsLater, IsRight, HasPenWritte
 use Rattle.aide_report.specs.declared.entries.PassFault.{PassFault}
 use Rattle.aide_report.specs.declared.entries.PassFault.TheVariants as passes
 use Rattle.aide_text.specs.declared.pen.Pen.{Pen}
-use Rattle.aide_report.specs.Runs.{Report, Runs, IsAnswer, StandsOn, HasCause}
+use Rattle.aide_report.specs.Runs.{Report, Runs, IsRunFault, StandsOn, HasCause}
 use Rattle.aide_report.specs.declared.run_fault.RunFault.{RunFault}
 use Rattle.aide_report.specs.declared.run_fault.RunFault.TheVariants.{Open, Database, Changed, Write}
 use Rattle.aide_report.proofs.FirstFaults.{Runs-unique}
@@ -91,7 +91,7 @@ stands_on rose first TooManyBytes read inside = inside refl
 
 -- why a run fails
 pub has_cause : (limits : Limits) (task : Asked) (bytes_of : Side → Option (List ℕ)) (sources sink : Type 0) (fault : RunFault)
-    → IsCaused sources sink fault → IsAnswer limits task bytes_of fault → IsRight limits bytes_of fault
+    → IsCaused sources sink fault → IsRunFault limits task bytes_of fault → IsRight limits bytes_of fault
     → HasCause fault sources sink
     (λ first. (old new : List ℕ) → bytes_of Old ≡ Some old → bytes_of New ≡ Some new → (r : Result Report DbFault) → Runs limits task old new r → r ≡ Err first)
     (λ side. (text : List ℕ) → bytes_of side ≡ Some text → ⊥)
@@ -139,32 +139,33 @@ pub pass_caused : (sources sink : Type 0) (fault : PassFault) (sent : ℕ)
 pass_caused sources sink (passes.Database fault) sent read write = caused_at sources sink fault read fault.kind
 pass_caused sources sink passes.Write sent read write = write
 
-written_at : (pen : Pen) (fault : DbFault) (kind : DbFaultKind) → HasPenWritten pen (later_by kind fault)
-written_at pen fault LineTooLong = tt
-written_at pen fault NoBegin = tt
-written_at pen fault BadDirective = tt
-written_at pen fault BadSpec = tt
-written_at pen fault NoSpec = tt
-written_at pen fault FieldCount = tt
-written_at pen fault BadName = tt
-written_at pen fault OutOfOrder = tt
-written_at pen fault (BadNumber column) = tt
-written_at pen fault (BadTime column) = tt
-written_at pen fault (BadDigest column) = tt
-written_at pen fault NoEnd = tt
-written_at pen fault Memory = tt
-written_at pen fault Read = tt
-written_at pen fault TooManyBytes = tt
+written_at : (pen : Pen) (fault : DbFault) (kind : DbFaultKind) → pen.failed ≡ false
+    → HasPenWritten pen (later_by kind fault)
+written_at pen fault LineTooLong unfailed = unfailed
+written_at pen fault NoBegin unfailed = unfailed
+written_at pen fault BadDirective unfailed = unfailed
+written_at pen fault BadSpec unfailed = unfailed
+written_at pen fault NoSpec unfailed = unfailed
+written_at pen fault FieldCount unfailed = unfailed
+written_at pen fault BadName unfailed = unfailed
+written_at pen fault OutOfOrder unfailed = unfailed
+written_at pen fault (BadNumber column) unfailed = unfailed
+written_at pen fault (BadTime column) unfailed = unfailed
+written_at pen fault (BadDigest column) unfailed = unfailed
+written_at pen fault NoEnd unfailed = unfailed
+written_at pen fault Memory unfailed = unfailed
+written_at pen fault Read unfailed = unfailed
+written_at pen fault TooManyBytes unfailed = unfailed
 
 pub pass_written : (pen : Pen) (fault : PassFault) → IfWrite (pen.failed ≡ true) fault
-    → HasPenWritten pen (pass_fault_of fault pen.sent)
-pass_written pen (passes.Database fault) write = written_at pen fault fault.kind
-pass_written pen passes.Write write = (write, refl)
+    → IfDatabase (λ _. pen.failed ≡ false) fault → HasPenWritten pen (pass_fault_of fault pen.sent)
+pass_written pen (passes.Database fault) write unfailed = written_at pen fault fault.kind unfailed
+pass_written pen passes.Write write unfailed = (write, refl)
 
 -- ---- a fault after the first readings is no fault of a text
 
 pub answer_later : (limits : Limits) (task : Asked) (bytes_of : Side → Option (List ℕ)) (given : Side → Option (List ℕ)) (fault : RunFault)
-    → IsLater limits given fault → IsAnswer limits task bytes_of fault
+    → IsLater limits given fault → IsRunFault limits task bytes_of fault
 answer_later limits task bytes_of given (Open side) later = tt
 answer_later limits task bytes_of given (Database fault) later = λ old new told_old told_new inside. absurd (true_false (sym later ∙ inside))
 answer_later limits task bytes_of given (Changed side) later = tt

@@ -10,6 +10,7 @@ pub mod Steps
 pub mod StandingLemmas
 pub mod DifferenceLemmas
 pub mod SameEntries
+pub mod AlikeLemmas
 pub mod SideLemmas
 pub mod BoundLemmas
 pub mod CountLemmas

@@ -13,7 +13,7 @@ use Rattle.aide_db.proofs.FaultExists.{sound_or_fault}
 use Rattle.aide_db.proofs.MapLaws.{first_fault_unsound}
 use Rattle.aide_report.specs.Asked.{Asked}
 use Rattle.aide_report.specs.Missing.{TellsSide, RunsOver, HasAnswerOver, IsHindered, SendsFront, SendsWhole, StopsFor}
-use Rattle.aide_report.specs.Missing.{given}
+use Rattle.aide_report.specs.Missing.{run_answer}
 use Rattle.aide_report.specs.RunFaults.{IsCaused, IsFirst, IsLater}
 use Rattle.aide_report.specs.Runs.{Report, Runs, EndsEarly, EndsWell, IsFirstFaultOf, StandsOn}
 use Rattle.aide_report.specs.declared.outcome.Outcome.{Outcome}
@@ -38,7 +38,7 @@ pub RunsOver-exists : (limits : Limits) (wish : Asked) (old new : Option (List �
 RunsOver-exists limits wish None new le = (Err (Open Old), refl)
 RunsOver-exists limits wish (Some old) None le = answer_beside_none limits wish old le
 RunsOver-exists limits wish (Some old) (Some new) le =
-    let run = Runs-exists limits wish old new le in (given run.0, (run.0, run.1, refl))
+    let run = Runs-exists limits wish old new le in (run_answer run.0, (run.0, run.1, refl))
 
 -- the first fault of an old text is the answer
 old_fault : (limits : Limits) (wish : Asked) (old : List ℕ) (new : Option (List ℕ)) (fault : DbFault) (r : Result Report RunFault)
@@ -48,7 +48,7 @@ old_fault limits wish old None fault r first runs = elim runs [
   | inr bad ↦ bad.2 ∙ ap (λ (f : DbFault). Err (Database f)) (same_fault limits Old old bad.0 fault bad.1 first)
 ]
 old_fault limits wish old (Some new) fault r first runs =
-    runs.2 ∙ ap given (Runs-unique limits wish old new runs.0 (Err fault) runs.1 (inl first))
+    runs.2 ∙ ap run_answer (Runs-unique limits wish old new runs.0 (Err fault) runs.1 (inl first))
 
 -- beside a sound old text, a new side that is not there is refused
 new_refused : (limits : Limits) (wish : Asked) (old : List ℕ) (r : Result Report RunFault) → IsSound limits old
@@ -63,7 +63,7 @@ new_fault : (limits : Limits) (wish : Asked) (old new : List ℕ) (fault : DbFau
     → IsSound limits old → IsFirstFaultOf limits New new fault → RunsOver limits wish (Some old) (Some new) r
     → r ≡ Err (Database fault)
 new_fault limits wish old new fault r sound first runs =
-    runs.2 ∙ ap given (Runs-unique limits wish old new runs.0 (Err fault) runs.1 (inr (sound, first)))
+    runs.2 ∙ ap run_answer (Runs-unique limits wish old new runs.0 (Err fault) runs.1 (inr (sound, first)))
 
 pub RunsOver-unique : (limits : Limits) (wish : Asked) (old new : Option (List ℕ)) (r s : Result Report RunFault)
     → RunsOver limits wish old new r → RunsOver limits wish old new s → r ≡ s
@@ -73,7 +73,7 @@ RunsOver-unique limits wish (Some old) None r s a b = elim a [
   | inr bad ↦ bad.2 ∙ sym (old_fault limits wish old None bad.0 s bad.1 b)
 ]
 RunsOver-unique limits wish (Some old) (Some new) r s a b =
-    a.2 ∙ ap given (Runs-unique limits wish old new a.0 b.0 a.1 b.1) ∙ sym b.2
+    a.2 ∙ ap run_answer (Runs-unique limits wish old new a.0 b.0 a.1 b.1) ∙ sym b.2
 
 -- ---- why a run was given up
 
@@ -191,12 +191,12 @@ both_there is_missing old new New = new
 -- ---- what went out
 
 whole_given : (run : Result Report DbFault) (outcome : Outcome) (before after : Option (List ℕ))
-    → EndsWell run outcome before after → SendsWhole (given run) outcome before after
+    → EndsWell run outcome before after → SendsWhole (run_answer run) outcome before after
 whole_given (Ok report) outcome before after well = well
 whole_given (Err fault) outcome before after well = well
 
 front_given : (run : Result Report DbFault) (before after : Option (List ℕ)) → EndsEarly run before after
-    → SendsFront (given run) before after
+    → SendsFront (run_answer run) before after
 front_given (Ok report) before after early = early
 front_given (Err fault) before after early = early
 
@@ -205,7 +205,7 @@ over_texts : (limits : Limits) (wish : Asked) (bytes_of : Side → Option (List 
     → TellsSide (bytes_of Old) (is_missing Old) old → TellsSide (bytes_of New) (is_missing New) new
     → ((side : Side) → is_missing side ≡ false)
     → ((old_text new_text : List ℕ) → bytes_of Old ≡ Some old_text → bytes_of New ≡ Some new_text
-    → (run : Result Report DbFault) → Runs limits wish old_text new_text run → P (given run))
+    → (run : Result Report DbFault) → Runs limits wish old_text new_text run → P (run_answer run))
     → (r : Result Report RunFault) → RunsOver limits wish old new r → P r
 over_texts limits wish bytes_of is_missing None new P told told_new there all r runs =
     absurd (true_false (sym told ∙ there Old))

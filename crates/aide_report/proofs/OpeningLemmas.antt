@@ -14,7 +14,7 @@ use Rattle.aide_db.specs.declared.side.Side.TheVariants.{Old, New}
 use Rattle.aide_report.specs.LaterFault.{later_by}
 use Rattle.aide_report.specs.Openings.{OpensExactly, WasOpened, ComesOpened, IsRefusedIn, IsRefusedThere}
 use Rattle.aide_report.specs.PassFaults.{pass_fault_of}
-use Rattle.aide_report.specs.RunFaults.{IsFirst, IsSilent}
+use Rattle.aide_report.specs.RunFaults.{IsFirst, HasSentNothing}
 use Rattle.aide_report.specs.declared.entries.PassFault.{PassFault}
 use Rattle.aide_report.specs.declared.entries.PassFault.TheVariants as passes
 use Rattle.aide_report.specs.declared.run_fault.RunFault.{RunFault}
@@ -99,7 +99,7 @@ comes_later before middle after n (Write written) is opened = tt
 
 -- where nothing has gone out
 pub silent_nothing : (opened_old opened_new : ℕ) (bytes : Option (List ℕ)) (fault : RunFault)
-    → IsSilent opened_old opened_new bytes bytes fault
+    → HasSentNothing opened_old opened_new bytes bytes fault
 silent_nothing opened_old opened_new bytes (Open side) = λ below twice. Appends-nothing bytes
 silent_nothing opened_old opened_new bytes (Database fault) = λ below twice. Appends-nothing bytes
 silent_nothing opened_old opened_new bytes (Changed side) = λ below twice. Appends-nothing bytes
@@ -113,7 +113,7 @@ silent_opened before middle after old new is opened below twice =
 
 -- once the old side is opened a third time, what has gone out is left open
 pub silent_begun : (before middle after : ℕ) (old new : Option (List ℕ)) (fault : RunFault) → middle ≡ sum_of before 2
-    → ComesOpened middle after fault → IsSilent before after old new fault
+    → ComesOpened middle after fault → HasSentNothing before after old new fault
 silent_begun before middle after old new (Open side) is opened = silent_opened before middle after old new is opened
 silent_begun before middle after old new (Database fault) is opened =
     silent_opened before middle after old new is opened

@@ -1,5 +1,5 @@
 -- From what a pen has written to what a run tells.
-use Rattle.std.proofs.Common.{◌≡◌, ℕ, ◌≤◌, true, false, if◌then◌else◌, List, [], sym, ap, subst, arith}
+use Rattle.std.proofs.Common.{◌≡◌, ◌∙◌, ℕ, ◌≤◌, Bool, true, false, if◌then◌else◌, List, [], refl, sym, ap, subst, arith}
 use Rattle.std.specs.Prelude.{Option}
 use Rattle.std.specs.Io.KnownBytes.{Appends, Keeps}
 use Rattle.std.proofs.lemmas.List.{append-nil}
@@ -8,9 +8,9 @@ use Rattle.aide_report.specs.Entries.{PathChange}
 use Rattle.aide_text.specs.Failures.{Rose}
 use Rattle.aide_report.specs.Report.{Origin, is_silent, parts_of, text_of}
 use Rattle.aide_text.specs.Overview.{differs}
-use Rattle.aide_report.specs.RunFaults.{IsCaused, HasPenWritten, HasWrittenIfAny}
+use Rattle.aide_report.specs.RunFaults.{IsCaused, CountsWriteFault, HasPenWritten, HasWrittenIfAny}
 use Rattle.aide_text.specs.Sent.{SendsPart, IsCounted}
-use Rattle.aide_text.specs.Sheet.{Sheet, Wrote, WritesSome}
+use Rattle.aide_text.specs.Sheet.{Sheet, Wrote, WroteBy, WritesSome}
 use Rattle.aide_text.specs.declared.counts.Counts.{Counts}
 use Rattle.aide_text.specs.declared.pen.Pen.{Pen}
 use Rattle.aide_report.specs.declared.run_fault.RunFault.{RunFault}
@@ -74,3 +74,34 @@ caused_as sources first second (Open side) f p = p
 caused_as sources first second (Database fault) f p = p
 caused_as sources first second (Changed side) f p = tt
 caused_as sources first second (Write written) f p = f p
+
+-- ---- how often the sink has failed
+
+true_false : true ≡ false → ⊥
+true_false e = cc
+
+unfailed_by : (text : List ℕ) (a b : Sheet) (f h : Bool) → f ≡ false → h ≡ false → WroteBy f h text a b
+    → b.failures ≡ a.failures
+unfailed_by text a b true h fresh on p = absurd (true_false fresh)
+unfailed_by text a b false true fresh on p = absurd (true_false on)
+unfailed_by text a b false false fresh on p = p.1
+
+-- where the pen goes on the sink has not failed
+pub unfailed : {a b : Sheet} → a.failed ≡ false → b.failed ≡ false → WritesSome a b → b.failures ≡ a.failures
+unfailed {a} {b} fresh on p = unfailed_by p.text a b a.failed b.failed fresh on p.wrote.as_flags
+
+-- a fault of writing comes with the one failure that the pen has met, and any other with none
+pub counts_of_pen : {a b : Sheet} (pen : Pen) (fault : RunFault) → b.failed ≡ pen.failed → a.failed ≡ false
+    → WritesSome a b → HasPenWritten pen fault → CountsWriteFault a.failures b.failures fault
+counts_of_pen pen (Open side) is fresh p on = unfailed fresh (is ∙ on) p
+counts_of_pen pen (Database fault) is fresh p on = unfailed fresh (is ∙ on) p
+counts_of_pen pen (Changed side) is fresh p on = unfailed fresh (is ∙ on) p
+counts_of_pen pen (Write written) is fresh p wrote = (from_fresh fresh p).4 (is ∙ wrote.0)
+
+-- before anything is written no fault is one of writing
+pub counts_nothing : (sources : Type 0) (n : ℕ) (fault : RunFault) → IsCaused sources ⊥ fault
+    → CountsWriteFault n n fault
+counts_nothing sources n (Open side) p = refl
+counts_nothing sources n (Database fault) p = refl
+counts_nothing sources n (Changed side) p = refl
+counts_nothing sources n (Write written) p = absurd p

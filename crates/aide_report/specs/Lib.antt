@@ -1,5 +1,5 @@
 pub use Rattle.aide_text.specs.Failures
-pub use Rattle.aide_text.specs.Counted
+pub use Rattle.aide_text.specs.SinkViews
 pub use Rattle.aide_text.specs.Printed
 pub use Rattle.aide_text.specs.Sent
 pub use Rattle.aide_text.specs.Text

@@ -11,7 +11,8 @@ use Rattle.aide_db.specs.declared.side.Side.TheVariants.{Old, New}
 use Rattle.aide_report.specs.Compare.{Change}
 use Rattle.aide_report.specs.Held.{ahead, work}
 use Rattle.aide_report.specs.Merged.{merged}
-use Rattle.aide_report.specs.Standing.{Stands, rest_of, left_of, IsUnfailed}
+use Rattle.aide_db.specs.Answer.{Stands}
+use Rattle.aide_report.specs.Standing.{rest_of, left_of, IsUnfailed}
 use Rattle.aide_db.specs.declared.stage.Stage.TheVariants.{Ended as AtEnd}
 use Rattle.aide_report.specs.declared.merge.Held.TheVariants.{Here, Ended}
 use Rattle.aide_report.specs.declared.merge.Merge.{Merge}

@@ -22,9 +22,9 @@ TellsSide bytes is_missing (Some text) = bytes ≡ Some text
 TellsSide bytes is_missing None = is_missing ≡ true
 
 -- the answer over two texts, as a run gives it
-abbrev pub given : Result Report DbFault → Result Report RunFault
-given (Ok report) = Ok report
-given (Err fault) = Err (Database fault)
+abbrev pub run_answer : Result Report DbFault → Result Report RunFault
+run_answer (Ok report) = Ok report
+run_answer (Err fault) = Err (Database fault)
 
 -- The right answer over what stands at both sides: that the old side is not opened, where it is not there; that the new
 -- side is not opened, where it alone is not there and the old text is sound, otherwise the first fault of the old text;
@@ -34,7 +34,7 @@ RunsOver limits asked None new r = r ≡ Err (Open Old)
 RunsOver limits asked (Some old) None r = (IsSound limits old × (r ≡ Err (Open New)))
     ⊎ ((fault : DbFault) × IsFirstFaultOf limits Old old fault × (r ≡ Err (Database fault)))
 RunsOver limits asked (Some old) (Some new) r = (run : Result Report DbFault)
-    × Runs limits asked old new run × (r ≡ given run)
+    × Runs limits asked old new run × (r ≡ run_answer run)
 
 -- there is a right answer
 abbrev pub HasAnswerOver : Limits → Asked → Option (List ℕ) → Option (List ℕ) → Type 0

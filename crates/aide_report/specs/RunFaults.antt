@@ -1,6 +1,8 @@
 -- What the faults of a run say.
 use Rattle.std.specs.Prelude.{◌≡◌, ◌<◌, ◌≤◌, ◌+◌, ◌-◌, ◌^◌, ℕ, Option, Some, List, [], true, ⊤}
+use Rattle.std.specs.Prelude.{false, Result, Ok, Err}
 use Rattle.std.specs.Io.KnownBytes.{Appends}
+use Rattle.aide_db.specs.Count.{one_more}
 use Rattle.aide_db.specs.Database.{IsSound}
 use Rattle.aide_db.specs.Failures.{is_outside}
 use Rattle.aide_db.specs.declared.fault.DbFaultKind.TheVariants.{Read}
@@ -24,10 +26,11 @@ HasWrittenIfAny old new _ = ⊤
 
 -- Where no write failed and the old side was opened at most twice, which is before the report is begun, nothing has
 -- gone out. This speaks of runs in which the count of openings stays below its last value.
-abbrev pub IsSilent : (opened_old opened_new : ℕ) → Option (List ℕ) → Option (List ℕ) → RunFault → Type 0
-IsSilent opened_old opened_new old new (Write written) = ⊤
-IsSilent opened_old opened_new old new _ = opened_new < 2 ^ 64 - 1 → opened_new ≤ opened_old + 2
-    → Appends old new []
+abbrev pub HasSentNothing : (opened_old opened_new : ℕ) → Option (List ℕ) → Option (List ℕ) → RunFault
+    → Type 0
+HasSentNothing opened_old opened_new old new (Write written) = ⊤
+HasSentNothing opened_old opened_new old new _ = opened_new < 2 ^ 64 - 1
+    → opened_new ≤ opened_old + 2 → Appends old new []
 
 -- A side is not opened or not read only where the sources have failed, and a write fails only where the sink has.
 abbrev pub IsCaused : Type 0 → Type 0 → RunFault → Type 0
@@ -52,10 +55,20 @@ IsLater limits bytes_of (Changed side) = (text : List ℕ) → bytes_of side ≡
     → IsSound limits text → ⊥
 IsLater limits bytes_of (Write written) = ⊤
 
--- a write failed, and the pen has the number of bytes that went out
+-- a write failed, and the pen has the number of bytes that went out; otherwise none has failed
 abbrev pub HasPenWritten : Pen → RunFault → Type 0
 HasPenWritten pen (Write written) = (pen.failed ≡ true) × (written ≡ pen.sent)
-HasPenWritten pen _ = ⊤
+HasPenWritten pen _ = pen.failed ≡ false
+
+-- the sink has failed once where the fault is one of writing, and with any other fault not at all
+abbrev pub CountsWriteFault : ℕ → ℕ → RunFault → Type 0
+CountsWriteFault before after (Write written) = after ≡ one_more before
+CountsWriteFault before after _ = after ≡ before
+
+-- the same, and in a good run not at all
+abbrev pub CountsWrites : {T : Type 0} → ℕ → ℕ → Result T RunFault → Type 0
+CountsWrites before after (Ok answer) = after ≡ before
+CountsWrites before after (Err fault) = CountsWriteFault before after fault
 
 -- a fault of the first reading of this side
 abbrev pub IsFirst : Limits → (Side → Option (List ℕ)) → Side → RunFault → Type 0

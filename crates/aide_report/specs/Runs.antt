@@ -66,11 +66,11 @@ abbrev pub HasAnswer : Limits → Asked → List ℕ → List ℕ → Type 0
 HasAnswer limits asked old new = (r : Result Report DbFault) × Runs limits asked old new r
 
 -- a fault of a text is the right answer
-abbrev pub IsAnswer : Limits → Asked → (Side → Option (List ℕ)) → RunFault → Type 0
-IsAnswer limits asked bytes_of (Database fault) = (old new : List ℕ) → bytes_of Old ≡ Some old
+abbrev pub IsRunFault : Limits → Asked → (Side → Option (List ℕ)) → RunFault → Type 0
+IsRunFault limits asked bytes_of (Database fault) = (old new : List ℕ) → bytes_of Old ≡ Some old
     → bytes_of New ≡ Some new
     → is_outside fault.kind ≡ false → Runs limits asked old new (Err fault)
-IsAnswer limits asked bytes_of _ = ⊤
+IsRunFault limits asked bytes_of _ = ⊤
 
 -- the whole of an answer's report has gone out, and its outcome is told
 abbrev pub EndsWell : Result Report DbFault → Outcome → Option (List ℕ) → Option (List ℕ) → Type 0
@@ -90,7 +90,7 @@ StandsOn _ rose first = first
 
 -- why a fault of a run comes
 abbrev pub HasCause : RunFault → Type 0 → Type 0 → (DbFault → Type 0) → (Side → Type 0) → Type 0
-HasCause (Open side) sources sink first silent = sources
-HasCause (Database fault) sources sink first silent = StandsOn fault.kind sources (first fault)
-HasCause (Changed side) sources sink first silent = silent side
-HasCause (Write written) sources sink first silent = sink
+HasCause (Open side) sources sink first untold = sources
+HasCause (Database fault) sources sink first untold = StandsOn fault.kind sources (first fault)
+HasCause (Changed side) sources sink first untold = untold side
+HasCause (Write written) sources sink first untold = sink

@@ -18,9 +18,10 @@ ghost use Rattle.aide_report.specs.Missing.{RunsOver, StopsFor, TellsSide};
 ghost use Rattle.aide_report.specs.Openings.{OpensExactly, OpensAtMost, OpensFirst, IsRefusedThere};
 ghost use Rattle.aide_report.specs.Report.{outcome_by};
 ghost use Rattle.aide_report.specs.Room.{IsNotOfMemory};
-ghost use Rattle.aide_report.specs.RunFaults.{IsCaused, IsRight, IsSilent, HasWrittenIfAny};
+ghost use Rattle.aide_report.specs.RunFaults.{CountsWrites, IsCaused, IsRight, HasSentNothing};
+ghost use Rattle.aide_report.specs.RunFaults.{HasWrittenIfAny};
 ghost use Rattle.aide_report.specs.Runs.{Report, Runs, report_over, openings_over, HasAnswer};
-ghost use Rattle.aide_report.specs.Runs.{IsAnswer, EndsWell, EndsEarly, HasCause};
+ghost use Rattle.aide_report.specs.Runs.{IsRunFault, EndsWell, EndsEarly, HasCause};
 
 use crate::digests::Digests;
 use crate::outcome::Outcome;
@@ -69,28 +70,28 @@ fn compare<S: Sources, A: Allocator + Copy>(
         → S.bytes_of sources.old side ≡ Some text → IsSound limits text) }
     ensures same { S.bytes_of sources.new ≡ S.bytes_of sources.old }
     ensures finding { IfOk result (λ finding. (old new : List ℕ)
-        → S.bytes_of sources.old Side.Old ≡ Some old
-        → S.bytes_of sources.old Side.New ≡ Some new
+        → S.bytes_of sources.old Side.Old ≡ Some old → S.bytes_of sources.old Side.New ≡ Some new
         → IsFinding options.now finding old new) }
     ensures digests { IfOk result (λ finding. AreDigests (S.bytes_of sources.old) finding.digests) }
     ensures right { IfErr result (IsRight limits (S.bytes_of sources.old)) }
-    ensures first { (wish : Asked) → IfErr result (IsAnswer limits wish (S.bytes_of sources.old)) }
-    ensures caused { IfErr result (IsCaused (Rose (S.failures sources.old)
-        (S.failures sources.new)) ⊥) }
+    ensures first { (wish : Asked)
+        → IfErr result (IsRunFault limits wish (S.bytes_of sources.old)) }
+    ensures caused { IfErr result (IsCaused
+        (Rose (S.failures sources.old) (S.failures sources.new)) ⊥) }
     ensures opens { OnOk result (OpensExactly (S.openings sources.old) (S.openings sources.new) 2) }
     ensures opens_some { OpensAtMost (S.openings sources.old) (S.openings sources.new) 2 }
-    ensures opens_first { IfErr result (OpensFirst (S.openings sources.old)
-        (S.openings sources.new)) }
-    ensures refused { IfErr result (IsRefusedThere (S.openings sources.old)
-        (S.openings sources.new)) }
+    ensures opens_first { IfErr result (OpensFirst
+        (S.openings sources.old) (S.openings sources.new)) }
+    ensures refused { IfErr result (IsRefusedThere
+        (S.openings sources.old) (S.openings sources.new)) }
     ensures reliable_same { S.is_reliable sources.new ≡ S.is_reliable sources.old }
     ensures there { OnOk result ((side : Side) → S.is_missing sources.old side ≡ false) }
     ensures over { (wish : Asked) (old new : Option (List ℕ))
         → TellsSide (S.bytes_of sources.old Side.Old) (S.is_missing sources.old Side.Old) old
         → TellsSide (S.bytes_of sources.old Side.New) (S.is_missing sources.old Side.New) new
         → (r : Result Report RunFault) → RunsOver limits wish old new r
-        → IfErr result (StopsFor r (IsHindered old new
-        (Rose (S.failures sources.old) (S.failures sources.new)) ⊥)) }
+        → IfErr result (StopsFor r
+        (IsHindered old new (Rose (S.failures sources.old) (S.failures sources.new)) ⊥)) }
     ensures reliable { S.is_reliable sources.old ≡ true
         → IfErr result (IsOfReliable (S.bytes_of sources.old)) }
     ensures never_falls { S.failures sources.old ≤ S.failures sources.new }
@@ -166,8 +167,7 @@ pub fn run<S: Sources, W: Sink, A: Allocator + Copy>(
     ensures sound { OnOk result ((side : Side) (text : List ℕ)
         → S.bytes_of sources.old side ≡ Some text → IsSound limits text) }
     ensures ok { IfOk result (λ outcome. (old new : List ℕ)
-        → S.bytes_of sources.old Side.Old ≡ Some old
-        → S.bytes_of sources.old Side.New ≡ Some new
+        → S.bytes_of sources.old Side.Old ≡ Some old → S.bytes_of sources.old Side.New ≡ Some new
         → (r : Result Report DbFault) → Runs limits (asked task.now) old new r
         → EndsWell r outcome (W.delivered out.old) (W.delivered out.new)) }
 
@@ -188,22 +188,24 @@ pub fn run<S: Sources, W: Sink, A: Allocator + Copy>(
         → TellsSide (S.bytes_of sources.old Side.New) (S.is_missing sources.old Side.New) new
         → (r : Result Report RunFault) → RunsOver limits (asked task.now) old new r
         → EndsOver r (IsHindered old new (Rose (S.failures sources.old) (S.failures sources.new))
-        (Rose (W.failures out.old) (W.failures out.new))) result (W.delivered out.old)
-        (W.delivered out.new) }
+        (Rose (W.failures out.old) (W.failures out.new)))
+        result (W.delivered out.old) (W.delivered out.new) }
     ensures reliable { S.is_reliable sources.old ≡ true
         → IfErr result (IsOfReliable (S.bytes_of sources.old)) }
 
     // For any sources, also such as tell no bytes: the report begins with the head and the summary of the very outcome
     // that is told, and is these alone where nothing more is wanted. It is flushed once, after its last byte, and after
     // a fault not at all. Before both databases have been read and counted nothing goes out.
-    ensures consistent { IfOk result (λ outcome. IsOfOutcome task.now.options outcome
-        (W.delivered out.old) (W.delivered out.new)) }
+    ensures consistent { IfOk result (λ outcome.
+        IsOfOutcome task.now.options outcome (W.delivered out.old) (W.delivered out.new)) }
     ensures flushed { OnOk result (W.is_flushed out.new ≡ true) }
     ensures flushes { CountsFlush (W.flushes out.old) (W.flushes out.new) result }
-    ensures silent { IfErr result (IsSilent (S.openings sources.old Side.Old)
-        (S.openings sources.new Side.Old) (W.delivered out.old) (W.delivered out.new)) }
+    ensures unsent { IfErr result (HasSentNothing
+        (S.openings sources.old Side.Old) (S.openings sources.new Side.Old)
+        (W.delivered out.old) (W.delivered out.new)) }
 
     // Why a fault comes. A side whose openings agree is never called changed, and a fault of its text is its first one.
+    // A write or a flush that fails is told, and none is tried again.
     ensures cause { IfErr result (λ fault. HasCause fault
         (Rose (S.failures sources.old) (S.failures sources.new))
         (Rose (W.failures out.old) (W.failures out.new))
@@ -212,11 +214,12 @@ pub fn run<S: Sources, W: Sink, A: Allocator + Copy>(
         → (r : Result Report DbFault) → Runs limits (asked task.now) old new r → r ≡ Err first)
         (λ side. (text : List ℕ) → S.bytes_of sources.old side ≡ Some text → ⊥)) }
     ensures right { IfErr result (IsRight limits (S.bytes_of sources.old)) }
-    ensures first { IfErr result (IsAnswer limits (asked task.now) (S.bytes_of sources.old)) }
-    ensures refused { IfErr result (IsRefusedThere (S.openings sources.old)
-        (S.openings sources.new)) }
+    ensures first { IfErr result (IsRunFault limits (asked task.now) (S.bytes_of sources.old)) }
+    ensures refused { IfErr result (IsRefusedThere
+        (S.openings sources.old) (S.openings sources.new)) }
     ensures sources_never_fall { S.failures sources.old ≤ S.failures sources.new }
     ensures sink_never_falls { W.failures out.old ≤ W.failures out.new }
+    ensures sink_fails { CountsWrites (W.failures out.old) (W.failures out.new) result }
 
     // Each side is opened once to be read whole, once to count, and once for each section of entries.
     ensures opens { OnOk result ((old new : List ℕ) → S.bytes_of sources.old Side.Old ≡ Some old
@@ -224,12 +227,12 @@ pub fn run<S: Sources, W: Sink, A: Allocator + Copy>(
         → OpensExactly (S.openings sources.old) (S.openings sources.new)
         (openings_over (asked task.now) old new)) }
     ensures opens_within { (old new : List ℕ) → S.bytes_of sources.old Side.Old ≡ Some old
-        → S.bytes_of sources.old Side.New ≡ Some new
-        → IsSound limits old → IsSound limits new → OpensAtMost (S.openings sources.old)
-        (S.openings sources.new) (openings_over (asked task.now) old new) }
+        → S.bytes_of sources.old Side.New ≡ Some new → IsSound limits old → IsSound limits new
+        → OpensAtMost (S.openings sources.old) (S.openings sources.new)
+        (openings_over (asked task.now) old new) }
     ensures opens_some { OpensAtMost (S.openings sources.old) (S.openings sources.new) 6 }
-    ensures opens_first { IfErr result (OpensFirst (S.openings sources.old)
-        (S.openings sources.new)) }
+    ensures opens_first { IfErr result (OpensFirst
+        (S.openings sources.old) (S.openings sources.new)) }
 
     // The greatest number of bytes ever held on the desk does not fall, and rises at most to three lines as long as the
     // limit. Where each opening gives the same bytes, it rises at most to the longest line of each text and one further
@@ -237,9 +240,8 @@ pub fn run<S: Sources, W: Sink, A: Allocator + Copy>(
     ensures peak { desk.old.peak ≤ desk.new.peak }
     ensures below { desk.new.peak ≤ max desk.old.peak (3 * limits.line) }
     ensures bound { (old new : List ℕ) → S.bytes_of sources.old Side.Old ≡ Some old
-        → S.bytes_of sources.old Side.New ≡ Some new
-        → desk.new.peak ≤ max desk.old.peak (three_lines (longest_line limits old)
-        (longest_line limits new)) }
+        → S.bytes_of sources.old Side.New ≡ Some new → desk.new.peak
+        ≤ max desk.old.peak (three_lines (longest_line limits old) (longest_line limits new)) }
 
     // Where a line fits into the room that was reserved on the desk, memory is never wanted.
     ensures room { desk.new.room ≡ desk.old.room }

@@ -1,7 +1,8 @@
 //! How many entries were added, removed and changed.
 ghost use Rattle.std.specs.Prelude.{◌≡◌, ◌+◌, ◌^◌, ◌<◌, ◌≤◌, [], ◌∷◌, ℕ, List, IfOk, IfErr, OnOk};
-ghost use Rattle.std.specs.Prelude.{count_by};
+ghost use Rattle.std.specs.Prelude.{count_by, Some};
 ghost use Rattle.aide_db.specs.Desk.{desk_entry};
+ghost use Rattle.aide_db.specs.View.{entry_in};
 ghost use Rattle.aide_report.specs.Bound.{FitsAfterBoth};
 ghost use Rattle.aide_report.specs.Changed.{differ_by};
 ghost use Rattle.aide_report.specs.Changes.{is_added, is_removed, is_changed, is_of_new};
@@ -14,7 +15,7 @@ ghost use Rattle.aide_report.specs.Room.{IsNotMemory};
 ghost use Rattle.aide_report.specs.Merging.{remaining, IsReady, IsEnded, StandsAt, limits_at};
 ghost use Rattle.aide_report.specs.Merging.{total_work, reels_failed};
 
-use crate::difference::{differ, shows};
+use crate::difference::{is_changed, shows};
 use crate::merge::{Merge, Turn};
 use aide_conf::Options;
 use aide_db::{DbFault, DbFaultKind, Desk, Reel, Side, View};
@@ -27,6 +28,22 @@ pub(crate) enum Change<'a> {
     Added(View<'a>),
     Removed(View<'a>),
     Common(View<'a>, View<'a>),
+    /// The same entry on both sides, written alike.
+    Alike(View<'a>),
+}
+
+/// What both sides of a desk have at one path.
+fn common<'a, A: Allocator + Copy>(desk: &Desk<A>, old: View<'a>, new: View<'a>) -> Change<'a>
+    requires old { desk_entry Side.Old desk.now ≡ Some (entry_in old) }
+    requires new { desk_entry Side.New desk.now ≡ Some (entry_in new) }
+    ensures { change_at Turn.Both (desk_entry Side.Old desk.now) (desk_entry Side.New desk.now)
+        ≡ change_of result ∷ [] }
+{
+    if desk.is_alike() {
+        Change::Alike(old)
+    } else {
+        Change::Common(old, new)
+    }
 }
 
 /// The change at this turn, as the desk shows it.
@@ -37,7 +54,7 @@ pub(crate) fn change_on<A: Allocator + Copy>(desk: &Desk<A>, turn: Turn) -> Opti
     match (turn, desk.view(Side::Old), desk.view(Side::New)) {
         (Turn::Added, _, Some(new)) => Some(Change::Added(new)),
         (Turn::Removed, Some(old), _) => Some(Change::Removed(old)),
-        (Turn::Both, Some(old), Some(new)) => Some(Change::Common(old, new)),
+        (Turn::Both, Some(old), Some(new)) => Some(common(desk, old, new)),
         _ => None,
     }
 }
@@ -59,18 +76,17 @@ fn add(counts: &mut Counts, change: Change<'_>, options: &Options)
     if shows(change, options) {
         counts.shown += 1;
     }
+    if is_changed(change, &options.ignore) {
+        counts.changed += 1;
+    }
     match change {
         Change::Added(_) => {
             counts.added += 1;
             counts.total += 1;
         }
         Change::Removed(_) => counts.removed += 1,
-        Change::Common(old, new) => {
-            if differ(&old, &new, &options.ignore) {
-                counts.changed += 1;
-            }
-            counts.total += 1;
-        }
+        Change::Common(_, _) => counts.total += 1,
+        Change::Alike(_) => counts.total += 1,
     }
 }
 

@@ -29,8 +29,7 @@ fn put_origin<W: Sink>(
 }
 
 fn put_databases_title<W: Sink>(out: &mut W, pen: &mut Pen)
-    ensures { Wrote databases_title
-        (sheet W.delivered W.failures W.flushes out.old pen.old)
+    ensures { Wrote databases_title (sheet W.delivered W.failures W.flushes out.old pen.old)
         (sheet W.delivered W.failures W.flushes out.new pen.new) }
 {
     put_titled(out, pen, b"The attributes of the databases:");

@@ -54,8 +54,8 @@ fn field_value<'a>(view: &View<'a>, attr: Attr) -> ValueText<Ready, DecodedFeed<
 }
 
 fn digest_value(view: &View<'_>, attr: Attr, base16: bool) -> Ready
-    ensures { ready_rest result ≡ option_text (digest_text base16)
-        (digest_in ((entry_in view.now).1 attr)) }
+    ensures { ready_rest result
+        ≡ option_text (digest_text base16) (digest_in ((entry_in view.now).1 attr)) }
 {
     let mut buffer = [0; 64];
     match view.digest(attr, &mut buffer) {
@@ -97,6 +97,7 @@ fn old_value<'a>(
         Change::Added(_) => ValueText::Short(Ready::of(b"")),
         Change::Removed(old) => value(&old, attr, base16),
         Change::Common(old, _) => value(&old, attr, base16),
+        Change::Alike(both) => value(&both, attr, base16),
     }
 }
 
@@ -113,6 +114,7 @@ fn new_value<'a>(
         Change::Added(new) => value(&new, attr, base16),
         Change::Removed(_) => ValueText::Short(Ready::of(b"")),
         Change::Common(_, new) => value(&new, attr, base16),
+        Change::Alike(both) => value(&both, attr, base16),
     }
 }
 
@@ -194,6 +196,7 @@ fn title(change: Change<'_>) -> &'static [u8]
             None => word(old.kind()),
             Some(kind) => word(Some(kind)),
         },
+        Change::Alike(both) => word(both.kind()),
     }
 }
 

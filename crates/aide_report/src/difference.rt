@@ -7,6 +7,7 @@ ghost use Rattle.aide_db.specs.Attributes.{sides_between};
 ghost use Rattle.aide_db.specs.View.{entry_in};
 ghost use Rattle.aide_report.specs.Changed.{differ_by};
 ghost use Rattle.aide_report.specs.ChangeView.{change_of};
+ghost use Rattle.aide_report.specs.Changes.{is_changed};
 ghost use Rattle.aide_report.specs.Entries.{shows_at, shows_any, shows_alone, letters_of};
 
 use crate::count::Change;
@@ -15,14 +16,23 @@ use aide_conf::Options;
 use aide_db::{View, delta_of};
 
 /// Whether some attribute was changed, added or removed, and is not passed over as such.
-pub(crate) fn differ(old: &View<'_>, new: &View<'_>, ignore: &Ignore) -> bool
+fn differ(old: &View<'_>, new: &View<'_>, ignore: &Ignore) -> bool
     ensures { result ≡ differ_by ignore.now (entry_in old.now).1 (entry_in new.now).1 }
 {
-    if old.is_alike(new) {
-        return false;
-    }
     let reported = reported(&delta_of(old, new), ignore);
     !reported.is_empty()
+}
+
+/// Whether both sides have the entry of a change, and these differ.
+pub(crate) fn is_changed(change: Change<'_>, ignore: &Ignore) -> bool
+    ensures { result ≡ is_changed (differ_by ignore.now) (change_of change.entry) }
+{
+    match change {
+        Change::Added(_) => false,
+        Change::Removed(_) => false,
+        Change::Common(old, new) => differ(&old, &new, ignore),
+        Change::Alike(_) => false,
+    }
 }
 
 /// Whether the details of an entry that one side alone has are shown.
@@ -36,8 +46,8 @@ fn shows_alone(level: Level) -> bool
 }
 
 fn alone_in(view: &View<'_>, level: Level) -> AttrSet
-    ensures { (attr : Attr) → has result attr ≡ (shows_alone level
-        && is_some ((entry_in view.now).1 attr)) }
+    ensures { (attr : Attr)
+        → has result attr ≡ (shows_alone level && is_some ((entry_in view.now).1 attr)) }
 {
     if shows_alone(level) {
         view.attrs()
@@ -48,25 +58,23 @@ fn alone_in(view: &View<'_>, level: Level) -> AttrSet
 
 /// The attributes that the details of two entries of one path show.
 fn shown_between(old: &View<'_>, new: &View<'_>, options: &Options) -> AttrSet
-    ensures { (attr : Attr) → has result attr ≡
-        is_shown (sides_between (entry_in old.now).1 (entry_in new.now).1) options.now.ignore
-        options.now.level attr }
+    ensures { (attr : Attr) → has result attr
+        ≡ is_shown (sides_between (entry_in old.now).1 (entry_in new.now).1)
+        options.now.ignore options.now.level attr }
 {
-    if old.is_alike(new) {
-        return AttrSet::empty();
-    }
     shown(&delta_of(old, new), &options.ignore, options.level)
 }
 
 /// The attributes that the details of a change show.
 pub(crate) fn shown_in(change: Change<'_>, options: &Options) -> AttrSet
-    ensures { (attr : Attr) → has result attr ≡ shows_at options.now
-        (change_of change.entry).1 attr }
+    ensures { (attr : Attr)
+        → has result attr ≡ shows_at options.now (change_of change.entry).1 attr }
 {
     match change {
         Change::Added(new) => alone_in(&new, options.level),
         Change::Removed(old) => alone_in(&old, options.level),
         Change::Common(old, new) => shown_between(&old, &new, options),
+        Change::Alike(_) => AttrSet::empty(),
     }
 }
 
@@ -85,5 +93,6 @@ pub(crate) fn letters(change: Change<'_>, ignore: &Ignore) -> [u8; 18]
         Change::Added(new) => summary_one(new.kind(), Alone::Added),
         Change::Removed(old) => summary_one(old.kind(), Alone::Removed),
         Change::Common(old, new) => summary(&delta_of(&old, &new), ignore),
+        Change::Alike(both) => summary(&delta_of(&both, &both), ignore),
     }
 }

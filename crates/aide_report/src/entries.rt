@@ -19,7 +19,7 @@ ghost use Rattle.aide_report.specs.Merging.{total_work, reels_failed};
 
 use crate::count::{Change, change_on};
 use crate::details::put_details;
-use crate::difference::{differ, letters, shows};
+use crate::difference::{is_changed, letters, shows};
 use crate::merge::{Merge, Turn};
 use aide_conf::Options;
 use aide_db::{DbFault, DbFaultKind, Desk, Reel, Side};
@@ -41,6 +41,7 @@ pub(crate) fn path_of<'a>(change: Change<'a>) -> DecodedFeed<'a>
         Change::Added(view) => view.name(),
         Change::Removed(view) => view.name(),
         Change::Common(view, _) => view.name(),
+        Change::Alike(view) => view.name(),
     };
     DecodedFeed::of(path)
 }
@@ -52,6 +53,7 @@ fn word(change: Change<'_>) -> &'static [u8]
         Change::Added(_) => b"added",
         Change::Removed(_) => b"removed",
         Change::Common(_, _) => b"changed",
+        Change::Alike(_) => b"changed",
     }
 }
 
@@ -85,7 +87,8 @@ fn is_listed(change: Change<'_>, options: &Options) -> bool
     match change {
         Change::Added(_) => true,
         Change::Removed(_) => true,
-        Change::Common(old, new) => differ(&old, &new, &options.ignore),
+        Change::Common(_, _) => is_changed(change, &options.ignore),
+        Change::Alike(_) => is_changed(change, &options.ignore),
     }
 }
 
@@ -102,10 +105,7 @@ fn has_change(section: Section, change: Change<'_>, options: &Options) -> bool
             Change::Removed(_) => true,
             _ => false,
         },
-        Section::ChangedEntries => match change {
-            Change::Common(old, new) => differ(&old, &new, &options.ignore),
-            _ => false,
-        },
+        Section::ChangedEntries => is_changed(change, &options.ignore),
         Section::AllEntries => is_listed(change, options),
         Section::Details => shows(change, options),
     }
@@ -161,17 +161,16 @@ pub(crate) fn put_entries<R: Reel, W: Sink, A: Allocator + Copy>(
 ) -> Result<(), PassFault>
     requires ready { IsReady merge.old desk.old }
     requires writes_on { pen.old.failed ≡ false }
-    ensures writes { (old new : List ℕ)
-        → StandsAt R.to_come merge.old desk.old Side.Old old
+    ensures writes { (old new : List ℕ) → StandsAt R.to_come merge.old desk.old Side.Old old
         → StandsAt R.to_come merge.old desk.old Side.New new
         → Writes result (entries_text options.now section (remaining merge.old desk.old old new))
         (sheet W.delivered W.failures W.flushes out.old pen.old)
         (sheet W.delivered W.failures W.flushes out.new pen.new) }
-    ensures some { WritesSome
-        (sheet W.delivered W.failures W.flushes out.old pen.old)
+    ensures some { WritesSome (sheet W.delivered W.failures W.flushes out.old pen.old)
         (sheet W.delivered W.failures W.flushes out.new pen.new) }
     ensures writes_on { OnOk result (pen.new.failed ≡ false) }
     ensures write { IfErr result (IfWrite (pen.new.failed ≡ true)) }
+    ensures unfailed { IfErr result (IfDatabase (λ _. pen.new.failed ≡ false)) }
     ensures fault { IfErr result (IfDatabase (λ fault. (text : List ℕ)
         → StandsAt R.to_come merge.old desk.old fault.side text
         → IsFaultOf (limits_at merge.old fault.side) text fault)) }

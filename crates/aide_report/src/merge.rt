@@ -1,7 +1,6 @@
 //! Two databases read in lock step: one path after another, in path order.
-ghost use Rattle.std.specs.Prelude.{◌≡◌, ◌≢◌, ◌+◌, ◌<◌, ◌≤◌, ◌++◌, [], ℕ, List, Option, IfOk};
+ghost use Rattle.std.specs.Prelude.{◌≡◌, ◌≢◌, ◌+◌, ◌<◌, ◌≤◌, ◌++◌, [], ℕ, List, IfOk};
 ghost use Rattle.std.specs.Prelude.{IfErr, OnOk, OnErr, IsSome};
-ghost use Rattle.aide_db.specs.Attributes.{Entry};
 ghost use Rattle.aide_db.specs.Desk.{desk_entry, Shows};
 ghost use Rattle.aide_db.specs.Kept.{IsKept};
 ghost use Rattle.aide_db.specs.Side.{other_side};
@@ -9,7 +8,8 @@ ghost use Rattle.aide_db.specs.declared.stage.Stage.TheVariants.{Ended as AtEnd}
 ghost use Rattle.aide_report.specs.Bound.{FitsAfter, FitsAfterBoth};
 ghost use Rattle.aide_report.specs.Held.{ahead, held_entry, work};
 ghost use Rattle.aide_report.specs.Turn.{turn_of, change_at, old_after, new_after};
-ghost use Rattle.aide_report.specs.Standing.{Stands, rest_of, left_of, IsUnfailed, IsFaultOf};
+ghost use Rattle.aide_db.specs.Answer.{Stands};
+ghost use Rattle.aide_report.specs.Standing.{rest_of, left_of, IsUnfailed, IsFaultOf};
 ghost use Rattle.aide_report.specs.Room.{IsNotMemory};
 ghost use Rattle.aide_report.specs.Merging.{remaining, IsReady, IsEnded, StandsAt, limits_at};
 ghost use Rattle.aide_report.specs.Merging.{total_work, reels_failed};
@@ -119,22 +119,6 @@ fn advance<R: Reel, A: Allocator + Copy>(
     }
 }
 
-/// Which side has the next path, of the entries that are held.
-fn next_turn(old: Option<View<'_>>, new: Option<View<'_>>) -> Turn
-    ensures { (d e : Option Entry) → Shows old.entry d → Shows new.entry e → result ≡ turn_of d e }
-{
-    match (old, new) {
-        (Some(old), Some(new)) => match cmp_names(&old, &new) {
-            Ordering::Less => Turn::Removed,
-            Ordering::Equal => Turn::Both,
-            Ordering::Greater => Turn::Added,
-        },
-        (Some(_), None) => Turn::Removed,
-        (None, Some(_)) => Turn::Added,
-        (None, None) => Turn::End,
-    }
-}
-
 fn held_view<A: Allocator + Copy>(held: Held, desk: &Desk<A>, side: Side) -> Option<View<'_>>
     ensures { Shows result (held_entry held (desk_entry side desk.now)) }
 {
@@ -142,6 +126,31 @@ fn held_view<A: Allocator + Copy>(held: Held, desk: &Desk<A>, side: Side) -> Opt
         Held::Here => desk.view(side),
         Held::Due => None,
         Held::Ended => None,
+    }
+}
+
+/// Which side has the next path, of the entries that are held. Where both sides' are written alike, their paths are not
+/// looked at.
+fn next_turn<A: Allocator + Copy>(old_held: Held, new_held: Held, desk: &Desk<A>) -> Turn
+    ensures { result ≡ turn_of (held_entry old_held (desk_entry Side.Old desk.now))
+        (held_entry new_held (desk_entry Side.New desk.now)) }
+{
+    let old = held_view(old_held, desk, Side::Old);
+    let new = held_view(new_held, desk, Side::New);
+    match (old, new) {
+        (Some(old), Some(new)) => {
+            if desk.is_alike() {
+                return Turn::Both;
+            }
+            match cmp_names(&old, &new) {
+                Ordering::Less => Turn::Removed,
+                Ordering::Equal => Turn::Both,
+                Ordering::Greater => Turn::Added,
+            }
+        }
+        (Some(_), None) => Turn::Removed,
+        (None, Some(_)) => Turn::Added,
+        (None, None) => Turn::End,
     }
 }
 
@@ -180,9 +189,7 @@ impl<R: Reel> Merge<R> {
     {
         self.old_held = advance(&mut self.old_cursor, self.old_held, desk)?;
         self.new_held = advance(&mut self.new_cursor, self.new_held, desk)?;
-        let old = held_view(self.old_held, desk, Side::Old);
-        let new = held_view(self.new_held, desk, Side::New);
-        let turn = next_turn(old, new);
+        let turn = next_turn(self.old_held, self.new_held, desk);
         self.pass(turn);
         Ok(turn)
     }

@@ -23,7 +23,8 @@ ghost use Rattle.aide_report.specs.Missing.{IsOfReliable};
 ghost use Rattle.aide_report.specs.Openings.{OpensExactly, OpensAtMost, IsRefusedThere};
 ghost use Rattle.aide_report.specs.PassFaults.{Writes, pass_fault_of};
 ghost use Rattle.aide_text.specs.PenSheet.{sheet};
-ghost use Rattle.aide_report.specs.Standing.{Stands, rest_of, IsUnfailed, IsFaultOf};
+ghost use Rattle.aide_db.specs.Answer.{Stands};
+ghost use Rattle.aide_report.specs.Standing.{rest_of, IsUnfailed, IsFaultOf};
 ghost use Rattle.aide_report.specs.Room.{IsNotMemory, IsNotOfMemory};
 ghost use Rattle.aide_report.specs.RunFaults.{IsCaused, IsLater, IsFirst, HasPenWritten};
 ghost use Rattle.aide_report.specs.Sections.{entries_text};
@@ -78,8 +79,7 @@ fn open_cursor<S: Sources, A: Allocator + Copy>(
     ensures limits { IfOk result (λ cursor. cursor.limits ≡ limits) }
     ensures unfailed { IfOk result (λ cursor. IsUnfailed cursor.stage) }
     ensures stands { IfOk result (λ cursor. (text : List ℕ)
-        → S.bytes_of sources.old side ≡ Some text
-        → Stands S.R.to_come cursor desk.new text) }
+        → S.bytes_of sources.old side ≡ Some text → Stands S.R.to_come cursor desk.new text) }
     ensures rest { IfOk result (λ cursor. (text : List ℕ) → rest_of cursor text ≡ entries_of text) }
     ensures other { IsKept (other_side side) desk.old desk.new }
     ensures room { desk.new.room ≡ desk.old.room }
@@ -118,12 +118,12 @@ fn open_both<S: Sources, A: Allocator + Copy>(
         → StandsAt S.R.to_come merge desk.new Side.New text) }
     ensures rest { IfOk result (λ merge. (old new : List ℕ)
         → remaining merge desk.new old new ≡ merged path_cmp (entries_of old) (entries_of new)) }
-    ensures caused { IfErr result (IsCaused (Rose (S.failures sources.old)
-        (S.failures sources.new)) ⊥) }
+    ensures caused { IfErr result (IsCaused
+        (Rose (S.failures sources.old) (S.failures sources.new)) ⊥) }
     ensures old_opened { S.openings sources.new Side.Old
         ≡ one_more (S.openings sources.old Side.Old) }
-    ensures refused { IfErr result (IsRefusedThere (S.openings sources.old)
-        (S.openings sources.new)) }
+    ensures refused { IfErr result (IsRefusedThere
+        (S.openings sources.old) (S.openings sources.new)) }
     ensures later { IfErr result (IsLater limits (S.bytes_of sources.old)) }
     ensures reliable { S.is_reliable sources.old ≡ true
         → IfErr result (IsOfReliable (S.bytes_of sources.old)) }
@@ -200,8 +200,7 @@ fn read_to_end<R: Reel, A: Allocator + Copy>(
     ensures stands { (text : List ℕ) → Stands R.to_come cursor.old desk.old text
         → Stands R.to_come cursor.new desk.new text }
     ensures fault { IfErr result (λ fault. (text : List ℕ)
-        → Stands R.to_come cursor.old desk.old text
-        → IsFaultOf cursor.old.limits text fault) }
+        → Stands R.to_come cursor.old desk.old text → IsFaultOf cursor.old.limits text fault) }
     ensures fault_side { IfErr result (λ fault. fault.side ≡ cursor.old.side) }
     ensures read { IfErr result (λ fault. fault.kind ≡ DbFaultKind.Read
         → 0 < R.failures cursor.new.reel) }
@@ -234,12 +233,11 @@ pub(crate) fn read_whole<S: Sources, A: Allocator + Copy>(
     ensures others { S.openings sources.new (other_side side)
         ≡ S.openings sources.old (other_side side) }
     ensures sound { IfOk result (λ reading. (text : List ℕ)
-        → S.bytes_of sources.old side ≡ Some text
-        → IsSound limits text × (reading.skipped ≡ skipped_in (columns_of_text text))
-        × (reading.digest ≡ sha256 text)) }
+        → S.bytes_of sources.old side ≡ Some text → IsSound limits text
+        × (reading.skipped ≡ skipped_in (columns_of_text text)) × (reading.digest ≡ sha256 text)) }
     ensures first { IfErr result (IsFirst limits (S.bytes_of sources.old) side) }
-    ensures caused { IfErr result (IsCaused (Rose (S.failures sources.old)
-        (S.failures sources.new)) ⊥) }
+    ensures caused { IfErr result (IsCaused
+        (Rose (S.failures sources.old) (S.failures sources.new)) ⊥) }
     ensures refuses { OnOk result (S.is_missing sources.old side ≡ false) }
     ensures missing { S.is_missing sources.old side ≡ true
         → IfErr result (λ fault. fault ≡ RunFault.Open side) }
@@ -248,8 +246,8 @@ pub(crate) fn read_whole<S: Sources, A: Allocator + Copy>(
     ensures never_falls { S.failures sources.old ≤ S.failures sources.new }
     ensures room { desk.new.room ≡ desk.old.room }
     ensures memory { limits.line ≤ desk.old.room → IfErr result IsNotOfMemory }
-    ensures fits { (old_line new_line before : ℕ) → OpensWithin (S.bytes_of sources.old) limits side
-        (by_side old_line new_line side)
+    ensures fits { (old_line new_line before : ℕ)
+        → OpensWithin (S.bytes_of sources.old) limits side (by_side old_line new_line side)
         → Fits old_line new_line before desk.old → Fits old_line new_line before desk.new }
 {
     let mut cursor = match open_cursor(sources, side, limits, desk) {
@@ -288,14 +286,13 @@ pub(crate) fn count_pass<S: Sources, A: Allocator + Copy>(
     ensures opens { OnOk result (OpensExactly (S.openings sources.old) (S.openings sources.new) 1) }
     ensures opens_some { OpensAtMost (S.openings sources.old) (S.openings sources.new) 1 }
     ensures counts { IfOk result (λ counts. (old new : List ℕ)
-        → S.bytes_of sources.old Side.Old ≡ Some old
-        → S.bytes_of sources.old Side.New ≡ Some new
+        → S.bytes_of sources.old Side.Old ≡ Some old → S.bytes_of sources.old Side.New ≡ Some new
         → Completes options.now counts [] (merged path_cmp (entries_of old) (entries_of new))) }
-    ensures refused { IfErr result (IsRefusedThere (S.openings sources.old)
-        (S.openings sources.new)) }
+    ensures refused { IfErr result (IsRefusedThere
+        (S.openings sources.old) (S.openings sources.new)) }
     ensures later { IfErr result (IsLater limits (S.bytes_of sources.old)) }
-    ensures caused { IfErr result (IsCaused (Rose (S.failures sources.old)
-        (S.failures sources.new)) ⊥) }
+    ensures caused { IfErr result (IsCaused
+        (Rose (S.failures sources.old) (S.failures sources.new)) ⊥) }
     ensures reliable { S.is_reliable sources.old ≡ true
         → IfErr result (IsOfReliable (S.bytes_of sources.old)) }
     ensures never_falls { S.failures sources.old ≤ S.failures sources.new }
@@ -347,19 +344,18 @@ pub(crate) fn entries_pass<S: Sources, W: Sink, A: Allocator + Copy>(
     ensures opens_some { OpensAtMost (S.openings sources.old) (S.openings sources.new) 1 }
     ensures writes { (old new : List ℕ) → S.bytes_of sources.old Side.Old ≡ Some old
         → S.bytes_of sources.old Side.New ≡ Some new
-        → Writes result (entries_text options.now section
-        (merged path_cmp (entries_of old) (entries_of new)))
+        → Writes result
+        (entries_text options.now section (merged path_cmp (entries_of old) (entries_of new)))
         (sheet W.delivered W.failures W.flushes out.old pen.old)
         (sheet W.delivered W.failures W.flushes out.new pen.new) }
-    ensures some { WritesSome
-        (sheet W.delivered W.failures W.flushes out.old pen.old)
+    ensures some { WritesSome (sheet W.delivered W.failures W.flushes out.old pen.old)
         (sheet W.delivered W.failures W.flushes out.new pen.new) }
     ensures writes_on { OnOk result (pen.new.failed ≡ false) }
     ensures written { IfErr result (HasPenWritten pen.new) }
     ensures old_opened { S.openings sources.new Side.Old
         ≡ one_more (S.openings sources.old Side.Old) }
-    ensures refused { IfErr result (IsRefusedThere (S.openings sources.old)
-        (S.openings sources.new)) }
+    ensures refused { IfErr result (IsRefusedThere
+        (S.openings sources.old) (S.openings sources.new)) }
     ensures later { IfErr result (IsLater limits (S.bytes_of sources.old)) }
     ensures caused { IfErr result (IsCaused (Rose (S.failures sources.old) (S.failures sources.new))
         (pen.new.failed ≡ true)) }

@@ -15,7 +15,8 @@ ghost use Rattle.aide_text.specs.PenSheet.{sheet};
 ghost use Rattle.aide_text.specs.Overview.{differs, overview_by};
 ghost use Rattle.aide_report.specs.Report.{is_silent, parts_of, text_of, section_count};
 ghost use Rattle.aide_report.specs.Room.{IsNotOfMemory};
-ghost use Rattle.aide_report.specs.RunFaults.{IsCaused, IsLater, HasPenWritten, HasWrittenIfAny};
+ghost use Rattle.aide_report.specs.RunFaults.{CountsWrites, IsCaused, IsLater, HasPenWritten};
+ghost use Rattle.aide_report.specs.RunFaults.{HasWrittenIfAny};
 ghost use Rattle.aide_attr.specs.Level.{reaches};
 ghost use Rattle.aide_report.specs.Sections.{sections_of};
 ghost use Rattle.aide_text.specs.Sent.{Sends};
@@ -61,20 +62,18 @@ fn put_parts<S: Sources, W: Sink, A: Allocator + Copy>(
         (new_origin task.now finding.now) finding.now.counts (pass_of old new))
         (sheet W.delivered W.failures W.flushes out.old pen.old)
         (sheet W.delivered W.failures W.flushes out.new pen.new) }
-    ensures some { WritesSome
-        (sheet W.delivered W.failures W.flushes out.old pen.old)
+    ensures some { WritesSome (sheet W.delivered W.failures W.flushes out.old pen.old)
         (sheet W.delivered W.failures W.flushes out.new pen.new) }
-    ensures first { OnOk result
-        (WritesFirst (overview_by task.now.options.level finding.now.counts)
+    ensures first { OnOk result (WritesFirst (overview_by task.now.options.level finding.now.counts)
         (reaches task.now.options.level AnyLevel.DatabaseAttributes)
         (sheet W.delivered W.failures W.flushes out.old pen.old)
         (sheet W.delivered W.failures W.flushes out.new pen.new)) }
     ensures writes_on { OnOk result (pen.new.failed ≡ false) }
     ensures written { IfErr result (HasPenWritten pen.new) }
-    ensures begun { IfErr result (ComesOpened (S.openings sources.old Side.Old)
-        (S.openings sources.new Side.Old)) }
-    ensures refused { IfErr result (IsRefusedThere (S.openings sources.old)
-        (S.openings sources.new)) }
+    ensures begun { IfErr result (ComesOpened
+        (S.openings sources.old Side.Old) (S.openings sources.new Side.Old)) }
+    ensures refused { IfErr result (IsRefusedThere
+        (S.openings sources.old) (S.openings sources.new)) }
     ensures later { IfErr result (IsLater limits (S.bytes_of sources.old)) }
     ensures caused { IfErr result (IsCaused (Rose (S.failures sources.old) (S.failures sources.new))
         (pen.new.failed ≡ true)) }
@@ -136,20 +135,18 @@ fn put_report<S: Sources, W: Sink, A: Allocator + Copy>(
         (new_origin task.now finding.now) finding.now.counts (pass_of old new))
         (sheet W.delivered W.failures W.flushes out.old pen.old)
         (sheet W.delivered W.failures W.flushes out.new pen.new) }
-    ensures some { WritesSome
-        (sheet W.delivered W.failures W.flushes out.old pen.old)
+    ensures some { WritesSome (sheet W.delivered W.failures W.flushes out.old pen.old)
         (sheet W.delivered W.failures W.flushes out.new pen.new) }
-    ensures first { OnOk result
-        (WritesFirst (beginning_by task.now.options finding.now.counts)
+    ensures first { OnOk result (WritesFirst (beginning_by task.now.options finding.now.counts)
         (goes_on_by task.now.options finding.now.counts)
         (sheet W.delivered W.failures W.flushes out.old pen.old)
         (sheet W.delivered W.failures W.flushes out.new pen.new)) }
     ensures writes_on { OnOk result (pen.new.failed ≡ false) }
     ensures written { IfErr result (HasPenWritten pen.new) }
-    ensures begun { IfErr result (ComesOpened (S.openings sources.old Side.Old)
-        (S.openings sources.new Side.Old)) }
-    ensures refused { IfErr result (IsRefusedThere (S.openings sources.old)
-        (S.openings sources.new)) }
+    ensures begun { IfErr result (ComesOpened
+        (S.openings sources.old Side.Old) (S.openings sources.new Side.Old)) }
+    ensures refused { IfErr result (IsRefusedThere
+        (S.openings sources.old) (S.openings sources.new)) }
     ensures later { IfErr result (IsLater limits (S.bytes_of sources.old)) }
     ensures caused { IfErr result (IsCaused (Rose (S.failures sources.old) (S.failures sources.new))
         (pen.new.failed ≡ true)) }
@@ -193,17 +190,16 @@ pub(crate) fn write_report<S: Sources, W: Sink, A: Allocator + Copy>(
         → Sends result (text_of task.now.options (old_origin task.now finding.now)
         (new_origin task.now finding.now) finding.now.counts (pass_of old new))
         (W.delivered out.old) (W.delivered out.new) }
-    ensures first { OnOk result
-        (BeginsWith (beginning_by task.now.options finding.now.counts)
+    ensures first { OnOk result (BeginsWith (beginning_by task.now.options finding.now.counts)
         (goes_on_by task.now.options finding.now.counts)
         (W.delivered out.old) (W.delivered out.new)) }
     ensures flushed { OnOk result (W.is_flushed out.new ≡ true) }
     ensures flushes { CountsFlush (W.flushes out.old) (W.flushes out.new) result }
     ensures written { IfErr result (HasWrittenIfAny (W.delivered out.old) (W.delivered out.new)) }
-    ensures begun { IfErr result (ComesOpened (S.openings sources.old Side.Old)
-        (S.openings sources.new Side.Old)) }
-    ensures refused { IfErr result (IsRefusedThere (S.openings sources.old)
-        (S.openings sources.new)) }
+    ensures begun { IfErr result (ComesOpened
+        (S.openings sources.old Side.Old) (S.openings sources.new Side.Old)) }
+    ensures refused { IfErr result (IsRefusedThere
+        (S.openings sources.old) (S.openings sources.new)) }
     ensures later { IfErr result (IsLater limits (S.bytes_of sources.old)) }
     ensures caused { IfErr result (IsCaused (Rose (S.failures sources.old) (S.failures sources.new))
         (Rose (W.failures out.old) (W.failures out.new))) }
@@ -211,6 +207,7 @@ pub(crate) fn write_report<S: Sources, W: Sink, A: Allocator + Copy>(
         → IfErr result (IsOfReliable (S.bytes_of sources.old)) }
     ensures never_falls { S.failures sources.old ≤ S.failures sources.new }
     ensures sink_never_falls { W.failures out.old ≤ W.failures out.new }
+    ensures sink_fails { CountsWrites (W.failures out.old) (W.failures out.new) result }
     ensures room { desk.new.room ≡ desk.old.room }
     ensures memory { limits.line ≤ desk.old.room → IfErr result IsNotOfMemory }
     ensures fits { (old_line new_line before : ℕ)

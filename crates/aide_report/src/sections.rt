@@ -90,15 +90,14 @@ fn section_pass<S: Sources, W: Sink, A: Allocator + Copy>(
         → Writes result (section_text options.now (pass_of old new) section)
         (sheet W.delivered W.failures W.flushes out.old pen.old)
         (sheet W.delivered W.failures W.flushes out.new pen.new) }
-    ensures some { WritesSome
-        (sheet W.delivered W.failures W.flushes out.old pen.old)
+    ensures some { WritesSome (sheet W.delivered W.failures W.flushes out.old pen.old)
         (sheet W.delivered W.failures W.flushes out.new pen.new) }
     ensures writes_on { OnOk result (pen.new.failed ≡ false) }
     ensures written { IfErr result (HasPenWritten pen.new) }
-    ensures begun { IfErr result (ComesOpened (S.openings sources.old Side.Old)
-        (S.openings sources.new Side.Old)) }
-    ensures refused { IfErr result (IsRefusedThere (S.openings sources.old)
-        (S.openings sources.new)) }
+    ensures begun { IfErr result (ComesOpened
+        (S.openings sources.old Side.Old) (S.openings sources.new Side.Old)) }
+    ensures refused { IfErr result (IsRefusedThere
+        (S.openings sources.old) (S.openings sources.new)) }
     ensures later { IfErr result (IsLater limits (S.bytes_of sources.old)) }
     ensures caused { IfErr result (IsCaused (Rose (S.failures sources.old) (S.failures sources.new))
         (pen.new.failed ≡ true)) }
@@ -148,19 +147,18 @@ pub(crate) fn put_sections<S: Sources, W: Sink, A: Allocator + Copy>(
         → Writes result (sections_text options.now counts.now (pass_of old new))
         (sheet W.delivered W.failures W.flushes out.old pen.old)
         (sheet W.delivered W.failures W.flushes out.new pen.new) }
-    ensures some { WritesSome
-        (sheet W.delivered W.failures W.flushes out.old pen.old)
+    ensures some { WritesSome (sheet W.delivered W.failures W.flushes out.old pen.old)
         (sheet W.delivered W.failures W.flushes out.new pen.new) }
-    ensures first { OnOk result (WritesFirst [] (reaches options.now.level
-        AnyLevel.DatabaseAttributes)
+    ensures first { OnOk result (WritesFirst []
+        (reaches options.now.level AnyLevel.DatabaseAttributes)
         (sheet W.delivered W.failures W.flushes out.old pen.old)
         (sheet W.delivered W.failures W.flushes out.new pen.new)) }
     ensures writes_on { OnOk result (pen.new.failed ≡ false) }
     ensures written { IfErr result (HasPenWritten pen.new) }
-    ensures begun { IfErr result (ComesOpened (S.openings sources.old Side.Old)
-        (S.openings sources.new Side.Old)) }
-    ensures refused { IfErr result (IsRefusedThere (S.openings sources.old)
-        (S.openings sources.new)) }
+    ensures begun { IfErr result (ComesOpened
+        (S.openings sources.old Side.Old) (S.openings sources.new Side.Old)) }
+    ensures refused { IfErr result (IsRefusedThere
+        (S.openings sources.old) (S.openings sources.new)) }
     ensures later { IfErr result (IsLater limits (S.bytes_of sources.old)) }
     ensures caused { IfErr result (IsCaused (Rose (S.failures sources.old) (S.failures sources.new))
         (pen.new.failed ≡ true)) }

@@ -11,7 +11,7 @@ use Rattle.aide_report.proofs.FirstFaults.{Runs-exists}
 use Rattle.aide_report.proofs.MissingLemmas.{RunsOver-exists, front_over, hindered_by, later_over, nothing_front}
 use Rattle.aide_report.proofs.MissingLemmas.{stops_by, stops_hindered, whole_over}
 use Rattle.aide_report.proofs.OpeningLemmas.{refused_later, silent_nothing, silent_begun}
-use Rattle.aide_report.proofs.ReportLemmas.{caused_as}
+use Rattle.aide_report.proofs.ReportLemmas.{caused_as, counts_nothing}
 use Rattle.aide_report.proofs.RunLemmas.{ends_well, ends_early, nothing_early, sections_are}
 use Rattle.aide_report.proofs.SectionsLemmas.{opens_more, opens_then, sections_few}
 use Rattle.aide_report.proofs.comparison.run.Goals as goal
@@ -149,12 +149,12 @@ returns-in-Err-write_report-clause-bound g c =
 pub returns-in-Err-clause-part : goal.returns-in-Err-clause-part
 returns-in-Err-clause-part g c old new told_old told_new r runs = nothing_early r (g.W.Sink.delivered c.args.out.now)
 
-pub returns-in-Err-clause-silent : goal.returns-in-Err-clause-silent
-returns-in-Err-clause-silent g c =
+pub returns-in-Err-clause-unsent : goal.returns-in-Err-clause-unsent
+returns-in-Err-clause-unsent g c =
     silent_nothing (g.S.Sources.openings c.args.sources.now Old) (g.S.Sources.openings c.compare.new.sources Old) (g.W.Sink.delivered c.args.out.now) c.in-Err.fault
 
-pub returns-in-Err-write_report-clause-silent : goal.returns-in-Err-write_report-clause-silent
-returns-in-Err-write_report-clause-silent g c =
+pub returns-in-Err-write_report-clause-unsent : goal.returns-in-Err-write_report-clause-unsent
+returns-in-Err-write_report-clause-unsent g c =
     silent_begun (g.S.Sources.openings c.args.sources.now Old) (g.S.Sources.openings c.compare.new.sources Old) (g.S.Sources.openings c.write_report.new.sources Old)
     (g.W.Sink.delivered c.args.out.now) (g.W.Sink.delivered c.write_report.new.out) c.in-Err-write_report.fault c.in-Ok.ensures.opens.of_old c.in-Err-write_report.ensures.begun
 
@@ -228,3 +228,8 @@ returns-in-Err-write_report-clause-over g c = λ old new told_old told_new r run
       front_over c.args.limits (asked c.args.task.now) bytes_of is_missing old new (g.W.Sink.delivered c.args.out.now) (g.W.Sink.delivered c.write_report.new.out)
           told_old told_new c.in-Ok.ensures.there (returns-in-Err-write_report-clause-part g c) r runs,
     )
+
+pub returns-in-Err-clause-sink_fails : goal.returns-in-Err-clause-sink_fails
+returns-in-Err-clause-sink_fails g c =
+    counts_nothing (Rose (g.S.Sources.failures c.args.sources.now) (g.S.Sources.failures c.compare.new.sources)) (g.W.Sink.failures c.args.out.now)
+    c.in-Err.fault c.in-Err.ensures.caused

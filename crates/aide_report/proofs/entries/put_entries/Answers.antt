@@ -54,6 +54,7 @@ returns-then-pen g c = record {
   some = some_more c.pass.invariant.some (some_of c.put_change.ensures);
   writes_on = tt;
   write = c.if-pen.true;
+  unfailed = tt;
   fault = tt;
   read = tt;
   stands = λ side text s. of_sides (StandsAt g.R.Reel.to_come c.pass.merge c.pass.desk) (StandsAt g.R.Reel.to_come c.next.new.self c.next.new.desk)

@@ -1,8 +1,8 @@
-use Rattle.std.proofs.Common.{◌≡◌, ◌∙◌, ap, true, arith}
+use Rattle.std.proofs.Common.{◌≡◌, ◌∙◌, ap, refl, true, arith}
 use Rattle.aide_text.specs.Failures.{one_more, Rose}
 use Rattle.aide_report.proofs.AgreementLemmas.{begins, unflushed}
 use Rattle.aide_report.proofs.ReportLemmas.{flushed_whole, flushed_part, flushed_count, never_falls, count_of_pen}
-use Rattle.aide_report.proofs.ReportLemmas.{written_of_pen, rose_of_pen, caused_as}
+use Rattle.aide_report.proofs.ReportLemmas.{written_of_pen, rose_of_pen, caused_as, unfailed, counts_of_pen}
 use Rattle.aide_text.proofs.Sheets.{wrote_part}
 use Rattle.aide_report.proofs.report.write_report.Goals as goal
 
@@ -72,3 +72,18 @@ returns-in-Err-flush-clause-flushes g c = c.in-Err-flush.ensures.flushes ∙ unf
 
 pub returns-in-Err-clause-flushes : goal.returns-in-Err-clause-flushes
 returns-in-Err-clause-flushes g c = unflushed c.in-Err.ensures.some
+
+pub returns-clause-sink_fails : goal.returns-clause-sink_fails
+returns-clause-sink_fails g c =
+    let fresh = ap (λ pen. pen.failed) c.new-pen.ensures in
+    c.in_default.ensures.fault ∙ unfailed fresh c.in-Ok.ensures.writes_on c.in-Ok.ensures.some
+
+pub returns-in-Err-flush-clause-sink_fails : goal.returns-in-Err-flush-clause-sink_fails
+returns-in-Err-flush-clause-sink_fails g c =
+    let fresh = ap (λ pen. pen.failed) c.new-pen.ensures in
+    c.in-Err-flush.ensures.fault ∙ ap one_more (unfailed fresh c.in-Ok.ensures.writes_on c.in-Ok.ensures.some)
+
+pub returns-in-Err-clause-sink_fails : goal.returns-in-Err-clause-sink_fails
+returns-in-Err-clause-sink_fails g c =
+    let fresh = ap (λ pen. pen.failed) c.new-pen.ensures in
+    counts_of_pen c.put_report.new.pen c.in-Err.fault refl fresh c.in-Err.ensures.some c.in-Err.ensures.written

@@ -26,7 +26,7 @@ returns-clause-gives g c old new stands_old stands_new =
     (rw c.requires.new_side at (c.in_ok-self-2.ensures.ahead new
     (stands_across g.R.Reel.to_come c.args.self.now.new_cursor New c.args.desk.now c.advance.new.desk new c.requires.new_side one.other stands_new)))
     same_new same_old
-    (c.next_turn-turn.ensures _ _ c.held_view-old.ensures c.held_view-new.ensures))
+    c.next_turn-turn.ensures)
 
 pub returns-clause-falls : goal.returns-clause-falls
 returns-clause-falls g c going =
@@ -34,7 +34,7 @@ returns-clause-falls g c going =
     let two = rw c.requires.new_side at c.in_ok-self-2.ensures in
     let less = step_falls c.in_ok-self.field-0 c.in_ok-self-2.field-0 (desk_entry Old c.advance-2.new.desk) (desk_entry New c.advance-2.new.desk) c.next_turn-turn.result
     (left_of c.advance.new.cursor) (left_of c.advance-2.new.cursor) one.not_due two.not_due
-    (c.next_turn-turn.ensures _ _ c.held_view-old.ensures c.held_view-new.ensures) going in
+    c.next_turn-turn.ensures going in
     rw c.pass.ensures (omega (arith, less, one.falls, two.falls))
 
 pub returns-clause-end : goal.returns-clause-end
@@ -55,7 +55,7 @@ returns-clause-end g c old new stands_old stands_new is =
     (rw c.requires.new_side at (c.in_ok-self-2.ensures.ahead new
     (stands_across g.R.Reel.to_come c.args.self.now.new_cursor New c.args.desk.now c.advance.new.desk new c.requires.new_side one.other stands_new)))
     same_new same_old
-    (sym is ∙ c.next_turn-turn.ensures _ _ c.held_view-old.ensures c.held_view-new.ensures)
+    (sym is ∙ c.next_turn-turn.ensures)
 
 pub returns-in_err-self-2-clause-fits : goal.returns-in_err-self-2-clause-fits
 returns-in_err-self-2-clause-fits g c =
@@ -77,7 +77,7 @@ returns-clause-ended g c is =
     one.not_due two.not_due
     (λ h. ap is_some same_old ∙ one.here c.requires.old_here h)
     (two.here (λ h. ap is_some same_new ∙ c.requires.new_here h))
-    (sym is ∙ c.next_turn-turn.ensures _ _ c.held_view-old.ensures c.held_view-new.ensures) in
+    (sym is ∙ c.next_turn-turn.ensures) in
     rw c.pass.ensures (record { old_ended = c.in_ok-self.ensures.ended c.requires.old_ended both.0; new_ended = c.in_ok-self-2.ensures.ended c.requires.new_ended both.1 })
 
 pub returns-in_err-self-clause-memory : goal.returns-in_err-self-clause-memory

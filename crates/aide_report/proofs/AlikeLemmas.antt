@@ -1,0 +1,50 @@
+-- Entries that a desk holds alike: they are the same, so their paths tie and nothing differs.
+use Rattle.std.specs.Prelude.{◌≡◌, Option, Some, None, [], ◌∷◌}
+use Rattle.std.proofs.Common.{sym, ap, ◌∙◌}
+use Rattle.std.specs.Cmp.{tied_itself}
+use Rattle.aide_db.specs.Alike.{HoldsAlike}
+use Rattle.aide_db.specs.Attributes.{Entry}
+use Rattle.aide_db.specs.Desk.{desk_entry, entry_at}
+use Rattle.aide_db.specs.DeskView.{DeskView}
+use Rattle.aide_db.specs.Path.{path_cmp}
+use Rattle.aide_db.specs.declared.side.Side.TheVariants.{Old, New}
+use Rattle.aide_db.proofs.PathLaws.{path_cmp_total}
+use Rattle.aide_report.specs.Held.{held_entry}
+use Rattle.aide_report.specs.Turn.{turn_of, turn_by, change_at}
+use Rattle.aide_report.specs.declared.merge.Held.{Held}
+use Rattle.aide_report.specs.declared.merge.Held.TheVariants.{Due, Here, Ended}
+use Rattle.aide_report.specs.declared.merge.Turn.TheVariants.{Both}
+
+abbrev entry_or : Entry → Option Entry → Entry
+entry_or e None = e
+entry_or e (Some shown) = shown
+
+-- the entries of both sides are one
+pub same_shown : (d : DeskView) (old new : Entry) → HoldsAlike d → desk_entry Old d ≡ Some old
+    → desk_entry New d ≡ Some new → old ≡ new
+same_shown d old new (filled, lines, columns) shows_old shows_new =
+    ap (entry_or old) (sym shows_old ∙ (λ i. entry_at (columns i) (lines i)) ∙ shows_new)
+
+shown_of_held : (held : Held) (shown : Option Entry) (entry : Entry) → held_entry held shown ≡ Some entry
+    → shown ≡ Some entry
+shown_of_held Due shown entry e = cc
+shown_of_held Here shown entry e = e
+shown_of_held Ended shown entry e = cc
+
+-- it is the turn of both sides
+pub turn_of_alike : (d : DeskView) (old_held new_held : Held) (old new : Entry) → HoldsAlike d
+    → held_entry old_held (desk_entry Old d) ≡ Some old → held_entry new_held (desk_entry New d) ≡ Some new
+    → Both ≡ turn_of (held_entry old_held (desk_entry Old d)) (held_entry new_held (desk_entry New d))
+turn_of_alike d old_held new_held old new alike shows_old shows_new =
+    let same = same_shown d old new alike (shown_of_held old_held (desk_entry Old d) old shows_old)
+    (shown_of_held new_held (desk_entry New d) new shows_new) in
+    sym ((λ i. turn_of (shows_old i) (shows_new i)) ∙ ap (λ (e : Entry). turn_by (path_cmp old.0 e.0)) (sym same)
+    ∙ ap turn_by (tied_itself path_cmp_total old.0))
+
+-- the change there has this entry on both sides
+pub change_of_alike : (d : DeskView) (old new : Entry) → HoldsAlike d → desk_entry Old d ≡ Some old
+    → desk_entry New d ≡ Some new
+    → change_at Both (desk_entry Old d) (desk_entry New d) ≡ (old.0, (Some old.1, Some old.1)) ∷ []
+change_of_alike d old new alike shows_old shows_new =
+    (λ i. change_at Both (shows_old i) (shows_new i))
+    ∙ ap (λ (e : Entry). (old.0, (Some old.1, Some e.1)) ∷ []) (sym (same_shown d old new alike shows_old shows_new))
