@@ -2,7 +2,8 @@
 //! and on a desk that is refused memory.
 ghost use Rattle.std.specs.Prelude.{◌≤◌, ◌<◌, ◌^◌};
 
-use crate::{Pace, PlannedReel, Refusing};
+use crate::pace::PACES;
+use crate::{PlannedReel, Refusing};
 use aide_db::{Cursor, DbFault, DbFaultKind, Desk, Limits, Reel, Side, Step};
 use std::alloc::Allocator;
 use std::process::Abort;
@@ -18,9 +19,6 @@ const LIMITS: Limits = Limits {
     line: 65_536,
     bytes: 1_048_576,
 };
-
-/// How many bytes a reel gives at a time: few, and round about the size of a block.
-const PACES: [usize; 5] = [1, 7, 4095, 4096, 4097];
 
 /// What a cursor is to answer: the number of entries, and then the end, or a fault with its line.
 #[derive(Clone, Copy)]
@@ -80,16 +78,11 @@ fn assert_read<A: Allocator + Copy>(
     requires line { 14 ≤ limits.line }
     requires bytes { limits.bytes ≤ 2 ^ 60 }
 {
-    for most in &PACES {
-        if *most > 0 {
-            let reel = PlannedReel::new(text, Pace::new(*most), u64::MAX);
-            let (entries, answer, _) = read_whole(rt, reel, limits, desk);
-            let right = entries == wanted.entries && answer == wanted.answer();
-            assert!(rt;
-                right,
-                "{text:?}, {most} at a time: {entries} and {answer:?}"
-            );
-        }
+    for pace in &PACES {
+        let reel = PlannedReel::new(text, *pace, u64::MAX);
+        let (entries, answer, _) = read_whole(rt, reel, limits, desk);
+        let right = entries == wanted.entries && answer == wanted.answer();
+        assert!(rt; right, "{text:?}, {pace:?}: {entries} and {answer:?}");
     }
 }
 

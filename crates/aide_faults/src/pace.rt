@@ -2,11 +2,21 @@
 ghost use Rattle.std.specs.Prelude.{◌≡◌, ◌<◌, ◌≤◌};
 
 /// The most bytes that one read or write moves, at least one.
-#[derive(Clone, Copy)]
+#[derive(Clone, Copy, Debug)]
 pub struct Pace {
     most: usize,
     ghost some: { 0 < most },
 }
+
+/// Few bytes at a time, and round about the size of a block.
+#[cfg(test)]
+pub(crate) const PACES: [Pace; 5] = [
+    Pace { most: 1 },
+    Pace { most: 7 },
+    Pace { most: 4095 },
+    Pace { most: 4096 },
+    Pace { most: 4097 },
+];
 
 impl Pace {
     /// At most so many bytes at a time.

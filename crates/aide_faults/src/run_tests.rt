@@ -77,9 +77,6 @@ New database: /new
               sJpZJgJZBvo=
 ";
 
-/// How many bytes a device moves at a time: few, and round about the size of a block.
-const PACES: [usize; 5] = [1, 7, 4095, 4096, 4097];
-
 /// The options that the lines of a configuration set.
 fn options_of(rt: &impl Abort, alloc: Global, lines: &[u8]) -> Options {
     match Settings::read(alloc, b"", lines, b"", Need::Check) {

@@ -109,15 +109,15 @@ read_cause : (kind : DbFaultKind) (site first : Type 0) → StandsOn kind site f
 read_cause kind site first stands is = subst (λ (k : DbFaultKind). StandsOn k site first) is stands
 
 -- the cause of a run's fault, over files that the sources tell
-pub run_cause : (files : Files) (named : Named) (bytes_of : Side → Option (List ℕ)) (fault : RunFault) (site out : Type 0) (first : DbFault → Type 0) (silent : Side → Type 0)
+pub run_cause : (files : Files) (named : Named) (bytes_of : Side → Option (List ℕ)) (fault : RunFault) (site out : Type 0) (first : DbFault → Type 0) (untold : Side → Type 0)
     → ((side : Side) (text : List ℕ) → HasText files named side text → bytes_of side ≡ Some text)
-    → HasCause fault site out first silent → IsRight limits bytes_of fault → IsNotOfMemory fault
+    → HasCause fault site out first untold → IsRight limits bytes_of fault → IsNotOfMemory fault
     → RunCause files named fault site out
-run_cause files named bytes_of (Open side) site out first silent tells cause right fed = cause
-run_cause files named bytes_of (Database fault) site out first silent tells cause right fed =
+run_cause files named bytes_of (Open side) site out first untold tells cause right fed = cause
+run_cause files named bytes_of (Database fault) site out first untold tells cause right fed =
     (read_cause fault.kind site (first fault) cause, (λ text has. right text (tells fault.side text has)), fed)
-run_cause files named bytes_of (Changed side) site out first silent tells cause right fed = λ text has. right text (tells side text has)
-run_cause files named bytes_of (Write written) site out first silent tells cause right fed = cause
+run_cause files named bytes_of (Changed side) site out first untold tells cause right fed = λ text has. right text (tells side text has)
+run_cause files named bytes_of (Write written) site out first untold tells cause right fed = cause
 
 run_cause_by : (files : Files) (named : Named) (fault : RunFault) (site more out : Type 0) → (site → more)
     → RunCause files named fault site out → RunCause files named fault more out

@@ -13,7 +13,7 @@ use Rattle.aide_conf.specs.declared.options.Options.{Options}
 use Rattle.aide_report.specs.Asked.{Asked}
 use Rattle.aide_report.specs.Failures.{Rose}
 use Rattle.aide_report.specs.Missing.{IsHindered, IsOfReliable, RunsOver, SendsFront, SendsWhole, StopsFor, TellsSide}
-use Rattle.aide_report.specs.Missing.{given}
+use Rattle.aide_report.specs.Missing.{run_answer}
 use Rattle.aide_report.specs.Runs.{HasCause, StandsOn}
 use Rattle.aide_report.specs.Runs.{Report}
 use Rattle.aide_report.specs.Sent.{SendsPart}
@@ -29,7 +29,7 @@ use Rattle.aide_session.specs.Answer.{Answer, Named, IsCompared, asked_by, limit
 use Rattle.aide_session.specs.Ends.{Sinks, Failure, failure_line, FailureCause, HasFailed, Ends, Whole, Starved}
 use Rattle.aide_session.specs.Ends.{config_unread, unopened, unread, unwritten}
 use Rattle.aide_session.specs.Lines.{memory_line, open_line, database_line, kind_line, outcome_lines, run_fault_line}
-use Rattle.aide_session.specs.Put.{IsQuiet, Put}
+use Rattle.aide_session.specs.Put.{HasNoFailure, Put}
 use Rattle.aide_session.proofs.PutLemmas.{appends_none, put_passed}
 
 abbrev pub sinks : (c d e f : Option (List ℕ)) → (m n : ℕ) → Sinks
@@ -84,25 +84,25 @@ ends_by a named status s site more out then ends = elim ends [
 ]
 
 no_cause : (failure : Failure) (site out : Type 0) → (site → ⊥) → (out → ⊥) → FailureCause failure site out → ⊥
-no_cause config_unread site out quiet_site quiet_out cause = quiet_site cause
-no_cause (unopened side) site out quiet_site quiet_out cause = quiet_site cause
-no_cause (unread fault) site out quiet_site quiet_out cause = quiet_site cause.1
-no_cause unwritten site out quiet_site quiet_out cause = quiet_out cause
+no_cause config_unread site out unfailed_site unfailed_out cause = unfailed_site cause
+no_cause (unopened side) site out unfailed_site unfailed_out cause = unfailed_site cause
+no_cause (unread fault) site out unfailed_site unfailed_out cause = unfailed_site cause.1
+no_cause unwritten site out unfailed_site unfailed_out cause = unfailed_out cause
 
 -- an ending without a failure
-pub ends_quietly : (a : Answer) (named : Named) (status : ℕ) (s : Sinks) (site out : Type 0) → (site → ⊥) → (out → ⊥)
+pub ends_unfailed : (a : Answer) (named : Named) (status : ℕ) (s : Sinks) (site out : Type 0) → (site → ⊥) → (out → ⊥)
     → Ends a named status s site out
     → Whole a status s ⊎ Starved a status s
-ends_quietly a named status s site out quiet_site quiet_out ends = elim ends [
+ends_unfailed a named status s site out unfailed_site unfailed_out ends = elim ends [
   | inl whole ↦ inl whole
   | inr rest ↦ elim rest [
     | inl starved ↦ inr starved
-    | inr broken ↦ absurd (no_cause broken.failure site out quiet_site quiet_out broken.cause)
+    | inr broken ↦ absurd (no_cause broken.failure site out unfailed_site unfailed_out broken.cause)
   ]
 ]
 
-pub quiet_never_rose : (m n : ℕ) → IsQuiet m n → Rose m n → ⊥
-quiet_never_rose m n quiet rose = let h = rose quiet.1 in omega (arith, h, quiet.0)
+pub no_failure_never_rose : (m n : ℕ) → HasNoFailure m n → Rose m n → ⊥
+no_failure_never_rose m n unfailed rose = let h = rose unfailed.1 in omega (arith, h, unfailed.0)
 
 pub rose_later : (m k n : ℕ) → m ≤ k → Rose k n → Rose m n
 rose_later m k n h rose = λ below. let later = rose below in omega (arith, h, later)
@@ -139,7 +139,7 @@ abbrev pub answer_by : Named → Result Report RunFault → Answer
 answer_by named (Ok report) = answer_of_run (Ok report)
 answer_by named (Err fault) = refused (right_line named fault) (right_status fault)
 
-given_answer : (named : Named) (run : Result Report DbFault) → answer_of_run run ≡ answer_by named (given run)
+given_answer : (named : Named) (run : Result Report DbFault) → answer_of_run run ≡ answer_by named (run_answer run)
 given_answer named (Ok report) = refl
 given_answer named (Err fault) = refl
 
@@ -152,7 +152,7 @@ compared_by options named (Some old) None a is = elim is [
   | inl refusal ↦ (Err (Open New), inl (refusal.0, refl), refusal.1)
   | inr bad ↦ (Err (Database bad.0), inr (bad.0, bad.1, refl), bad.2)
 ]
-compared_by options named (Some old) (Some new) a is = (given is.0, (is.0, is.1, refl), is.2 ∙ given_answer named is.0)
+compared_by options named (Some old) (Some new) a is = (run_answer is.0, (is.0, is.1, refl), is.2 ∙ given_answer named is.0)
 
 -- ---- how a run ends
 
@@ -201,11 +201,11 @@ run_database : (side : Side) (line : ℕ) (kind : DbFaultKind) (r : Result Repor
     → is_memory kind ≡ false → StandsOn kind rose first
     → (reliable ≡ true → kind ≡ db.Read → ⊥) → Put (kind_line (fault_at side line kind) kind) e f m n
     → Ends (answer_by named r) named (kind_status kind) (sinks c d e f m n) ((reliable ≡ false) × rose) out
-run_database side line db.Read r named reliable rose first out old new c d e f m n sent stops fed cause quiet put =
-    run_broken r named (unread (fault_at side line db.Read)) c d e f m n ((reliable ≡ false) × rose) out sent (refl, (never_true reliable (λ is. quiet is refl), cause)) put
-run_database side line db.Memory r named reliable rose first out old new c d e f m n sent stops fed cause quiet put =
+run_database side line db.Read r named reliable rose first out old new c d e f m n sent stops fed cause unfailed put =
+    run_broken r named (unread (fault_at side line db.Read)) c d e f m n ((reliable ≡ false) × rose) out sent (refl, (never_true reliable (λ is. unfailed is refl), cause)) put
+run_database side line db.Memory r named reliable rose first out old new c d e f m n sent stops fed cause unfailed put =
     absurd (true_is_not_false fed)
-run_database side line kind r named reliable rose first out old new c d e f m n sent stops fed cause quiet put =
+run_database side line kind r named reliable rose first out old new c d e f m n sent stops fed cause unfailed put =
     by_stop r (IsHindered old new rose out) (Database (fault_at side line kind)) (Ends (answer_by named r) named 24 (sinks c d e f m n) ((reliable ≡ false) × rose) out)
     (run_right r (Database (fault_at side line kind)) named c d e f m n ((reliable ≡ false) × rose) out sent put) (λ hindered. absurd hindered) stops
 
@@ -224,24 +224,24 @@ there_given bytes_of is_missing old new New told_old told_new there none =
     told_given (bytes_of New) (is_missing New) new told_new there none
 
 -- a run that was given up
-pub ends_fault : (fault : RunFault) (r : Result Report RunFault) (named : Named) (reliable : Bool) (rose out : Type 0) (first : DbFault → Type 0) (silent : Side → Type 0)
+pub ends_fault : (fault : RunFault) (r : Result Report RunFault) (named : Named) (reliable : Bool) (rose out : Type 0) (first : DbFault → Type 0) (untold : Side → Type 0)
     (bytes_of : Side → Option (List ℕ)) (is_missing : Side → Bool) (old new c d e f : Option (List ℕ)) (m n : ℕ)
     → TellsSide (bytes_of Old) (is_missing Old) old → TellsSide (bytes_of New) (is_missing New) new
     → StopsFor r (IsHindered old new rose out) fault × SendsFront r c d → IsNotOfMemory fault
-    → HasCause fault rose out first silent → (reliable ≡ true → IsOfReliable bytes_of fault)
+    → HasCause fault rose out first untold → (reliable ≡ true → IsOfReliable bytes_of fault)
     → Put (run_fault_line named.old_path named.new_path fault) e f m n
     → Ends (answer_by named r) named (fault_status fault) (sinks c d e f m n) ((reliable ≡ false) × rose) out
-ends_fault (Open side) r named reliable rose out first silent bytes_of is_missing old new c d e f m n told_old told_new ends fed cause quiet put =
+ends_fault (Open side) r named reliable rose out first untold bytes_of is_missing old new c d e f m n told_old told_new ends fed cause unfailed put =
     by_stop r (IsHindered old new rose out) (Open side) (Ends (answer_by named r) named 18 (sinks c d e f m n) ((reliable ≡ false) × rose) out)
     (run_right r (Open side) named c d e f m n ((reliable ≡ false) × rose) out ends.1 put)
     (λ hindered. run_broken r named (unopened side) c d e f m n ((reliable ≡ false) × rose) out ends.1
-    (never_true reliable (λ is. there_given bytes_of is_missing old new side told_old told_new hindered.0 (quiet is)), hindered.1) put) ends.0
-ends_fault (Database fault) r named reliable rose out first silent bytes_of is_missing old new c d e f m n told_old told_new ends fed cause quiet put =
-    run_database fault.side fault.line fault.kind r named reliable rose (first fault) out old new c d e f m n ends.1 ends.0 fed cause quiet put
-ends_fault (Changed side) r named reliable rose out first silent bytes_of is_missing old new c d e f m n told_old told_new ends fed cause quiet put =
+    (never_true reliable (λ is. there_given bytes_of is_missing old new side told_old told_new hindered.0 (unfailed is)), hindered.1) put) ends.0
+ends_fault (Database fault) r named reliable rose out first untold bytes_of is_missing old new c d e f m n told_old told_new ends fed cause unfailed put =
+    run_database fault.side fault.line fault.kind r named reliable rose (first fault) out old new c d e f m n ends.1 ends.0 fed cause unfailed put
+ends_fault (Changed side) r named reliable rose out first untold bytes_of is_missing old new c d e f m n told_old told_new ends fed cause unfailed put =
     by_stop r (IsHindered old new rose out) (Changed side) (Ends (answer_by named r) named 18 (sinks c d e f m n) ((reliable ≡ false) × rose) out)
     (run_right r (Changed side) named c d e f m n ((reliable ≡ false) × rose) out ends.1 put) (λ hindered. absurd hindered) ends.0
-ends_fault (Write written) r named reliable rose out first silent bytes_of is_missing old new c d e f m n told_old told_new ends fed cause quiet put =
+ends_fault (Write written) r named reliable rose out first untold bytes_of is_missing old new c d e f m n told_old told_new ends fed cause unfailed put =
     by_stop r (IsHindered old new rose out) (Write written) (Ends (answer_by named r) named 18 (sinks c d e f m n) ((reliable ≡ false) × rose) out)
     (run_right r (Write written) named c d e f m n ((reliable ≡ false) × rose) out ends.1 put)
     (λ hindered. run_broken r named unwritten c d e f m n ((reliable ≡ false) × rose) out ends.1 hindered put) ends.0
@@ -282,18 +282,18 @@ failed_later reliable later_reliable count later_count end same more failed =
     (sym same ∙ failed.0, rose_later count later_count end more failed.1)
 
 -- an ending where neither the site nor the output has counted a failure
-pub ends_exactly : (a : Answer) (named : Named) (reliable : Bool) (status : ℕ) (s : Sinks) (m n k l : ℕ) → IsQuiet m n
-    → IsQuiet k l → Ends a named status s (HasFailed reliable m n) (Rose k l)
+pub ends_exactly : (a : Answer) (named : Named) (reliable : Bool) (status : ℕ) (s : Sinks) (m n k l : ℕ) → HasNoFailure m n
+    → HasNoFailure k l → Ends a named status s (HasFailed reliable m n) (Rose k l)
     → Whole a status s ⊎ Starved a status s
-ends_exactly a named reliable status s m n k l quiet_site quiet_out ends =
-    ends_quietly a named status s (HasFailed reliable m n) (Rose k l) (λ failed. quiet_never_rose m n quiet_site failed.1) (quiet_never_rose k l quiet_out) ends
+ends_exactly a named reliable status s m n k l unfailed_site unfailed_out ends =
+    ends_unfailed a named status s (HasFailed reliable m n) (Rose k l) (λ failed. no_failure_never_rose m n unfailed_site failed.1) (no_failure_never_rose k l unfailed_out) ends
 
 -- an ending where the site is reliable and the output has counted no failure
 pub ends_reliably : (a : Answer) (named : Named) (reliable : Bool) (status : ℕ) (s : Sinks) (m n k l : ℕ)
-    → reliable ≡ true → IsQuiet k l → Ends a named status s (HasFailed reliable m n) (Rose k l)
+    → reliable ≡ true → HasNoFailure k l → Ends a named status s (HasFailed reliable m n) (Rose k l)
     → Whole a status s ⊎ Starved a status s
-ends_reliably a named reliable status s m n k l is quiet_out ends =
-    ends_quietly a named status s (HasFailed reliable m n) (Rose k l) (λ failed. true_is_not_false (sym is ∙ failed.0)) (quiet_never_rose k l quiet_out) ends
+ends_reliably a named reliable status s m n k l is unfailed_out ends =
+    ends_unfailed a named status s (HasFailed reliable m n) (Rose k l) (λ failed. true_is_not_false (sym is ∙ failed.0)) (no_failure_never_rose k l unfailed_out) ends
 
 -- the same ending by a status that is equal
 pub ends_status : (a : Answer) (named : Named) (status put : ℕ) (s : Sinks) (site out : Type 0) → status ≡ put

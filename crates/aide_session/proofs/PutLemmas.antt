@@ -25,8 +25,8 @@ pub put_more : {a b c : Option (List ℕ)} {m n k : ℕ} {xs ys : List ℕ} → 
     → Put (xs ++ ys) a c m k
 put_more {a} {b} {c} {m} {n} {k} {xs} {ys} p q = record {
   never_falls = let h = p.never_falls in let i = q.never_falls in omega arith;
-  exact = λ quiet. let h = p.never_falls in let i = q.never_falls in
-      appends_more a b c xs ys (p.exact (omega (arith, quiet.0, quiet.1), omega (arith, quiet.0, quiet.1))) (q.exact (omega (arith, quiet.0, quiet.1), omega (arith, quiet.0, quiet.1)));
+  exact = λ unfailed. let h = p.never_falls in let i = q.never_falls in
+      appends_more a b c xs ys (p.exact (omega (arith, unfailed.0, unfailed.1), omega (arith, unfailed.0, unfailed.1))) (q.exact (omega (arith, unfailed.0, unfailed.1), omega (arith, unfailed.0, unfailed.1)));
 }
 
 pub put_none : (a : Option (List ℕ)) (n : ℕ) → Put [] a a n n
@@ -40,8 +40,8 @@ pub put_passed : (text : List ℕ) (a b c : Option (List ℕ)) (m n k : ℕ) →
     → Put text a c m k
 put_passed text a b c m n k kept more p = record {
   never_falls = let h = p.never_falls in omega (arith, h, more);
-  exact = λ quiet. let h = p.never_falls in
-      Appends-kept a b c text (p.exact (omega (arith, h, more, quiet.0), omega (arith, h, more, quiet.0, quiet.1))) kept;
+  exact = λ unfailed. let h = p.never_falls in
+      Appends-kept a b c text (p.exact (omega (arith, h, more, unfailed.0), omega (arith, h, more, unfailed.0, unfailed.1))) kept;
 }
 
 below_more : (n : ℕ) → below (n + 1) ≡ below n ++ n ∷ []

@@ -18,7 +18,7 @@ use Rattle.aide_report.specs.Room.{IsNotMemory}
 use Rattle.aide_report.specs.Failures.{one_more}
 use Rattle.aide_report.specs.Agreement.{IsOfOutcome}
 use Rattle.aide_report.specs.Report.{status_of}
-use Rattle.aide_report.specs.RunFaults.{IsSilent}
+use Rattle.aide_report.specs.RunFaults.{HasSentNothing}
 use Rattle.aide_report.specs.declared.outcome.Outcome.{Outcome}
 use Rattle.aide_report.specs.declared.run_fault.RunFault.{RunFault}
 use Rattle.aide_report.specs.declared.run_fault.RunFault.TheVariants.{Open, Database, Changed, Write}
@@ -88,7 +88,7 @@ abbrev pub ClosingOutput : Closing → Course → Option (List ℕ) → Option (
 ClosingOutput (good_run options outcome) course before after = IsOfOutcome options outcome before after
     × (course.is_flushed ≡ true) × (course.flushes_after ≡ one_more course.flushes_before)
 ClosingOutput (bad_run fault) course before after =
-    IsSilent (course.opened_before Old) (course.opened_after Old) before after fault
+    HasSentNothing (course.opened_before Old) (course.opened_after Old) before after fault
     × IsRefusedThere course.opened_before course.opened_after fault
     × (course.flushes_after ≡ course.flushes_before)
 ClosingOutput _ course before after = Appends before after [] × (course.opened_after ≡ course.opened_before)
@@ -135,8 +135,9 @@ RunCause files named (Changed side) site out = (text : List ℕ) → HasText fil
 RunCause files named (Write written) site out = out
 
 -- both databases are sound, where their texts are known
-abbrev pub AreSound : Files → Named → Type 0
-AreSound files named = (side : Side) (text : List ℕ) → HasText files named side text → IsSound limits text
+abbrev pub AreBothSound : Files → Named → Type 0
+AreBothSound files named =
+    (side : Side) (text : List ℕ) → HasText files named side text → IsSound limits text
 
 -- what a closing stands on; `site` and `out` say that these have counted a failure
 abbrev pub ClosingCause : Files → List (List ℕ) → Named → Closing → (site out : Type 0) → Type 0
@@ -152,7 +153,7 @@ ClosingCause files words named good_config site out = (s : Configured)
 ClosingCause files words named (bad_run fault) site out = AsksToCompare files words named
     × RunCause files named fault site out
 ClosingCause files words named (good_run options outcome) site out =
-    ((asks : AsksToCompare files words named) × (asks.settings.options ≡ options)) × AreSound files named
+    ((asks : AsksToCompare files words named) × (asks.settings.options ≡ options)) × AreBothSound files named
 
 -- The status, the lines on standard error and what goes out are those of a closing that stands on its cause.
 pub record Closes (files : Files) (words : List (List ℕ)) (status : ℕ) (sinks : Sinks)

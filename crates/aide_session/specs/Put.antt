@@ -3,10 +3,10 @@ use Rattle.std.specs.Prelude.{◌≡◌, ℕ, ◌≤◌, ◌<◌, ◌-◌, ◌^�
 use Rattle.std.specs.Io.KnownBytes.{Appends}
 
 -- the count has not risen, and it can still rise
-abbrev pub IsQuiet : ℕ → ℕ → Type 0
-IsQuiet before after = (after ≡ before) × (after < 2 ^ 64 - 1)
+abbrev pub HasNoFailure : ℕ → ℕ → Type 0
+HasNoFailure before after = (after ≡ before) × (after < 2 ^ 64 - 1)
 
 -- where the sink counts no failure, this text and nothing else was put there
 pub record Put (text : List ℕ) (old new : Option (List ℕ)) (before after : ℕ) : Type 0 where
   pub never_falls : before ≤ after
-  pub exact : IsQuiet before after → Appends old new text
+  pub exact : HasNoFailure before after → Appends old new text

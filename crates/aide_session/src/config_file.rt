@@ -24,9 +24,8 @@ fn read_all<R: Reel>(alloc: Global, reel: &mut R) -> Result<Vec<u8>, ConfigFault
     ensures ok { IfOk result (λ text. (bytes : List ℕ) → R.to_come reel.old ≡ Some bytes
         → (bytes ≡ text.items) × (is_too_large bytes ≡ false)) }
     ensures small { IfOk result (λ text. is_too_large text.items ≡ false) }
-    ensures large { IsErrOf result ConfigFault.TooLarge → (bytes : List ℕ)
-        → R.to_come reel.old ≡ Some bytes
-        → is_too_large bytes ≡ true }
+    ensures large { IsErrOf result ConfigFault.TooLarge
+        → (bytes : List ℕ) → R.to_come reel.old ≡ Some bytes → is_too_large bytes ≡ true }
     ensures unread { IsErrOf result ConfigFault.Unread
         → Rose (R.failures reel.old) (R.failures reel.new) }
 {
@@ -56,9 +55,8 @@ pub(crate) fn read_config<S: Site>(
         → S.file_at site.old path.now ≡ Some file
         → (file ≡ Some text.items) × (is_too_large text.items ≡ false)) }
     ensures small { IfOk result (λ text. is_too_large text.items ≡ false) }
-    ensures large { IsErrOf result ConfigFault.TooLarge → (file : Option (List ℕ))
-        → S.file_at site.old path.now ≡ Some file
-        → IsLarge file }
+    ensures large { IsErrOf result ConfigFault.TooLarge
+        → (file : Option (List ℕ)) → S.file_at site.old path.now ≡ Some file → IsLarge file }
     ensures unread { IsErrOf result ConfigFault.Unread
         → Rose (S.failures site.old) (S.failures site.new) }
     ensures gone { S.is_reliable site.old ≡ true → IsErrOf result ConfigFault.Unread

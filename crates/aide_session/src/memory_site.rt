@@ -165,13 +165,13 @@ impl<'a> Sources for MemorySite<'a> {
     }
 
     fn close(&mut self, reel: &'a [u8])
-        ensures quiet { self.new ≡ self.old }
+        ensures unchanged { self.new ≡ self.old }
         ensures same { side_bytes self.new ≡ side_bytes self.old }
         ensures files { files_at self.new ≡ files_at self.old }
         ensures still_missing { side_missing self.new ≡ side_missing self.old }
         ensures openings { side_openings self.new ≡ side_openings self.old }
-        ensures adds { self.new.failures ≡ sum_of self.old.failures
-            (⟦<&'a [u8] as Reel>⟧.failures reel.entry) }
+        ensures adds { self.new.failures
+            ≡ sum_of self.old.failures (⟦<&'a [u8] as Reel>⟧.failures reel.entry) }
     {
         let _ = reel;
     }

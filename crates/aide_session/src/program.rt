@@ -14,7 +14,7 @@ ghost use Rattle.aide_session.specs.Existence.{HasAnswer, TellsNamed};
 ghost use Rattle.aide_session.specs.Files.{is_too_large};
 ghost use Rattle.aide_session.specs.Job.{job_of, text_of_job};
 ghost use Rattle.aide_session.specs.Lines.{run_fault_line};
-ghost use Rattle.aide_session.specs.Put.{IsQuiet, Put};
+ghost use Rattle.aide_session.specs.Put.{HasNoFailure, Put};
 
 use crate::config_file::{ConfigFault, read_config};
 use crate::job::{Job, WordsFault, read_words};
@@ -213,8 +213,8 @@ fn run_job<S: Site, W: Sink, E: Sink>(
     out: &mut W,
     err: &mut E,
 ) -> u8
-    ensures ends { (named : Named) (a : Answer) → IsJobAnswer (S.file_at site.old)
-        (text_of_job job.now) named a
+    ensures ends { (named : Named) (a : Answer)
+        → IsJobAnswer (S.file_at site.old) (text_of_job job.now) named a
         → Ends a named result
         (sinks_between W.delivered E.delivered E.failures out.old out.new err.old err.new)
         (HasFailed (S.is_reliable site.old) (S.failures site.old) (S.failures site.new))
@@ -298,8 +298,8 @@ pub fn session<S: Site, W: Sink, E: Sink>(
         (Rose (W.failures out.old) (W.failures out.new)) }
     // Where no failure was counted: the answer to the words, or want of memory.
     ensures exact { (named : Named) (a : Answer) → IsAnswer (S.file_at site.old) words.now named a
-        → IsQuiet (S.failures site.old) (S.failures site.new)
-        → IsQuiet (W.failures out.old) (W.failures out.new)
+        → HasNoFailure (S.failures site.old) (S.failures site.new)
+        → HasNoFailure (W.failures out.old) (W.failures out.new)
         → Whole a result
         (sinks_between W.delivered E.delivered E.failures out.old out.new err.old err.new)
         ⊎ Starved a result
@@ -308,13 +308,13 @@ pub fn session<S: Site, W: Sink, E: Sink>(
     // counts no failure: the answer to the words, or want of memory.
     ensures reliable { (named : Named) (a : Answer)
         → IsAnswer (S.file_at site.old) words.now named a
-        → S.is_reliable site.old ≡ true → IsQuiet (W.failures out.old) (W.failures out.new)
+        → S.is_reliable site.old ≡ true → HasNoFailure (W.failures out.old) (W.failures out.new)
         → Whole a result
         (sinks_between W.delivered E.delivered E.failures out.old out.new err.old err.new)
         ⊎ Starved a result
         (sinks_between W.delivered E.delivered E.failures out.old out.new err.old err.new) }
     // The lines have been passed on, where standard error counts no failure.
-    ensures passed_on { IsQuiet (E.failures err.old) (E.failures err.new)
+    ensures passed_on { HasNoFailure (E.failures err.old) (E.failures err.new)
         → E.is_flushed err.new ≡ true }
     // There is an answer where it is told of the files that are named what stands at their paths.
     ensures answered { TellsNamed (S.file_at site.old) words.now

@@ -2,7 +2,7 @@
 ghost use Rattle.std.specs.Prelude.{◌≡◌, ◌≤◌, ℕ, List, decimal, true};
 ghost use Rattle.std.specs.Io.KnownBytes.{Keeps};
 ghost use Rattle.aide_report.specs.Printed.{printed};
-ghost use Rattle.aide_session.specs.Put.{IsQuiet, Put};
+ghost use Rattle.aide_session.specs.Put.{HasNoFailure, Put};
 
 use aide_report::{Sink, emit, emit_path};
 use itoa::Buffer;
@@ -36,7 +36,7 @@ pub(crate) fn put_number<E: Sink>(err: &mut E, number: u64)
 pub(crate) fn pass_on<E: Sink>(err: &mut E)
     ensures kept { Keeps (E.delivered err.old) (E.delivered err.new) }
     ensures never_falls { E.failures err.old ≤ E.failures err.new }
-    ensures flushed { IsQuiet (E.failures err.old) (E.failures err.new)
+    ensures flushed { HasNoFailure (E.failures err.old) (E.failures err.new)
         → E.is_flushed err.new ≡ true }
 {
     if let Err(_) = err.flush() {}

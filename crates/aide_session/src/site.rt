@@ -20,8 +20,7 @@ pub trait Site: Sources {
     fn config(&mut self, path: &str) -> Result<Self::R, OpenFault>
         ensures fresh { IfOk result (λ r. Self.R.failures r ≡ 0) }
         ensures gives { IfOk result (λ r. (file : Option (List ℕ))
-            → Self.file_at self.old path.now ≡ Some file
-            → GivesFile file (Self.R.to_come r)) }
+            → Self.file_at self.old path.now ≡ Some file → GivesFile file (Self.R.to_come r)) }
         ensures sides { Self.bytes_of self.new ≡ Self.bytes_of self.old }
         ensures paths { path_of self.new ≡ path_of self.old }
         ensures files { Self.file_at self.new ≡ Self.file_at self.old }

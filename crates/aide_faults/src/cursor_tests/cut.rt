@@ -1,7 +1,10 @@
 //! A database that is cut, or whose reel fails, after each of its bytes.
-use super::{LIMITS, PACES, Wanted, assert_read, read_whole, refuse_each};
-use crate::{Pace, PlannedReel};
+use super::{LIMITS, Wanted, assert_read, read_whole, refuse_each};
+use crate::PlannedReel;
+use crate::pace::PACES;
 use aide_db::{DbFault, DbFaultKind as Kind, Desk, Side};
+use std::alloc::Allocator;
+use std::process::Abort;
 
 const SOUND: &[u8] =
     b"@@begin_db\n@@db_spec name attr perm size\n/b 36 40755 4096\n/c 36 100644 10\n@@end_db\n";
@@ -170,27 +173,35 @@ const PLACES: [Place; 5] = [
     },
 ];
 
+/// Reads from a reel that fails behind so many bytes, at each pace.
+fn assert_fails<A: Allocator + Copy>(
+    rt: &impl Abort,
+    desk: &mut Desk<A>,
+    place: &Place,
+    sound: u64,
+) {
+    let wanted = Err(DbFault {
+        side: Side::Old,
+        line: place.line,
+        kind: Kind::Read,
+    });
+    for pace in &PACES {
+        let reel = PlannedReel::new(SOUND, *pace, sound);
+        let (entries, answer, reel) = read_whole(rt, reel, LIMITS, desk);
+        assert!(rt;
+            entries == place.entries && answer == wanted,
+            "{pace:?}, after {sound}: {answer:?}"
+        );
+        assert!(rt; reel.failures() == 1);
+    }
+}
+
 #[test]
 fn a_reel_that_fails_at_each_byte(rt: HostRuntime) {
     let mut desk = Desk::new(rt.alloc());
-    for row in &PLACES {
-        let wanted = Err(DbFault {
-            side: Side::Old,
-            line: row.line,
-            kind: Kind::Read,
-        });
-        for sound in row.least..row.most.saturating_add(1) {
-            for most in &PACES {
-                if *most > 0 {
-                    let reel = PlannedReel::new(SOUND, Pace::new(*most), sound);
-                    let (entries, answer, reel) = read_whole(&rt, reel, LIMITS, &mut desk);
-                    assert!(rt;
-                        entries == row.entries && answer == wanted,
-                        "after {sound}: {answer:?}"
-                    );
-                    assert!(rt; reel.failures() == 1);
-                }
-            }
+    for place in &PLACES {
+        for sound in place.least..place.most.saturating_add(1) {
+            assert_fails(&rt, &mut desk, place, sound);
         }
     }
 }

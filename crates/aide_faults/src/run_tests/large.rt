@@ -1,6 +1,7 @@
 //! 200,000 entries a side, and two runs over one desk.
-use super::{PACES, SAME, options_of, run_over};
-use crate::{Pace, PlannedSources, SidePlan};
+use super::{SAME, options_of, run_over};
+use crate::pace::PACES;
+use crate::{PlannedSources, SidePlan};
 use aide_conf::Task;
 use aide_db::{Desk, Limits, MemorySources, Side};
 use aide_report::{MemorySink, Outcome, run};
@@ -95,14 +96,12 @@ fn the_peak_of_two_runs_over_one_desk(rt: HostRuntime) {
 /bbbbbbbbbbbbbbbbbbbbbbbbbbb 1\n@@end_db\n";
     let options = options_of(&rt, rt.alloc(), b"report_level=minimal");
     let mut desk = Desk::new(rt.alloc());
-    for most in &PACES {
-        if *most > 0 {
-            let old = SidePlan::plain(text);
-            let mut sources = PlannedSources::new(old, old, Pace::new(*most));
-            let mut out = MemorySink::new(rt.alloc());
-            let answer = run_over(options, &mut desk, &mut sources, &mut out);
-            assert!(rt; answer.is_ok() && out.bytes() == SAME);
-            assert!(rt; desk.peak() == 90);
-        }
+    for pace in &PACES {
+        let old = SidePlan::plain(text);
+        let mut sources = PlannedSources::new(old, old, *pace);
+        let mut out = MemorySink::new(rt.alloc());
+        let answer = run_over(options, &mut desk, &mut sources, &mut out);
+        assert!(rt; answer.is_ok() && out.bytes() == SAME);
+        assert!(rt; desk.peak() == 90);
     }
 }

@@ -153,23 +153,28 @@ pub(super) fn refuse_openings(rt: &impl Abort, alloc: Global, trial: &Trial<'_>)
     }
 }
 
-/// Lets the reel of each opening fail, at each byte and at the end.
+/// Lets the reel of one opening fail, at each byte and at the end.
+fn break_opening(rt: &impl Abort, alloc: Global, trial: &Trial<'_>, side: Side, opening: u64) {
+    let text = trial.text(side);
+    for sound in 0..text.len().saturating_add(1) {
+        let plan = SidePlan {
+            broken: Some(Broken {
+                opening,
+                sound: sound as u64,
+            }),
+            ..SidePlan::plain(text)
+        };
+        let fault = database(side, line_at(text, sound), Kind::Read);
+        let wrong = trial.wrong(side, opening, fault).with(side, plan);
+        assert_stops(rt, alloc, trial, &wrong);
+    }
+}
+
+/// Lets the reel of each opening of either side fail, at each byte and at the end.
 pub(super) fn break_readings(rt: &impl Abort, alloc: Global, trial: &Trial<'_>) {
     for side in &SIDES {
-        let text = trial.text(*side);
         for opening in 1..trial.openings.saturating_add(1) {
-            for sound in 0..text.len().saturating_add(1) {
-                let plan = SidePlan {
-                    broken: Some(Broken {
-                        opening,
-                        sound: sound as u64,
-                    }),
-                    ..SidePlan::plain(text)
-                };
-                let fault = database(*side, line_at(text, sound), Kind::Read);
-                let wrong = trial.wrong(*side, opening, fault).with(*side, plan);
-                assert_stops(rt, alloc, trial, &wrong);
-            }
+            break_opening(rt, alloc, trial, *side, opening);
         }
     }
 }

@@ -1,10 +1,13 @@
 //! Runs on a desk with room for the longest line, which ask for no memory.
-use super::{SAME, options_of, pair, run_over};
+use super::trial::database;
+use super::{DIFFERENT, SAME, options_of, pair, run_over};
 use crate::{Pace, PlannedSources, Refusing, SidePlan};
 use aide_conf::Task;
-use aide_db::{DbFault, DbFaultKind, Desk, DeskFault, Limits, Side};
-use aide_report::{RunFault, WriteSink, run};
+use aide_db::{DbFaultKind, Desk, DeskFault, Limits, Side};
+use aide_report::{WriteSink, run};
 use arrayvec::ArrayVec;
+use std::alloc::Global;
+use std::process::Abort;
 use std::test::Fail;
 
 const TWO: &[u8] = b"@@begin_db\n@@db_spec name size\n/aaaaaaaaaaaaaaaaaaaaaaaaaaa 1\n\
@@ -13,13 +16,13 @@ const TWO: &[u8] = b"@@begin_db\n@@db_spec name size\n/aaaaaaaaaaaaaaaaaaaaaaaaa
 const LONGER: &[u8] = b"@@begin_db\n@@db_spec name size\n/aaaaaaaaaaaaaaaaaaaaaaaaaaa 1\n\
 /bbbbbbbbbbbbbbbbbbbbbbbbbbbb 1\n@@end_db\n";
 
-/// A line limit, the old database, the first growth behind the desk's own that is refused, and whether the old database
-/// has a line too long.
+/// A line limit, the old database, the first growth behind the desk's own that is refused, and the report: none where
+/// the old database has a line too long.
 struct Roomy {
     line: u32,
     old: &'static [u8],
     refused: u64,
-    too_long: bool,
+    report: &'static [u8],
 }
 
 const ROOMY: [Roomy; 5] = [
@@ -27,33 +30,58 @@ const ROOMY: [Roomy; 5] = [
         line: 30,
         old: TWO,
         refused: 3,
-        too_long: false,
+        report: SAME,
     },
     Roomy {
         line: 30,
         old: TWO,
         refused: u64::MAX,
-        too_long: false,
+        report: SAME,
     },
     Roomy {
         line: 31,
         old: LONGER,
         refused: u64::MAX,
-        too_long: false,
+        report: DIFFERENT,
     },
     Roomy {
         line: 30,
         old: LONGER,
         refused: u64::MAX,
-        too_long: true,
+        report: b"",
     },
     Roomy {
         line: 30,
         old: LONGER,
         refused: 3,
-        too_long: true,
+        report: b"",
     },
 ];
+
+/// Runs on a desk with room for lines of 30 bytes, and looks at the answer, the report and the peak.
+fn assert_roomy(rt: &impl Abort, alloc: Global, task: &Task<'_>, row: &Roomy) {
+    let limits = Limits {
+        line: row.line,
+        bytes: 1000,
+    };
+    let refusing = Refusing::all_from(alloc, row.refused);
+    let desk = Desk::reserved(&refusing, 30);
+    assert!(rt; desk.is_ok() && limits.line >= 14);
+    if let (Ok(mut desk), true) = (desk, limits.line >= 14) {
+        assert!(rt; desk.room() == 30 && desk.held() == 0 && desk.peak() == 0);
+        let (old, new) = (SidePlan::plain(row.old), SidePlan::plain(TWO));
+        let mut sources = PlannedSources::new(old, new, Pace::new(4096));
+        let mut out = WriteSink::new(ArrayVec::<u8, 60>::new());
+        let answer = run(task, limits, &mut desk, &mut sources, &mut out);
+        let too_long = database(Side::Old, 4, DbFaultKind::LineTooLong);
+        assert!(rt;
+            answer.err() == row.report.is_empty().then_some(too_long),
+            "{answer:?}"
+        );
+        assert!(rt; desk.room() == 30 && (row.old != TWO || desk.peak() == 90));
+        assert!(rt; out.into_inner().as_slice() == row.report);
+    }
+}
 
 #[test]
 fn lines_as_long_as_the_room(rt: HostRuntime) {
@@ -62,43 +90,8 @@ fn lines_as_long_as_the_room(rt: HostRuntime) {
         new_path: "/new",
         options: options_of(&rt, rt.alloc(), b"report_level=minimal"),
     };
-    let too_long = Err(RunFault::Database(DbFault {
-        side: Side::Old,
-        line: 4,
-        kind: DbFaultKind::LineTooLong,
-    }));
     for row in &ROOMY {
-        let limits = Limits {
-            line: row.line,
-            bytes: 1000,
-        };
-        let refusing = Refusing::all_from(rt.alloc(), row.refused);
-        let desk = Desk::reserved(&refusing, 30);
-        assert!(rt; desk.is_ok());
-        if let (Ok(mut desk), true) = (desk, limits.line >= 14) {
-            assert!(rt; desk.room() == 30 && desk.held() == 0 && desk.peak() == 0);
-            let (old, new) = (SidePlan::plain(row.old), SidePlan::plain(TWO));
-            let mut sources = PlannedSources::new(old, new, Pace::new(4096));
-            let mut out = WriteSink::new(ArrayVec::<u8, 60>::new());
-            let answer = run(&task, limits, &mut desk, &mut sources, &mut out);
-            assert!(rt;
-                if row.too_long {
-                    answer == too_long
-                } else {
-                    answer.is_ok()
-                },
-                "{answer:?}"
-            );
-            assert!(rt; desk.room() == 30 && (row.old != TWO || desk.peak() == 90));
-            let wanted = if row.too_long {
-                b""
-            } else if row.old == TWO {
-                SAME
-            } else {
-                super::DIFFERENT
-            };
-            assert!(rt; out.into_inner().as_slice() == wanted);
-        }
+        assert_roomy(&rt, rt.alloc(), &task, row);
     }
 }
 

@@ -1,8 +1,7 @@
 //! A run over two sound databases, and its right answer.
-ghost use Rattle.std.specs.Prelude.{◌<◌};
-
 use super::trial::Trial;
-use super::{PACES, options_of, run_over};
+use super::{options_of, run_over};
+use crate::pace::PACES;
 use crate::{Pace, PlannedSources, SidePlan};
 use aide_db::{Desk, Side};
 use aide_report::{Outcome, RunFault, WriteSink};
@@ -26,19 +25,19 @@ pub(super) struct Row {
     pub(super) report: &'static [u8],
 }
 
-/// Takes so many bytes a write, keeps them, and counts how often it is flushed and behind how many bytes.
+/// Takes bytes at a pace, keeps them, and counts how often it is flushed and behind how many bytes.
 #[derive(Drop)]
 pub(super) struct CountingWriter<A: Allocator + Copy> {
-    most: usize,
+    pace: Pace,
     bytes: Vec<u8, A>,
     flushes: u64,
     flushed: usize,
 }
 
 impl<A: Allocator + Copy> CountingWriter<A> {
-    pub(super) fn new(alloc: A, most: usize) -> CountingWriter<A> {
+    pub(super) fn new(alloc: A, pace: Pace) -> CountingWriter<A> {
         CountingWriter {
-            most,
+            pace,
             bytes: Vec::new(alloc),
             flushes: 0,
             flushed: 0,
@@ -53,7 +52,7 @@ impl<A: Allocator + Copy> CountingWriter<A> {
 
 impl<A: Allocator + Copy> Write for CountingWriter<A> {
     fn write(&mut self, buf: &[u8]) -> io::Result<usize> {
-        let count = buf.len().min(self.most);
+        let count = self.pace.before(buf.len() as u64);
         match self.bytes.extend_from_slice(&buf[..count]) {
             Ok(()) => Ok(count),
             Err(_) => Err(Error::from(ErrorKind::OutOfMemory)),
@@ -70,10 +69,8 @@ impl<A: Allocator + Copy> Write for CountingWriter<A> {
 /// Runs at each pace of reading and writing, and looks at the report, the openings and the flush.
 pub(super) fn assert_written(rt: &impl Abort, alloc: Global, trial: &Trial<'_>) {
     let mut desk = Desk::new(alloc);
-    for most in &PACES {
-        if *most > 0 {
-            let _ = written_at(rt, alloc, trial, &mut desk, *most);
-        }
+    for pace in &PACES {
+        let _ = written_at(rt, alloc, trial, &mut desk, *pace);
     }
 }
 
@@ -83,17 +80,15 @@ fn written_at(
     alloc: Global,
     trial: &Trial<'_>,
     desk: &mut Desk<Global>,
-    most: usize,
-) -> Result<Outcome, RunFault>
-    requires { 0 < most }
-{
+    pace: Pace,
+) -> Result<Outcome, RunFault> {
     let old = SidePlan::plain(trial.old);
-    let mut sources = PlannedSources::new(old, SidePlan::plain(trial.new), Pace::new(most));
-    let mut out = WriteSink::new(CountingWriter::new(alloc, most));
+    let mut sources = PlannedSources::new(old, SidePlan::plain(trial.new), pace);
+    let mut out = WriteSink::new(CountingWriter::new(alloc, pace));
     let answer = run_over(trial.options, desk, &mut sources, &mut out);
     assert!(rt;
         out.into_inner().is_done_with(trial.report),
-        "{most} at a time: {answer:?}"
+        "{pace:?}: {answer:?}"
     );
     let openings = (sources.openings(Side::Old), sources.openings(Side::New));
     assert!(rt;
@@ -122,10 +117,8 @@ pub(super) fn assert_reported(rt: &impl Abort, alloc: Global, row: &Row) {
     };
     assert!(rt; wanted.status() == row.status);
     let mut desk = Desk::new(alloc);
-    for most in &PACES {
-        if *most > 0 {
-            let answer = written_at(rt, alloc, &trial, &mut desk, *most);
-            assert!(rt; answer == Ok(wanted), "{most} at a time: {answer:?}");
-        }
+    for pace in &PACES {
+        let answer = written_at(rt, alloc, &trial, &mut desk, *pace);
+        assert!(rt; answer == Ok(wanted), "{pace:?}: {answer:?}");
     }
 }

@@ -1,8 +1,7 @@
 //! Sinks that fail at each byte, or to flush, or have little room.
-ghost use Rattle.std.specs.Prelude.{◌<◌};
-
 use super::trial::Trial;
-use super::{NEW, OLD, PACES, REPORT, options_of, run_over};
+use super::{NEW, OLD, REPORT, options_of, run_over};
+use crate::pace::PACES;
 use crate::{Pace, PlannedSink, PlannedSources, SidePlan};
 use aide_db::Desk;
 use aide_report::{MemorySink, RunFault, WriteSink};
@@ -10,24 +9,21 @@ use arrayvec::ArrayVec;
 use std::alloc::Global;
 use std::process::Abort;
 
-/// Runs to a sink that takes so many bytes at a time, and that many in all, or does not flush. All that it could take
-/// has gone out, and no more.
-fn assert_cut(rt: &impl Abort, alloc: Global, trial: &Trial<'_>, most: usize, room: usize)
-    requires { 0 < most }
-{
+/// Runs to a sink that takes bytes at a pace, and so many in all, or does not flush. All that it could take has gone
+/// out, and no more.
+fn assert_cut(rt: &impl Abort, alloc: Global, trial: &Trial<'_>, pace: Pace, room: usize) {
     let mut desk = Desk::new(alloc);
-    let pace = Pace::new(4096);
-    let old = SidePlan::plain(trial.old);
-    let mut sources = PlannedSources::new(old, SidePlan::plain(trial.new), pace);
+    let (old, new) = (SidePlan::plain(trial.old), SidePlan::plain(trial.new));
+    let mut sources = PlannedSources::new(old, new, Pace::new(4096));
     let inner = MemorySink::new(alloc);
-    let mut out = PlannedSink::new(inner, Pace::new(most), room as u64, false);
+    let mut out = PlannedSink::new(inner, pace, room as u64, false);
     let answer = run_over(trial.options, &mut desk, &mut sources, &mut out);
     let wanted = RunFault::Write {
         written: room as u64,
     };
     assert!(rt;
         answer == Err(wanted),
-        "{answer:?} after {room} bytes, {most} at a time"
+        "{pace:?}: {answer:?} after {room} bytes"
     );
     assert!(rt; wanted.status() == 18 && out.failures() == 1);
     let (front, _) = trial.report.split_at(room.min(trial.report.len()));
@@ -36,11 +32,9 @@ fn assert_cut(rt: &impl Abort, alloc: Global, trial: &Trial<'_>, most: usize, ro
 
 /// Cuts the report at each byte, and behind the last one by a flush that fails.
 pub(super) fn cut_report(rt: &impl Abort, alloc: Global, trial: &Trial<'_>) {
-    for most in &PACES {
-        if *most > 0 {
-            for room in 0..trial.report.len().saturating_add(1) {
-                assert_cut(rt, alloc, trial, *most, room);
-            }
+    for pace in &PACES {
+        for room in 0..trial.report.len().saturating_add(1) {
+            assert_cut(rt, alloc, trial, *pace, room);
         }
     }
 }

@@ -52,6 +52,6 @@ returns-in-Err-clause-closes g c = λ words named is_old is_new asks same tells.
       named = named;
       cause = (asks, run_cause files named bytes_of fault _ _ _ _ tells c.in-Err.ensures.cause c.in-Err.ensures.right (c.in-Err.ensures.memory c.requires.room));
       status_is = c.status-in-Err.ensures;
-      output = (c.in-Err.ensures.silent, c.in-Err.ensures.refused, c.in-Err.ensures.flushes);
+      output = (c.in-Err.ensures.unsent, c.in-Err.ensures.refused, c.in-Err.ensures.flushes);
       put = put_paths fault named c.args.task.now.old_path.now c.args.task.now.new_path.now _ _ _ _ is_old is_new c.put_run_fault.ensures;
     }

@@ -9,20 +9,20 @@ returns-clause-ends g c = λ named a is.
     ends_passed a named _ _ _ _ _ _ _ _ _ _ _ c.pass_on.ensures.kept c.pass_on.ensures.never_falls (c.run_words-status.ensures.ends named a is)
 
 pub returns-clause-exact : goal.returns-clause-exact
-returns-clause-exact g c = λ named a is quiet_site quiet_out.
-    ends_exactly a named _ _ _ _ _ _ _ quiet_site quiet_out
+returns-clause-exact g c = λ named a is unfailed_site unfailed_out.
+    ends_exactly a named _ _ _ _ _ _ _ unfailed_site unfailed_out
     (ends_passed a named _ _ _ _ _ _ _ _ _ _ _ c.pass_on.ensures.kept c.pass_on.ensures.never_falls (c.run_words-status.ensures.ends named a is))
 
 pub returns-clause-reliable : goal.returns-clause-reliable
-returns-clause-reliable g c = λ named a is reliable quiet_out.
-    ends_reliably a named _ _ _ _ _ _ _ reliable quiet_out
+returns-clause-reliable g c = λ named a is reliable unfailed_out.
+    ends_reliably a named _ _ _ _ _ _ _ reliable unfailed_out
     (ends_passed a named _ _ _ _ _ _ _ _ _ _ _ c.pass_on.ensures.kept c.pass_on.ensures.never_falls (c.run_words-status.ensures.ends named a is))
 
 pub returns-clause-passed_on : goal.returns-clause-passed_on
-returns-clause-passed_on g c = λ quiet.
+returns-clause-passed_on g c = λ unfailed.
     let before = c.run_words-status.ensures.closes.put.never_falls in
     let after = c.pass_on.ensures.never_falls in
-    c.pass_on.ensures.flushed (omega (arith, before, after, quiet.0), quiet.1)
+    c.pass_on.ensures.flushed (omega (arith, before, after, unfailed.0), unfailed.1)
 
 pub returns-clause-answered : goal.returns-clause-answered
 returns-clause-answered g c = λ tells. answered _ c.args.words.now tells
