@@ -1,6 +1,9 @@
 -- The shapes of columns, and the field `0`, which is of any shape.
-use Rattle.std.proofs.Common.{◌≡◌, ℕ, ◌+◌, List, [], ◌∷◌, refl, ap, sym, ◌∙◌, true, map}
-use Rattle.std.specs.Prelude.{codes}
+use Rattle.std.proofs.Common.{◌≡◌, ℕ, ◌+◌, ◌<◌, ◌≤◌, List, [], ◌∷◌, refl, ap, sym, ◌∙◌, true, map, length, drop}
+use Rattle.std.proofs.Common.{min, get_or, arith, inl, inr}
+use Rattle.std.proofs.lemmas.Bool.{cases_lt}
+use Rattle.std.proofs.lemmas.List.{drop_all, drop_more}
+use Rattle.std.specs.Prelude.{codes, None}
 use Rattle.std.specs.List.{zip}
 use Rattle.std.specs.Cmp.Lexicographic.{same_text}
 use Rattle.aide_attr.specs.Attr.{form_of}
@@ -69,9 +72,25 @@ pub nought_is_shaped : (shape : Shape) (field : List ℕ) → is_nought field �
 nought_is_shaped shape field e = ap (has_shape shape) (same_text field (codes "0") (sym e)) ∙ nought_shaped shape
 
 -- a field that is of its shape is passed over
-pub shaped_more : (n : ℕ) (line : List ℕ) (shapes : List Shape) (shape : Shape) (more : List Shape)
-    → (spans : List Span) (span : Span) (more_spans : List Span) (field : List ℕ)
-    → shapes ≡ shape ∷ more → spans ≡ span ∷ more_spans → field ≡ field_at line span → has_shape shape field ≡ true
-    → first_misshapen_from (n + 1) (zip more (fields_at line more_spans)) ≡ first_misshapen_from n (zip shapes (fields_at line spans))
-shaped_more n line shapes shape more spans span more_spans field e f same is =
-    sym (rw (e, f, ap (has_shape shape) (sym same) ∙ is) refl)
+pub shaped_more : (n : ℕ) (line : List ℕ) (shapes : List Shape) (spans : List Span) (index : ℕ) (shape : Shape) (span : Span)
+    → (field : List ℕ) → index < length shapes → index < length spans
+    → field ≡ field_at line (get_or spans index span) → has_shape (get_or shapes index shape) field ≡ true
+    → first_misshapen_from (n + 1) (zip (drop (index + 1) shapes) (fields_at line (drop (index + 1) spans)))
+    ≡ first_misshapen_from n (zip (drop index shapes) (fields_at line (drop index spans)))
+shaped_more n line shapes spans index shape span field lt less same is =
+    sym (rw (drop_more shapes index shape lt, drop_more spans index span less, ap (has_shape (get_or shapes index shape)) (sym same) ∙ is) refl)
+
+-- no field is left to look at
+none_of_no_field : (n : ℕ) (shapes : List Shape) → first_misshapen_from n (zip shapes []) ≡ None
+none_of_no_field n [] = refl
+none_of_no_field n (shape ∷ shapes) = refl
+
+-- where all shapes or all spans were looked at, no field is out of its shape
+pub all_shaped : (n : ℕ) (line : List ℕ) (shapes : List Shape) (spans : List Span) (index : ℕ)
+    → min (length shapes) (length spans) ≤ index
+    → first_misshapen_from n (zip (drop index shapes) (fields_at line (drop index spans))) ≡ None
+all_shaped n line shapes spans index le =
+    elim (cases_lt index (length shapes)) [
+      | inl lt ↦ rw (drop_all index spans (omega (arith, le, lt))) (none_of_no_field n (drop index shapes))
+      | inr ge ↦ rw (drop_all index shapes ge) refl
+    ]

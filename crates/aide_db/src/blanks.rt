@@ -55,16 +55,16 @@ pub fn lowest_bit(bits: u64) -> usize
     bits.trailing_zeros() as usize
 }
 
-/// The bits without one of them.
-pub fn without_bit(bits: u64, bit: usize) -> u64
-    requires bound { bit < 64 }
-    requires set { bit_at bits bit ≡ 1 }
+/// The bits without the lowest, told with no shift, so that a loop over the bits need not wait for its place.
+pub fn without_lowest(bits: u64) -> u64
+    requires { bits ≢ 0 }
     ensures smaller { result < bits }
-    ensures kept { (k : ℕ) → k < 64 → k ≢ bit → bit_at result k ≡ bit_at bits k }
+    ensures kept { (low k : ℕ) → bit_at bits low ≡ 1 → low < k → bit_at result k ≡ bit_at bits k }
     ensures fewer { (k : ℕ) → bit_at result k ≡ 1 → bit_at bits k ≡ 1 }
-    ensures gone { bit_at result bit ≡ 0 }
+    ensures gone { (low : ℕ) → bit_at bits low ≡ 1
+        → ((k : ℕ) → k < low → bit_at bits k ≡ 0) → bit_at result low ≡ 0 }
 {
-    bits & !(1 << bit)
+    bits & (bits - 1)
 }
 
 /// The bits from a place on.

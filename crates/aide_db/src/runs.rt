@@ -5,7 +5,7 @@ ghost use Rattle.std.specs.Prelude.{IfSome, IfNone};
 ghost use Rattle.aide_db.specs.Text.{is_blank, fields};
 ghost use Rattle.aide_db.specs.Spans.{fields_at};
 
-use crate::blanks::{bits_from, blanks_at, lowest_bit, without_bit};
+use crate::blanks::{bits_from, blanks_at, lowest_bit, without_lowest};
 use crate::spans::Span;
 
 /// Adds a span behind so many, where these are fewer than 64: how many there are then.
@@ -85,6 +85,8 @@ fn line_ends(spanned: &mut [Span; 64], count: usize, line: &[u8], from: usize) -
 }
 
 /// Finds the fields of a line of 32 bytes or more: how many there are, where these are at most 64.
+// Not inlined, so that its loop has the registers for itself.
+#[inline(never)]
 pub fn find_runs(spanned: &mut [Span; 64], line: &[u8]) -> Option<usize>
     requires long { 32 ≤ length line.now }
     requires small { length line.now < 2 ^ 32 }
@@ -112,7 +114,7 @@ pub fn find_runs(spanned: &mut [Span; 64], line: &[u8]) -> Option<usize>
             };
             count = more;
             from = end + 1;
-            bits = without_bit(bits, bit);
+            bits = without_lowest(bits);
         }
         base = at + 32;
     }

@@ -86,7 +86,7 @@ fn is_time_beside(field: &[u8], time: &[u8]) -> bool
 }
 
 /// The last field of a line that was found to be a time, if this field is what it has to be. An entry has two times or
-/// more, which are often written alike, and then one of them is decoded. The field `0` is of any shape.
+/// more, which are often written alike, and then one of them is decoded.
 pub fn last_time<'a>(shape: Shape, field: &'a [u8], time: &'a [u8]) -> Option<&'a [u8]>
     requires short { IsShort shape }
     requires time { IsTimeOrNothing time.now }
@@ -94,9 +94,6 @@ pub fn last_time<'a>(shape: Shape, field: &'a [u8], time: &'a [u8]) -> Option<&'
     ensures some { IfSome result (λ last. (has_shape shape field.now ≡ true)
         × IsTimeOrNothing last.now) }
 {
-    if is_nought(field) {
-        return Some(time);
-    }
     if let Shape::Seconds = shape {
         return if is_time_beside(field, time) {
             Some(field)

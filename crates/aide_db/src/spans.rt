@@ -30,16 +30,27 @@ impl Span {
         ensures { result.now ≡ field_at line.now self }
     {
         let start = self.start as usize;
-        if start > line.len() {
-            return &[];
+        let end = start + self.len as usize;
+        if end <= line.len() {
+            &line[start..end]
+        } else {
+            self.cut(line)
         }
-        let (_, rest) = line.split_at(start);
-        let len = self.len as usize;
-        if len >= rest.len() {
-            return rest;
+    }
+
+    /// The bytes of a span that reaches over the line's end, which no span of the line's own fields does.
+    #[cold]
+    #[inline(never)]
+    fn cut<'a>(self, line: &'a [u8]) -> &'a [u8]
+        requires { length line.now < self.start + self.len }
+        ensures { result.now ≡ field_at line.now self }
+    {
+        let start = self.start as usize;
+        if start < line.len() {
+            &line[start..]
+        } else {
+            &[]
         }
-        let (field, _) = rest.split_at(len);
-        field
     }
 }
 

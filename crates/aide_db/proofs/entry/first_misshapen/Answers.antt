@@ -1,16 +1,25 @@
-use Rattle.std.proofs.Common.{arith, ap, length, ◌+◌, ◌∙◌}
-use Rattle.std.proofs.lemmas.List.Elements.{All-tail}
-use Rattle.aide_db.specs.Shapes.{IsShort}
-use Rattle.aide_db.proofs.ShapeLemmas.{shaped_more}
+use Rattle.std.proofs.Common.{arith, sym, ◌∙◌, ◌+◌}
+use Rattle.aide_db.proofs.ShapeLemmas.{shaped_more, all_shaped, nought_is_shaped}
+use Rattle.aide_db.proofs.entry.first_misshapen.Goals.{then-not-is_nought+in-Some, else-not-is_nought}
 use Rattle.aide_db.proofs.entry.first_misshapen.Goals as goal
 
 pub columns-preserved : goal.columns-preserved
 columns-preserved c = record {
-  same = shaped_more (c.columns.before + 1) c.args.line.now c.columns.shapes_left.now c.in-Some.shape.now c.in-Some.more_shapes.now
-      c.columns.spans_left.now c.in-Some-split_first.span.now c.in-Some-split_first.more_spans.now c.of.result.now
-      c.in-Some.ensures.cases.0 c.in-Some-split_first.ensures.cases.0 c.of.ensures c.in-Some-last_time.ensures.some.0
+  same = shaped_more (c.columns.index + 1) c.args.line.now c.args.shapes.now c.args.spans.now c.columns.index _ _ c.of-field.result.now
+      (omega (arith, c.min-count.ensures, c.columns-test.true)) (omega (arith, c.min-count.ensures, c.columns-test.true)) c.of-field.ensures
+      (elim c.if-not-is_nought.branch [
+        | then-not-is_nought+in-Some w ↦ w.in-Some.ensures.some.0
+        | else-not-is_nought w ↦ nought_is_shaped _ c.of-field.result.now (sym c.is_nought.ensures ∙ w.if-not-is_nought.false)
+      ])
       ∙ c.columns.invariant.same;
-  short = All-tail IsShort c.in-Some.shape.now c.in-Some.more_shapes.now (rw c.in-Some.ensures.cases.0 at c.columns.invariant.short);
-  time = c.in-Some-last_time.ensures.some.1;
-  place = omega (arith, c.columns.invariant.place, ap length c.in-Some.ensures.cases.0);
+  time = elim c.if-not-is_nought.branch [
+    | then-not-is_nought+in-Some w ↦ rw w.time-is w.in-Some.ensures.some.1
+    | else-not-is_nought w ↦ rw w.time-is c.columns.invariant.time
+  ];
+  place = omega (arith, c.columns-test.true);
 }
+
+pub returns-clause-same : goal.returns-clause-same
+returns-clause-same c =
+    sym (all_shaped (c.columns.index + 1) c.args.line.now c.args.shapes.now c.args.spans.now c.columns.index (omega (arith, c.min-count.ensures, c.columns-test.false)))
+    ∙ c.columns.invariant.same

@@ -1,18 +1,16 @@
-use Rattle.std.proofs.Common.{◌≡◌, ◌+◌, length}
-use Rattle.std.specs.Prelude.{All}
+use Rattle.std.proofs.Common.{◌≡◌, ◌+◌, ◌-◌, ◌≤◌, length, drop}
 use Rattle.std.specs.List.{zip}
 use Rattle.aide_db.specs.Spans.{fields_at}
 use Rattle.aide_db.specs.Values.{IsTimeOrNothing}
-use Rattle.aide_db.specs.Shapes.{IsShort, first_misshapen_from}
+use Rattle.aide_db.specs.Shapes.{first_misshapen_from}
 use Rattle.aide_db.proofs.entry.first_misshapen.Given as goal
 
 abbrev pub invariant-columns : goal.invariant-columns
 invariant-columns l = record {
-  same : first_misshapen_from (l.before + 1) (zip l.shapes_left (fields_at l.line l.spans_left)) ≡ first_misshapen_from 1 (zip l.shapes (fields_at l.line l.spans));
-  short : All IsShort l.shapes_left;
+  same : first_misshapen_from (l.index + 1) (zip (drop l.index l.shapes) (fields_at l.line (drop l.index l.spans))) ≡ first_misshapen_from 1 (zip l.shapes (fields_at l.line l.spans));
   time : IsTimeOrNothing l.time;
-  place : l.before + length l.shapes_left ≡ length l.shapes;
+  place : l.index ≤ l.count;
 }
 
 abbrev pub decreases-columns : goal.decreases-columns
-decreases-columns l = length l.shapes_left
+decreases-columns l = l.count - l.index

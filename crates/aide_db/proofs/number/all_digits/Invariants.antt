@@ -3,8 +3,8 @@ use Rattle.std.specs.List.{list_all}
 use Rattle.aide_db.specs.Numbers.{is_digit}
 use Rattle.aide_db.proofs.number.all_digits.Given as goal
 
-abbrev pub invariant-bytes : goal.invariant-bytes
-invariant-bytes l = list_all (is_digit l.base) l.bytes ≡ list_all (is_digit l.base) l.rest
+abbrev pub invariant-fours : goal.invariant-fours
+invariant-fours l = list_all (is_digit l.base) l.bytes ≡ list_all (is_digit l.base) l.rest
 
-abbrev pub decreases-bytes : goal.decreases-bytes
-decreases-bytes l = length l.rest
+abbrev pub decreases-fours : goal.decreases-fours
+decreases-fours l = length l.rest
