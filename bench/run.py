@@ -1,12 +1,13 @@
 #!/usr/bin/env python3
 """Measures the program beside `sha256sum` of both databases and, where it is installed, AIDE's `aide --compare`.
 
-usage: run.py PROGRAM [--sizes 1000,10000,100000,1000000] [--forms 165,259] [--rounds 5] [--aide-up-to 100000]
+usage: run.py PROGRAM [--sizes 1000,10000,100000,1000000] [--forms 165,259] [--rounds 15] [--aide-up-to 100000]
               [--folder FOLDER]
 
 It makes the databases, runs all three side by side in rounds, takes the least processor time of each (user and system)
 and the greatest memory, and prints a table in Markdown. An opening is one reading of both databases: the report at
-`minimal` takes two, the default report of databases with added, removed and changed entries six.
+`minimal` takes two, the default report of databases with added, removed and changed entries six. `sha256sum` reads them
+once, and as often as the program does: a run of the same length meets the same changes of a machine's speed.
 """
 import argparse
 import datetime
@@ -22,7 +23,7 @@ from databases import write_pair
 
 OPENINGS = {'minimal': 2, 'changed_attributes': 6, 'added_removed_entries': 6}
 HEADINGS = ['Line, bytes', 'Entries', 'What', 'Openings', 'Processor, s', 'ns a byte and opening',
-            'Times `sha256sum`, an opening', 'Beside AIDE', 'Peak, MB']
+            'Times `sha256sum` of as many', 'Beside AIDE', 'Peak, MB']
 AIDE = shutil.which('aide')
 # One text for the program and for AIDE, which compares only the entries that a line selects.
 CONFIGURATION = """database_in=file:@@{DIR}/old
@@ -63,14 +64,16 @@ def measure(words):
 
 
 def commands(program, folder, with_aide):
-    """What is measured, by label: the words of each."""
+    """What is measured, by its name and number of openings: the words of each."""
     def compare(executable, level):
         return [executable, '--compare', '--config', os.path.join(folder, 'conf'),
                 '--before', '@@define DIR %s\n@@define LEVEL %s' % (folder, level)]
-    known = {'sha256sum': ['sha256sum', os.path.join(folder, 'old'), os.path.join(folder, 'new')]}
-    known.update((level, compare(program, level)) for level in OPENINGS)
+    databases = [os.path.join(folder, side) for side in ('old', 'new')]
+    known = {('sha256sum', openings): ['sha256sum'] + databases * openings
+             for openings in sorted({1, *OPENINGS.values()})}
+    known.update(((level, openings), compare(program, level)) for level, openings in OPENINGS.items())
     if with_aide:
-        known['AIDE'] = compare(AIDE, 'changed_attributes')
+        known['AIDE', 1] = compare(AIDE, 'changed_attributes')
     return known
 
 
@@ -86,15 +89,13 @@ def best_of(rounds, known):
 
 def rows(form, entries, size, best):
     """The rows of the table for one pair of databases."""
-    hashing, default = best['sha256sum'][0], best['changed_attributes'][0]
-    for label, (seconds, memory) in best.items():
-        openings = OPENINGS.get(label, 1)
-        each = seconds / openings
-        ratio = '%.2f' % (each / hashing) if label in OPENINGS else ''
+    default = best['changed_attributes', OPENINGS['changed_attributes']][0]
+    for (label, openings), (seconds, memory) in best.items():
+        ratio = '%.2f' % (seconds / best['sha256sum', openings][0]) if label in OPENINGS else ''
         beside = '%.0f times the default' % (seconds / default) if label == 'AIDE' else ''
         name = 'this program at `%s`' % label if label in OPENINGS else label
         yield '| %d | %d | %s | %d | %.3f | %.2f | %s | %s | %.1f |' % (
-            form, entries, name, openings, seconds, each / size * 1e9, ratio, beside, memory / 1024)
+            form, entries, name, openings, seconds, seconds / openings / size * 1e9, ratio, beside, memory / 1024)
 
 
 def line_of_file(path, begin):
@@ -128,7 +129,7 @@ def main():
     parser.add_argument('program')
     parser.add_argument('--sizes', type=numbers, default=[1000, 10000, 100000, 1000000])
     parser.add_argument('--forms', type=numbers, default=[165, 259])
-    parser.add_argument('--rounds', type=int, default=5)
+    parser.add_argument('--rounds', type=int, default=15)
     parser.add_argument('--aide-up-to', type=int, default=100000, help='the greatest number of entries that AIDE gets')
     parser.add_argument('--folder', help='where the databases are made')
     given = parser.parse_args()
