@@ -5,6 +5,7 @@ pub mod Fields
 pub mod Numbers
 pub mod Values
 pub mod Lent
+pub mod Base64Tables
 pub mod Entry
 pub mod Database
 pub mod Codes

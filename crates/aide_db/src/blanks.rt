@@ -1,5 +1,5 @@
 //! The blanks among 32 bytes, as bits.
-ghost use Rattle.std.specs.Prelude.{ℕ, true, ◌≡◌, ◌≢◌, ◌↔◌, ◌+◌, ◌<◌, ◌≤◌, ◌==◌, if◌then◌else◌};
+ghost use Rattle.std.specs.Prelude.{ℕ, true, max, ◌≡◌, ◌≢◌, ◌↔◌, ◌+◌, ◌<◌, ◌≤◌, ◌==◌, if◌then◌else◌};
 ghost use Rattle.std.specs.Prelude.{length, slice_index, bit_or};
 ghost use Rattle.std.specs.Int.{bit_at};
 ghost use Rattle.memchr.specs.Lanes.{HasLanes};
@@ -43,6 +43,37 @@ pub fn blanks_at(line: &[u8], at: usize) -> u64
     let v = next_lanes(line, at);
     let either = lanes_either(lanes_equal(v, b' '), lanes_equal(v, b'\t'));
     high_lanes(either)
+}
+
+/// Bit k tells whether the byte k places on is blank, for 32 bytes and those from a later place on, which may be partly
+/// the same.
+pub fn blanks_of_both(line: &[u8], at: usize, later: usize) -> u64
+    requires order { at ≤ later }
+    requires near { later ≤ at + 32 }
+    requires long { later + 32 ≤ length line.now }
+    ensures each { (k : ℕ) → at + k < later + 32 → (bit_at result k ≡ 1)
+        ↔ (is_blank (slice_index line.now (at + k)) ≡ true) }
+    ensures within { (k : ℕ) → bit_at result k ≡ 1 → at + k < later + 32 }
+{
+    let behind = bits_shifted(blanks_at(line, later), later - at);
+    bits_either(blanks_at(line, at), behind)
+}
+
+/// Bits that stand higher by so many places, where all of them are among the first 32 before.
+fn bits_shifted(bits: u64, places: usize) -> u64
+    requires few { places ≤ 32 }
+    requires low { (k : ℕ) → bit_at bits k ≡ 1 → k < 32 }
+    ensures each { (k : ℕ) → bit_at result (k + places) ≡ bit_at bits k }
+    ensures gone { (k : ℕ) → k < places → bit_at result k ≡ 0 }
+{
+    bits << places
+}
+
+/// The bits that stand in one or the other.
+fn bits_either(a: u64, b: u64) -> u64
+    ensures { (k : ℕ) → bit_at result k ≡ max (bit_at a k) (bit_at b k) }
+{
+    a | b
 }
 
 /// The place of the lowest bit.

@@ -2,10 +2,11 @@
 ghost use Rattle.std.specs.Prelude.{ℕ, slice_index, true, false, ◌≡◌, ◌+◌, ◌^◌, ◌<◌, ◌≤◌, [], ◌∷◌};
 ghost use Rattle.std.specs.Prelude.{◌++◌, length, take, drop};
 ghost use Rattle.std.specs.Prelude.{IfSome, IfNone};
+ghost use Rattle.std.specs.Int.{bit_at};
 ghost use Rattle.aide_db.specs.Text.{is_blank, fields};
 ghost use Rattle.aide_db.specs.Spans.{fields_at};
 
-use crate::blanks::{bits_from, blanks_at, lowest_bit, without_lowest};
+use crate::blanks::{bits_from, blanks_of_both, lowest_bit, without_lowest};
 use crate::spans::Span;
 
 /// Adds a span behind so many, where these are fewer than 64: how many there are then.
@@ -84,8 +85,75 @@ fn line_ends(spanned: &mut [Span; 64], count: usize, line: &[u8], from: usize) -
     }
 }
 
+/// Adds the spans of the runs that end among at most 64 bytes, of which these bits tell the blanks: how many spans there
+/// are then, and where the next run begins.
+#[inline(always)]
+fn runs_among(
+    spanned: &mut [Span; 64],
+    count: usize,
+    line: &[u8],
+    from: usize,
+    at: usize,
+    end: usize,
+    blanks: u64,
+) -> Option<(usize, usize)>
+    requires few { count ≤ 64 }
+    requires order { from ≤ end }
+    requires within { end ≤ length line.now }
+    requires near { end ≤ at + 64 }
+    requires small { length line.now < 2 ^ 32 }
+    requires plain { (k : ℕ) → from ≤ k → k < at → is_blank (slice_index line.now k) ≡ false }
+    requires each { (k : ℕ) → at + k < end → from ≤ at + k → bit_at blanks k ≡ 0
+        → is_blank (slice_index line.now (at + k)) ≡ false }
+    requires marks { (k : ℕ) → bit_at blanks k ≡ 1 → (at + k < end) × (from ≤ at + k)
+        × (is_blank (slice_index line.now (at + k)) ≡ true) }
+    requires found { fields_at line.now (take count spanned.old) ++ fields (drop from line.now)
+        ≡ fields line.now }
+    ensures few { IfSome result (λ behind. behind.0 ≤ 64) }
+    ensures order { IfSome result (λ behind. behind.1 ≤ end) }
+    ensures plain { IfSome result (λ behind. (k : ℕ) → behind.1 ≤ k → k < end
+        → is_blank (slice_index line.now k) ≡ false) }
+    ensures found { IfSome result (λ behind. fields_at line.now (take behind.0 spanned.new)
+        ++ fields (drop behind.1 line.now) ≡ fields line.now) }
+    ensures many { IfNone result (64 < length (fields line.now)) }
+{
+    let mut found = count;
+    let mut begin = from;
+    let mut bits = blanks;
+    'bits: while bits != 0 {
+        let blank = at + lowest_bit(bits);
+        let Some(more) = run_ends(spanned, found, line, begin, blank) else {
+            return None;
+        };
+        found = more;
+        begin = blank + 1;
+        bits = without_lowest(bits);
+    }
+    Some((found, begin))
+}
+
+/// Where 64 bytes begin that have a place among them, and their second half. The last bytes of a line are looked at
+/// together with some of those before them, and where it is shorter the halves have bytes in common.
+fn window_of(len: usize, base: usize) -> (usize, usize)
+    requires long { 32 ≤ len }
+    requires within { base < len }
+    ensures before { result.0 ≤ base }
+    ensures behind { base < result.1 + 32 }
+    ensures order { result.0 ≤ result.1 }
+    ensures near { result.1 ≤ result.0 + 32 }
+    ensures within { result.1 + 32 ≤ len }
+{
+    if len - base >= 64 {
+        (base, base + 32)
+    } else if len >= 64 {
+        (len - 64, len - 32)
+    } else {
+        (0, len - 32)
+    }
+}
+
 /// Finds the fields of a line of 32 bytes or more: how many there are, where these are at most 64.
-// Not inlined, so that its loop has the registers for itself.
+// Not inlined, so that its loops have the registers for themselves.
 #[inline(never)]
 pub fn find_runs(spanned: &mut [Span; 64], line: &[u8]) -> Option<usize>
     requires long { 32 ≤ length line.now }
@@ -98,25 +166,16 @@ pub fn find_runs(spanned: &mut [Span; 64], line: &[u8]) -> Option<usize>
     let mut count: usize = 0;
     let mut from: usize = 0;
     let mut base: usize = 0;
-    'chunks: while base < line.len() {
-        // the last bytes are looked at together with some of those before them
-        let at = if line.len() - base >= 32 {
-            base
-        } else {
-            line.len() - 32
+    'windows: while base < line.len() {
+        let (at, later) = window_of(line.len(), base);
+        let bits = bits_from(blanks_of_both(line, at, later), base - at);
+        let Some((more, begin)) = runs_among(spanned, count, line, from, at, later + 32, bits)
+        else {
+            return None;
         };
-        let mut bits = bits_from(blanks_at(line, at), base - at);
-        'bits: while bits != 0 {
-            let bit = lowest_bit(bits);
-            let end = at + bit;
-            let Some(more) = run_ends(spanned, count, line, from, end) else {
-                return None;
-            };
-            count = more;
-            from = end + 1;
-            bits = without_lowest(bits);
-        }
-        base = at + 32;
+        count = more;
+        from = begin;
+        base = later + 32;
     }
     line_ends(spanned, count, line, from)
 }

@@ -6,6 +6,7 @@ ghost use Rattle.aide_db.specs.Shapes.{shape_of_form, shape_of, has_shape};
 ghost use Rattle.aide_db.specs.Shapes.{IsShort, fault_of_shape};
 ghost use Rattle.aide_db.specs.Values.{time_of, IsTimeOrNothing};
 
+use crate::base64_tables::Base64Tables;
 use crate::column::Column;
 use crate::fault::DbFaultKind;
 use crate::number::{is_bits, is_mode, is_number};
@@ -60,7 +61,7 @@ pub fn shape_of(column: Column) -> Shape
 }
 
 /// Whether a field is what it has to be. The field `0` is all of these.
-fn has_shape(shape: Shape, field: &[u8]) -> bool
+fn has_shape(tables: &Base64Tables, shape: Shape, field: &[u8]) -> bool
     requires { IsShort shape }
     ensures { result ≡ has_shape shape field.now }
 {
@@ -69,25 +70,30 @@ fn has_shape(shape: Shape, field: &[u8]) -> bool
         Shape::Octal => is_mode(field),
         Shape::Signed => is_number(field),
         Shape::Unsigned => is_bits(field),
-        Shape::Seconds => is_time(field),
-        Shape::Encoded(least, most) => is_nought(field) || is_digest(least, most, field),
+        Shape::Seconds => is_time(tables, field),
+        Shape::Encoded(least, most) => { is_nought(field) || is_digest(tables, least, most, field) }
     }
 }
 
 /// Whether a field has seconds, where this is another one that has, or nothing.
-fn is_time_beside(field: &[u8], time: &[u8]) -> bool
+fn is_time_beside(tables: &Base64Tables, field: &[u8], time: &[u8]) -> bool
     requires { IsTimeOrNothing time.now }
     ensures { result ≡ is_some (time_of field.now) }
 {
     if !time.is_empty() && field == time {
         return true;
     }
-    is_time(field)
+    is_time(tables, field)
 }
 
 /// The last field of a line that was found to be a time, if this field is what it has to be. An entry has two times or
 /// more, which are often written alike, and then one of them is decoded.
-pub fn last_time<'a>(shape: Shape, field: &'a [u8], time: &'a [u8]) -> Option<&'a [u8]>
+pub fn last_time<'a>(
+    tables: &Base64Tables,
+    shape: Shape,
+    field: &'a [u8],
+    time: &'a [u8],
+) -> Option<&'a [u8]>
     requires short { IsShort shape }
     requires time { IsTimeOrNothing time.now }
     ensures none { IfNone result (has_shape shape field.now ≡ false) }
@@ -95,13 +101,13 @@ pub fn last_time<'a>(shape: Shape, field: &'a [u8], time: &'a [u8]) -> Option<&'
         × IsTimeOrNothing last.now) }
 {
     if let Shape::Seconds = shape {
-        return if is_time_beside(field, time) {
+        return if is_time_beside(tables, field, time) {
             Some(field)
         } else {
             None
         };
     }
-    if has_shape(shape, field) {
+    if has_shape(tables, shape, field) {
         Some(time)
     } else {
         None

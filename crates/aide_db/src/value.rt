@@ -2,21 +2,19 @@
 ghost use Rattle.std.specs.Prelude.{ℕ, true, ◌≡◌, ◌<◌, ◌≤◌, length, is_some, Option};
 ghost use Rattle.std.specs.Str.{bytes_eq};
 ghost use Rattle.percent_encoding.specs.Iter.{decoded_bytes};
-ghost use Rattle.base64.specs.Engines.{standard};
-ghost use Rattle.base64.specs.GeneralPurpose.{decoded_of};
 ghost use Rattle.aide_attr.specs.Attr.{most_bytes};
 ghost use Rattle.aide_db.specs.Numbers.{mode_of};
 ghost use Rattle.aide_db.specs.Values.{is_nought, type_of_bits, type_of_mode, begins_number};
 ghost use Rattle.aide_db.specs.Values.{time_of, digest_of, link_text};
 ghost use Rattle.aide_db.specs.Values.{link_of, value_of};
 ghost use Rattle.aide_db.specs.Attributes.{number_of_type, is_different};
-ghost use Rattle.aide_db.specs.Lent.{IsDecoded, IsDigest, lent_link, differs_by, same_number};
+ghost use Rattle.aide_db.specs.Lent.{IsDigest, lent_link, differs_by, same_number};
 ghost use Rattle.aide_db.specs.Lent.{same_mode, same_type, same_link_name};
 
+use crate::base64_tables::Base64Tables;
 use crate::number::{is_digit, is_mode, is_number, read_mode, read_number};
 use crate::view::Decoded;
 use aide_attr::{FileType, Form};
-use base64::engine::general_purpose::STANDARD;
 use percent_encoding::percent_decode;
 
 /// The field that says that there is no value.
@@ -74,7 +72,7 @@ pub fn read_time(field: &[u8]) -> Option<i128>
         return None;
     }
     let mut text = [0; 33];
-    match STANDARD.decode_slice_unchecked(field, &mut text) {
+    match Base64Tables::new().decode_short(field, &mut text) {
         Ok(len) => {
             let (front, _) = text.split_at(len);
             read_number(front)
@@ -85,7 +83,7 @@ pub fn read_time(field: &[u8]) -> Option<i128>
 
 /// Whether a field has seconds.
 #[tactic(auto, unfolding(crate::specs::Values::time_of))]
-pub fn is_time(field: &[u8]) -> bool
+pub fn is_time(tables: &Base64Tables, field: &[u8]) -> bool
     ensures { result ≡ is_some (time_of field.now) }
 {
     if begins_number(field) {
@@ -95,7 +93,7 @@ pub fn is_time(field: &[u8]) -> bool
         return false;
     }
     let mut text = [0; 33];
-    match STANDARD.decode_slice_unchecked(field, &mut text) {
+    match tables.decode_short(field, &mut text) {
         Ok(len) => {
             let (front, _) = text.split_at(len);
             is_number(front)
@@ -104,23 +102,19 @@ pub fn is_time(field: &[u8]) -> bool
     }
 }
 
-/// Decodes base64 to the front of a buffer, if it fits: how many bytes there are.
-fn decode(field: &[u8], buffer: &mut [u8; 64]) -> Option<usize>
-    ensures { IsDecoded (decoded_of standard field.now) 64 result buffer.new }
-{
-    match STANDARD.decode_slice(field, buffer) {
-        Ok(len) => Some(len),
-        Err(_) => None,
-    }
-}
-
 /// The bytes of a digest, at the front of a buffer: how many there are.
 #[tactic(auto, unfolding(crate::specs::Values::digest_of))]
-pub fn read_digest(least: u8, most: u8, field: &[u8], buffer: &mut [u8; 64]) -> Option<usize>
+pub fn read_digest(
+    tables: &Base64Tables,
+    least: u8,
+    most: u8,
+    field: &[u8],
+    buffer: &mut [u8; 64],
+) -> Option<usize>
     requires { most ≤ 64 }
     ensures { IsDigest (digest_of least most field.now) result buffer.new }
 {
-    match decode(field, buffer) {
+    match tables.decode(field, buffer) {
         None => None,
         Some(len) => {
             if len >= least as usize && len <= most as usize {
@@ -133,12 +127,12 @@ pub fn read_digest(least: u8, most: u8, field: &[u8], buffer: &mut [u8; 64]) -> 
 }
 
 /// Whether a field is base64 of so many bytes.
-pub fn is_digest(least: u8, most: u8, field: &[u8]) -> bool
+pub fn is_digest(tables: &Base64Tables, least: u8, most: u8, field: &[u8]) -> bool
     requires { most ≤ 64 }
     ensures { result ≡ is_some (digest_of least most field.now) }
 {
     let mut buffer = [0; 64];
-    read_digest(least, most, field, &mut buffer).is_some()
+    read_digest(tables, least, most, field, &mut buffer).is_some()
 }
 
 fn link_text(field: &[u8]) -> &[u8]
@@ -177,7 +171,7 @@ pub fn has_value(form: Form, field: &[u8]) -> bool
         Form::Number => read_number(field).is_some(),
         Form::Time => read_time(field).is_some(),
         Form::Link => true,
-        Form::Digest(least, most) => is_digest(least, most, field),
+        Form::Digest(least, most) => is_digest(&Base64Tables::new(), least, most, field),
         Form::Opaque => !is_nought(field),
     }
 }
@@ -259,11 +253,12 @@ fn digests_differ(least: u8, most: u8, old: &[u8], new: &[u8]) -> bool
     ensures { result ≡ differs_by bytes_eq (digest_of least most old.now)
         (digest_of least most new.now) }
 {
+    let tables = Base64Tables::new();
     let mut left = [0; 64];
     let mut right = [0; 64];
     match (
-        read_digest(least, most, old, &mut left),
-        read_digest(least, most, new, &mut right),
+        read_digest(&tables, least, most, old, &mut left),
+        read_digest(&tables, least, most, new, &mut right),
     ) {
         (Some(n), Some(m)) => {
             let (x, _) = left.split_at(n);

@@ -1,6 +1,7 @@
 //! Entries, as they are lent from the desk.
 ghost use Rattle.aide_db.specs.Spans.{AreSpans};
 
+use crate::base64_tables::Base64Tables;
 use crate::column::{Column, Columns};
 use crate::entry::{field_under, is_on, name_of};
 use crate::number::{read_mode, read_number};
@@ -134,7 +135,13 @@ impl<'a> View<'a> {
             return None;
         };
         match attr.form() {
-            Form::Digest(least, most) => read_digest(least, most, field, buffer),
+            Form::Digest(least, most) => read_digest(
+                &Base64Tables::new(),
+                least,
+                most,
+                field,
+                buffer,
+            ),
             _ => None,
         }
     }

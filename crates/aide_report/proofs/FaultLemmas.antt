@@ -1,6 +1,6 @@
 -- The faults of a run, by cases.
-use Rattle.std.specs.Prelude.{◌≡◌, ℕ, Option, Some, Result, Err, List, true, false}
-use Rattle.std.proofs.Common.{refl, sym, ap, ◌∙◌}
+use Rattle.std.specs.Prelude.{◌≡◌, ◌<◌, ◌≤◌, ℕ, Option, Some, Result, Err, List, true, false}
+use Rattle.std.proofs.Common.{refl, sym, ap, arith, ◌∙◌}
 use Rattle.aide_report.specs.Asked.{Asked}
 use Rattle.aide_db.specs.Database.{IsSound}
 use Rattle.aide_db.specs.Failures.{is_outside}
@@ -14,12 +14,14 @@ use Rattle.aide_db.specs.declared.side.Side.{Side}
 use Rattle.aide_db.specs.declared.side.Side.TheVariants.{Old, New}
 use Rattle.aide_db.proofs.MapLaws.{first_fault_unsound}
 use Rattle.aide_report.specs.LaterFault.{later_by, later_of}
+use Rattle.aide_report.specs.Missing.{IsOfReliable}
 use Rattle.aide_report.specs.PassFaults.{IfDatabase, IfWrite, pass_fault_of}
 use Rattle.aide_report.specs.Openings.{OpensFirst}
 use Rattle.aide_report.specs.Standing.{IsFaultOf}
 use Rattle.aide_report.specs.RunFaults.{IsCaused, IsLater, IsRight, HasPenWritten}
 use Rattle.aide_report.specs.declared.entries.PassFault.{PassFault}
 use Rattle.aide_report.specs.declared.entries.PassFault.TheVariants as passes
+use Rattle.aide_text.specs.Failures.{Rose}
 use Rattle.aide_text.specs.declared.pen.Pen.{Pen}
 use Rattle.aide_report.specs.Runs.{Report, Runs, IsRunFault, StandsOn, HasCause}
 use Rattle.aide_report.specs.declared.run_fault.RunFault.{RunFault}
@@ -115,7 +117,7 @@ pub pass_later : (limits : Limits) (bytes_of : Side → Option (List ℕ)) (faul
 pass_later limits bytes_of (passes.Database fault) sent first = later_fault limits bytes_of fault first
 pass_later limits bytes_of passes.Write sent first = tt
 
-caused_at : (sources sink : Type 0) (fault : DbFault) → (fault.kind ≡ Read → sources) → (kind : DbFaultKind)
+pub caused_at : (sources sink : Type 0) (fault : DbFault) → (fault.kind ≡ Read → sources) → (kind : DbFaultKind)
     → IsCaused sources sink (later_by kind fault)
 caused_at sources sink fault read LineTooLong = tt
 caused_at sources sink fault read NoBegin = tt
@@ -138,6 +140,36 @@ pub pass_caused : (sources sink : Type 0) (fault : PassFault) (sent : ℕ)
     → IsCaused sources sink (pass_fault_of fault sent)
 pass_caused sources sink (passes.Database fault) sent read write = caused_at sources sink fault read fault.kind
 pass_caused sources sink passes.Write sent read write = write
+
+-- what has risen since a later count has risen since an earlier one
+pub rose_since : (before middle after : ℕ) → before ≤ middle → Rose middle after → Rose before after
+rose_since before middle after le rose below = let risen = rose below in omega (arith, le, risen)
+
+pub none_failed : (n : ℕ) → n ≡ 0 → 0 < n → ⊥
+none_failed n none some = omega (arith, none, some)
+
+pub reliable_at : (bytes_of : Side → Option (List ℕ)) (fault : DbFault) → (fault.kind ≡ Read → ⊥) → (kind : DbFaultKind)
+    → IsOfReliable bytes_of (later_by kind fault)
+reliable_at bytes_of fault unread LineTooLong = tt
+reliable_at bytes_of fault unread NoBegin = tt
+reliable_at bytes_of fault unread BadDirective = tt
+reliable_at bytes_of fault unread BadSpec = tt
+reliable_at bytes_of fault unread NoSpec = tt
+reliable_at bytes_of fault unread FieldCount = tt
+reliable_at bytes_of fault unread BadName = tt
+reliable_at bytes_of fault unread OutOfOrder = tt
+reliable_at bytes_of fault unread (BadNumber column) = tt
+reliable_at bytes_of fault unread (BadTime column) = tt
+reliable_at bytes_of fault unread (BadDigest column) = tt
+reliable_at bytes_of fault unread NoEnd = tt
+reliable_at bytes_of fault unread Memory = unread
+reliable_at bytes_of fault unread Read = unread
+reliable_at bytes_of fault unread TooManyBytes = tt
+
+pub pass_reliable : (bytes_of : Side → Option (List ℕ)) (fault : PassFault) (sent : ℕ)
+    → IfDatabase (λ f. f.kind ≡ Read → ⊥) fault → IsOfReliable bytes_of (pass_fault_of fault sent)
+pass_reliable bytes_of (passes.Database fault) sent unread = reliable_at bytes_of fault unread fault.kind
+pass_reliable bytes_of passes.Write sent unread = tt
 
 written_at : (pen : Pen) (fault : DbFault) (kind : DbFaultKind) → pen.failed ≡ false
     → HasPenWritten pen (later_by kind fault)

@@ -54,7 +54,7 @@ refused_later before middle after n (Database fault) opens is = tt
 refused_later before middle after n (Changed side) opens is = tt
 refused_later before middle after n (Write written) opens is = tt
 
-refused_by : (before after : Side → ℕ) (fault : DbFault) (kind : DbFaultKind)
+pub refused_by : (before after : Side → ℕ) (fault : DbFault) (kind : DbFaultKind)
     → IsRefusedThere before after (later_by kind fault)
 refused_by before after fault LineTooLong = tt
 refused_by before after fault NoBegin = tt

@@ -1,4 +1,4 @@
-use Rattle.std.proofs.Common.{◌≡◌, ◌+◌, ◌-◌, ◌≤◌, length, drop}
+use Rattle.std.proofs.Common.{◌≡◌, ◌+◌, ◌-◌, ◌≤◌, drop}
 use Rattle.std.specs.List.{zip}
 use Rattle.aide_db.specs.Spans.{fields_at}
 use Rattle.aide_db.specs.Values.{IsTimeOrNothing}

@@ -1,11 +1,13 @@
-use Rattle.std.proofs.Common.{◌≡◌, [], subst}
+use Rattle.std.proofs.Common.{◌≡◌, ◌∙◌, [], subst}
 use Rattle.std.specs.Prelude.{Some}
 use Rattle.aide_db.specs.Desk.{list_of, columns_of_side}
 use Rattle.aide_db.specs.declared.limits.Limits.{Limits}
+use Rattle.aide_text.specs.Failures.{Rose}
 use Rattle.aide_report.specs.Counts.{Completes}
 use Rattle.aide_report.specs.Standing.{IsFaultOf}
-use Rattle.aide_report.specs.Merging.{StandsAt, cursor_at, limits_at}
-use Rattle.aide_report.proofs.FaultLemmas.{later_fault}
+use Rattle.aide_report.specs.Merging.{StandsAt, cursor_at, limits_at, reels_failed}
+use Rattle.aide_report.proofs.FaultLemmas.{caused_at, later_fault, none_failed, reliable_at, rose_since}
+use Rattle.aide_report.proofs.OpeningLemmas.{refused_by}
 use Rattle.aide_report.proofs.RoomLemmas.{later_room, still_fits}
 use Rattle.aide_report.proofs.SideLemmas.{of_sides}
 use Rattle.aide_report.proofs.pass.count_pass.Goals as goal
@@ -52,3 +54,23 @@ returns-in-Err-count-clause-memory g c le =
     rw c.later_fault.ensures (later_room c.in-Err-count.fault
     (c.in-Err-count.ensures.memory (λ side. still_fits c.args.limits (limits_at c.in-Ok.merge side) c.args.desk.now.room c.open_both.new.desk.room
     (c.in-Ok.ensures.limits side) c.open_both.ensures.room le)))
+
+pub returns-in-Err-count-clause-refused : goal.returns-in-Err-count-clause-refused
+returns-in-Err-count-clause-refused g c =
+    rw c.later_fault.ensures (refused_by (g.S.Sources.openings c.args.sources.now) (g.S.Sources.openings c.close_both-in-Err-count.new.sources) c.in-Err-count.fault c.in-Err-count.fault.kind)
+
+pub returns-in-Err-count-clause-caused : goal.returns-in-Err-count-clause-caused
+returns-in-Err-count-clause-caused g c =
+    let before = g.S.Sources.failures c.args.sources.now in
+    let middle = g.S.Sources.failures c.open_both.new.sources in
+    let after = g.S.Sources.failures c.close_both-in-Err-count.new.sources in
+    rw c.later_fault.ensures (caused_at (Rose before after) ⊥ c.in-Err-count.fault
+    (λ read. rose_since before middle after c.open_both.ensures.never_falls (c.close_both-in-Err-count.ensures.rose (c.in-Err-count.ensures.read read)))
+    c.in-Err-count.fault.kind)
+
+pub returns-in-Err-count-clause-reliable : goal.returns-in-Err-count-clause-reliable
+returns-in-Err-count-clause-reliable g c reliable =
+    rw c.later_fault.ensures (reliable_at (g.S.Sources.bytes_of c.args.sources.now) c.in-Err-count.fault
+    (λ read. none_failed (reels_failed g.S.R.Reel.failures c.count.new.merge)
+    (c.close_both-in-Err-count.ensures.unfailed (c.open_both.ensures.reliable_same ∙ reliable)) (c.in-Err-count.ensures.read read))
+    c.in-Err-count.fault.kind)

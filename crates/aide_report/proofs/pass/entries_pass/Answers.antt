@@ -1,16 +1,18 @@
-use Rattle.std.proofs.Common.{◌≡◌, subst, List, ℕ}
-use Rattle.std.specs.Prelude.{Some}
+use Rattle.std.proofs.Common.{◌≡◌, ◌<◌, ◌∙◌, subst, List, ℕ}
+use Rattle.std.specs.Prelude.{Some, true}
 use Rattle.aide_db.specs.Desk.{list_of, columns_of_side}
 use Rattle.aide_db.specs.Map.{entries_of}
 use Rattle.aide_db.specs.Path.{path_cmp}
+use Rattle.aide_db.specs.declared.fault.DbFaultKind.TheVariants.{Read}
 use Rattle.aide_db.specs.declared.limits.Limits.{Limits}
+use Rattle.aide_text.specs.Failures.{Rose}
 use Rattle.aide_report.specs.Merged.{merged}
 use Rattle.aide_text.specs.PenSheet.{sheet}
 use Rattle.aide_report.specs.Standing.{IsFaultOf}
 use Rattle.aide_report.specs.Sections.{entries_text}
 use Rattle.aide_text.specs.Sheet.{Wrote, WritesPart}
-use Rattle.aide_report.specs.Merging.{StandsAt, cursor_at, limits_at}
-use Rattle.aide_report.proofs.FaultLemmas.{if_database, pass_later, HasFault}
+use Rattle.aide_report.specs.Merging.{StandsAt, cursor_at, limits_at, reels_failed}
+use Rattle.aide_report.proofs.FaultLemmas.{HasFault, if_database, none_failed, pass_caused, pass_later, pass_reliable, pass_written, rose_since}
 use Rattle.aide_report.proofs.OpeningLemmas.{refused_pass}
 use Rattle.aide_report.proofs.RoomLemmas.{pass_room, still_fits}
 use Rattle.aide_report.proofs.SideLemmas.{of_sides}
@@ -80,3 +82,26 @@ returns-in-Err-put_entries-clause-memory g c le =
     rw c.pass_fault.ensures (pass_room c.in-Err-put_entries.fault c.put_entries.new.pen.sent
     (c.in-Err-put_entries.ensures.memory (λ side. still_fits c.args.limits (limits_at c.in-Ok.merge side) c.args.desk.now.room c.open_both.new.desk.room
     (c.in-Ok.ensures.limits side) c.open_both.ensures.room le)))
+
+pub returns-in-Err-put_entries-clause-written : goal.returns-in-Err-put_entries-clause-written
+returns-in-Err-put_entries-clause-written g c =
+    rw c.pass_fault.ensures (pass_written c.put_entries.new.pen c.in-Err-put_entries.fault c.in-Err-put_entries.ensures.write c.in-Err-put_entries.ensures.unfailed)
+
+pub returns-in-Err-put_entries-clause-caused : goal.returns-in-Err-put_entries-clause-caused
+returns-in-Err-put_entries-clause-caused g c =
+    let before = g.S.Sources.failures c.args.sources.now in
+    let middle = g.S.Sources.failures c.open_both.new.sources in
+    let after = g.S.Sources.failures c.close_both-in-Err-put_entries.new.sources in
+    rw c.pass_fault.ensures (pass_caused (Rose before after) (c.put_entries.new.pen.failed ≡ true) c.in-Err-put_entries.fault c.put_entries.new.pen.sent
+    (if_database (λ fault. fault.kind ≡ Read → 0 < reels_failed g.S.R.Reel.failures c.put_entries.new.merge) (λ fault. fault.kind ≡ Read → Rose before after)
+    (λ fault read is. rose_since before middle after c.open_both.ensures.never_falls (c.close_both-in-Err-put_entries.ensures.rose (read is)))
+    c.in-Err-put_entries.fault c.in-Err-put_entries.ensures.read)
+    c.in-Err-put_entries.ensures.write)
+
+pub returns-in-Err-put_entries-clause-reliable : goal.returns-in-Err-put_entries-clause-reliable
+returns-in-Err-put_entries-clause-reliable g c reliable =
+    rw c.pass_fault.ensures (pass_reliable (g.S.Sources.bytes_of c.args.sources.now) c.in-Err-put_entries.fault c.put_entries.new.pen.sent
+    (if_database (λ fault. fault.kind ≡ Read → 0 < reels_failed g.S.R.Reel.failures c.put_entries.new.merge) (λ fault. fault.kind ≡ Read → ⊥)
+    (λ fault read is. none_failed (reels_failed g.S.R.Reel.failures c.put_entries.new.merge)
+    (c.close_both-in-Err-put_entries.ensures.unfailed (c.open_both.ensures.reliable_same ∙ reliable)) (read is))
+    c.in-Err-put_entries.fault c.in-Err-put_entries.ensures.read))

@@ -1,0 +1,52 @@
+//! The tables by which base64 is decoded, made once for many fields.
+ghost use Rattle.std.specs.Prelude.{◌≡◌, ◌≤◌, IfErr, IfOk, length};
+ghost use Rattle.base64.specs.Engines.{standard};
+ghost use Rattle.base64.specs.GeneralPurpose.{IsDecodedInto, decode_of, decoded_of};
+ghost use Rattle.aide_db.specs.Lent.{IsDecoded};
+
+use base64::DecodeError;
+use base64::engine::general_purpose::{GeneralPurpose, STANDARD};
+use std::marker::Model;
+
+/// The tables of base64 with padding, RFC 4648 section 4. Contracts see nothing of them.
+#[derive(Drop)]
+pub struct Base64Tables {
+    engine: GeneralPurpose,
+}
+
+impl Model for Base64Tables {
+    ghost use Rattle.aide_db.specs.Base64Tables.{IsStandard};
+
+    ghost Value = { Unit };
+
+    ghost view = { λ _. tt };
+
+    ghost invariant = { λ tables. IsStandard tables.engine };
+}
+
+impl Base64Tables {
+    /// The tables, which take some 300 bytes.
+    #[tactic(auto, unfolding(crate::specs::Base64Tables::IsStandard))]
+    pub fn new() -> Base64Tables {
+        Base64Tables { engine: STANDARD }
+    }
+
+    /// Decodes a field to the front of a buffer, if it fits: how many bytes there are.
+    pub fn decode(&self, field: &[u8], buffer: &mut [u8; 64]) -> Option<usize>
+        ensures { IsDecoded (decoded_of standard field.now) 64 result buffer.new }
+    {
+        match self.engine.decode_slice(field, buffer) {
+            Ok(len) => Some(len),
+            Err(_) => None,
+        }
+    }
+
+    /// Decodes a field of at most 44 bytes to the front of a buffer that has room for what they can be.
+    pub fn decode_short(&self, field: &[u8], buffer: &mut [u8; 33]) -> Result<usize, DecodeError>
+        requires { length field.now ≤ 44 }
+        ensures ok { IfOk result (λ n. IsDecodedInto standard field.now n buffer.old buffer.new) }
+        ensures err { IfErr result (λ e. decode_of standard field.now ≡ Err e) }
+    {
+        self.engine.decode_slice_unchecked(field, buffer)
+    }
+}
