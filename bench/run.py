@@ -28,7 +28,7 @@ OPENINGS = {'minimal': 2, 'changed_attributes': 6, 'added_removed_entries': 6}
 DEFAULT = 'changed_attributes'
 HEADINGS = ['Line, bytes', 'Entries', 'What', 'Openings', 'Processor, s', 'ns a byte and opening', '`sha256sum`, s',
             'Times `sha256sum`', 'Quartiles', 'Runs', 'Peak, MB']
-LEAST_RUNS = 5
+LEAST_RUNS = 3
 AIDE = shutil.which('aide')
 PROCESSORS = sorted(os.sched_getaffinity(0))
 # One text for the program and for AIDE, which compares only the entries that a line selects.
