@@ -1,16 +1,56 @@
-"""Makes pairs of databases of any size, as AIDE writes them: one entry in a thousand changed, a few added and removed."""
+"""Makes pairs of databases of any size, as AIDE writes them, which differ in one way each: see `PAIRS`."""
 import base64
 import hashlib
 
-# The forms by the length of their lines in bytes, about: their columns.
+# The columns of the forms, by the length of their lines in bytes, about. Lines of 64 short fields have 138 bytes.
 FORMS = {
+    138: ['name', 'attr', 'perm', 'lname', 'size', 'bcount', 'uid', 'gid', 'atime', 'mtime', 'ctime', 'inode', 'lcount',
+          'md5', 'sha1', 'sha256', 'sha512', 'rmd160', 'tiger', 'crc32', 'crc32b', 'haval', 'gost', 'whirlpool',
+          'stribog256', 'stribog512', 'sha512_256', 'sha3_256', 'sha3_512', 'acl', 'xattrs', 'selinux', 'e2fsattrs',
+          'capabilities'] + ['unknown%02d' % number for number in range(30)],
     165: ['name', 'lname', 'attr', 'perm', 'inode', 'uid', 'gid', 'size', 'mtime', 'ctime', 'lcount', 'sha256', 'acl',
           'xattrs'],
     259: ['name', 'lname', 'perm', 'uid', 'gid', 'size', 'ctime', 'mtime', 'inode', 'bcount', 'lcount', 'md5', 'attr',
           'acl', 'sha256', 'selinux', 'xattrs', 'e2fsattrs'],
 }
 ACL = 'POSIX,dXNlcjo6cnctCmdyb3VwOjpyLS0Kb3RoZXI6OnItLQo=,0'
-CHANGED_EVERY, ALONE_EVERY = 1000, 10000
+# What AIDE writes in the column `attr` for the columns of the longer forms. Every attribute of the short form is on.
+BITS = {138: '4095', 165: '112744996797', 259: '112744996797'}
+
+
+class Pair:
+    """How two databases differ, and the number of lists and details that their report has."""
+
+    def __init__(self, changed=0, added=0, alone=0, upgraded=0, more_columns=(), sections=2):
+        """One entry in so many is changed, is only in the new database, is on one side only, or has new times."""
+        self.changed, self.added, self.alone, self.upgraded = changed, added, alone, upgraded
+        self.more_columns, self.sections = list(more_columns), sections
+
+    def openings(self, level):
+        """How often a run opens each database: for two passes, and once for each list and for the details."""
+        return 2 if level == 'minimal' else 2 + self.sections
+
+    def has(self, number, is_new):
+        if self.added and number % self.added == 0 and not is_new:
+            return False
+        return not self.alone or number % self.alone != (77 if is_new else 78)
+
+
+# An upgrade gives a tenth of the files new times, and a third of these other bytes.
+PAIRS = {
+    '0.1 % changed': Pair(changed=1000, alone=10000, sections=4),
+    '1 % changed': Pair(changed=100),
+    '10 % changed': Pair(changed=10),
+    '100 % changed': Pair(changed=1),
+    '10 % added': Pair(added=10),
+    '100 % added': Pair(added=1),
+    'a column more': Pair(more_columns=['capabilities'], sections=0),
+    'an upgrade': Pair(upgraded=10),
+}
+
+
+def is_one_of(every, number):
+    return bool(every) and number % every == 0
 
 
 def digest(name, text):
@@ -21,30 +61,40 @@ def time_at(number):
     return base64.b64encode(b'%d' % (1700000000 + number)).decode()
 
 
-def line_of(columns, number, is_changed):
-    """The line of an entry; 17596481011712 and 112744996797 are what AIDE writes for their columns."""
+def fields_of(form, number, has_times, has_bytes):
+    """The fields of an entry that are not `0`; the last two tell what of it is changed."""
+    if form == 138:
+        return {'name': '/f%07d' % number, 'attr': BITS[form], 'perm': '644', 'size': '12'[has_bytes], 'bcount': '8',
+                'mtime': '12'[has_times], 'ctime': '12'[has_times], 'inode': str(number % 10), 'lcount': '1'}
     path = '/usr/share/d%04d/sub%02d/file-%06d.dat' % (number // 1000, number // 50 % 20, number)
-    changed = 'changed' if is_changed else ''
-    fields = {
-        'name': path, 'lname': '0', 'perm': '100644', 'uid': '0', 'gid': '0', 'bcount': '8', 'lcount': '1',
-        'size': str(number * 7919 % 100000 + is_changed), 'inode': str(1000000 + number),
-        'ctime': time_at(number + is_changed), 'mtime': time_at(number),
-        'md5': digest('md5', path + changed), 'sha256': digest('sha256', path + changed), 'attr': '112744996797',
-        'acl': ACL if len(columns) == 18 else '0', 'selinux': '0', 'xattrs': '0', 'e2fsattrs': '524288'}
-    return ' '.join(fields[column] for column in columns)
+    text = path + ('changed' if has_bytes else '')
+    return {'name': path, 'perm': '100644', 'bcount': '8', 'lcount': '1', 'attr': BITS[form],
+            'size': str(number * 7919 % 100000 + has_bytes), 'inode': str(1000000 + number),
+            'ctime': time_at(number + has_times), 'mtime': time_at(number),
+            'md5': digest('md5', text), 'sha256': digest('sha256', text), 'acl': ACL if form == 259 else '0',
+            'e2fsattrs': '524288'}
 
 
-def write_database(path, form, entries, is_new):
-    columns = FORMS[form]
+def line_of(form, columns, pair, number, is_new):
+    is_changed = is_new and is_one_of(pair.changed, number)
+    is_upgraded = is_new and is_one_of(pair.upgraded, number)
+    has_bytes = is_changed or is_upgraded and number // pair.upgraded % 3 == 0
+    fields = fields_of(form, number, is_changed or is_upgraded, has_bytes)
+    if is_upgraded and form != 138:
+        fields['mtime'] = time_at(number + 1)
+    return ' '.join(fields.get(column, '0') for column in columns)
+
+
+def write_database(path, form, pair, entries, is_new):
+    columns = FORMS[form] + (pair.more_columns if is_new else [])
     with open(path, 'w') as file:
         file.write('@@begin_db\n# This file was made by bench/databases.py\n@@db_spec %s\n' % ' '.join(columns))
         for number in range(entries):
-            is_alone = number % ALONE_EVERY == (77 if is_new else 78)
-            if not is_alone:
-                file.write(line_of(columns, number, is_new and number % CHANGED_EVERY == 0) + '\n')
+            if pair.has(number, is_new):
+                file.write(line_of(form, columns, pair, number, is_new) + '\n')
         file.write('@@end_db\n')
 
 
-def write_pair(old, new, form, entries):
-    write_database(old, form, entries, False)
-    write_database(new, form, entries, True)
+def write_pair(old, new, form, pair, entries):
+    write_database(old, form, pair, entries, False)
+    write_database(new, form, pair, entries, True)

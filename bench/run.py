@@ -1,20 +1,26 @@
 #!/usr/bin/env python3
-"""Measures the program beside `sha256sum` of both databases and, where it is installed, AIDE's `aide --compare`.
+"""Measures the program beside `sha256sum` of both databases and, if AIDE is installed, beside `aide --compare`.
 
-usage: run.py PROGRAM [--sizes 1000,10000,100000,1000000] [--forms 165,259] [--seconds 20] [--aide-up-to 100000]
-              [--folder FOLDER]
+usage: run.py PROGRAM [--entries 10000] [--larger 100000] [--seconds 5] [--least-runs 3] [--instructions]
+              [--aide-up-to 100000] [--folder FOLDER]
 
-It makes the databases and prints a table in Markdown. An opening is one reading of both databases: the report at
-`minimal` takes two, the default report of databases with added, removed and changed entries six. The program and
-`sha256sum`, which reads both databases as often as the program opens them, run at once on one processor, again and
-again for some seconds. The system gives each its turn every few milliseconds, so that a change of the machine's speed
-meets both alike, and the ratio of their processor times (user and system) is much the same in every run. Told is the
-median of these ratios with the quartiles, the least processor time, and the greatest memory. AIDE runs alone.
+It makes pairs of databases that differ in one way each and prints a table in Markdown, the worst row first. An opening
+is one reading of both databases: the report at `minimal` takes two, and every other report one more for each list of
+entries and one for the details. `sha256sum` reads both databases as often as the program opens them.
+
+With --instructions, valgrind's callgrind counts the instructions of the program and of `sha256sum`. The counts are the
+same in every run, and the rows are ordered by their ratio. Without it they are ordered by the ratio of times.
+
+To measure times, the program and `sha256sum` run at the same time on one processor, again and again for some seconds. The
+system switches between them every few milliseconds. So a change of the machine's speed affects both, and the ratio of their
+processor times (user and system) is much the same in every run. The table has the median of these ratios with the
+quartiles, the least processor time, and the greatest memory. AIDE runs once, without the others.
 """
 import argparse
 import datetime
 import os
 import platform
+import re
 import shutil
 import statistics
 import subprocess
@@ -22,13 +28,26 @@ import sys
 import tempfile
 import time
 
-from databases import write_pair
+from databases import PAIRS, write_pair
 
-OPENINGS = {'minimal': 2, 'changed_attributes': 6, 'added_removed_entries': 6}
-DEFAULT = 'changed_attributes'
-HEADINGS = ['Line, bytes', 'Entries', 'What', 'Openings', 'Processor, s', 'ns a byte and opening', '`sha256sum`, s',
-            'Times `sha256sum`', 'Quartiles', 'Runs', 'Peak, MB']
-LEAST_RUNS = 3
+DEFAULT, WHOLE = 'changed_attributes', 'added_removed_entries'
+# The pairs with the lengths of their lines, in bytes, and the levels at which they are compared.
+CASES = [
+    ('0.1 % changed', (165, 259), ('minimal', DEFAULT, WHOLE)),
+    ('1 % changed', (165,), ('minimal', DEFAULT)),
+    ('10 % changed', (165, 259), ('minimal', DEFAULT)),
+    ('100 % changed', (138, 165, 259), ('minimal', DEFAULT)),
+    ('10 % added', (259,), (WHOLE,)),
+    ('100 % added', (259,), (WHOLE,)),
+    ('a column more', (165,), ('minimal', DEFAULT)),
+    ('an upgrade', (165, 259), ('minimal', DEFAULT)),
+]
+# The pairs that are measured with more entries too, and those that AIDE compares.
+LARGER = ('0.1 % changed', '100 % changed')
+WITH_AIDE = ('0.1 % changed', '10 % changed', '100 % changed')
+HEADINGS = ['Pair', 'Line, bytes', 'Entries', 'Level', 'Openings', 'Instructions, millions',
+            'Instructions, times `sha256sum`', 'Processor, s', 'Time, times `sha256sum`', 'Quartiles', 'Runs',
+            'Written, MB', 'MB written a second', 'AIDE, s', 'AIDE, times', 'Peak, MB']
 AIDE = shutil.which('aide')
 PROCESSORS = sorted(os.sched_getaffinity(0))
 # One text for the program and for AIDE, which compares only the entries that a line selects.
@@ -37,7 +56,7 @@ database_new=file:@@{DIR}/new
 report_level=@@{LEVEL}
 report_url=stdout
 Every = p+ftype+l+u+g+s+b+m+c+i+n+md5+sha256+X
-/usr/share Every
+/ Every
 """
 
 
@@ -59,7 +78,7 @@ class Running:
         if done:
             self.process.returncode = status
             self.seconds = usage.ru_utime + usage.ru_stime
-            if not os.WIFEXITED(status) or os.WEXITSTATUS(status) not in (0, 4, 5, 6, 7):
+            if not os.WIFEXITED(status) or os.WEXITSTATUS(status) > 7:
                 sys.exit('%s ended with %d' % (self.words[0], status))
         return not done
 
@@ -85,13 +104,29 @@ def run_at_once(*commands):
     return started
 
 
-def run_often(seconds, *commands):
+def run_often(given, *commands):
     """The runs of commands that run at once, for some seconds: whichever starts second had the first turn before."""
     runs, begin = [], time.monotonic()
-    while len(runs) < LEAST_RUNS or time.monotonic() < begin + seconds:
+    while len(runs) < given.least_runs or time.monotonic() < begin + given.seconds:
         turn = 1 if len(runs) % 2 else -1
         runs.append(run_at_once(*commands[::turn])[::turn])
     return runs
+
+
+def instructions_of(words):
+    """How many instructions a command takes, as callgrind counts them."""
+    done = subprocess.run(['valgrind', '--tool=callgrind', '--callgrind-out-file=/dev/null'] + words,
+                          stdin=subprocess.DEVNULL, stdout=subprocess.DEVNULL, stderr=subprocess.PIPE, check=False)
+    found = re.search(r'I +refs: +([0-9,]+)', done.stderr.decode())
+    if not found:
+        sys.exit('valgrind did not count the instructions of %s' % words[0])
+    return int(found[1].replace(',', ''))
+
+
+def written_by(words):
+    """How many bytes a command writes to its standard output."""
+    return len(subprocess.run(words, stdin=subprocess.DEVNULL, stdout=subprocess.PIPE, stderr=subprocess.DEVNULL,
+                              check=False).stdout)
 
 
 def compare(executable, folder, level):
@@ -99,42 +134,60 @@ def compare(executable, folder, level):
             '--before', '@@define DIR %s\n@@define LEVEL %s' % (folder, level)]
 
 
-def row_of_level(program, folder, size, level, seconds):
-    """What is told of the program at a level, beside `sha256sum` that reads as often."""
-    openings = OPENINGS[level]
-    databases = [os.path.join(folder, side) for side in ('old', 'new')]
-    runs = run_often(seconds, compare(program, folder, level), ['sha256sum'] + databases * openings)
-    least, least_of_hash = (min(run[side].seconds for run in runs) for side in (0, 1))
-    low, median, high = statistics.quantiles((run[0].seconds / run[1].seconds for run in runs), n=4)
-    return least, ('this program at `%s`' % level, openings, '%.3f' % least, '%.2f' % (least / openings / size * 1e9),
-                   '%.3f' % least_of_hash, '%.2f' % median, '%.2f to %.2f' % (low, high), len(runs),
-                   peak_in_megabytes(run[0] for run in runs))
+class Row:
+    """A pair of databases at a level: what the program takes there, beside `sha256sum`, and beside AIDE."""
+
+    def __init__(self, name, form, entries, level):
+        self.name, self.form, self.entries, self.level = name, form, entries, level
+        self.openings = PAIRS[name].openings(level)
+        self.instructions = self.hashed = self.aide = None
+
+    def measure(self, given, folder):
+        program = compare(given.program, folder, self.level)
+        hashes = ['sha256sum'] + [os.path.join(folder, side) for side in ('old', 'new')] * self.openings
+        if given.instructions:
+            self.instructions, self.hashed = instructions_of(program), instructions_of(hashes)
+        self.written = written_by(program)
+        self.runs = run_often(given, program, hashes)
+        self.seconds = min(run[0].seconds for run in self.runs)
+        self.ratios = statistics.quantiles((run[0].seconds / run[1].seconds for run in self.runs), n=4)
+        self.memory = max(run[0].memory for run in self.runs)
+        if AIDE and self.level == DEFAULT and self.name in WITH_AIDE and self.entries <= given.aide_up_to:
+            self.aide = run_at_once(compare(AIDE, folder, self.level))[0].seconds
+
+    def badness(self):
+        return self.instructions / self.hashed if self.instructions else self.ratios[1]
+
+    def cells(self):
+        counted = self.instructions is not None
+        return [self.name, self.form, self.entries, '`%s`' % self.level, self.openings,
+                '%.1f' % (self.instructions / 1e6) if counted else '',
+                '%.2f' % (self.instructions / self.hashed) if counted else '', '%.3f' % self.seconds,
+                '%.2f' % self.ratios[1], '%.2f to %.2f' % (self.ratios[0], self.ratios[2]), len(self.runs),
+                '%.1f' % (self.written / 1e6), '%.0f' % (self.written / 1e6 / self.seconds),
+                '%.2f' % self.aide if self.aide else '', '%.0f' % (self.aide / self.seconds) if self.aide else '',
+                '%.1f' % (self.memory / 1024)]
 
 
-def row_of_aide(folder, size, default):
-    """What is told of AIDE, beside the least time of the program's default report."""
-    run, = run_at_once(compare(AIDE, folder, DEFAULT))
-    return ('AIDE, %.0f times the default' % (run.seconds / default), 1, '%.3f' % run.seconds,
-            '%.2f' % (run.seconds / size * 1e9), '', '', '', 1, peak_in_megabytes([run]))
+def measured_rows(given, name, form, entries, levels):
+    """The rows of one pair of databases, which are made first."""
+    with tempfile.TemporaryDirectory(dir=given.folder) as folder:
+        write_pair(os.path.join(folder, 'old'), os.path.join(folder, 'new'), form, PAIRS[name], entries)
+        with open(os.path.join(folder, 'conf'), 'w') as file:
+            file.write(CONFIGURATION)
+        for level in levels:
+            row = Row(name, form, entries, level)
+            row.measure(given, folder)
+            print('measured: %s, %d bytes, %d entries, %s' % (name, form, entries, level), file=sys.stderr, flush=True)
+            yield row
 
 
-def peak_in_megabytes(runs):
-    return '%.1f' % (max(run.memory for run in runs) / 1024)
-
-
-def rows(program, form, entries, folder, given):
-    """The rows of the table for one pair of databases, which are made first."""
-    old, new, conf = (os.path.join(folder, name) for name in ('old', 'new', 'conf'))
-    write_pair(old, new, form, entries)
-    with open(conf, 'w') as file:
-        file.write(CONFIGURATION)
-    size = os.path.getsize(old) + os.path.getsize(new)
-    least = {}
-    for level in OPENINGS:
-        least[level], row = row_of_level(program, folder, size, level, given.seconds)
-        yield row
-    if AIDE and entries <= given.aide_up_to:
-        yield row_of_aide(folder, size, least[DEFAULT])
+def all_rows(given):
+    for name, forms, levels in CASES:
+        for form in forms:
+            yield from measured_rows(given, name, form, given.entries, levels)
+            if given.larger and name in LARGER and form == 165:
+                yield from measured_rows(given, name, form, given.larger, levels)
 
 
 def line_of_file(path, begin):
@@ -159,26 +212,24 @@ def print_head(program):
     print('| %s |\n|%s' % (' | '.join(HEADINGS), '---|' * len(HEADINGS)), flush=True)
 
 
-def numbers(text):
-    return [int(number) for number in text.split(',')]
-
-
 def main():
     parser = argparse.ArgumentParser(description='Measures the program beside sha256sum and AIDE.')
     parser.add_argument('program')
-    parser.add_argument('--sizes', type=numbers, default=[1000, 10000, 100000, 1000000])
-    parser.add_argument('--forms', type=numbers, default=[165, 259])
-    parser.add_argument('--seconds', type=float, default=20, help='how long each row of the program is measured')
+    parser.add_argument('--entries', type=int, default=10000, help='how many entries a database has')
+    parser.add_argument('--larger', type=int, default=100000, help='how many it has in a few rows; 0 leaves these out')
+    parser.add_argument('--seconds', type=float, default=5, help='how long each row of the program is measured')
+    parser.add_argument('--least-runs', type=int, default=3, help='how often each row is measured at least')
+    parser.add_argument('--instructions', action='store_true', help='count instructions by valgrind')
     parser.add_argument('--aide-up-to', type=int, default=100000, help='the greatest number of entries that AIDE gets')
     parser.add_argument('--folder', help='where the databases are made')
     given = parser.parse_args()
-    program = os.path.abspath(given.program)
-    print_head(program)
-    for form in given.forms:
-        for entries in given.sizes:
-            with tempfile.TemporaryDirectory(dir=given.folder) as folder:
-                for row in rows(program, form, entries, folder, given):
-                    print('| %d | %d | %s |' % (form, entries, ' | '.join(map(str, row))), flush=True)
+    given.program = os.path.abspath(given.program)
+    if given.instructions and not shutil.which('valgrind'):
+        parser.error('--instructions needs valgrind')
+    rows = sorted(all_rows(given), key=Row.badness, reverse=True)
+    print_head(given.program)
+    for row in rows:
+        print('| %s |' % ' | '.join(map(str, row.cells())))
 
 
 if __name__ == '__main__':

@@ -3,8 +3,8 @@
 
 usage: tools/beside_aide.py PROGRAM
 
-Each case is one configuration and one pair of databases, given to both. Where AIDE is not installed nothing is tried and
-that is said. Prints each case whose answer is not the one that the page gives and, at the end, `N passed, M failed`.
+Each case is one configuration and one pair of databases, given to both programs. If AIDE is not installed, the tool says so and
+tries nothing. Prints each case whose answer is not the one that the page gives and, at the end, `N passed, M failed`.
 """
 import gzip
 import os
@@ -260,6 +260,84 @@ DATABASES = [
         4,
         database(MODE + "size", "/a %s 100644 1" % bits(2, 5, TYPE, GROWING)),
         database(MODE + "size", "/a %s 100644 2" % bits(2, 5, TYPE, GROWING)),
+    ),
+    Case(
+        "flags of the file system that report_ignore_e2fsattrs names",
+        PAIR + RULES + "report_ignore_e2fsattrs=VNIE\n",
+        0,
+        4,
+        database(MODE + "e2fsattrs", "/a %s 100644 524288" % bits(2, FLAGS, TYPE)),
+        database(MODE + "e2fsattrs", "/a %s 100644 528384" % bits(2, FLAGS, TYPE)),
+        our_text=r"f   \.           E : /a",
+    ),
+    Case(
+        "extended attributes in another order",
+        PAIR + RULES,
+        0,
+        4,
+        database(MODE + "xattrs", "/a %s 100644 2,dXNlci5vbmU=,MQ==,dXNlci50d28=,Mg==" % bits(2, XATTRS, TYPE)),
+        database(MODE + "xattrs", "/a %s 100644 2,dXNlci50d28=,Mg==,dXNlci5vbmU=,MQ==" % bits(2, XATTRS, TYPE)),
+        our_text=r"f   \.         X   : /a",
+    ),
+    Case(
+        "a log that has grown, with a digest",
+        PAIR + RULES,
+        4,
+        4,
+        database(MODE + "size sha256", "/a %s 100644 1 %s" % (bits(2, 5, TYPE, GROWING, SHA256), EMPTY)),
+        database(MODE + "size sha256", "/a %s 100644 2 %s=" % (bits(2, 5, TYPE, GROWING, SHA256), "A" * 43)),
+        their_text=r"f = \.       H     : /a",
+        our_text=r"f > \.       H     : /a",
+    ),
+    Case(
+        "an ignored attribute that did not change",
+        PAIR + RULES + "report_ignore_changed_attrs=m\n",
+        4,
+        4,
+        database(MODE + "mtime", "/a %s 100644 5" % bits(2, 8, TYPE)),
+        database(MODE + "mtime", "/a %s 100600 5" % bits(2, 8, TYPE)),
+        their_text=r"f   p   :         : /a",
+        our_text=r"f   p   \.         : /a",
+    ),
+    Case(
+        "the details of an added entry",
+        PAIR + RULES + "report_level=added_removed_entries\nreport_ignore_added_attrs=s\n",
+        1,
+        1,
+        database(MODE + "size"),
+        database(MODE + "size", "/a %s 100644 5" % bits(2, 5, TYPE)),
+        their_text=r"(?s)\A(?!.*Size)",
+        our_text=r"\n  Size      : ",
+    ),
+    Case(
+        "the details of a removed entry",
+        PAIR + RULES + "report_level=added_removed_entries\nreport_ignore_removed_attrs=s\n",
+        2,
+        2,
+        database(MODE + "size", "/a %s 100644 5" % bits(2, 5, TYPE)),
+        database(MODE + "size"),
+        their_text=r"(?s)\A(?!.*Size)",
+        our_text=r"\n  Size      : ",
+    ),
+    Case(
+        "a file that shrank, removed sizes ignored",
+        PAIR + RULES + "report_ignore_removed_attrs=s\n",
+        4,
+        4,
+        database(MODE + "size", "/a %s 100644 9" % bits(2, 5, TYPE)),
+        database(MODE + "size", "/a %s 100644 5" % bits(2, 5, TYPE)),
+        their_text=r"f > \.             : /a",
+        our_text=r"f < \.             : /a",
+    ),
+    Case(
+        "the order of two digests",
+        PAIR + RULES,
+        4,
+        4,
+        database("name attr gost whirlpool", "/a %s %s= %s==" % (bits(18, 34), "A" * 43, "A" * 86)),
+        database("name attr gost whirlpool", "/a %s B%s= B%s==" % (bits(18, 34), "A" * 42, "A" * 85)),
+        their_text=r"(?s)WHIRLPOOL.*GOST",
+        our_text=r"(?s)GOST.*WHIRLPOOL",
     ),
     Case(
         "a new file that is allowed",
@@ -579,7 +657,7 @@ def main():
         return 0
     trial = Trial(sys.argv[1])
     version = trial.run(AIDE, ["--version"])[1].split("\n")[0]
-    print(version + ("" if version.startswith("AIDE 0.18.") else " (docs/DIFFERENCES.md speaks of 0.18.3)"))
+    print(version + ("" if version.startswith("AIDE 0.18.") else " (docs/DIFFERENCES.md describes 0.18.3)"))
     try:
         for case in CONFIGURATION + DATABASES + WORDS:
             trial.case(case)

@@ -1,13 +1,13 @@
 #!/usr/bin/env python3
-"""The stored cases of tools/cases: whole sessions, each in one file, with what they answer.
+"""The stored cases of tools/cases: whole sessions, each in one file, with their answers.
 
 usage: cases.py PROGRAM [CASE...]    runs the program over the cases; the last line is 'N passed, M failed'
        cases.py --write CASE...      writes what the definitions answer into the cases
 
-A case begins with a sentence that says what it shows. Then come sections, each under a line `-- NAME --`: `words` (one
-a line), files of the folder in which the case is run (`conf`, `old`, `new`), and what is wanted: `stdout`, `stderr`,
-`status`. `/@DIR@` stands for the folder. A section `NAME (escaped)` is read as one line, with backslashes as in C; so
-are words.
+A case begins with a sentence that says what it shows. Then come sections, each under a line `-- NAME --`: `words` (the
+arguments, one a line), files of the folder in which the case is run (`conf`, `old`, `new`), and the right answer:
+`stdout`, `stderr`, `status`. `/@DIR@` is replaced by the folder. A section `NAME (escaped)` is read as one line, with
+backslashes as in C. So are the arguments.
 """
 import glob
 import os
@@ -108,6 +108,7 @@ def write(path):
 
 def try_cases(program, paths, tally):
     """Tries the program, and the definitions, over stored cases."""
+    tally.add('the stored cases', [] if paths else ['there is none in ' + FOLDER])
     for path in paths:
         case, label = read(path), os.path.relpath(path, FOLDER)
         with tempfile.TemporaryDirectory() as folder:

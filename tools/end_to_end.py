@@ -1,11 +1,12 @@
 #!/usr/bin/env python3
-"""Tries the built program over real files: what the gate asks of it as a whole.
+"""Tries the built program over real files, as part of the gate.
 
 usage: end_to_end.py PROGRAM [--sessions COUNT] [--seed SEED] [--jobs N]
 
-The examples, the stored cases, random sessions, devices that fail, files that are missing or something else, and the
-limits. What is wanted comes from the definitions (definitions/), from AIDE, or stands here. The last line is
-'N passed, M failed'.
+It tries the examples, the stored cases, random sessions, devices that fail, files that are missing or of another kind,
+folders and arguments of unusual forms, the limits, little memory, little stack, few descriptors, and how often a database
+is opened. The right answers come from the definitions (definitions/), from AIDE, or from these files themselves. The last
+line is 'N passed, M failed'.
 """
 import argparse
 import random
@@ -14,7 +15,11 @@ import cases
 from random_sessions import try_sessions
 from real_files.devices import try_devices
 from real_files.examples import try_examples
+from real_files.fifos import try_fifos
 from real_files.limits import try_limits
+from real_files.outside import try_quickly
+from real_files.paths import try_paths
+from real_files.stack import try_stack
 from trials import Tally, program_of
 
 
@@ -31,6 +36,10 @@ def main():
     cases.try_cases(program, cases.all_cases(), tally)
     try_devices(program, tally)
     try_limits(program, tally)
+    try_paths(program, tally)
+    try_fifos(program, tally)
+    try_quickly(program, tally)
+    try_stack(program, tally)
     print('seed %d' % given.seed, flush=True)
     try_sessions(program, given.seed, range(given.sessions), given.jobs, tally)
     tally.end()

@@ -1,59 +1,49 @@
 #!/usr/bin/env python3
-"""Refuses the built program each growth of its memory in turn, over whole sessions.
+"""Makes each allocation of the built program fail in turn, over whole sessions.
 
-usage: growths.py PROGRAM [--sessions COUNT] [--seed SEED] [--jobs N]
+usage: growths.py PROGRAM [--in-memory OTHER] [--sessions COUNT] [--seed SEED] [--jobs N]
 
-The program asks the C library for memory, by malloc and realloc. A library that is loaded before it (refuse.c) refuses
-the n-th of these calls, for every n until the session asks for no more: the n-th alone, and the n-th with all later
-ones. Each refusal has to end with status 22, the one line `aide: out of memory` and no output; a session of which none
-is refused answers what the definitions say. Two kinds of calls may be refused without being felt, so that the answer is
-the whole one: those of the C library itself, and those of a command line that is not understood, where the parser looks
-for names that are close, to tell what is never printed. The sessions are the stored cases, the examples at each report
-level, long words, paths and configurations, and random ones.
+The program asks the C library for memory, by malloc and realloc. A library that is loaded before the C library (refuse.c)
+refuses the n-th of these calls, for every n until the session asks for no more: only the n-th, and the n-th with all later
+ones. After each refusal the program has to end with status 22, the one line `aide: out of memory` and no output. A session
+without a refusal answers what the definitions say.
 
-Where no C compiler is, nothing is tried, and that is said. The last line is 'N passed, M failed'.
+Two kinds of calls may be refused without an effect, so that the answer is the whole one: those of the C library itself, and
+those of a command line that is not understood. There the parser looks for names that are close, which are never printed.
+The sessions are the stored cases, the examples at each report level, long arguments, paths and configurations, and random
+ones.
+
+With --in-memory a second program is tried. It runs sessions over files in memory, and makes each call that was refused
+memory once more, so it has to print the same as if nothing was refused.
+
+The library is built by a C compiler of the machine or by that of the toolchain; with neither one trial fails. The last
+line is 'N passed, M failed'.
 """
 import argparse
 import os
 import random
-import shutil
 import struct
-import subprocess
 import tempfile
 from collections import Counter, namedtuple
 
 import cases
-from definitions.session import NO_MEMORY, USAGE, refused
+from definitions.session import BAD_DEVICE, NO_MEMORY, USAGE, Answer, refused
+from preloading import built, run_with
 from random_sessions import make_session
 from real_files.examples import LEVELS, folders_of_aide, words_at
 from real_files.folder import NEW, OLD, SKIPPING
-from trials import Tally, difference, program_of, run, side_by_side, wanted
+from trials import Tally, difference, program_of, side_by_side, wanted
 
-SOURCE = os.path.join(os.path.dirname(os.path.abspath(__file__)), 'refuse.c')
-COMPILERS = ['cc', 'gcc', 'clang']
 NOTES = struct.Struct('3l')
 STARVED = refused(b'out of memory', NO_MEMORY)
-WAYS = {'each growth refused alone': lambda first: first,
-        'each growth refused with all later ones': lambda first: 2**31 - 1}
+NOT_WRITTEN = refused(b'cannot write the report', BAD_DEVICE).errors
+LEAST_IN_MEMORY = 300
+WAYS = {'only one allocation fails': lambda first: first,
+        'one allocation and all later ones fail': lambda first: 2**31 - 1}
 SHOWN = 3
 NAME_LIMIT, PATH_LIMIT, FOLDER_NAME = 64, 4095, b'f' * 200
 
 Refusal = namedtuple('Refusal', 'answer calls own others')
-
-
-def compiled(compiler, library, *source):
-    """What a compiler says against building a library, nothing where it was built."""
-    done = subprocess.run([compiler, '-O1', '-shared', '-fPIC', '-o', library, *source], stdin=subprocess.DEVNULL,
-                          stdout=subprocess.DEVNULL, stderr=subprocess.PIPE)
-    return '' if done.returncode == 0 else done.stderr.decode('utf-8', 'replace') or 'status %d' % done.returncode
-
-
-def working_compiler(folder):
-    """A compiler that builds libraries, or None."""
-    for compiler in filter(shutil.which, COMPILERS):
-        if not compiled(compiler, os.path.join(folder, b'empty.so'), '-include', 'link.h', '-x', 'c', os.devnull):
-            return compiler
-    return None
 
 
 class Refuser:
@@ -64,16 +54,9 @@ class Refuser:
 
     def run(self, words, first=0, last=0):
         """What the program answers where the calls for memory with these numbers are refused, and what was counted."""
-        reading, writing = os.pipe()
-        surroundings = dict(os.environ, LD_PRELOAD=os.fsdecode(self.library), GROWTHS_FIRST=str(first),
-                            GROWTHS_LAST=str(last), GROWTHS_NOTES=str(writing))
-        with open(reading, 'rb') as notes:
-            try:
-                answer = run(self.program, words, env=surroundings, pass_fds=[writing])
-            finally:
-                os.close(writing)
-            counts = notes.read()
-        return Refusal(answer, *(NOTES.unpack(counts) if len(counts) == NOTES.size else (0, 0, 0)))
+        answer, notes = run_with(self.library, self.program, words, NOTES, 'GROWTHS_NOTES', GROWTHS_FIRST=first,
+                                 GROWTHS_LAST=last)
+        return Refusal(answer, *(notes[0] if notes else (0, 0, 0)))
 
 
 def faults_of(refusal, whole):
@@ -186,27 +169,62 @@ def try_sessions(refuser, known, jobs, tally):
         for way, faults in found.items():
             rest = ['and %d faults more' % (len(faults) - SHOWN)] if len(faults) > SHOWN else []
             tally.add('%s, %s' % (label, way), faults[:SHOWN] + rest)
-    print('%d growths refused in %d sessions; %d not felt, %d not asked for by the program itself'
+    print('%d allocations failed in %d sessions; %d without an effect, %d asked for by others than the program'
           % (counts['refused'], len(known), counts['not_felt'], counts['of_others']), flush=True)
 
 
+def without(line, text):
+    """A text less the first place where a line stands."""
+    front, found, back = text.partition(line)
+    return front + back
+
+
+def faults_in_memory(refusal, free):
+    """What is not as wanted where a growth of the sessions in memory was refused: each call is made once more.
+
+    The call that was refused may have told it; all else is printed as ever. A refused growth of the sink ends its
+    session with 18 first.
+    """
+    told = [STARVED.errors, NOT_WRITTEN]
+    errors = next((without(line, refusal.answer.errors) for line in told
+                   if refusal.answer.errors.count(line) > free.answer.errors.count(line)), refusal.answer.errors)
+    return difference(Answer(refusal.answer.output, errors, refusal.answer.status), free.answer)
+
+
+def try_in_memory(refuser, tally):
+    """Refuses each growth of the sessions over files in memory, alone and with all later ones."""
+    free = refuser.run([])
+    is_free = free.answer.status == 0 and free.calls >= LEAST_IN_MEMORY
+    tally.add('sessions in memory', [] if is_free else ['gave %r' % (free,)])
+    reported = 0
+    for first in range(1, free.calls + 1):
+        refusal = refuser.run([], first, first)
+        reported += refusal.answer.errors != free.answer.errors
+        faults = faults_in_memory(refusal, free)
+        faults += [] if refusal.own + refusal.others == 1 else ['%d refused' % (refusal.own + refusal.others)]
+        tally.add('sessions in memory, growth %d refused' % first, faults)
+        answer = refuser.run([], first, 2**31 - 1).answer
+        is_front = answer.status == NO_MEMORY and free.answer.output.startswith(answer.output)
+        tally.add('sessions in memory, refused from growth %d on' % first, [] if is_front else ['gave %r' % (answer,)])
+    print('%d allocations failed in sessions in memory, %d of them reported by a session' % (free.calls, reported), flush=True)
+
+
 def try_growths(program, top, given, tally):
-    """Builds the library, where that can be done, and tries all sessions."""
-    compiler, library = working_compiler(top), os.path.join(top, b'refuse.so')
-    if compiler is None:
-        print('skipped: no growth is refused, since none of %s is here and works' % ', '.join(COMPILERS), flush=True)
-        return
-    says = compiled(compiler, library, SOURCE)
-    if says:
-        tally.add('refuse.c', [says])
+    """Builds the library and tries all sessions."""
+    library, faults = built('refuse.c', top)
+    if library is None:
+        tally.add('refuse.c', faults)
         return
     print('seed %d' % given.seed, flush=True)
     try_sessions(Refuser(program, library), list(sessions(top, given.seed, given.sessions)), given.jobs, tally)
+    if given.in_memory:
+        try_in_memory(Refuser(program_of(given.in_memory), library), tally)
 
 
 def main():
-    parser = argparse.ArgumentParser(description='Refuses the built program each growth of its memory in turn.')
+    parser = argparse.ArgumentParser(description='Makes each allocation of the built program fail in turn.')
     parser.add_argument('program')
+    parser.add_argument('--in-memory', metavar='OTHER', help='a program that runs sessions over files in memory')
     parser.add_argument('--sessions', type=int, default=20, help='how many random sessions')
     parser.add_argument('--seed', type=int, default=random.SystemRandom().randrange(10**9),
                         help='the seed of the random sessions')

@@ -1,10 +1,10 @@
 #!/usr/bin/env python3
-"""Tries the built program in hostile use, which takes minutes and is no part of the gate.
+"""Tries the built program in hostile use. This takes minutes and is no part of the gate.
 
 usage: hostile.py PROGRAM [--jobs N] [--sessions COUNT] [--seed SEED]
 
-A pair of databases damaged in every way that takes one step, limits from outside, files that change during the run, and
-random sessions. It prints a table of what was tried and how often; the last line is 'N passed, M failed'.
+It tries a pair of databases damaged in every way that takes one step, limits from outside, files that change during the
+run, and random sessions. It prints a table of what was tried and how often. The last line is 'N passed, M failed'.
 """
 import argparse
 import collections
@@ -33,7 +33,7 @@ class Table(Tally):
         self.wrong[label] += bool(faults)
 
     def end(self):
-        print('| What | Trials | Not as wanted |\n|---|---|---|')
+        print('| What | Trials | Failed |\n|---|---|---|')
         for label, count in self.tried.items():
             print('| %s | %d | %d |' % (label, count, self.wrong[label]))
         super().end()

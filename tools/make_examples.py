@@ -4,7 +4,7 @@
 usage: make_examples.py   (as root, with AIDE 0.18.3 installed; the tree is made in /srv/aide-example and removed again)
 
 For each folder of examples/ with an `aide.conf` that begins with the line of MARK, AIDE writes `old.db` and `new.db` by
-that configuration, and what it counts between them goes to `aide-counts.txt`.
+that configuration. `aide-counts.txt` gets what AIDE counts between the two.
 """
 import glob
 import gzip

@@ -1,13 +1,36 @@
 /* Loaded before the C library (LD_PRELOAD), this refuses a program memory. From the program's start on the calls of
    malloc and its kin are counted, and those with the numbers GROWTHS_FIRST to GROWTHS_LAST answer that no memory is
    left. At its end three numbers are written to the descriptor GROWTHS_NOTES: all calls, the refused ones that the
-   program itself made, and the refused ones that came from elsewhere, as from the C library. */
-#define _GNU_SOURCE
-#include <dlfcn.h>
-#include <errno.h>
-#include <link.h>
-#include <stdlib.h>
-#include <unistd.h>
+   program itself made, and the refused ones that came from elsewhere, as from the C library.
+
+   It includes no header, so that a compiler without a C library builds it: what it needs of 64-bit Linux stands here. */
+typedef unsigned long size_t;
+
+#define NULL ((void *)0)
+#define NEXT ((void *)-1L)
+#define NO_MEMORY 12
+#define LOADED 1
+
+/* A part of an object, as an ELF file of 64 bits has it. */
+struct part {
+    unsigned type, flags;
+    size_t offset, address, physical, in_file, in_memory, alignment;
+};
+
+/* The front of what the loader tells of an object. */
+struct object {
+    size_t base;
+    const char *name;
+    const struct part *parts;
+    unsigned short count;
+};
+
+extern void *dlsym(void *, const char *);
+extern int dl_iterate_phdr(int (*)(struct object *, size_t, void *), void *);
+extern char *getenv(const char *);
+extern long atol(const char *);
+extern long write(int, const void *, size_t);
+extern int *__errno_location(void);
 
 static struct {
     long calls, own, others;
@@ -21,13 +44,13 @@ static struct {
 } program;
 
 /* The program is the first object that is loaded, so the walk ends with it. */
-static int find_program(struct dl_phdr_info *object, size_t size, void *unused)
+static int find_program(struct object *object, size_t size, void *unused)
 {
     (void)size, (void)unused;
-    for (int i = 0; i < object->dlpi_phnum; i++) {
-        const ElfW(Phdr) *part = &object->dlpi_phdr[i];
-        char *start = (char *)object->dlpi_addr + part->p_vaddr, *end = start + part->p_memsz;
-        if (part->p_type != PT_LOAD)
+    for (int i = 0; i < object->count; i++) {
+        const struct part *part = &object->parts[i];
+        char *start = (char *)object->base + part->address, *end = start + part->in_memory;
+        if (part->type != LOADED)
             continue;
         if (program.start == NULL || start < program.start)
             program.start = start;
@@ -68,12 +91,12 @@ static int is_refused(const char *caller)
         notes.own++;
     else
         notes.others++;
-    errno = ENOMEM;
+    *__errno_location() = NO_MEMORY;
     return 1;
 }
 
 #define IS_REFUSED is_refused(__builtin_return_address(0))
-#define REAL(name) ((__typeof__(&name))dlsym(RTLD_NEXT, #name))
+#define REAL(name) ((__typeof__(&name))dlsym(NEXT, #name))
 
 void *malloc(size_t size)
 {
@@ -107,5 +130,5 @@ int posix_memalign(void **block, size_t alignment, size_t size)
 {
     static __typeof__(&posix_memalign) real;
     real = real ? real : REAL(posix_memalign);
-    return IS_REFUSED ? ENOMEM : real(block, alignment, size);
+    return IS_REFUSED ? NO_MEMORY : real(block, alignment, size);
 }

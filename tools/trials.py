@@ -56,7 +56,9 @@ class Tally:
         self.add(label, difference(given, want))
 
     def end(self):
-        """Prints the last line and ends the process."""
+        """Prints the last line and ends the process. A run in which nothing was tried has failed."""
+        if not self.passed + self.failed:
+            self.add('all', ['nothing was tried'])
         print('%d passed, %d failed' % (self.passed, self.failed), flush=True)
         sys.exit(1 if self.failed else 0)
 

@@ -3,11 +3,12 @@
 
 usage: tools/try_manual.py PROGRAM
 
-The names (options, directives, levels, groups, attributes with column, bit and letter), the reports, the lines on standard
-error and the limits are read out of the pages in man/, and each is tried. Prints what fails and, at the end, `N passed, M
+The tool reads from the pages in man/ all names (options, directives, levels, groups, attributes with column, bit and
+letter), reports, lines on standard error and limits, and tries each of them. Prints what fails and, at the end, `N passed, M
 failed`.
 """
 import base64
+import glob
 import os
 import re
 import shutil
@@ -21,6 +22,12 @@ HERE = os.path.dirname(os.path.dirname(os.path.abspath(__file__)))
 PAGE = os.path.join(HERE, "man", "aide-compare.1")
 CONF_PAGE = os.path.join(HERE, "man", "aide-compare.conf.5")
 PLACES = "YlZbpugamcinHAXSEC"
+# Pages of other programs that the pages name.
+OTHER_PAGES = [
+    "man1/aide.1", "man1/gzip.1", "man1/logger.1", "man1/lsattr.1", "man1/ssh.1",
+    "man1/xargs.1", "man1/zcat.1", "man5/aide.conf.5", "man8/logcheck.8", "man8/rsyslogd.8",
+    "man8/sendmail.8", "man8/cron.8"
+]
 
 
 class Trial:
@@ -105,14 +112,16 @@ def try_pages(trial):
     else:
         print("skipped: man is not installed")
     if shutil.which("mandoc"):
-        for page, part in ((PAGE, "man1"), (CONF_PAGE, "man5")):
-            os.makedirs(trial.path("man/" + part))
-            shutil.copy(page, trial.path("man/" + part))
-        for other in ("man1/aide.1", "man1/zcat.1", "man5/aide.conf.5"):
+        pages = sorted(glob.glob(os.path.join(HERE, "man", "*.[1-8]")))
+        for page in pages:
+            os.makedirs(trial.path("man/man" + page[-1]), exist_ok=True)
+            shutil.copy(page, trial.path("man/man" + page[-1]))
+        for other in OTHER_PAGES:
+            os.makedirs(os.path.dirname(trial.path("man/" + other)), exist_ok=True)
             trial.write("man/" + other, "")
         surroundings = dict(os.environ, MANPATH=trial.path("man"))
         done = subprocess.run(
-            ["mandoc", "-T", "lint", "-W", "style", PAGE, CONF_PAGE], capture_output=True, text=True, env=surroundings
+            ["mandoc", "-T", "lint", "-W", "style", *pages], capture_output=True, text=True, env=surroundings
         )
         trial.check(done.stdout == "", "mandoc -T lint", done.stdout)
     else:

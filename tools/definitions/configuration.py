@@ -1,7 +1,7 @@
 """The settings of a configuration, or its first fault.
 
-A configuration is three texts, one after another. Each line that says something is marked with what it says; what a
-line says may depend on the marks before it alone.
+A configuration is three texts, one after another. Each line that says something is marked with what it says. What a line
+says may depend only on the marks before it.
 """
 import re
 from collections import namedtuple

@@ -52,6 +52,7 @@ def try_made_by_hand(program, tally):
 
 def try_written_by_aide(program, tally):
     """Databases that AIDE has written: its counts and status, nothing skipped, and the definitions' report at each level."""
+    tally.add('examples by AIDE', [] if folders_of_aide() else ['there is none in ' + EXAMPLES])
     for folder in folders_of_aide():
         label = 'examples/' + os.path.basename(folder)
         status, counts = told_by_aide(folder)

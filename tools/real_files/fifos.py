@@ -5,7 +5,7 @@ import threading
 from definitions.session import Answer
 from trials import run
 
-from .folder import NEW, OLD, Folder
+from .folder import NEW, OLD, Folder, names
 
 OTHER = OLD.replace(b' 10\n', b' 11\n')
 DIGESTS = b'47DEQpj8HBSa+/TImW+5JCeuQeRkm5NMpJWZG3hSuFU=', b'1B2M2Y8AsgTpgAmY7PhCfg=='
@@ -22,6 +22,7 @@ OPENINGS = [
     (b'', OLD, NEW, 6, 6), (b'report_grouped=no', OLD, NEW, 4, 4), (b'report_quiet=yes', OLD, OLD, 2, 2), (b'', OLD, OLD, 2, 2),
     (b'', UNSORTED, NEW, 1, 0), (b'', OLD, UNSORTED, 1, 1)]
 WAIT = b'20'
+LONG = 6000
 
 
 class Feeder:
@@ -84,14 +85,18 @@ def try_openings(program, tally):
             tally.add(label, [] if openings == tuple(wanted) else ['%r: wanted %r, are %r' % (options, wanted, openings)])
 
 
+def beginning(report):
+    """The head and the summary of a report."""
+    return report[:report.index(b'\n\n---') + 1]
+
+
 def change_faults(answer, side, number, report):
     """What is wrong with the answer where a side is another one from so many openings on."""
     line = b'aide: the %s database changed while it was read\n' % side
     if (answer.errors, answer.status) != (line, 18):
         return ['%s from opening %d on gave %r' % (side, number, answer)]
-    summary = report[:report.index(b'\n\n---')]
-    is_front = report.startswith(answer.output) or answer.output.startswith(summary)
-    return [] if answer.output == b'' or number > 2 and is_front else ['%s from opening %d on wrote %r' % (side, number, answer.output)]
+    is_right = answer.output == b'' or number > 2 and answer.output.startswith(beginning(report))
+    return [] if is_right else ['%s from opening %d on wrote %r' % (side, number, answer.output)]
 
 
 def try_changes(program, tally):
@@ -106,6 +111,19 @@ def try_changes(program, tally):
                     pair = (texts, [NEW]) if side == b'old' else ([OLD], texts)
                     answer, _ = fed(program, folder, *pair)
                     tally.add('a database changed from an opening on', change_faults(answer, side, number, report))
+
+
+def try_late_changes(program, tally):
+    """A long report of which pages have gone out before a change shows: they begin with the head and the summary."""
+    with Folder() as folder:
+        new = names(LONG)
+        folder.pair(OLD, new)
+        report = folder.wanted().output
+        for number in (3, 4):
+            answer, _ = fed(program, folder, [OLD], [new] * (number - 1) + [new + b'#'])
+            faults = change_faults(answer, b'new', number, report)
+            faults += [] if answer.output else ['opening %d wrote nothing' % number]
+            tally.add('a change after some pages', faults)
 
 
 def try_one_reading(program, tally):
@@ -124,4 +142,5 @@ def try_one_reading(program, tally):
 def try_fifos(program, tally):
     try_openings(program, tally)
     try_changes(program, tally)
+    try_late_changes(program, tally)
     try_one_reading(program, tally)

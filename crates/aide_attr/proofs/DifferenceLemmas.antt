@@ -1,8 +1,8 @@
 -- Sets of attributes by lists of them.
 use Rattle.std.proofs.Common.{ℕ, ◌<◌, ◌≡◌, Bool, true, false, List, [], ◌∷◌, suc, zero, length, refl, sym, ap, ◌∙◌}
 use Rattle.std.proofs.Common.{arith, get_or, inl, inr}
-use Rattle.std.specs.Prelude.{◌||◌, ◌&&◌, map, filter, if◌then◌else◌}
-use Rattle.std.proofs.lemmas.Bool.{eqb-true}
+use Rattle.std.specs.Prelude.{◌||◌, ◌&&◌, not, map, IsTrue, ◌↔◌}
+use Rattle.std.proofs.lemmas.Bool.{eqb-true, eq-eqb}
 use Rattle.std.specs.List.{list_any}
 use Rattle.aide_attr.specs.declared.attr.Attr.{Attr}
 use Rattle.aide_attr.specs.declared.set.AttrSet.{AttrSet}
@@ -33,16 +33,6 @@ none_any p (x ∷ xs) (suc k) d h l = none_any p xs k d (second (p x) (list_any 
     second false b h = h
     second true b h = cc
 
--- those of a list that pass a test
-pub any_filtered : (p q : Attr → Bool) (xs : List Attr) → list_any (λ a. p a && q a) xs ≡ list_any q (filter p xs)
-any_filtered p q [] = refl
-any_filtered p q (x ∷ xs) = one (p x) (any_filtered p q xs)
-  where
-    one : (b : Bool) → list_any (λ a. p a && q a) xs ≡ list_any q (filter p xs)
-        → ((b && q x) || list_any (λ a. p a && q a) xs) ≡ list_any q (if b then x ∷ filter p xs else filter p xs)
-    one true e = ap (λ o. q x || o) e
-    one false e = e
-
 -- a list whose elements are those of another under a function
 pub filled : (f : ℕ → ℕ) (places letters : List ℕ) → length letters ≡ length places
     → ((k : ℕ) → k < length places → get_or letters k 0 ≡ f (get_or places k 0)) → letters ≡ map f places
@@ -55,6 +45,54 @@ filled f (p ∷ places) (l ∷ letters) e h =
 -- attributes with one number are one
 pub attr_is : (a b : Attr) → is_attr a b ≡ true → a ≡ b
 attr_is a b e = sym (at_number a a) ∙ ap (λ n. get_or all_attrs n a) (eqb-true (number a) (number b) e) ∙ at_number b a
+
+-- ---- a set that has the attributes of a list
+
+either : (a b : Bool) → (a || b) ≡ true → (a ≡ false → b ≡ true)
+either true b h f = cc
+either false b h f = h
+
+none_listed : (p : Attr → Bool) (xs : List Attr) → list_any p xs ≡ false → (a : Attr)
+    → list_any (is_attr a) xs ≡ true → p a ≡ false
+none_listed p [] h a l = cc
+none_listed p (x ∷ xs) h a l = elim (bool_cases (is_attr a x)) [
+  | inl e ↦ ap p (attr_is a x e) ∙ none_any p (x ∷ xs) 0 x h (omega arith)
+  | inr e ↦ none_listed p xs (rest (p x) (list_any p xs) h) a (either (is_attr a x) (list_any (is_attr a) xs) l e)
+]
+  where
+    rest : (a b : Bool) → (a || b) ≡ false → b ≡ false
+    rest false b h = h
+    rest true b h = cc
+
+all_none : (p : Attr → Bool) (xs : List Attr) → ((a : Attr) → list_any (is_attr a) xs ≡ true → p a ≡ false)
+    → list_any p xs ≡ false
+all_none p [] h = refl
+all_none p (x ∷ xs) h =
+    rw (h x (ap (λ b. b || list_any (is_attr x) xs) (eq-eqb (number x) (number x) refl))) (all_none p xs (λ a l. h a (ap (λ b. is_attr a x || b) l ∙ or_true (is_attr a x))))
+  where
+    or_true : (b : Bool) → (b || true) ≡ true
+    or_true true = refl
+    or_true false = refl
+
+-- a set has any of the list exactly where it meets that set
+pub meets : (set here both : AttrSet) (xs : List Attr) (empty : Bool) → ((a : Attr) → has here a ≡ list_any (is_attr a) xs)
+    → ((a : Attr) → has both a ≡ (has set a && has here a)) → (IsTrue empty ↔ ((a : Attr) → has both a ≡ false))
+    → not empty ≡ list_any (has set) xs
+meets set here both xs true listed common tells = sym (all_none (has set) xs (λ a l.
+    and_true (has set a) ∙ (ap (λ b. has set a && b) (sym (listed a ∙ l)) ∙ (sym (common a) ∙ tells.0 refl a))))
+  where
+    and_true : (b : Bool) → b ≡ (b && true)
+    and_true true = refl
+    and_true false = refl
+meets set here both xs false listed common tells = elim (bool_cases (list_any (has set) xs)) [
+  | inl e ↦ sym e
+  | inr e ↦ let none = tells.1 (λ a. common a ∙ ap (λ b. has set a && b) (listed a) ∙ neither (has set a) (list_any (is_attr a) xs) (none_listed (has set) xs e a)) in cc
+]
+  where
+    neither : (a b : Bool) → (b ≡ true → a ≡ false) → (a && b) ≡ false
+    neither false b h = refl
+    neither true false h = refl
+    neither true true h = h refl
 
 -- what no listed attribute has, none has
 pub any_from : (s : Sides) (i : Ignore) (r : AttrSet) → ((a : Attr) → has r a ≡ is_reported s i a)

@@ -1,4 +1,4 @@
--- The table of attributes: everything that depends on it in the definitions stands here.
+-- The table of attributes. All definitions that depend on this table are here.
 use Rattle.std.specs.Prelude.{ℕ, List, length, ◌==◌, if◌then◌else◌, codes, find, filter, nat_eq}
 use Rattle.std.specs.Prelude.{Option, Some, None}
 use Rattle.std.specs.Cmp.Lexicographic.{pointwise}
@@ -9,8 +9,9 @@ use Rattle.aide_attr.specs.declared.attr.TheConstants.Attr.{ALL}
 use Rattle.aide_attr.specs.declared.form.Form.{Form}
 use Rattle.aide_attr.specs.declared.form.Form.TheVariants.{Kind, Mode, Number, Time, Link, Digest, Opaque}
 
--- a line of the table: the number in the order from 0, the names in configurations, in details and of the column, the
--- bit of the column `attr` where there is one, the letter of the place in a summary string, and how values are written
+-- A line of the table: the number in the order, from 0; the names in configurations, in details and
+-- of the column; the bit of the column `attr`, if there is one; the letter of the place in a
+-- summary string; and the form in which values are written.
 pub record Row : Type 0 where
   pub number : ℕ
   pub name : List ℕ
@@ -20,7 +21,7 @@ pub record Row : Type 0 where
   pub place : ℕ
   pub form : Form
 
--- a line by its parts
+-- a line of the table by its parts
 unfoldable pub row : ℕ → List ℕ → List ℕ → List ℕ → Option ℕ → List ℕ → Form → Row
 row n name detail_name column bit place form = record {
   number = n;
@@ -32,7 +33,7 @@ row n name detail_name column bit place form = record {
   form = form;
 }
 
--- the line of a digest: its column has its name, and its place is `H`
+-- the line of a digest: the column has the digest's name, and the place is `H`
 abbrev pub digest : ℕ → List ℕ → List ℕ → ℕ → ℕ → Row
 digest n name detail_name least most = row n name detail_name name None (codes "H") (Digest least most)
 
@@ -73,7 +74,7 @@ row_of attr.E2fsattrs =
     row 31 (codes "e2fsattrs") (codes "E2FSAttrs") (codes "e2fsattrs") None (codes "E") Opaque
 row_of attr.Caps = row 32 (codes "caps") (codes "Caps") (codes "capabilities") None (codes "C") Opaque
 
--- the columns of the table: the number in the order
+-- the columns of the table, first the number in the order
 abbrev pub number : Attr → ℕ
 number a = (row_of a).number
 
@@ -85,23 +86,23 @@ name_of a = (row_of a).name
 abbrev pub detail_name_of : Attr → List ℕ
 detail_name_of a = (row_of a).detail_name
 
--- the name of its column in a database
+-- the name of the attribute's column in a database
 abbrev pub column_of : Attr → List ℕ
 column_of a = (row_of a).column
 
--- its bit in the column `attr`
+-- the attribute's bit in the column `attr`
 abbrev pub bit_of : Attr → Option ℕ
 bit_of a = (row_of a).bit
 
--- the letter of its place in a summary string
+-- the letter of the attribute's place in a summary string
 abbrev pub place_of : Attr → ℕ
 place_of a = (row_of a).place
 
--- how its column writes the value
+-- how the attribute's column writes the value
 abbrev pub form_of : Attr → Form
 form_of a = (row_of a).form
 
--- how many bytes the digests of a form have at most
+-- the most bytes that the digests of a form have
 abbrev pub most_bytes : Form → ℕ
 most_bytes (Digest least most) = most
 most_bytes _ = 0
@@ -110,11 +111,11 @@ most_bytes _ = 0
 abbrev pub longest_digest : ℕ
 longest_digest = 64
 
--- bits of the column `attr`
+-- the number of bits of the column `attr`
 abbrev pub most_bits : ℕ
 most_bits = 64
 
--- the first attribute with the same column: the type and the permissions share one
+-- The first attribute with the same column. The type and the permissions share one.
 abbrev pub holder_of : Attr → Attr
 holder_of a = if number a == number attr.Perm then attr.Ftype else a
 
@@ -122,11 +123,11 @@ holder_of a = if number a == number attr.Perm then attr.Ftype else a
 abbrev pub all_attrs : List Attr
 all_attrs = ALL
 
--- how many there are
+-- the number of attributes
 unfoldable pub count : ℕ
 count = length all_attrs
 
--- the attributes of a place of the summary string, by its letter
+-- the attributes that share a place of the summary string, by the letter of this place
 abbrev pub attrs_at : ℕ → List Attr
 attrs_at place = filter (λ a. place_of a == place) all_attrs
 
@@ -134,7 +135,7 @@ attrs_at place = filter (λ a. place_of a == place) all_attrs
 abbrev pub digests : List Attr
 digests = attrs_at (letter (codes "H"))
 
--- the attribute of a name
+-- the attribute with a name
 unfoldable pub attr_named : List ℕ → Option Attr
 attr_named n = find (λ a. pointwise nat_eq (name_of a) n) all_attrs
 

@@ -6,7 +6,7 @@ abbrev pub letter : List ℕ → ℕ
 letter [] = 0
 letter (byte ∷ bytes) = byte
 
--- whether the byte is between these two letters, or one of them
+-- whether the byte is one of these two letters, or between them
 abbrev pub is_between : List ℕ → List ℕ → ℕ → Bool
 is_between first last b = nat_le (letter first) b && nat_le b (letter last)
 
@@ -21,6 +21,6 @@ is_word_byte b =
     || is_between (codes "0") (codes "9") b
     || (b == letter (codes "_"))
 
--- such a byte or `>`, as names in expressions have them
+-- an ASCII letter, a digit, `_` or `>`: the bytes of names in expressions
 unfoldable pub is_name_byte : ℕ → Bool
 is_name_byte b = is_word_byte b || (b == letter (codes ">"))

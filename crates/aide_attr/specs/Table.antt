@@ -4,7 +4,7 @@ use Rattle.std.specs.Cmp.Lexicographic.{slice_cmp}
 use Rattle.std.specs.Ordering.{nat_cmp}
 use Rattle.std.specs.FinMap.{FinMap, from_entries, entries, get, len}
 
--- values under names
+-- a map from names to values
 abbrev pub Names : Type 0 → Type 0
 Names X = FinMap (slice_cmp nat_cmp) X
 
@@ -12,18 +12,18 @@ Names X = FinMap (slice_cmp nat_cmp) X
 abbrev pub named : {A X : Type 0} → List (Vec ℕ A × X) → Names X
 named entries = from_entries (map (λ e. (e.0.items, e.1)) entries)
 
--- how many names can stand in a table
+-- the most names in a table
 abbrev pub most_names : ℕ
 most_names = 1024
 
--- the name is new, and as many names as can be stand already
+-- the name is new, and the table already has as many names as it can have
 abbrev pub IsFull : {X : Type 0} → Names X → List ℕ → Type 0
 IsFull values name = (get values name ≡ None) × (most_names ≤ len values)
 
--- the name has a value already, or there is room for one more name
+-- the name already has a value, or there is room for another name
 abbrev pub HasRoom : {X : Type 0} → Names X → List ℕ → Type 0
 HasRoom values name = IsSome (get values name) ⊎ (len values < most_names)
 
--- the same names, each with what is made of its value
+-- the same names, each with the result of `f` for its value
 abbrev pub seen : {X Y : Type 0} → (X → Y) → Names X → Names Y
 seen f values = from_entries (map (λ e. (e.0, f e.1)) (entries values))

@@ -1,3 +1,3 @@
--- What the code keeps on its way. No clause of a public call cites it.
+-- Definitions for steps inside the code. No clause of a public call cites them.
 pub mod Predefined
 pub mod Walk

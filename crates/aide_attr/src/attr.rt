@@ -1,4 +1,4 @@
-//! The table of attributes: everything that depends on it in the code stands here.
+//! The table of attributes. All code that depends on this table is here.
 
 ghost use Rattle.std.specs.Prelude.{◌≡◌, ◌<◌, ◌≤◌, IfSome, None};
 ghost use Rattle.aide_attr.specs.Attr.{number, row_of, name_of, detail_name_of, column_of, bit_of};
@@ -13,7 +13,7 @@ use crate::form::Form;
 pub enum Attr {
     /// The type of the file, from the type bits of its mode.
     Ftype,
-    /// What a symbolic link names.
+    /// The path in a symbolic link.
     Lname,
     /// The size in bytes.
     Size,
@@ -25,17 +25,17 @@ pub enum Attr {
     Uid,
     /// The group's number.
     Gid,
-    /// When it was last read, in seconds since 1970-01-01 UTC.
+    /// When the file was last read, in seconds since 1970-01-01 UTC.
     Atime,
-    /// When its content last changed, likewise.
+    /// When the file's content last changed, in the same seconds.
     Mtime,
-    /// When its inode last changed, likewise.
+    /// When the file's inode last changed, in the same seconds.
     Ctime,
     /// The inode's number.
     Inode,
     /// The number of hard links.
     Linkcount,
-    /// A digest of the content, as are those up to `Sha3Of512`.
+    /// A digest of the content. So are the attributes up to `Sha3Of512`.
     Md5,
     Sha1,
     Sha256,
@@ -75,7 +75,7 @@ struct Row {
     form: Form,
 }
 
-/// A line by its parts.
+/// Makes a line of the table from its parts.
 fn line(
     name: &'static [u8],
     detail_name: &'static [u8],
@@ -101,7 +101,8 @@ fn line(
     }
 }
 
-/// The line of a digest of so many bytes: its column has its name.
+/// Makes the line of a digest of at least `least` and at most `most` bytes. Its column has its
+/// name.
 fn digest(name: &'static [u8], detail_name: &'static [u8], least: u8, most: u8) -> Row
     ensures name { result.name.now ≡ name.now }
     ensures detail_name { result.detail_name.now ≡ detail_name.now }
@@ -158,28 +159,29 @@ impl Attr {
         Attr::Caps,
     ];
 
-    /// The name in configurations (aide.conf(5)).
+    /// Returns the name in configurations (aide.conf(5)).
     pub fn name(self) -> &'static [u8]
         ensures { result.now ≡ name_of self }
     {
         self.row().name
     }
 
-    /// The name in the details of a report.
+    /// Returns the name in the details of a report.
     pub fn detail_name(self) -> &'static [u8]
         ensures { result.now ≡ detail_name_of self }
     {
         self.row().detail_name
     }
 
-    /// The name of the column that has its value in a database.
+    /// Returns the name of the column that has the attribute's value in a database.
     pub fn column(self) -> &'static [u8]
         ensures { result.now ≡ column_of self }
     {
         self.row().column
     }
 
-    /// The bit of the column `attr` that tells whether an entry has it, where there is one.
+    /// Returns the bit of the column `attr` that says whether an entry has the attribute, if there
+    /// is such a bit.
     pub fn bit(self) -> Option<u32>
         ensures same { result ≡ bit_of self }
         ensures small { IfSome result (λ k. k < most_bits) }
@@ -187,14 +189,14 @@ impl Attr {
         self.row().bit
     }
 
-    /// The letter of its place in a summary string.
+    /// Returns the letter of the attribute's place in a summary string.
     pub(crate) fn place(self) -> u8
         ensures { result ≡ place_of self }
     {
         self.row().place
     }
 
-    /// How the column writes the value. No digest has more than 64 bytes.
+    /// Returns how the column writes the value. No digest has more than 64 bytes.
     pub fn form(self) -> Form
         ensures same { result ≡ form_of self }
         ensures short { most_bytes result ≤ longest_digest }
@@ -202,7 +204,7 @@ impl Attr {
         self.row().form
     }
 
-    /// The first attribute with the same column: the type and the permissions share one.
+    /// Returns the first attribute with the same column. The type and the permissions share one.
     pub fn holder(self) -> Attr
         ensures { result ≡ holder_of self }
     {
@@ -213,7 +215,7 @@ impl Attr {
         }
     }
 
-    /// The first attribute of a column by its name, if there is one.
+    /// Returns the first attribute of the column with this name, if there is one.
     #[tactic(auto, unfolding(crate::specs::Attr::attr_of_column))]
     pub fn of_column(name: &[u8]) -> Option<Attr>
         ensures { result ≡ attr_of_column name.now }
@@ -221,7 +223,7 @@ impl Attr {
         Attr::ALL.iter().copied().find(|a| a.column() == name)
     }
 
-    /// The place in the order, from 0.
+    /// Returns the place in the order, from 0.
     #[tactic(auto, unfolding(crate::specs::Attr::row_of, crate::specs::Attr::row))]
     pub fn number(self) -> u32
         ensures { result ≡ number self }
@@ -229,7 +231,7 @@ impl Attr {
         self as u32
     }
 
-    /// The attribute of this name, if there is one.
+    /// Returns the attribute with this name, if there is one.
     #[tactic(auto, unfolding(crate::specs::Attr::attr_named))]
     pub(crate) fn named(name: &[u8]) -> Option<Attr>
         ensures { result ≡ attr_named name.now }

@@ -3,7 +3,7 @@
 ghost use Rattle.std.specs.Prelude.{◌≡◌};
 ghost use Rattle.aide_attr.specs.Byte.{is_blank, is_word_byte, is_name_byte};
 
-/// Whether the byte is a space or a tab.
+/// Returns whether the byte is a space or a tab.
 #[tactic(auto, unfolding(crate::specs::Byte::is_blank))]
 pub fn is_blank(byte: u8) -> bool
     ensures { result ≡ is_blank byte }
@@ -11,7 +11,7 @@ pub fn is_blank(byte: u8) -> bool
     byte == b' ' || byte == b'\t'
 }
 
-/// Whether the byte is an ASCII letter, a digit or `_`.
+/// Returns whether the byte is an ASCII letter, a digit or `_`.
 #[tactic(auto, unfolding(crate::specs::Byte::is_word_byte))]
 pub(crate) fn is_word_byte(byte: u8) -> bool
     ensures { result ≡ is_word_byte byte }
@@ -22,7 +22,7 @@ pub(crate) fn is_word_byte(byte: u8) -> bool
         || byte == b'_'
 }
 
-/// Whether the byte may stand in a name of an expression.
+/// Returns whether the byte may be in a name of an expression.
 #[tactic(auto, unfolding(crate::specs::Byte::is_name_byte))]
 pub(crate) fn is_name_byte(byte: u8) -> bool
     ensures { result ≡ is_name_byte byte }

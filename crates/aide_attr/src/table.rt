@@ -1,4 +1,4 @@
-//! Values under names, and no more names than a limit.
+//! A map from names to values, with a limited number of names.
 
 ghost use Rattle.std.specs.Prelude.{◌≡◌, IfErr, OnOk, OnErr, IsTrue, IsFalse, option_map};
 ghost use Rattle.std.specs.FinMap as map;
@@ -8,15 +8,15 @@ use std::alloc::{AllocError, AllocFailed, Allocator};
 use std::collections::BTreeMap;
 use std::marker::Model;
 
-/// How many names can stand in a table.
+/// The most names in a table.
 const MOST_NAMES: usize = 1024;
 
-/// Why a name cannot be given a value.
+/// Why a name cannot get a value.
 #[derive(Clone, Copy, PartialEq, Eq, Debug)]
 pub enum TableFault {
-    /// The name is new, and 1,024 names stand already.
+    /// The name is new, and the table already has 1,024 names.
     Full,
-    /// Memory was refused.
+    /// An allocation failed.
     Memory,
 }
 
@@ -30,7 +30,7 @@ impl From<AllocError> for TableFault {
     }
 }
 
-/// A finite map from names, which are bytes, to values: at most 1,024 names.
+/// A finite map from at most 1,024 names, which are bytes, to values.
 #[derive(Drop)]
 pub struct Table<V: Drop, A: Allocator> {
     values: BTreeMap<Vec<u8, A>, V, A>,
@@ -52,7 +52,7 @@ impl<V: Drop, A: Allocator> Model for Table<V, A> {
 impl<V: Drop, A: Allocator + Copy> Table<V, A> {
     ghost use Rattle.aide_attr.specs.TableFault.{IsTableFault};
 
-    /// No name.
+    /// Returns a table without names.
     pub fn new(alloc: A) -> Table<V, A>
         ensures { result ≡ map.empty }
     {
@@ -62,14 +62,15 @@ impl<V: Drop, A: Allocator + Copy> Table<V, A> {
         }
     }
 
-    /// The value of this name, where it has one.
+    /// Returns the value of this name, if it has one.
     pub fn look(&self, name: &[u8]) -> Option<&V>
         ensures { option_map (λ v. v.now) result ≡ map.get self.now name.now }
     {
         self.values.get(name)
     }
 
-    /// Gives this name this value, in place of a former one. After a refusal the table is as before.
+    /// Sets this name to this value, in place of an earlier value. If the call refuses, the table
+    /// is as before.
     pub fn define(&mut self, name: &[u8], value: V) -> Result<(), TableFault>
         ensures room { OnOk result (HasRoom self.old name.now) }
         ensures ok { OnOk result (self.new ≡ map.insert self.old name.now value) }
@@ -83,7 +84,7 @@ impl<V: Drop, A: Allocator + Copy> Table<V, A> {
         Ok(())
     }
 
-    /// Whether the name is new and as many names as can be stand already.
+    /// Returns whether the name is new and the table already has as many names as it can have.
     fn is_full(&self, name: &[u8]) -> bool
         ensures yes { IsTrue result → IsFull self.now name.now }
         ensures no { IsFalse result → HasRoom self.now name.now }
@@ -94,7 +95,7 @@ impl<V: Drop, A: Allocator + Copy> Table<V, A> {
         self.values.len() >= MOST_NAMES
     }
 
-    /// Puts a value under the name.
+    /// Sets the name to a value.
     fn put(&mut self, name: &[u8], value: V) -> Result<(), AllocError>
         ensures ok { OnOk result (self.new ≡ map.insert self.old name.now value) }
         ensures err { OnErr result (self.new ≡ self.old) }
@@ -104,7 +105,7 @@ impl<V: Drop, A: Allocator + Copy> Table<V, A> {
         Ok(())
     }
 
-    /// Takes this name away, where it stands.
+    /// Removes this name, if the table has it.
     pub fn remove(&mut self, name: &[u8])
         ensures { self.new ≡ map.remove self.old name.now }
     {

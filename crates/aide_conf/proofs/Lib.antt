@@ -1,5 +1,6 @@
 pub mod Cuts
 pub mod BlockLemmas
+pub mod Depths
 pub mod StackLemmas
 pub mod ExpansionLemmas
 pub mod NameLemmas

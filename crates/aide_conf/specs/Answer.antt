@@ -7,14 +7,14 @@ use Rattle.aide_conf.specs.Lines.{Place, places}
 use Rattle.aide_conf.specs.Marks.{Marked, AreSound, Grows, IsMarkedWell, fault_at}
 use Rattle.aide_conf.specs.Settings.{Configured, AreSettings}
 
--- no place has a fault, and these are the settings
+-- no place has a fault, and the settings are these
 pub record IsRead (need : Need) (ps : List Place) (c : Configured) : Type 0 where
   pub lines : List Marked
   pub all : map (λ x. x.place) lines ≡ ps
   pub sound : AreSound need [] lines
   pub settings : AreSettings lines c
 
--- the first fault: no place before its own has one
+-- the first fault: no place before the place of this fault has one
 pub record IsRefused (need : Need) (ps : List Place) (e : ConfFault) : Type 0 where
   pub lines : List Marked
   pub at : Marked
@@ -26,7 +26,7 @@ pub record IsRefused (need : Need) (ps : List Place) (e : ConfFault) : Type 0 wh
   pub text : e.text ≡ at.place.text
   pub line : e.line ≡ at.place.number
 
--- Want of memory: no place before this line has a fault, and something grows at it.
+-- Out of memory: no place before this line has a fault, and memory may be allocated at this line.
 pub record IsStarved (need : Need) (ps : List Place) (e : ConfFault) : Type 0 where
   pub lines : List Marked
   pub at : Place

@@ -1,5 +1,6 @@
--- Blocks of lines: which lines enclose a line, in which part it stands, and how deep.
-use Rattle.std.specs.Prelude.{ℕ, suc, zero, ◌≡◌, Bool, true, false, List, [], ◌∷◌, ◌++◌, length}
+-- Blocks of lines: which lines enclose a line, in which part of a block it is, and how deep it is
+-- nested.
+use Rattle.std.specs.Prelude.{ℕ, ◌≡◌, Bool, true, false, List, [], ◌∷◌, ◌++◌, length}
 use Rattle.std.specs.Prelude.{◌<◌, ◌⊎◌, ◌↔◌}
 
 -- what a line does to the blocks of its text
@@ -9,7 +10,8 @@ pub data Shape : Type 0 where
   Closes : Shape
   Single : Shape
 
--- A line of a text, and what is true of it: whether it is used; of an opening line, whether it chooses its first part.
+-- A line of a text, and what is true of it: whether it is used, and, if it opens a block, whether
+-- it chooses the first part of the block.
 pub record Seen : Type 0 where
   pub shape : Shape
   pub used : Bool
@@ -35,7 +37,7 @@ abbrev pub is_single : Shape → Bool
 is_single Single = true
 is_single _ = false
 
--- the lists of lines whose blocks are whole
+-- the lists of lines in which every block is whole
 pub data Balanced : List Seen → Type 0 where
   nothing : Balanced []
   line : (x : Seen) → is_single x.shape ≡ true → Balanced (x ∷ [])
@@ -46,68 +48,61 @@ pub data Balanced : List Seen → Type 0 where
       → opens o.shape ≡ true → Balanced xs → divides d.shape ≡ true → Balanced ys → closes c.shape ≡ true
       → Balanced (o ∷ (xs ++ d ∷ ys) ++ c ∷ [])
 
--- what may stand between the opening and the closing line of a block: one part, or two
+-- what may be between the opening and the closing line of a block: one part, or two
 abbrev pub Inside : List Seen → Type 0
 Inside xs =
     Balanced xs
     ⊎ ((ys : List Seen) × (d : Seen) × (zs : List Seen) × (xs ≡ ys ++ d ∷ zs) × Balanced ys
     × (divides d.shape ≡ true) × Balanced zs)
 
--- a closing line among these ends the block that an opening line just before them began
+-- one of these lines ends the block that an opening line just before them began
 abbrev pub IsClosed : List Seen → Type 0
 IsClosed between =
     (inner : List Seen) × (c : Seen) × (rest : List Seen) × (between ≡ inner ++ c ∷ rest)
     × (closes c.shape ≡ true) × Inside inner
 
--- a line with these between it and an opening line stands in the second part
+-- a line is in the second part of a block if these lines are between it and the opening line
 abbrev pub IsSecond : List Seen → Type 0
 IsSecond between =
     (xs : List Seen) × (d : Seen) × (ys : List Seen) × (between ≡ xs ++ d ∷ ys)
     × (divides d.shape ≡ true) × Balanced xs
 
--- no line encloses the line after these
+-- no line encloses the line that follows these
 abbrev pub IsOutside : List Seen → Type 0
 IsOutside here =
     (outer : List Seen) (o : Seen) (between : List Seen) → here ≡ outer ++ o ∷ between
     → opens o.shape ≡ true → IsClosed between
 
--- the innermost line that encloses the line after these
+-- the innermost line that encloses the line that follows these
 pub record IsInnermost (here outer : List Seen) (o : Seen) (between : List Seen) : Type 0 where
   pub cut : here ≡ outer ++ o ∷ between
   pub opening : opens o.shape ≡ true
   pub unclosed : ¬ IsClosed between
   pub last : IsOutside between
 
--- so many lines enclose the line after these
-abbrev pub AreEnclosing : ℕ → List Seen → Type 0
-AreEnclosing zero here = IsOutside here
-AreEnclosing (suc n) here =
-    (outer : List Seen) × (o : Seen) × (between : List Seen) × IsInnermost here outer o between
-    × AreEnclosing n outer
-
 -- the innermost block that is open after these lines is in its second part
 abbrev pub IsDivided : List Seen → Type 0
 IsDivided here = (outer : List Seen) × (o : Seen) × (between : List Seen)
     × IsInnermost here outer o between × IsSecond between
 
--- an opening line with these between it and a line that it encloses chooses that line's part
+-- An opening line chooses the part of a line that it encloses. These lines are between the two.
 abbrev pub Chooses : Seen → List Seen → Type 0
 Chooses o between = (¬ IsSecond between → o.first ≡ true) × (IsSecond between → o.first ≡ false)
 
--- each line that encloses the line after these is used and chooses that line's part
+-- each line that encloses the line that follows these is used, and chooses the part of that line
 abbrev pub EnclosedWell : List Seen → Type 0
 EnclosedWell here =
     (outer : List Seen) (o : Seen) (between : List Seen) → here ≡ outer ++ o ∷ between
     → opens o.shape ≡ true → ¬ IsClosed between
     → (o.used ≡ true) × Chooses o between
 
--- a line is marked as used exactly where it is
+-- a line is marked as used exactly if each line that encloses it is used and chooses its part
 abbrev pub IsUsedRight : List Seen → Seen → Type 0
 IsUsedRight here x = (x.used ≡ true) ↔ EnclosedWell here
 
--- ---- the lines that enclose a line, counted
+-- ---- how many lines enclose a line
 
--- the line before which so many stand encloses the line after these
+-- the line with this number, from 0, encloses the line that follows these
 abbrev pub Encloses : List Seen → ℕ → Type 0
 Encloses here i =
     (outer : List Seen) × (o : Seen) × (between : List Seen) × (here ≡ outer ++ o ∷ between)
@@ -123,7 +118,8 @@ abbrev pub IsOneOf : ℕ → List ℕ → Type 0
 IsOneOf i [] = ⊥
 IsOneOf i (j ∷ js) = (i ≡ j) ⊎ IsOneOf i js
 
--- the lines that enclose the line after these are so many
-abbrev pub AreSoMany : ℕ → List Seen → Type 0
-AreSoMany n here = (is : List ℕ) × (length is ≡ n) × AreFalling (length here) is
+-- The number of lines that enclose the line that follows these. A list of that length has each of
+-- them once, and no other line.
+abbrev pub AreEnclosing : ℕ → List Seen → Type 0
+AreEnclosing n here = (is : List ℕ) × (length is ≡ n) × AreFalling (length here) is
     × ((i : ℕ) → Encloses here i ↔ IsOneOf i is)

@@ -1,4 +1,4 @@
--- What a line is before expansion, and what it says, as functions of its bytes.
+-- What a line is before its expansion, and what it says, as functions of its bytes.
 use Rattle.std.specs.Prelude.{ℕ, Bool, true, false, not, ◌&&◌, ◌||◌, nat_lt, List, [], length}
 use Rattle.std.specs.Prelude.{codes, drop, unwrap_or, if◌then◌else◌}
 use Rattle.aide_attr.specs.Name.{is_word}
@@ -11,20 +11,21 @@ use Rattle.aide_conf.specs.Reading.{OpensBlock, DividesBlock, ClosesBlock}
 use Rattle.aide_conf.specs.Blocks.{Shape, Opens, Divides, Closes, Single}
 use Rattle.aide_conf.specs.Limits.{longest_line, longest_value, deepest}
 
--- What a line is before its expansion: a directive, with the names and the text that it gives, or no directive.
+-- What a line is before its expansion: a directive with its names and its text, or no directive.
 pub data Item : Type 0 where
   -- a variable's name, and its value before expansion
   Define : List ℕ → List ℕ → Item
   Undef : List ℕ → Item
   IfDef : List ℕ → Item
   IfNotDef : List ℕ → Item
-  -- an `@@if` whose condition is out of form
+  -- an `@@if` whose condition has a wrong form
   IfOther : Item
   Else : Item
   EndIf : Item
-  -- a directive that is left out, and whether its word begins with `if`, so that an unused one is refused too
+  -- A directive that this program leaves out, and whether its word begins with `if`. If so, it is
+  -- refused in an unused part too.
   Omitted : Bool → Item
-  -- any other directive, and the same of its word
+  -- any other directive, and whether its word begins with `if`
   Unknown : Bool → Item
   -- no directive
   Plain : Item
@@ -33,12 +34,13 @@ pub data Item : Type 0 where
 abbrev pub after_blank : List ℕ → List ℕ
 after_blank bs = strip (unwrap_or (bytes_after is_blank bs) [])
 
--- an `@@if` with this behind the `not` of its condition
+-- the item of an `@@if` with this text after the `not` of its condition
 unfoldable pub not_item : List ℕ → Item
 not_item rest =
     if same (bytes_before is_blank rest) (codes "defined") then IfNotDef (after_blank rest) else IfOther
 
--- an `@@if` with this condition: in form are `defined NAME` and `not defined NAME`
+-- The item of an `@@if` with this condition.
+-- The right forms are `defined NAME` and `not defined NAME`.
 unfoldable pub if_item : List ℕ → Item
 if_item rest =
     if same (bytes_before is_blank rest) (codes "defined") then IfDef (after_blank rest)
@@ -58,11 +60,11 @@ item_by w rest =
     else if is_omitted w then Omitted (begins w (codes "if"))
     else Unknown (begins w (codes "if"))
 
--- the item of a directive, by its bytes behind `@@`
+-- the item of a directive, by its bytes after `@@`
 abbrev pub directive_item : List ℕ → Item
 directive_item bs = item_by (bytes_before is_blank bs) (after_blank bs)
 
--- the item of a line, stripped
+-- the item of a stripped line
 unfoldable pub item_of : List ℕ → Item
 item_of line = if is_directive line then directive_item (drop 2 line) else Plain
 
@@ -75,31 +77,33 @@ shape_of Else = Divides
 shape_of EndIf = Closes
 shape_of _ = Single
 
--- an opening line chooses its first part, where this says which names are defined
+-- whether an opening line chooses its first part, by a test of which names are defined
 abbrev pub item_chooses : (List ℕ → Bool) → Item → Bool
 item_chooses is_defined (IfDef n) = is_defined n
 item_chooses is_defined (IfNotDef n) = not (is_defined n)
 item_chooses _ _ = false
 
--- the bytes of a line that are expanded: a variable's value, or a whole line that is no directive
+-- the bytes of a line that are expanded: a variable's value, or the whole line if it is no
+-- directive
 abbrev pub item_text : List ℕ → Item → List ℕ
 item_text line (Define n v) = v
 item_text line Plain = line
 item_text _ _ = []
 
--- What the setting of a variable says: a fault of its name comes before one of its value's length.
+-- What a line says that sets a variable. A fault of the name comes before a fault of the value's
+-- length.
 abbrev pub set_reading : List ℕ → List ℕ → Reading
 set_reading name value =
     if is_word name
     then (if nat_lt longest_value (length value) then Faulty ValueTooLong else DefinesVariable name value)
     else Faulty BadName
 
--- what the dropping of a variable says: its name has to be a word, and need not be defined
+-- What a line says that drops a variable. The name has to be a word. It need not be defined.
 abbrev pub unset_reading : List ℕ → Reading
 unset_reading name = if is_word name then DropsVariable name else Faulty BadName
 
--- What an item says in a used part or in an unused one, where this is its expansion. In an unused part only what nests
--- is followed, and other words that begin with `if` are refused.
+-- What an item says in a used or an unused part, by its expansion. In an unused part only blocks
+-- are followed. Other directives whose words begin with `if` are refused there too.
 abbrev pub item_reading : Bool → Item → List ℕ → Reading
 item_reading used (Define n v) expanded = if used then set_reading n expanded else Nothing
 item_reading used (Undef n) expanded = if used then unset_reading n else Nothing
@@ -112,14 +116,15 @@ item_reading used (Omitted c) expanded = if used || c then Faulty LeftOut else N
 item_reading used (Unknown c) expanded = if used || c then Faulty BadDirective else Nothing
 item_reading used Plain expanded = if used then expanded_reading (strip expanded) else Nothing
 
--- what a line says, stripped, where this is its expansion
+-- what a stripped line says, by its expansion
 unfoldable pub reading : Bool → List ℕ → List ℕ → Reading
 reading used line expanded =
     if is_skipped line then Nothing
     else if used && nat_lt longest_line (length line) then Faulty LineTooLong
     else item_reading used (item_of line) expanded
 
--- What makes something grow where it stands so deep in blocks: an expansion, in a used part, and a block that opens.
+-- Whether memory may be allocated at an item, by its depth in blocks. It may be at an expansion in a
+-- used part, and at a line that opens a block.
 abbrev pub item_grows : Bool → ℕ → Item → Bool
 item_grows used depth (Define n v) = used && is_word n
 item_grows used depth (IfDef n) = nat_lt depth deepest && (not used || is_word n)
@@ -128,7 +133,7 @@ item_grows used depth IfOther = nat_lt depth deepest && not used
 item_grows used depth Plain = used
 item_grows _ _ _ = false
 
--- a line, stripped, where something grows
+-- whether memory may be allocated at a stripped line
 unfoldable pub line_grows : Bool → ℕ → List ℕ → Bool
 line_grows used depth line =
     not (is_skipped line)

@@ -80,9 +80,9 @@ use Rattle.aide_conf.specs.Expansion.{IsExpansion}
 use Rattle.aide_conf.specs.Limits.{most_variables, deepest}
 use Rattle.aide_attr.specs.Groups.{most_groups}
 
--- A place, and what is true of it: whether it is used; how many lines of its text enclose it, and whether it stands in
--- the second part of the innermost of their blocks; of an opening line, whether it chooses its first part; what its
--- bytes are after expansion; and what its expression means or why it means nothing.
+-- A place, and what is true of it: whether it is used, how many lines of its text enclose it, and whether it is in the
+-- second part of the innermost block. If it opens a block: whether it chooses the first part. Also its bytes after
+-- expansion, and what its expression means or why it has no meaning.
 pub record Marked : Type 0 where
   pub place : Place
   pub used : Bool
@@ -92,7 +92,7 @@ pub record Marked : Type 0 where
   pub expanded : List ℕ
   pub verdict : Option (Result AttrSet ExprFault)
 
--- what a line says, used or not, where this is its expansion; the end of a text says nothing
+-- what a line says, used or not, by its expansion; the end of a text says nothing
 abbrev pub line_says : Option (List ℕ) → Bool → List ℕ → Reading
 line_says None used expanded = Nothing
 line_says (Some line) used expanded = reading used line expanded
@@ -101,13 +101,13 @@ line_says (Some line) used expanded = reading used line expanded
 unfoldable pub says : Marked → Reading
 says x = line_says x.place.line x.used x.expanded
 
--- what the last place gives that gives anything
+-- the value at the last place that has one
 unfoldable pub last_given : {V : Type 0} → (Marked → Option V) → List Marked → Option V
 last_given f xs = option_and_then f (find (λ x. is_some (f x)) (reverse xs))
 
 -- ---- expressions and groups
 
--- the set that an expression means, where it means one
+-- the set that an expression means, if it means one
 abbrev pub set_meant : Option (Result AttrSet ExprFault) → Option AttrSet
 set_meant None = None
 set_meant (Some (Ok s)) = Some s
@@ -137,11 +137,11 @@ group_in n x = if is_name n (group_name_of (says x)) then set_meant x.verdict el
 abbrev pub group : List Marked → List ℕ → Option AttrSet
 group xs n = last_given (group_in n) xs
 
--- what a name stands for in an expression after these places
+-- the meaning of a name in an expression after these places
 abbrev pub stands_after : List Marked → List ℕ → Option (Attr → Bool)
 stands_after xs n = option_or (option_map has (group xs n)) (predefined n)
 
--- these names and one more, where one is given that is not yet among them
+-- these names, and one more if a name is given that is not among them
 abbrev pub add_name : Option (List ℕ) → List (List ℕ) → List (List ℕ)
 add_name None ns = ns
 add_name (Some n) ns = if list_any (same n) ns then ns else n ∷ ns
@@ -155,13 +155,13 @@ names_given f (x ∷ xs) = add_name (f (says x)) (names_given f xs)
 unfoldable pub group_names : List Marked → List (List ℕ)
 group_names xs = names_given group_name_of (reverse xs)
 
--- a 1,025th group
+-- whether this would be the 1,025th group
 unfoldable pub is_too_many : List Marked → List ℕ → Bool
 is_too_many xs n = not (list_any (same n) (group_names xs)) && nat_le most_groups (length (group_names xs))
 
 -- ---- variables
 
--- the value that a line gives to a variable, or that it has none from there on
+-- whether a line gives a variable a value, removes the variable, or does neither
 abbrev pub variable_by : List ℕ → Reading → Option (Option (List ℕ))
 variable_by n (DefinesVariable m v) = if same n m then Some (Some v) else None
 variable_by n (DropsVariable m) = if same n m then Some None else None
@@ -171,8 +171,8 @@ variable_by _ _ = None
 abbrev pub variable_in : List ℕ → Marked → Option (Option (List ℕ))
 variable_in n x = variable_by n (says x)
 
--- the value of a variable after these places, where it is defined: that of the last line that sets it, unless one
--- behind that unsets it
+-- The value of a variable after these places, if it is defined. It is that of the last line that sets the variable,
+-- unless a later line removes the variable.
 abbrev pub variable : List Marked → List ℕ → Option (List ℕ)
 variable xs n = unwrap_or (last_given (variable_in n) xs) None
 
@@ -180,7 +180,7 @@ variable xs n = unwrap_or (last_given (variable_in n) xs) None
 abbrev pub is_defined : List Marked → List ℕ → Bool
 is_defined xs n = is_some (variable xs n)
 
--- what stands for a variable: nothing where it is not defined
+-- the text that replaces a variable, which is empty if the variable is not defined
 abbrev pub value : List Marked → List ℕ → List ℕ
 value xs n = unwrap_or (variable xs n) []
 
@@ -197,13 +197,13 @@ variable_names xs = names_given variable_name_of (reverse xs)
 unfoldable pub defined_names : List Marked → List (List ℕ)
 defined_names xs = filter (is_defined xs) (variable_names xs)
 
--- a 1,025th variable
+-- whether this would be the 1,025th variable
 unfoldable pub is_one_variable_more : List Marked → List ℕ → Bool
 is_one_variable_more xs n = not (is_defined xs n) && nat_le most_variables (length (defined_names xs))
 
 -- ---- blocks
 
--- both are the same of the three texts
+-- both are the same one of the three texts
 abbrev pub is_text : ConfText → ConfText → Bool
 is_text Before Before = true
 is_text File File = true
@@ -219,14 +219,14 @@ shape_at (Some line) = shape_of (item_of line)
 abbrev pub seen : Marked → Seen
 seen x = record { shape = shape_at x.place.line; used = x.used; first = x.first }
 
--- what blocks see of these places, of those in one text
+-- what blocks see of these places, counting only those in one text
 abbrev pub seen_in : ConfText → List Marked → List Seen
 seen_in text [] = []
 seen_in text (x ∷ xs) = if is_text text x.place.text then seen x ∷ seen_in text xs else seen_in text xs
 
 -- ---- the path of a database
 
--- both are the same of the two databases
+-- both are the same one of the two databases
 abbrev pub is_database : Database → Database → Bool
 is_database Old Old = true
 is_database Old New = false
@@ -242,24 +242,24 @@ path_by _ _ = None
 abbrev pub path_in : Database → Marked → Option (List ℕ)
 path_in d x = path_by d (says x)
 
--- the path of a database after these places: the last that is assigned
+-- the path of a database after these places: the last one assigned
 abbrev pub path_set : Database → List Marked → Option (List ℕ)
 path_set d xs = last_given (path_in d) xs
 
 -- ---- the fault of a place
 
--- the fault of an expression that means nothing
+-- the fault of an expression that has no meaning
 abbrev pub verdict_fault : Option (Result AttrSet ExprFault) → Option ConfFaultKind
 verdict_fault None = None
 verdict_fault (Some (Ok s)) = None
 verdict_fault (Some (Err (expression.UnknownName i))) = Some UnknownAttribute
 verdict_fault (Some (Err (expression.BadExpression i))) = Some BadExpression
 
--- the fault where something does not hold that has to
+-- the fault, unless a required condition holds
 abbrev pub unless : Bool → ConfFaultKind → Option ConfFaultKind
 unless holds kind = if holds then None else Some kind
 
--- the fault of a line after these places, so deep in blocks, and in the second part of the innermost or not
+-- the fault of a line after these places, by its depth in blocks and whether the innermost block is in its second part
 abbrev pub line_fault : List Marked → ℕ → Bool → Reading → Option (Result AttrSet ExprFault)
     → Option ConfFaultKind
 line_fault earlier depth divided (Faulty k) verdict = Some k
@@ -275,20 +275,21 @@ line_fault earlier depth divided DividesBlock verdict =
 line_fault earlier depth divided ClosesBlock verdict = if depth == 0 then Some StrayEndif else None
 line_fault _ _ _ _ _ = None
 
--- the fault where a database is not named: the old one's comes first
+-- the fault if a database is not named; the fault for the old one comes first
 abbrev pub missing : Bool → Bool → Option ConfFaultKind
 missing no_old no_new = if no_old then Some NoOldDatabase else if no_new then Some NoNewDatabase else None
 
--- a block is open at the end of its text
+-- the fault of a block that is open at the end of its text
 abbrev pub end_block_fault : ℕ → Option ConfFaultKind
 end_block_fault depth = if depth == 0 then None else Some MissingEndif
 
--- after the last text both databases have to be named, where they are compared
+-- the fault at the end of the last text if the databases are to be compared and one of them is not named
 abbrev pub end_fault : Need → ConfText → List Marked → Option ConfFaultKind
 end_fault Compare After earlier = missing (is_none (path_set Old earlier)) (is_none (path_set New earlier))
 end_fault _ _ _ = None
 
--- the fault of a line, or of the end of a text, where an open block comes before a database that is not named
+-- The fault of a line, or of the end of a text. The fault of an open block comes before the fault of a database that is
+-- not named.
 abbrev pub place_fault : Need → List Marked → Marked → Option (List ℕ) → Option ConfFaultKind
 place_fault need earlier x None = option_or (end_block_fault x.depth) (end_fault need x.place.text earlier)
 place_fault need earlier x (Some line) = line_fault earlier x.depth x.divided (says x) x.verdict
@@ -299,7 +300,7 @@ fault_at need earlier x = place_fault need earlier x x.place.line
 
 -- ---- the marks are right
 
--- the line chooses its first part, where this says which names are defined; the end of a text chooses none
+-- whether the line chooses its first part, by a test of which names are defined; the end of a text chooses none
 abbrev pub chooses_at : (List ℕ → Bool) → Option (List ℕ) → Bool
 chooses_at defined None = false
 chooses_at defined (Some line) = item_chooses defined (item_of line)
@@ -309,7 +310,7 @@ abbrev pub text_to_expand : Option (List ℕ) → List ℕ
 text_to_expand None = []
 text_to_expand (Some line) = item_text line (item_of line)
 
--- A verdict is right: it is what the expression means or why it means nothing, and there is none without an expression.
+-- A verdict is right: it is what the expression means or why it has no meaning. Without an expression there is none.
 abbrev pub IsJudgedWell : (List ℕ → Option (Attr → Bool)) → Option (List ℕ)
     → Option (Result AttrSet ExprFault) → Type 0
 IsJudgedWell look None verdict = verdict ≡ None
@@ -317,7 +318,7 @@ IsJudgedWell look (Some text) None = ⊥
 IsJudgedWell look (Some text) (Some (Ok s)) = IsMeaning look text s
 IsJudgedWell look (Some text) (Some (Err e)) = IsFault look text e
 
--- what is marked at a place is right, after these
+-- the marks of a place that follows these places are right
 pub record IsMarkedWell (earlier : List Marked) (x : Marked) : Type 0 where
   pub is_used : IsUsedRight (seen_in x.place.text earlier) (seen x)
   pub is_enclosed : AreEnclosing x.depth (seen_in x.place.text earlier)
@@ -326,12 +327,12 @@ pub record IsMarkedWell (earlier : List Marked) (x : Marked) : Type 0 where
   pub is_expanded : IsExpansion (value earlier) (text_to_expand x.place.line) x.expanded
   pub is_judged : IsJudgedWell (stands_after earlier) (expression_in (says x)) x.verdict
 
--- nothing grows at the end of a text
+-- whether memory may be allocated at a place, which it never is at the end of a text
 abbrev pub place_grows : Bool → ℕ → Option (List ℕ) → Bool
 place_grows used depth None = false
 place_grows used depth (Some line) = line_grows used depth line
 
--- A place, after these, where something grows: its line is expanded, or opens a block.
+-- A place that follows these and at which memory may be allocated: its line is expanded, or opens a block.
 pub record Grows (earlier : List Marked) (at : Place) : Type 0 where
   pub used : Bool
   pub depth : ℕ
@@ -339,7 +340,7 @@ pub record Grows (earlier : List Marked) (at : Place) : Type 0 where
   pub is_enclosed : AreEnclosing depth (seen_in at.text earlier)
   pub grows : place_grows used depth at.line ≡ true
 
--- all are marked well, each after those before it, and none has a fault
+-- the marks of all places are right, each after those before it, and no place has a fault
 abbrev pub AreSound : Need → List Marked → List Marked → Type 0
 AreSound need earlier [] = Unit {0}
 AreSound need earlier (x ∷ xs) = IsMarkedWell earlier x × (fault_at need earlier x ≡ None)

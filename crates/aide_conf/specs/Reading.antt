@@ -33,7 +33,8 @@ same xs ys = pointwise nat_eq xs ys
 abbrev pub begins : List ℕ → List ℕ → Bool
 begins bs text = starts_with nat_eq bs text
 
--- What a line says: nothing of effect, a fault that its bytes alone show, what it sets, or what it does to blocks.
+-- What a line says: something without effect, a fault that its bytes show by themselves, what it
+-- sets, or what it does to blocks.
 pub data Reading : Type 0 where
   Nothing : Reading
   Faulty : ConfFaultKind → Reading
@@ -51,14 +52,14 @@ pub data Reading : Type 0 where
   DefinesVariable : List ℕ → List ℕ → Reading
   -- the name of a variable that is no longer defined
   DropsVariable : List ℕ → Reading
-  -- a block begins; false where its name is read and out of form
+  -- a block begins; false if its name is read and has a wrong form
   OpensBlock : Bool → Reading
   DividesBlock : Reading
   ClosesBlock : Reading
 
 -- ---- options
 
--- the option that a name sets, where it has an effect or a form
+-- the option that a name sets, if the option has an effect or a form
 unfoldable pub main_setting : List ℕ → Option Setting
 main_setting n =
     if same n (codes "database_in") || same n (codes "database") then Some (setting.Url Old)
@@ -90,7 +91,7 @@ is_accepted n =
     || same n (codes "report_detailed_init") || same n (codes "report_ignore_e2fsattrs")
     || same n (codes "syslog_format")
 
--- older names, which are left out
+-- older names, which this program leaves out
 unfoldable pub is_older : List ℕ → Bool
 is_older n =
     same n (codes "ignore_list") || same n (codes "report_attributes")
@@ -104,20 +105,20 @@ setting_named n =
 
 -- ---- the values of options
 
--- the truth value that a word stands for, where it stands for one
+-- the truth value that a word means, if it means one
 unfoldable pub bool_named : List ℕ → Option Bool
 bool_named v =
     if same v (codes "yes") || same v (codes "true") then Some true
     else if same v (codes "no") || same v (codes "false") then Some false
     else None
 
--- the URLs of databases that are left out
+-- the URLs of databases that this program leaves out
 unfoldable pub is_left_out : List ℕ → Bool
 is_left_out v =
     same v (codes "stdin") || begins v (codes "fd:")
     || begins v (codes "http:") || begins v (codes "https:") || begins v (codes "ftp:")
 
--- an absolute path that stands after `file:`: `///p` is `/p`, and no other `//` begins one
+-- the absolute path after `file:`. `///p` means `/p`, and no other path begins with `//`.
 unfoldable pub path_after : List ℕ → Option (List ℕ)
 path_after v =
     if begins v (codes "///") then Some (drop 2 v)
@@ -125,7 +126,7 @@ path_after v =
     else if begins v (codes "/") then Some v
     else None
 
--- the path, where its bytes are UTF-8
+-- the path, if its bytes are UTF-8
 abbrev pub in_utf8 : Option (List ℕ) → Option (List ℕ)
 in_utf8 None = None
 in_utf8 (Some p) = if is_utf8 p then Some p else None
@@ -134,31 +135,32 @@ in_utf8 (Some p) = if is_utf8 p then Some p else None
 unfoldable pub path_of : List ℕ → Option (List ℕ)
 path_of v = if begins v (codes "file:") then in_utf8 (path_after (drop 5 v)) else None
 
--- what a database's URL says that leads to this path; a URL that leads to none is bad
+-- what the URL of a database says that leads to this path; a URL that leads to no path is bad
 abbrev pub path_reading : Database → Option (List ℕ) → Reading
 path_reading d None = Faulty BadUrl
 path_reading d (Some p) = if nat_lt longest_value (length p) then Faulty ValueTooLong else NamesDatabase d p
 
--- what `report_level` says; a word that is no level is a bad value
+-- what `report_level` says; a word that names no level is a bad value
 abbrev pub level_reading : Option Level → Reading
 level_reading None = Faulty BadValue
 level_reading (Some l) = SetsLevel l
 
--- what a switch says; a word that stands for no truth value is a bad value
+-- what a switch says; a word that means no truth value is a bad value
 abbrev pub switch_reading : Switch → Option Bool → Reading
 switch_reading s None = Faulty BadValue
 switch_reading s (Some b) = SetsSwitch s b
 
--- What a database's URL says: the kinds that are left out are told apart from bad ones.
+-- What the URL of a database says. The kinds that this program leaves out have a fault of their
+-- own, apart from bad URLs.
 abbrev pub url_reading : Database → List ℕ → Reading
 url_reading d v = if is_left_out v then Faulty LeftOut else path_reading d (path_of v)
 
--- what `report_format` says: reports are plain, and JSON is left out
+-- What `report_format` says: plain reports have no effect, and JSON is left out.
 abbrev pub format_reading : List ℕ → Reading
 format_reading v = if same v (codes "json") then Faulty LeftOut
     else if same v (codes "plain") then Nothing else Faulty BadValue
 
--- an option with a value that is not empty
+-- what an option says with a value that is not empty
 unfoldable pub value_reading : Setting → List ℕ → Reading
 value_reading (setting.Url d) v = url_reading d v
 value_reading setting.Level v = level_reading (level_named v)
@@ -176,16 +178,16 @@ abbrev pub is_skipped : List ℕ → Bool
 is_skipped [] = true
 is_skipped (b ∷ bs) = b == 35
 
--- `@@`, and then no `{`
+-- the line begins with `@@`, and the next byte is not `{`
 unfoldable pub is_directive : List ℕ → Bool
 is_directive bs = begins bs (codes "@@") && not (begins bs (codes "@@{"))
 
--- the words of the directives that are left out
+-- the words of the directives that this program leaves out
 unfoldable pub is_omitted : List ℕ → Bool
 is_omitted w = same w (codes "include") || same w (codes "x_include") || same w (codes "ifhost")
     || same w (codes "ifnhost")
 
--- the first bytes of selection lines
+-- the line begins with a byte that selection lines begin with
 unfoldable pub is_selection : List ℕ → Bool
 is_selection bs = begins bs (codes "/") || begins bs (codes "!") || begins bs (codes "=")
     || begins bs (codes "-")
@@ -194,22 +196,22 @@ is_selection bs = begins bs (codes "/") || begins bs (codes "!") || begins bs (c
 abbrev pub is_equals : ℕ → Bool
 is_equals b = b == 61
 
--- a name and its value
+-- what a name and its value say
 abbrev pub assigned : Option Setting → List ℕ → List ℕ → Reading
 assigned (Some o) name value = if length value == 0 then Faulty BadValue else value_reading o value
 assigned None name value = if is_group_name name then DefinesGroup name value else Faulty BadName
 
--- what a line says with this after its first `=`, where it has one, and this name before it
+-- what a line says with this name before its first `=` and this value after it, if there is a `=`
 abbrev pub cut_reading : Option (List ℕ) → List ℕ → Reading
 cut_reading None name = Faulty BadLine
 cut_reading (Some value) name = assigned (setting_named name) name (strip value)
 
--- a line after expansion, stripped, that is neither skipped nor too long
+-- what a stripped line says after expansion if it is neither skipped nor too long
 unfoldable pub kept_reading : List ℕ → Reading
 kept_reading bs = if is_selection bs then Nothing
     else cut_reading (bytes_after is_equals bs) (strip (bytes_before is_equals bs))
 
--- a line after expansion, stripped
+-- what a stripped line says after expansion
 abbrev pub expanded_reading : List ℕ → Reading
 expanded_reading bs =
     if is_skipped bs then Nothing

@@ -17,22 +17,24 @@ use Rattle.aide_conf.specs.declared.setting.AttrList.TheVariants.{IgnoreChanged,
 use Rattle.aide_conf.specs.Reading.{Reading, SetsLevel, SetsSwitch, SetsAttributes, EndsOptions}
 use Rattle.aide_conf.specs.Marks.{Marked, says, last_given, set_meant, path_set}
 
--- Settings, as contracts see them: the report's options, and the bytes of both databases' paths, where these are given.
+-- Settings, as contracts see them: the options of the report, and the bytes of both databases'
+-- paths, if these are given.
 pub record Configured : Type 0 where
   pub options : Options
   pub old_path : Option (List ℕ)
   pub new_path : Option (List ℕ)
 
--- a line after which no option of the report changes
+-- after this line no option of the report changes
 abbrev pub fixes_by : Reading → Bool
 fixes_by EndsOptions = true
 fixes_by _ = false
 
--- `report_url=stdout` stands here
+-- `report_url=stdout` is at this place
 abbrev pub fixes : Marked → Bool
 fixes x = fixes_by (says x)
 
--- the places whose report options count: those before the first that fixes them, or all
+-- The places whose report options count: those before the first place that fixes the options, or
+-- all places if none does.
 abbrev pub counted : List Marked → List Marked
 counted [] = []
 counted (x ∷ xs) = if fixes x then [] else x ∷ counted xs
@@ -91,21 +93,21 @@ is_list IgnoreChanged IgnoreChanged = true
 is_list Force Force = true
 is_list _ _ = false
 
--- what a line gives to a set of attributes, where this is its expression's verdict
+-- the set that a line gives to a set of attributes, by the verdict on its expression
 abbrev pub attrs_by : AttrList → Reading → Option (Result AttrSet ExprFault) → Option AttrSet
 attrs_by l (SetsAttributes m e) verdict = if is_list l m then set_meant verdict else None
 attrs_by _ _ _ = None
 
--- what a place gives to a set of attributes, by what it says and its verdict
+-- the set that a place gives to a set of attributes, by what it says and its verdict
 abbrev pub attrs_in : AttrList → Marked → Option AttrSet
 attrs_in l x = attrs_by l (says x) x.verdict
 
--- a set has an attribute; where none is given, none does
+-- whether a set has an attribute, which is never so if no set is given
 abbrev pub has_any : Option AttrSet → Attr → Bool
 has_any None a = false
 has_any (Some s) a = has s a
 
--- what some options have as a set of attributes
+-- the value of a set of attributes in some options
 abbrev pub attrs_of : Options → AttrList → AttrSet
 attrs_of o IgnoreAdded = o.ignore.added
 attrs_of o IgnoreRemoved = o.ignore.removed
@@ -114,7 +116,8 @@ attrs_of o Force = o.ignore.force
 
 -- ---- all of them
 
--- The options that these places give, all of which count: of each option the last value, else its default.
+-- The options that these places give, if all of them count. Each option has its last value, or else
+-- its default.
 pub record AreOptions (xs : List Marked) (o : Options) : Type 0 where
   pub level : o.level ≡ unwrap_or (last_given level_in xs) ChangedAttributes
   pub switches : (s : Switch) → switch_of o s ≡ unwrap_or (last_given (switch_in s) xs) (switch_default s)

@@ -1,4 +1,4 @@
--- What the code keeps on its way. No clause of a public call cites it.
+-- Definitions for steps inside the code. No clause of a public call cites them.
 pub mod Variables
 pub mod Replacing
 pub mod Expanded

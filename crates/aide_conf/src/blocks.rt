@@ -11,7 +11,7 @@ use std::alloc::{AllocError, Allocator};
 pub(crate) struct Frame {
     /// Whether its opening line is used.
     pub(crate) used: bool,
-    /// Whether it chooses its first part.
+    /// Whether it chooses the first part of its block.
     pub(crate) first: bool,
     /// Whether its dividing line has come.
     pub(crate) second: bool,
@@ -24,7 +24,7 @@ pub(crate) struct Blocks<A: Allocator> {
 }
 
 impl<A: Allocator + Copy> Blocks<A> {
-    /// No open block. It takes no memory.
+    /// Returns no open blocks. Takes no memory.
     pub(crate) fn new(alloc: A) -> Blocks<A>
         ensures { frames_of result ≡ [] }
     {
@@ -33,14 +33,14 @@ impl<A: Allocator + Copy> Blocks<A> {
         }
     }
 
-    /// How many blocks are open.
+    /// Returns the number of open blocks.
     pub(crate) fn depth(&self) -> usize
         ensures { result ≡ length (frames_of self.now) }
     {
         self.frames.len()
     }
 
-    /// Whether the next line is used.
+    /// Returns whether the next line is used.
     pub(crate) fn is_used(&self) -> bool
         ensures { result ≡ top_used (frames_of self.now) }
     {
@@ -50,7 +50,7 @@ impl<A: Allocator + Copy> Blocks<A> {
         }
     }
 
-    /// Whether the innermost block is in its second part.
+    /// Returns whether the innermost block is in its second part.
     pub(crate) fn is_divided(&self) -> bool
         ensures { result ≡ top_divided (frames_of self.now) }
     {

@@ -1,4 +1,4 @@
-//! Directives: what stands behind `@@`.
+//! Directives: the text after `@@`.
 
 ghost use Rattle.std.specs.Prelude.{◌≡◌, [], unwrap_or};
 ghost use Rattle.aide_conf.specs.Lines.{is_blank, bytes_before, bytes_after};
@@ -16,24 +16,24 @@ pub(crate) enum Directive<'a> {
     Undef(&'a [u8]),
     IfDef(&'a [u8]),
     IfNotDef(&'a [u8]),
-    /// An `@@if` whose condition is out of form.
+    /// An `@@if` whose condition has a wrong form.
     IfOther,
     Else,
     EndIf,
-    /// One that is left out, and whether its word begins with `if`.
+    /// A directive that this program leaves out, and whether its word begins with `if`.
     Omitted(bool),
-    /// Any other, and whether its word begins with `if`.
+    /// Any other directive, and whether its word begins with `if`.
     Unknown(bool),
 }
 
-/// The directive that stands behind `@@`.
+/// Reads the directive after `@@`.
 pub(crate) fn read_directive(bytes: &[u8]) -> Directive<'_>
     ensures { item result ≡ directive_item bytes.now }
 {
     directive_by(word(bytes), strip(after_word(bytes)))
 }
 
-/// The directive of a word and the rest of its line.
+/// Returns the directive of a word and the rest of its line.
 #[tactic(auto, unfolding(crate::specs::Directive::item_by))]
 fn directive_by<'a>(word_bytes: &'a [u8], rest: &'a [u8]) -> Directive<'a>
     ensures { item result ≡ item_by word_bytes.now rest.now }
@@ -59,7 +59,7 @@ fn directive_by<'a>(word_bytes: &'a [u8], rest: &'a [u8]) -> Directive<'a>
     }
 }
 
-/// The directive that an `@@if` with this condition is.
+/// Returns the directive of an `@@if` with this condition.
 #[tactic(auto, unfolding(crate::specs::Directive::if_item))]
 fn condition(rest: &[u8]) -> Directive<'_>
     ensures { item result ≡ if_item rest.now }
@@ -74,7 +74,7 @@ fn condition(rest: &[u8]) -> Directive<'_>
     }
 }
 
-/// The same behind `not`.
+/// Returns the directive of an `@@if` with this text after the `not` of its condition.
 #[tactic(auto, unfolding(crate::specs::Directive::not_item))]
 fn negated(rest: &[u8]) -> Directive<'_>
     ensures { item result ≡ not_item rest.now }
@@ -86,7 +86,7 @@ fn negated(rest: &[u8]) -> Directive<'_>
     }
 }
 
-/// Whether a directive's word is of one that is left out.
+/// Returns whether a directive with this word is one that this program leaves out.
 #[tactic(auto, unfolding(crate::specs::Reading::is_omitted))]
 fn is_omitted(word: &[u8]) -> bool
     ensures { result ≡ is_omitted word.now }

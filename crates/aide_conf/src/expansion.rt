@@ -1,4 +1,5 @@
-//! The expansion of a text by the variables. However long the values are, no more is kept than may stand.
+//! The expansion of a text by the variables. However long the values are, no more bytes are kept
+//! than the limit allows.
 
 ghost use Rattle.std.specs.Prelude.{◌≡◌, ◌++◌, OnOk, IfOk, IfSome, IfNone};
 ghost use Rattle.aide_conf.specs.code.Variables.{values_of, value_by};
@@ -12,23 +13,23 @@ use aide_attr::Table;
 use bstr::ByteSlice;
 use std::alloc::{AllocError, Allocator};
 
-/// How many bytes a line may have, without the blanks round it.
+/// The most bytes of a line, without the blanks around it.
 pub(crate) const LONGEST_LINE: usize = 65_536;
 
-/// How many bytes a path or a variable's value may have.
+/// The most bytes of a path or of a variable's value.
 pub(crate) const LONGEST_VALUE: usize = 4_096;
 
-/// What a line is after expansion, without the blanks round it.
+/// A line after its expansion, without the blanks around it.
 #[derive(Drop)]
 pub(crate) enum Expanded<A: Allocator> {
-    /// It is empty or a comment.
+    /// The line is empty or a comment.
     Skipped,
-    /// It has more than 65,536 bytes.
+    /// The line has more than 65,536 bytes.
     TooLong,
     Line(Vec<u8, A>),
 }
 
-/// The first name between `@@{` and `}`, and what stands round them.
+/// The first name between `@@{` and `}`, and the text before and after it.
 #[derive(Clone, Copy, Debug)]
 struct Found<'a> {
     before: &'a [u8],
@@ -36,7 +37,7 @@ struct Found<'a> {
     after: &'a [u8],
 }
 
-/// The first name of a text.
+/// Finds the first name of a text.
 fn next_name(text: &[u8]) -> Option<Found<'_>>
     ensures some { IfSome result (λ f. IsFirstName text.now f.before.now f.name.now f.after.now) }
     ensures none { IfNone result (IsPlain text.now) }
@@ -55,7 +56,7 @@ fn next_name(text: &[u8]) -> Option<Found<'_>>
     }
 }
 
-/// Takes what stands before a name, and the name's value.
+/// Takes the text before a name, and the name's value.
 fn take_value<A: Allocator + Copy>(
     kept: &mut Bounded<A>,
     found: Found<'_>,
@@ -91,7 +92,7 @@ fn take_expansion<A: Allocator + Copy>(
     Ok(())
 }
 
-/// The expansion of a line, without the blanks round it.
+/// Returns the expansion of a line, without the blanks around it.
 pub(crate) fn expand_line<A: Allocator + Copy>(
     alloc: A,
     line: &[u8],
@@ -111,7 +112,7 @@ pub(crate) fn expand_line<A: Allocator + Copy>(
     Ok(Expanded::Line(without_last_blanks(bytes)))
 }
 
-/// The expansion of a variable's value; nothing where it has more than 4,096 bytes.
+/// Returns the expansion of a variable's value, or nothing if it has more than 4,096 bytes.
 pub(crate) fn expand_value<A: Allocator + Copy>(
     alloc: A,
     text: &[u8],

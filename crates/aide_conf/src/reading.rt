@@ -14,23 +14,24 @@ use aide_attr::{Level, is_group_name};
 /// What a line says.
 #[derive(Clone, Copy, Debug)]
 pub(crate) enum Said<'a> {
-    /// Nothing that has an effect.
+    /// Nothing with an effect.
     Nothing,
     /// The path of a database.
     NamesDatabase(Database, &'a str),
     /// The level of the report.
     SetsLevel(Level),
-    /// A report option is on or off.
+    /// Whether a report option is on or off.
     SetsSwitch(Switch, bool),
-    /// A report option is the set that an expression means.
+    /// A report option that is a set, and the expression that means this set.
     SetsAttributes(AttrList, &'a [u8]),
-    /// The report options are fixed from here on.
+    /// The report options are fixed after this line.
     EndsOptions,
     /// A group's name and its expression.
     DefinesGroup(&'a [u8], &'a [u8]),
 }
 
-/// What a line says after expansion, or the fault that its bytes alone show. It is stripped, no comment, not too long.
+/// Returns what a line says after its expansion, or the fault that its bytes show by themselves.
+/// The line is stripped, is no comment and is not too long.
 #[tactic(auto, unfolding(crate::specs::Reading::kept_reading))]
 pub(crate) fn kept_reading(line: &[u8]) -> Result<Said<'_>, ConfFaultKind>
     ensures says { said result ≡ kept_reading line.now }
@@ -47,7 +48,7 @@ pub(crate) fn kept_reading(line: &[u8]) -> Result<Said<'_>, ConfFaultKind>
 
 ghost use Rattle.aide_conf.specs.Reading.{setting_named};
 
-/// What a name and its value say.
+/// Returns what a name and its value say.
 fn assigned<'a>(name: &'a [u8], value: &'a [u8]) -> Result<Said<'a>, ConfFaultKind>
     ensures says { said result ≡ assigned (setting_named name.now) name.now value.now }
     ensures named { IfOk result (λ said. IsNamedWell said) }
@@ -70,7 +71,7 @@ fn assigned<'a>(name: &'a [u8], value: &'a [u8]) -> Result<Said<'a>, ConfFaultKi
     }
 }
 
-/// What the value of an option says. It is not empty.
+/// Returns what the value of an option says. The value is not empty.
 #[tactic(auto, unfolding(crate::specs::Reading::value_reading))]
 fn value_reading(setting: Setting, value: &[u8]) -> Result<Said<'_>, ConfFaultKind>
     ensures says { said result ≡ value_reading setting value.now }
@@ -100,7 +101,7 @@ fn value_reading(setting: Setting, value: &[u8]) -> Result<Said<'_>, ConfFaultKi
     }
 }
 
-/// What the value of `report_format` says.
+/// Returns what the value of `report_format` says.
 fn format_reading(value: &[u8]) -> Result<Said<'_>, ConfFaultKind>
     ensures says { said result ≡ format_reading value.now }
     ensures named { IfOk result (λ said. IsNamedWell said) }
@@ -116,7 +117,7 @@ fn format_reading(value: &[u8]) -> Result<Said<'_>, ConfFaultKind>
 
 ghost use Rattle.aide_conf.specs.Reading.{format_reading, url_reading};
 
-/// What the URL of a database says.
+/// Returns what the URL of a database says.
 fn url_reading(database: Database, value: &[u8]) -> Result<Said<'_>, ConfFaultKind>
     ensures says { said result ≡ url_reading database value.now }
     ensures named { IfOk result (λ said. IsNamedWell said) }

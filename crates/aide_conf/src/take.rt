@@ -35,11 +35,11 @@ use crate::task::Need;
 use aide_attr::{TableFault, is_word};
 use std::alloc::Allocator;
 
-/// How many blocks may be open.
+/// The most blocks that may be open.
 const DEEPEST: usize = 32;
 
 impl<A: Allocator + Copy> Pass<A> {
-    /// Takes a line that is no directive, after expansion.
+    /// Takes a line after its expansion. The line is no directive.
     fn take_plain(&mut self, line: &[u8]) -> Result<(), ConfFaultKind>
         ensures { (earlier : List Marked) (depth : ℕ) (divided : Bool) → StandsFor earlier self.old
             → TakesReading earlier depth divided (expanded_reading
@@ -56,7 +56,7 @@ impl<A: Allocator + Copy> Pass<A> {
         }
     }
 
-    /// Gives a variable the expansion of a text.
+    /// Gives a variable the expansion of a text as its value.
     fn define_variable(&mut self, name: &[u8], text: &[u8]) -> Result<(), ConfFaultKind>
         ensures memory { result ≡ Err Memory → is_word name.now ≡ true }
         ensures taken { (earlier : List Marked) (depth : ℕ) (divided : Bool)
@@ -78,7 +78,7 @@ impl<A: Allocator + Copy> Pass<A> {
         }
     }
 
-    /// Takes a variable away.
+    /// Removes a variable.
     fn drop_variable(&mut self, name: &[u8]) -> Result<(), ConfFaultKind>
         ensures memory { result ≢ Err Memory }
         ensures taken { (earlier : List Marked) (depth : ℕ) (divided : Bool)
@@ -92,7 +92,7 @@ impl<A: Allocator + Copy> Pass<A> {
         Ok(())
     }
 
-    /// Whether a variable is defined.
+    /// Returns whether a variable is defined.
     fn is_defined(&self, name: &[u8]) -> bool
         ensures { (earlier : List Marked) → StandsFor earlier self.now
             → result ≡ is_defined earlier name.now }
@@ -160,7 +160,7 @@ impl<A: Allocator + Copy> Pass<A> {
         }
     }
 
-    /// Takes a line, stripped.
+    /// Takes a stripped line.
     fn take_line(&mut self, blocks: &mut Blocks<A>, line: &[u8]) -> Result<(), ConfFaultKind>
         ensures { (need : Need) (earlier : List Marked) (text : ConfText) (n : ℕ)
             → StandsFor earlier self.old
@@ -205,7 +205,7 @@ impl<A: Allocator + Copy> Pass<A> {
         }
     }
 
-    /// Asks for both databases.
+    /// Refuses settings that do not name both databases.
     fn need_databases(&self) -> Result<(), ConfFaultKind>
         ensures lacks { fault_of result
             ≡ missing (is_none self.now.old_path) (is_none self.now.new_path) }
@@ -251,7 +251,7 @@ impl<A: Allocator + Copy> Pass<A> {
     }
 }
 
-/// Refuses a directive that is used, or whose word begins with `if`.
+/// Refuses a directive that is in a used part, or whose word begins with `if`.
 fn refuse(used: bool, begins_with_if: bool, kind: ConfFaultKind) -> Result<(), ConfFaultKind>
     ensures memory { kind ≢ Memory → result ≢ Err Memory }
     ensures answered { IsAnswered (if used || begins_with_if then Some kind else None) result }
@@ -262,7 +262,7 @@ fn refuse(used: bool, begins_with_if: bool, kind: ConfFaultKind) -> Result<(), C
     Ok(())
 }
 
-/// Opens a block that chooses its first part or not. In an unused part its name is not judged.
+/// Opens a block that chooses its first part or not. In an unused part the name is not checked.
 fn open_block<A: Allocator + Copy>(
     blocks: &mut Blocks<A>,
     name: &[u8],
@@ -290,7 +290,7 @@ fn open_block<A: Allocator + Copy>(
     }
 }
 
-/// Opens a block whose condition is out of form, which only an unused part passes over.
+/// Opens a block whose condition has a wrong form. Such a block is refused in a used part.
 fn open_other<A: Allocator + Copy>(blocks: &mut Blocks<A>) -> Result<(), ConfFaultKind>
     ensures answered { IsAnswered (line_fault [] (length (frames_of blocks.old))
         (top_divided (frames_of blocks.old))

@@ -36,3 +36,6 @@ pub mod DecodeLemmas
 pub mod FieldValues
 pub mod AttrLoops
 pub mod ColumnLemmas
+pub mod PlaceLemmas
+pub mod JudgedFields
+pub mod SymbolLemmas

@@ -1,4 +1,4 @@
--- What a judgement leaves of a desk.
+-- The state of a desk after a judgement.
 use Rattle.std.specs.Prelude.{◌≡◌, List, []}
 use Rattle.aide_db.specs.DeskView.{DeskView}
 use Rattle.aide_db.specs.Side.{other_side}
@@ -8,7 +8,7 @@ use Rattle.aide_db.specs.declared.side.Side.{Side}
 use Rattle.aide_db.specs.declared.judge.Judgement.{Judgement}
 use Rattle.aide_db.specs.declared.judge.Judgement.TheVariants.{Pass, Entry, End, Fault}
 
--- the line that was read is the side's entry
+-- the line that was read has become the side's entry
 pub record HasAccepted (side : Side) (columns : List Column) (old new : DeskView) : Type 0 where
   pub list : list_of side new ≡ old.line
   pub columns_are : columns_of_side side new ≡ columns
@@ -18,7 +18,7 @@ pub record HasAccepted (side : Side) (columns : List Column) (old new : DeskView
   pub peak : new.peak ≡ old.peak
   pub room : new.room ≡ old.room
 
--- what a judgement leaves of a desk: only an entry changes it
+-- the state of a desk after a judgement: only an entry changes the desk
 abbrev pub IsAccepted : Side → List Column → DeskView → DeskView → Judgement → Type 0
 IsAccepted side columns old now (Pass stage) = now ≡ old
 IsAccepted side columns old now Entry = HasAccepted side columns old now

@@ -1,9 +1,9 @@
--- What is at fault where a database is refused.
+-- What is at fault if a database is refused.
 use Rattle.std.specs.Prelude.{Bool, true, false}
 use Rattle.aide_db.specs.declared.fault.DbFaultKind.{DbFaultKind}
 use Rattle.aide_db.specs.declared.fault.DbFaultKind.TheVariants.{Memory, Read, TooManyBytes}
 
--- Something that stands in the text, its length, want of memory, or the device.
+-- Something in the text, the length of the text, a failed allocation, or the device.
 pub data Cause : Type 0 where
   in_text : Cause
   in_length : Cause
@@ -38,7 +38,7 @@ from_outside in_length = false
 from_outside in_memory = true
 from_outside in_device = true
 
--- the one claim where the text is at fault, and the other where memory or the device is
+-- the first claim if the text is at fault, and the second one if memory or the device is
 abbrev pub ByCause : Cause → Type 0 → Type 0 → Type 0
 ByCause in_text P Q = P
 ByCause in_length P Q = P

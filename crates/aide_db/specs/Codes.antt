@@ -4,7 +4,7 @@ use Rattle.aide_attr.specs.Attr.{number}
 use Rattle.aide_db.specs.declared.column.Column.{Column}
 use Rattle.aide_db.specs.declared.column.Column.TheVariants.{Name, Bits, Of, Skipped}
 
--- a number of its own for each column
+-- the number of a column; each column has a number of its own
 abbrev pub code_of : Column → ℕ
 code_of Name = 0
 code_of Bits = 1

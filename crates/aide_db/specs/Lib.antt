@@ -10,6 +10,8 @@ pub mod Entry
 pub mod Database
 pub mod Codes
 pub mod Columns
+pub mod Places
+pub mod Symbols
 pub mod DeskView
 pub mod Desk
 pub mod Alike

@@ -1,4 +1,4 @@
--- Want of memory, and where a cursor has answered it.
+-- Out of memory, and whether a cursor has returned it.
 use Rattle.std.specs.Prelude.{◌≡◌, Bool, false, Result, Ok, Err}
 use Rattle.aide_db.specs.Cause.{cause_of, from_memory}
 use Rattle.aide_db.specs.declared.fault.DbFault.{DbFault}
@@ -11,16 +11,16 @@ use Rattle.aide_db.specs.declared.step.Step.{Step}
 use Rattle.aide_db.specs.declared.take_line.Taken.{Taken}
 use Rattle.aide_db.specs.declared.take_line.Taken.TheVariants as takes
 
--- the fault is want of memory
+-- the fault is out of memory
 abbrev pub is_memory : DbFaultKind → Bool
 is_memory kind = from_memory (cause_of kind)
 
--- the answer is want of memory
+-- the answer is out of memory
 abbrev pub wants_memory : Result Step DbFault → Bool
 wants_memory (Ok step) = false
 wants_memory (Err fault) = is_memory fault.kind
 
--- the cursor at this stage has answered want of memory
+-- the cursor at this stage has returned out of memory
 abbrev pub wanted_memory : Stage → Bool
 wanted_memory stages.Start = false
 wanted_memory stages.Begun = false
@@ -28,12 +28,12 @@ wanted_memory stages.Entries = false
 wanted_memory stages.Ended = false
 wanted_memory (stages.Failed fault) = is_memory fault.kind
 
--- a line is read without want of memory
+-- a line is read without running out of memory
 abbrev pub HasMemory : Taken → Type 0
 HasMemory takes.NoMemory = ⊥
 HasMemory _ = Unit {0}
 
--- one line more is read without want of memory
+-- one more line is read without running out of memory
 abbrev pub GoesOn : Progress → Type 0
 GoesOn steps.Line = Unit {0}
 GoesOn steps.Entry = Unit {0}

@@ -1,4 +1,4 @@
--- What asking a reel for the next block gives.
+-- The outcome of asking a reel for the next block.
 use Rattle.std.specs.Prelude.{ℕ, ◌≡◌, true, List, [], ◌++◌, take}
 use Rattle.aide_db.specs.Text.{is_filled}
 use Rattle.sha2.specs.Hashers.{Holds256}
@@ -7,35 +7,36 @@ use Rattle.aide_db.specs.Count.{one_more}
 use Rattle.aide_db.specs.declared.block_reader.Filled.{Filled}
 use Rattle.aide_db.specs.declared.block_reader.Filled.TheVariants.{Some, Nothing, Failed}
 
--- A block was read ahead of the bytes that are left, or none was: at the end of the bytes, or where the reel failed.
+-- A block was read, and the bytes that are left follow it. Or no block was read: at the end of the bytes, or because
+-- the reel failed.
 abbrev pub IsFilled : List ℕ → List ℕ → List ℕ → Filled → Type 0
 IsFilled bytes left ahead Some = bytes ≡ ahead ++ left
 IsFilled bytes left ahead Nothing = (bytes ≡ []) × (left ≡ [])
 IsFilled bytes left ahead Failed = left ≡ bytes
 
--- bytes are ahead, or none
+-- bytes are ahead if the outcome is `Some`, and otherwise none are
 abbrev pub IsAhead : List ℕ → Filled → Type 0
 IsAhead ahead Some = is_filled ahead ≡ true
 IsAhead ahead Nothing = ahead ≡ []
 IsAhead ahead Failed = ahead ≡ []
 
--- a failure is counted
+-- the count of failures after asking for a block
 abbrev pub after_filled : Filled → ℕ → ℕ
 after_filled Some n = n
 after_filled Nothing n = n
 after_filled Failed n = one_more n
 
--- so many bytes, which stand at the front of the block, have come
+-- this many bytes have come, and they are at the front of the block
 abbrev pub IsBlockFront : ℕ → List ℕ → List ℕ → List ℕ → Type 0
 IsBlockFront count block bytes left = bytes ≡ take count block ++ left
 
--- the bytes still to use stay, and none are left where none came
+-- The bytes still to use stay the same. If there was no byte, none is left.
 abbrev pub IsLeft : List ℕ → List ℕ → Filled → Type 0
 IsLeft bytes left Some = left ≡ bytes
 IsLeft bytes left Nothing = (bytes ≡ []) × (left ≡ [])
 IsLeft bytes left Failed = left ≡ bytes
 
--- of the bytes still to come the first ones came, or none, and they were hashed
+-- some or none of the first bytes still to come have come, and they have been hashed
 pub record Gives (bytes left : List ℕ) (hash hash_now : Sha256) : Type 0 where
   pub given : List ℕ
   pub parts : bytes ≡ given ++ left

@@ -54,7 +54,7 @@ fault_of_shape Seconds column = BadTime column
 fault_of_shape (Encoded least most) column = BadDigest column
 fault_of_shape _ column = BadNumber column
 
--- the fault of the first field that is not of its shape, counted from this number
+-- the fault of the first field that is not of its shape; the fields are counted from this number
 abbrev pub first_misshapen_from : ℕ → List (Shape × List ℕ) → Option DbFaultKind
 first_misshapen_from number [] = None
 first_misshapen_from number (pair ∷ pairs) =

@@ -8,7 +8,7 @@ use Rattle.aide_db.specs.declared.spans.Spans.{Spans}
 abbrev pub field_at : List ℕ → Span → List ℕ
 field_at line span = take span.len (drop span.start line)
 
--- the first spans, as many as are counted
+-- the first spans of the array, as many as the count says
 abbrev pub spans_in : Spans → List Span
 spans_in s = take s.count s.spans
 
@@ -20,11 +20,11 @@ fields_at line spans = map (field_at line) spans
 abbrev pub AreSpans : List ℕ → Spans → Type 0
 AreSpans line s = fields_at line (spans_in s) ≡ fields line
 
--- these are the spans of the fields of a list that is not empty
+-- if the list is not empty, these are the spans of its fields
 abbrev pub AreHeldSpans : List ℕ → Spans → Type 0
 AreHeldSpans list s = is_filled list ≡ true → AreSpans list s
 
--- the first of these, where there is one
+-- the first field, if there is one
 abbrev pub first_in : List (List ℕ) → Option (List ℕ)
 first_in [] = None
 first_in (field ∷ fields) = Some field

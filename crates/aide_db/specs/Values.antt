@@ -26,7 +26,7 @@ is_nought field = bytes_eq field (codes "0")
 
 -- ---- types of files and permissions
 
--- the type of these type bits, none where they are 0
+-- the type of file of these type bits, or none if they are 0
 abbrev pub type_of_bits : ℕ → Option FileType
 type_of_bits bits =
     if bits == 0 then None else Some (
@@ -38,24 +38,24 @@ type_of_bits bits =
     if bits == 1 then Fifo else (
     if bits == 12 then Socket else Other bits)))))))
 
--- the type bits are octal 170000
+-- the type of file of a mode; its type bits are octal 170000
 abbrev pub type_of_mode : Option ℕ → Option FileType
 type_of_mode None = None
 type_of_mode (Some mode) = type_of_bits (mode / 4096 % 16)
 
 -- ---- times
 
--- a digit or a minus sign
+-- the first byte is a digit or a minus sign
 abbrev pub begins_number : List ℕ → Bool
 begins_number [] = false
 begins_number (first ∷ more) = is_digit 10 first || (first == 45)
 
--- the number that a text writes, where there is a text and it writes one
+-- the number in a text, if there is a text and it is a number
 abbrev pub number_in_text : Option (List ℕ) → Option ℤ
 number_in_text None = None
 number_in_text (Some text) = number_of text
 
--- a number, or base64 of a text that is one
+-- the seconds of a field, which is a number or base64 of the text of one
 unfoldable pub time_of : List ℕ → Option ℤ
 time_of field =
     if begins_number field then number_of field else (
@@ -67,23 +67,23 @@ IsTimeOrNothing field = is_filled field ≡ true → is_some (time_of field) ≡
 
 -- ---- digests
 
--- bytes, so many of them
+-- the bytes, if their number is within these bounds
 abbrev pub of_length : ℕ → ℕ → Option (List ℕ) → Option (List ℕ)
 of_length least most None = None
 of_length least most (Some bytes) =
     if nat_le least (length bytes) && nat_le (length bytes) most then Some bytes else None
 
--- base64 of so many bytes; `0` is no base64
+-- the bytes of a digest: base64 of a number of bytes within these bounds; `0` is not base64
 unfoldable pub digest_of : ℕ → ℕ → List ℕ → Option (List ℕ)
 digest_of least most field = of_length least most (decoded_of standard field)
 
 -- ---- link names
 
--- a leading `00` stands for `0`
+-- the text of a link name; a leading `00` means `0`
 abbrev pub link_text : List ℕ → List ℕ
 link_text field = if starts_with nat_eq field (codes "00") then drop 1 field else field
 
--- no link name, the empty one, or a text with escapes
+-- the link name of a field: none, the empty one, or a text with escapes
 unfoldable pub link_of : List ℕ → Option (List ℕ)
 link_of field =
     if is_nought field then None else (
@@ -91,7 +91,7 @@ link_of field =
 
 -- ---- any form
 
--- the value of a field of this form, where there is one
+-- the value of a field of this form, if it has one
 abbrev pub value_of : Form → List ℕ → Option Value
 value_of Kind field = option_map type_value (type_of_mode (mode_of field))
 value_of Mode field = option_map (λ mode. mode_value (mode % 4096)) (mode_of field)
@@ -101,7 +101,7 @@ value_of Link field = Some (link_value (link_of field))
 value_of (Digest least most) field = option_map digest_value (digest_of least most field)
 value_of Opaque field = if is_nought field then None else Some (opaque_value field)
 
--- the field is one of this form
+-- the field is a field of this form
 abbrev pub is_field : Form → List ℕ → Bool
 is_field Kind field = is_some (mode_of field)
 is_field Mode field = is_some (mode_of field)
@@ -111,7 +111,7 @@ is_field Link field = true
 is_field (Digest least most) field = is_nought field || is_some (digest_of least most field)
 is_field Opaque field = true
 
--- the fault of a column whose field is none
+-- the fault of a column whose field is not one of this form
 abbrev pub fault_of_form : Form → ℕ → DbFaultKind
 fault_of_form Kind column = BadNumber column
 fault_of_form Mode column = BadNumber column

@@ -1,4 +1,4 @@
-//! The tables by which base64 is decoded, made once for many fields.
+//! The tables for decoding base64. They are made once and serve many fields.
 ghost use Rattle.std.specs.Prelude.{◌≡◌, ◌≤◌, IfErr, IfOk, length};
 ghost use Rattle.base64.specs.Engines.{standard};
 ghost use Rattle.base64.specs.GeneralPurpose.{IsDecodedInto, decode_of, decoded_of};
@@ -8,7 +8,7 @@ use base64::DecodeError;
 use base64::engine::general_purpose::{GeneralPurpose, STANDARD};
 use std::marker::Model;
 
-/// The tables of base64 with padding, RFC 4648 section 4. Contracts see nothing of them.
+/// The tables of base64 with padding (RFC 4648 section 4). Contracts do not see them.
 #[derive(Drop)]
 pub struct Base64Tables {
     engine: GeneralPurpose,
@@ -25,13 +25,13 @@ impl Model for Base64Tables {
 }
 
 impl Base64Tables {
-    /// The tables, which take some 300 bytes.
+    /// Makes the tables, which take some 300 bytes.
     #[tactic(auto, unfolding(crate::specs::Base64Tables::IsStandard))]
     pub fn new() -> Base64Tables {
         Base64Tables { engine: STANDARD }
     }
 
-    /// Decodes a field to the front of a buffer, if it fits: how many bytes there are.
+    /// Decodes a field into the front of a buffer, if the decoded bytes fit. Returns how many there are.
     pub fn decode(&self, field: &[u8], buffer: &mut [u8; 64]) -> Option<usize>
         ensures { IsDecoded (decoded_of standard field.now) 64 result buffer.new }
     {
@@ -41,7 +41,7 @@ impl Base64Tables {
         }
     }
 
-    /// Decodes a field of at most 44 bytes to the front of a buffer that has room for what they can be.
+    /// Decodes a field of at most 44 bytes into the front of a buffer. The buffer has room for every such field.
     pub fn decode_short(&self, field: &[u8], buffer: &mut [u8; 33]) -> Result<usize, DecodeError>
         requires { length field.now ≤ 44 }
         ensures ok { IfOk result (λ n. IsDecodedInto standard field.now n buffer.old buffer.new) }

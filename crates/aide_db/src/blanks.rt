@@ -33,7 +33,7 @@ fn high_lanes(v: u8x32) -> u64
     v.simd_ge(u8x32::splat(128)).to_bitmask()
 }
 
-/// Bit k tells whether the byte k places on is blank.
+/// Finds the blanks among 32 bytes: bit k is set if the byte k places after `at` is blank.
 pub fn blanks_at(line: &[u8], at: usize) -> u64
     requires { at + 32 ≤ length line.now }
     ensures each { (k : ℕ) → k < 32 → (bit_at result k ≡ 1)
@@ -45,8 +45,8 @@ pub fn blanks_at(line: &[u8], at: usize) -> u64
     high_lanes(either)
 }
 
-/// Bit k tells whether the byte k places on is blank, for 32 bytes and those from a later place on, which may be partly
-/// the same.
+/// Finds the blanks among the 32 bytes from `at` on and the 32 bytes from `later` on: bit k is set if the byte k places
+/// after `at` is blank. The two runs of bytes may overlap.
 pub fn blanks_of_both(line: &[u8], at: usize, later: usize) -> u64
     requires order { at ≤ later }
     requires near { later ≤ at + 32 }
@@ -59,7 +59,7 @@ pub fn blanks_of_both(line: &[u8], at: usize, later: usize) -> u64
     bits_either(blanks_at(line, at), behind)
 }
 
-/// Bits that stand higher by so many places, where all of them are among the first 32 before.
+/// Moves bits up by this many places. All of them are among the lowest 32 before.
 fn bits_shifted(bits: u64, places: usize) -> u64
     requires few { places ≤ 32 }
     requires low { (k : ℕ) → bit_at bits k ≡ 1 → k < 32 }
@@ -69,14 +69,14 @@ fn bits_shifted(bits: u64, places: usize) -> u64
     bits << places
 }
 
-/// The bits that stand in one or the other.
+/// Returns the bits that are set in one argument or the other.
 fn bits_either(a: u64, b: u64) -> u64
     ensures { (k : ℕ) → bit_at result k ≡ max (bit_at a k) (bit_at b k) }
 {
     a | b
 }
 
-/// The place of the lowest bit.
+/// Returns the place of the lowest bit.
 pub fn lowest_bit(bits: u64) -> usize
     requires { bits ≢ 0 }
     ensures bound { result < 64 }
@@ -86,7 +86,8 @@ pub fn lowest_bit(bits: u64) -> usize
     bits.trailing_zeros() as usize
 }
 
-/// The bits without the lowest, told with no shift, so that a loop over the bits need not wait for its place.
+/// Returns the bits without the lowest one. It is found without a shift, so a loop over the bits need not wait for its
+/// place.
 pub fn without_lowest(bits: u64) -> u64
     requires { bits ≢ 0 }
     ensures smaller { result < bits }
@@ -98,7 +99,7 @@ pub fn without_lowest(bits: u64) -> u64
     bits & (bits - 1)
 }
 
-/// The bits from a place on.
+/// Returns the bits from a place on.
 pub fn bits_from(bits: u64, place: usize) -> u64
     requires { place < 64 }
     ensures kept { (k : ℕ) → place ≤ k → bit_at result k ≡ bit_at bits k }

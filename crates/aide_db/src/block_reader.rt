@@ -2,7 +2,7 @@
 ghost use Rattle.sha2.specs.Hashers.{Holds256};
 ghost use Rattle.sha2.specs.Sha256.{sha256};
 ghost use Rattle.std.specs.Prelude.{ℕ, List, true, [], ◌++◌, Some, drop, length, IfOk, OnErr, OnOk};
-ghost use Rattle.std.specs.Prelude.{◌≡◌, ◌<◌, ◌≤◌, ◌==◌};
+ghost use Rattle.std.specs.Prelude.{◌≡◌, ◌<◌, ◌≤◌, ◌==◌, IsSome};
 ghost use Rattle.aide_db.specs.NextBlock.{IsFilled, IsLeft, Gives, IsAhead, IsBlockFront};
 ghost use Rattle.aide_db.specs.NextBlock.{after_filled};
 ghost use Rattle.aide_db.specs.Count.{one_more};
@@ -14,18 +14,19 @@ use crate::reel::Reel;
 use sha2::{Digest, Sha256};
 use std::marker::Model;
 
-/// What asking for a block gave.
+/// The outcome of asking for a block.
 #[derive(Clone, Copy)]
 pub enum Filled {
-    /// Bytes, which are ahead now.
+    /// Some bytes are ahead now.
     Some,
     /// No byte is left.
     Nothing,
-    /// The device failed, and took no byte.
+    /// The device failed, and gave no byte.
     Failed,
 }
 
-/// A reel, and the block that it gave last. Contracts see the reel and the bytes of the block that were not used yet.
+/// A reel, and the last block that it gave. Contracts see the reel, the bytes of that block that were not used yet, and
+/// the hash of all bytes that the reel gave.
 pub struct BlockReader<R: Reel> {
     reel: R,
     block: [u8; 4096],
@@ -50,7 +51,7 @@ impl<R: Reel> Model for BlockReader<R> {
 }
 
 impl<R: Reel> BlockReader<R> {
-    /// A reel of which nothing was asked yet.
+    /// Returns a reader over a reel. The reel has not been asked for a byte yet.
     pub fn new(reel: R) -> BlockReader<R>
         ensures reel { result.reel ≡ reel }
         ensures ahead { result.ahead ≡ [] }
@@ -79,7 +80,7 @@ impl<R: Reel> BlockReader<R> {
         reel
     }
 
-    /// The bytes that were not used yet.
+    /// Returns the bytes that were not used yet.
     pub fn ahead(&self) -> &[u8]
         ensures same { result.now ≡ self.now.ahead }
         ensures small { length result.now ≤ 4096 }
@@ -87,9 +88,11 @@ impl<R: Reel> BlockReader<R> {
         &self.block[self.start..self.end]
     }
 
-    /// The SHA-256 of all bytes that the reel gave.
+    /// Returns the SHA-256 of all bytes that the reel gave.
     pub fn digest(&self) -> Option<[u8; 32]>
-        ensures { (text : List ℕ) → Holds256 self.now.hash text → result ≡ Some (sha256 text) }
+        ensures whole { (text : List ℕ) → Holds256 self.now.hash text
+            → result ≡ Some (sha256 text) }
+        ensures told { IsSome result }
     {
         match self.hash.clone() {
             Ok(hash) => Some(hash.finalize()),
@@ -97,7 +100,7 @@ impl<R: Reel> BlockReader<R> {
         }
     }
 
-    /// Uses so many bytes.
+    /// Uses the next `count` bytes.
     pub fn skip(&mut self, count: usize)
         requires { count ≤ length self.old.ahead }
         ensures reel { self.new.reel ≡ self.old.reel }
@@ -107,7 +110,7 @@ impl<R: Reel> BlockReader<R> {
         self.start += count;
     }
 
-    /// Sees to it that bytes are ahead. Where none is, the reel is asked for so many at most.
+    /// Makes sure that bytes are ahead. If there is none, it asks the reel for at most `most` bytes.
     pub fn more(&mut self, most: u64) -> Filled
         requires some { 0 < most }
         ensures left { tells (R.to_come self.old.reel) ≡ true
@@ -128,7 +131,7 @@ impl<R: Reel> BlockReader<R> {
         self.fill(most)
     }
 
-    /// Asks the reel for the next block, of so many bytes at most.
+    /// Asks the reel for the next block, of at most `most` bytes.
     fn fill(&mut self, most: u64) -> Filled
         requires used { self.old.ahead ≡ [] }
         requires some { 0 < most }
@@ -159,7 +162,7 @@ impl<R: Reel> BlockReader<R> {
     }
 }
 
-/// Takes bytes into the front of a block, so many at most.
+/// Takes at most `size` bytes from a reel into the front of a block. Returns how many it took.
 fn take_front<R: Reel>(reel: &mut R, block: &mut [u8], size: usize) -> Result<usize, DeviceFault>
     requires some { 0 < size }
     requires room { size ≤ length block.old }

@@ -1,10 +1,10 @@
-//! The first piece of a line among bytes that have come.
+//! Finds the first piece of a line among the bytes that have been read.
 ghost use Rattle.std.specs.Prelude.{◌≡◌, take};
 ghost use Rattle.aide_db.specs.Piece.{IsPiece};
 
 use memchr::memchr;
 
-/// The first bytes, so many at most.
+/// Returns the first bytes, at most `most` of them.
 pub fn front_of(bytes: &[u8], most: u64) -> &[u8]
     ensures { result.now ≡ take most bytes.now }
 {
@@ -16,7 +16,8 @@ pub fn front_of(bytes: &[u8], most: u64) -> &[u8]
     }
 }
 
-/// The bytes before the first newline, so many at most, and whether a newline stands behind them among so many.
+/// Returns the bytes before the first newline, at most `most` of them. Returns also whether that newline is among the
+/// first `most` bytes.
 pub fn first_piece(ahead: &[u8], most: u64) -> (&[u8], bool)
     ensures { IsPiece ahead.now most result.0.now result.1 }
 {

@@ -1,4 +1,4 @@
-//! The runs of bytes between blanks, which are the fields of a line.
+//! Finds the runs of bytes between blanks, which are the fields of a line.
 ghost use Rattle.std.specs.Prelude.{ℕ, slice_index, true, false, ◌≡◌, ◌+◌, ◌^◌, ◌<◌, ◌≤◌, [], ◌∷◌};
 ghost use Rattle.std.specs.Prelude.{◌++◌, length, take, drop};
 ghost use Rattle.std.specs.Prelude.{IfSome, IfNone};
@@ -9,7 +9,7 @@ ghost use Rattle.aide_db.specs.Spans.{fields_at};
 use crate::blanks::{bits_from, blanks_of_both, lowest_bit, without_lowest};
 use crate::spans::Span;
 
-/// Adds a span behind so many, where these are fewer than 64: how many there are then.
+/// Appends a span to the first `count` spans, if these are fewer than 64. Returns the new number of spans.
 pub fn add_span(spanned: &mut [Span; 64], count: usize, span: Span) -> Option<usize>
     requires { count ≤ 64 }
     ensures added { IfSome result (λ more. (more ≤ 64)
@@ -23,7 +23,8 @@ pub fn add_span(spanned: &mut [Span; 64], count: usize, span: Span) -> Option<us
     Some(count + 1)
 }
 
-/// Adds the span of the run of bytes before a blank behind so many, where it is not empty: how many there are then.
+/// Appends the span of the field that ends before the blank at `at`, if it is not empty. Returns the new number of
+/// spans.
 fn run_ends(
     spanned: &mut [Span; 64],
     count: usize,
@@ -58,7 +59,7 @@ fn run_ends(
     }
 }
 
-/// Adds the span of the run of bytes at a line's end behind so many, where it is not empty: how many there are then.
+/// Appends the span of the field at the line's end, if it is not empty. Returns the new number of spans.
 fn line_ends(spanned: &mut [Span; 64], count: usize, line: &[u8], from: usize) -> Option<usize>
     requires few { count ≤ 64 }
     requires within { from ≤ length line.now }
@@ -85,8 +86,8 @@ fn line_ends(spanned: &mut [Span; 64], count: usize, line: &[u8], from: usize) -
     }
 }
 
-/// Adds the spans of the runs that end among at most 64 bytes, of which these bits tell the blanks: how many spans there
-/// are then, and where the next run begins.
+/// Appends the spans of the fields that end among at most 64 bytes. The blanks among these bytes are given as bits.
+/// Returns the new number of spans, and where the next field begins.
 #[inline(always)]
 fn runs_among(
     spanned: &mut [Span; 64],
@@ -132,8 +133,9 @@ fn runs_among(
     Some((found, begin))
 }
 
-/// Where 64 bytes begin that have a place among them, and their second half. The last bytes of a line are looked at
-/// together with some of those before them, and where it is shorter the halves have bytes in common.
+/// Returns where to look at 64 bytes that include the place `base`: where their first 32 bytes begin, and where their
+/// last 32 begin. The last bytes of a line are looked at together with some of those before them. If the line is
+/// shorter than 64 bytes, the two halves overlap.
 fn window_of(len: usize, base: usize) -> (usize, usize)
     requires long { 32 ≤ len }
     requires within { base < len }
@@ -152,8 +154,8 @@ fn window_of(len: usize, base: usize) -> (usize, usize)
     }
 }
 
-/// Finds the fields of a line of 32 bytes or more: how many there are, where these are at most 64.
-// Not inlined, so that its loops have the registers for themselves.
+/// Finds the fields of a line of 32 bytes or more. Returns how many there are, if there are at most 64.
+// It is not inlined, so that its loops have the registers for themselves.
 #[inline(never)]
 pub fn find_runs(spanned: &mut [Span; 64], line: &[u8]) -> Option<usize>
     requires long { 32 ≤ length line.now }

@@ -13,7 +13,7 @@ use crate::number::{is_bits, is_mode, is_number};
 use crate::value::{is_digest, is_nought, is_time};
 use aide_attr::Form;
 
-/// What a field has to be. It is found once for a column, and asked for in each line.
+/// What a field has to be. It is found once for a column, and looked up for each line.
 #[derive(Clone, Copy)]
 pub enum Shape {
     /// Anything.
@@ -22,15 +22,15 @@ pub enum Shape {
     Octal,
     /// A number that may have a minus sign.
     Signed,
-    /// The bits of attributes.
+    /// A number from 0 on: the bits of attributes.
     Unsigned,
-    /// Seconds: a number, or base64 of one.
+    /// Seconds: a number, or base64 of the text of one.
     Seconds,
-    /// Base64 of so many bytes at least and at most, or that there are none.
+    /// Base64 of at least and at most these many bytes, or `0` for no value.
     Encoded(u8, u8),
 }
 
-/// What a field of this form has to be.
+/// Returns what a field of this form has to be.
 fn shape_of_form(form: Form) -> Shape
     requires { most_bytes form ≤ 64 }
     ensures same { result ≡ shape_of_form form }
@@ -47,7 +47,7 @@ fn shape_of_form(form: Form) -> Shape
     }
 }
 
-/// What the fields of a column have to be.
+/// Returns what the fields of a column have to be.
 pub fn shape_of(column: Column) -> Shape
     ensures same { result ≡ shape_of column }
     ensures short { IsShort result }
@@ -60,7 +60,7 @@ pub fn shape_of(column: Column) -> Shape
     }
 }
 
-/// Whether a field is what it has to be. The field `0` is all of these.
+/// Returns whether a field is of this shape. The field `0` is of every shape.
 fn has_shape(tables: &Base64Tables, shape: Shape, field: &[u8]) -> bool
     requires { IsShort shape }
     ensures { result ≡ has_shape shape field.now }
@@ -75,7 +75,7 @@ fn has_shape(tables: &Base64Tables, shape: Shape, field: &[u8]) -> bool
     }
 }
 
-/// Whether a field has seconds, where this is another one that has, or nothing.
+/// Returns whether a field has seconds, given another field that has, or an empty one.
 fn is_time_beside(tables: &Base64Tables, field: &[u8], time: &[u8]) -> bool
     requires { IsTimeOrNothing time.now }
     ensures { result ≡ is_some (time_of field.now) }
@@ -86,8 +86,8 @@ fn is_time_beside(tables: &Base64Tables, field: &[u8], time: &[u8]) -> bool
     is_time(tables, field)
 }
 
-/// The last field of a line that was found to be a time, if this field is what it has to be. An entry has two times or
-/// more, which are often written alike, and then one of them is decoded.
+/// Returns the last field of a line that was found to be a time, if this field is of its shape. An entry has two times
+/// or more, which are often written alike. Then only one of them is decoded.
 pub fn last_time<'a>(
     tables: &Base64Tables,
     shape: Shape,
@@ -114,7 +114,7 @@ pub fn last_time<'a>(
     }
 }
 
-/// The fault of a field that is not of its column's shape.
+/// Returns the fault of a field that is not of its column's shape.
 pub fn fault_of_shape(shape: Shape, number: u32) -> DbFaultKind
     ensures same { result ≡ fault_of_shape shape number }
     ensures of_text { IsOfText result }

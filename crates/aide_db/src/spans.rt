@@ -1,4 +1,4 @@
-//! The spans of the fields of a line, found once.
+//! The spans of the fields of a line. They are found once.
 ghost use Rattle.std.specs.Prelude.{true, false, ◌≡◌, ◌+◌, ◌^◌, ◌<◌, ◌≤◌, [], ◌∷◌, ◌++◌, length};
 ghost use Rattle.std.specs.Prelude.{take, drop};
 ghost use Rattle.std.specs.Prelude.{IfSome, IfNone};
@@ -7,7 +7,7 @@ ghost use Rattle.aide_db.specs.Text.{fields};
 use crate::fields::{field_len, run_of};
 use crate::runs::{add_span, find_runs};
 
-/// Where a field stands in its line.
+/// Where a field begins in its line, and how long it is.
 #[derive(Clone, Copy)]
 pub struct Span {
     pub start: u32,
@@ -25,7 +25,7 @@ pub struct Spans {
 impl Span {
     ghost use Rattle.aide_db.specs.Spans.{field_at};
 
-    /// The bytes of this span.
+    /// Returns the bytes of this span.
     pub fn of<'a>(self, line: &'a [u8]) -> &'a [u8]
         ensures { result.now ≡ field_at line.now self }
     {
@@ -38,7 +38,7 @@ impl Span {
         }
     }
 
-    /// The bytes of a span that reaches over the line's end, which no span of the line's own fields does.
+    /// Returns the bytes of a span that reaches over the line's end. No span of the line's own fields does that.
     #[cold]
     #[inline(never)]
     fn cut<'a>(self, line: &'a [u8]) -> &'a [u8]
@@ -54,7 +54,7 @@ impl Span {
     }
 }
 
-/// Copies the first spans.
+/// Copies the first `count` spans.
 fn copy_front(to: &mut [Span], from: &[Span], count: usize)
     requires to { count ≤ length to.old }
     requires from { count ≤ length from.now }
@@ -67,7 +67,7 @@ fn copy_front(to: &mut [Span], from: &[Span], count: usize)
 impl Spans {
     ghost use Rattle.aide_db.specs.Spans.{spans_in, fields_at, AreSpans};
 
-    /// No span.
+    /// Returns a list without spans.
     pub fn none() -> Spans
         ensures { spans_in result ≡ [] }
     {
@@ -77,7 +77,7 @@ impl Spans {
         }
     }
 
-    /// Takes the spans of others.
+    /// Copies the spans of another list.
     pub fn copy(&mut self, other: &Spans)
         ensures { spans_in self.new ≡ spans_in other.now }
     {
@@ -85,7 +85,7 @@ impl Spans {
         self.count = other.count;
     }
 
-    /// How many spans there are.
+    /// Returns how many spans there are.
     pub fn count(&self) -> usize
         ensures same { result ≡ length (spans_in self.now) }
         ensures few { result ≤ 64 }
@@ -93,7 +93,7 @@ impl Spans {
         self.count as usize
     }
 
-    /// The spans, in their order.
+    /// Returns the spans, in their order.
     pub fn as_slice(&self) -> &[Span]
         ensures { result.now ≡ spans_in self.now }
     {
@@ -101,7 +101,7 @@ impl Spans {
         front
     }
 
-    /// Adds a span, where there are fewer than 64.
+    /// Appends a span if there are fewer than 64. Returns whether it did.
     fn push(&mut self, span: Span) -> bool
         ensures pushed { result ≡ true → spans_in self.new ≡ spans_in self.old ++ span ∷ [] }
         ensures full { result ≡ false → length (spans_in self.old) ≡ 64 }
@@ -115,7 +115,7 @@ impl Spans {
         }
     }
 
-    /// The field of a line at the span of this index, from 0.
+    /// Returns the field of a line at the span of this index, counted from 0.
     pub fn field<'a>(&self, line: &'a [u8], index: usize) -> Option<&'a [u8]>
         ensures none { AreSpans line.now self.now → IfNone result
             (drop index (fields line.now) ≡ []) }
@@ -129,7 +129,7 @@ impl Spans {
         Some(self.spans[index].of(line))
     }
 
-    /// Finds the fields behind those that were found.
+    /// Finds the fields after those that were found. Returns whether there are at most 64 in all.
     fn find_behind(&mut self, line: &[u8], from: usize) -> bool
         requires small { length line.now < 2 ^ 32 }
         requires within { from ≤ length line.now }
@@ -161,7 +161,7 @@ impl Spans {
         }
     }
 
-    /// Finds the fields of a line, and answers whether there are at most 64.
+    /// Finds the fields of a line. Returns whether there are at most 64.
     pub fn find(&mut self, line: &[u8]) -> bool
         requires { length line.now < 2 ^ 32 }
         ensures all { result ≡ true → AreSpans line.now self.new }

@@ -1,23 +1,24 @@
-//! What a field means, by its form.
-ghost use Rattle.std.specs.Prelude.{ℕ, true, ◌≡◌, ◌<◌, ◌≤◌, length, is_some, Option};
+//! Reads what a field means, by its form.
+ghost use Rattle.std.specs.Prelude.{ℕ, true, false, not, ◌&&◌, ◌≡◌, ◌<◌, ◌≤◌, length, is_some, nat_le, Option};
 ghost use Rattle.std.specs.Str.{bytes_eq};
 ghost use Rattle.percent_encoding.specs.Iter.{decoded_bytes};
 ghost use Rattle.aide_attr.specs.Attr.{most_bytes};
 ghost use Rattle.aide_db.specs.Numbers.{mode_of};
 ghost use Rattle.aide_db.specs.Values.{is_nought, type_of_bits, type_of_mode, begins_number};
 ghost use Rattle.aide_db.specs.Values.{time_of, digest_of, link_text};
-ghost use Rattle.aide_db.specs.Values.{link_of, value_of};
+ghost use Rattle.aide_db.specs.Values.{link_of, value_of, is_field};
 ghost use Rattle.aide_db.specs.Attributes.{number_of_type, is_different};
 ghost use Rattle.aide_db.specs.Lent.{IsDigest, lent_link, differs_by, same_number};
 ghost use Rattle.aide_db.specs.Lent.{same_mode, same_type, same_link_name};
 
 use crate::base64_tables::Base64Tables;
 use crate::number::{is_digit, is_mode, is_number, read_mode, read_number};
+use crate::symbols::are_symbols;
 use crate::view::Decoded;
 use aide_attr::{FileType, Form};
 use percent_encoding::percent_decode;
 
-/// The field that says that there is no value.
+/// Returns whether a field is `0`, which says that there is no value.
 pub fn is_nought(field: &[u8]) -> bool
     ensures { result ≡ is_nought field.now }
 {
@@ -41,7 +42,7 @@ fn type_of_bits(bits: u32) -> Option<FileType>
     }
 }
 
-/// The type of a file, from its mode.
+/// Reads the type of a file from a field with its mode.
 pub fn read_type(field: &[u8]) -> Option<FileType>
     ensures { result ≡ type_of_mode (mode_of field.now) }
 {
@@ -60,7 +61,7 @@ fn begins_number(field: &[u8]) -> bool
     }
 }
 
-/// Seconds, as a number or as base64 of one.
+/// Reads seconds, written as a number or as base64 of the text of one.
 #[tactic(auto, unfolding(crate::specs::Values::time_of))]
 pub fn read_time(field: &[u8]) -> Option<i128>
     ensures { result ≡ time_of field.now }
@@ -81,7 +82,7 @@ pub fn read_time(field: &[u8]) -> Option<i128>
     }
 }
 
-/// Whether a field has seconds.
+/// Returns whether a field has seconds.
 #[tactic(auto, unfolding(crate::specs::Values::time_of))]
 pub fn is_time(tables: &Base64Tables, field: &[u8]) -> bool
     ensures { result ≡ is_some (time_of field.now) }
@@ -102,7 +103,7 @@ pub fn is_time(tables: &Base64Tables, field: &[u8]) -> bool
     }
 }
 
-/// The bytes of a digest, at the front of a buffer: how many there are.
+/// Decodes a digest into the front of a buffer. Returns how many bytes there are.
 #[tactic(auto, unfolding(crate::specs::Values::digest_of))]
 pub fn read_digest(
     tables: &Base64Tables,
@@ -126,13 +127,28 @@ pub fn read_digest(
     }
 }
 
-/// Whether a field is base64 of so many bytes.
+/// Returns whether a number of bytes is between `least` and `most`, both included.
+fn is_count(least: u8, most: u8, count: usize) -> bool
+    ensures { result ≡ (nat_le least count && nat_le count most) }
+{
+    least as usize <= count && count <= most as usize
+}
+
+/// Returns whether a field is base64 of a number of bytes between `least` and `most`. Only its last group of four
+/// symbols is decoded, since the groups before it cannot have padding.
 pub fn is_digest(tables: &Base64Tables, least: u8, most: u8, field: &[u8]) -> bool
-    requires { most ≤ 64 }
     ensures { result ≡ is_some (digest_of least most field.now) }
 {
-    let mut buffer = [0; 64];
-    read_digest(tables, least, most, field, &mut buffer).is_some()
+    let groups = field.len().saturating_sub(1) / 4;
+    let (front, last) = field.split_at(4 * groups);
+    if !are_symbols(front) {
+        return false;
+    }
+    let mut buffer = [0; 33];
+    match tables.decode_short(last, &mut buffer) {
+        Ok(len) => is_count(least, most, 3 * groups + len),
+        Err(_) => false,
+    }
 }
 
 fn link_text(field: &[u8]) -> &[u8]
@@ -146,7 +162,7 @@ fn link_text(field: &[u8]) -> &[u8]
     }
 }
 
-/// The name in a symbolic link: none, the empty one, or a text with escapes.
+/// Reads the name in a symbolic link: none, the empty name, or a text with escapes.
 #[tactic(auto, unfolding(crate::specs::Values::link_of, percent_encoding::specs::Percent::percent_decode))]
 pub fn read_link(field: &[u8]) -> Option<Decoded<'_>>
     ensures { lent_link result ≡ link_of field.now }
@@ -160,18 +176,18 @@ pub fn read_link(field: &[u8]) -> Option<Decoded<'_>>
     }
 }
 
-/// Whether a field of this form has a value.
+/// Returns whether a field of this form has a value. A number always has one, since the field was judged.
 pub fn has_value(form: Form, field: &[u8]) -> bool
-    requires { most_bytes form ≤ 64 }
+    requires { is_field form field.now ≡ true }
     ensures { result ≡ is_some (value_of form field.now) }
 {
     match form {
         Form::Kind => read_type(field).is_some(),
-        Form::Mode => read_mode(field).is_some(),
-        Form::Number => read_number(field).is_some(),
-        Form::Time => read_time(field).is_some(),
+        Form::Mode => true,
+        Form::Number => true,
+        Form::Time => true,
         Form::Link => true,
-        Form::Digest(least, most) => is_digest(&Base64Tables::new(), least, most, field),
+        Form::Digest(_, _) => !is_nought(field),
         Form::Opaque => !is_nought(field),
     }
 }
@@ -220,7 +236,7 @@ fn types_differ(old: Option<FileType>, new: Option<FileType>) -> bool
     }
 }
 
-/// Whether two texts with escapes say the same.
+/// Returns whether two texts with escapes mean the same bytes.
 fn same_texts(old: Decoded<'_>, new: Decoded<'_>) -> bool
     ensures { result ≡ bytes_eq (decoded_bytes old.entry) (decoded_bytes new.entry) }
 {
@@ -248,42 +264,28 @@ fn links_differ(old: Option<Decoded<'_>>, new: Option<Decoded<'_>>) -> bool
     }
 }
 
-fn digests_differ(least: u8, most: u8, old: &[u8], new: &[u8]) -> bool
-    requires { most ≤ 64 }
-    ensures { result ≡ differs_by bytes_eq (digest_of least most old.now)
-        (digest_of least most new.now) }
+/// Returns whether both fields have a value: neither of them is `0`.
+fn are_there(old: &[u8], new: &[u8]) -> bool
+    ensures { result ≡ (not (is_nought old.now) && not (is_nought new.now)) }
 {
-    let tables = Base64Tables::new();
-    let mut left = [0; 64];
-    let mut right = [0; 64];
-    match (
-        read_digest(&tables, least, most, old, &mut left),
-        read_digest(&tables, least, most, new, &mut right),
-    ) {
-        (Some(n), Some(m)) => {
-            let (x, _) = left.split_at(n);
-            let (y, _) = right.split_at(m);
-            x != y
-        }
-        _ => false,
-    }
+    !is_nought(old) && !is_nought(new)
 }
 
-/// Whether two fields of one form have values that differ. Equal fields are not read.
+/// Returns whether two fields of one form have different values, given that their bytes differ. Each digest has only
+/// one base64 text, so two digests with different texts are not decoded.
 pub fn differ(form: Form, old: &[u8], new: &[u8]) -> bool
-    requires { most_bytes form ≤ 64 }
+    requires old { is_field form old.now ≡ true }
+    requires new { is_field form new.now ≡ true }
+    requires unlike { bytes_eq old.now new.now ≡ false }
     ensures { result ≡ is_different (value_of form old.now) (value_of form new.now) }
 {
-    if old == new {
-        return false;
-    }
     match form {
         Form::Kind => types_differ(read_type(old), read_type(new)),
         Form::Mode => modes_differ(read_mode(old), read_mode(new)),
         Form::Number => numbers_differ(read_number(old), read_number(new)),
         Form::Time => numbers_differ(read_time(old), read_time(new)),
         Form::Link => links_differ(read_link(old), read_link(new)),
-        Form::Digest(least, most) => digests_differ(least, most, old, new),
-        Form::Opaque => !is_nought(old) && !is_nought(new),
+        Form::Digest(_, _) => are_there(old, new),
+        Form::Opaque => are_there(old, new),
     }
 }

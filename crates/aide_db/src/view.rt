@@ -1,17 +1,33 @@
-//! Entries, as they are lent from the desk.
+//! Views: entries that are lent from the desk.
+ghost use Rattle.std.specs.Prelude.{◌≡◌, ◌||◌, ◌&&◌, true};
+ghost use Rattle.aide_attr.specs.Set.{has, is_attr};
+ghost use Rattle.aide_attr.specs.declared.attr.Attr.{Attr};
+ghost use Rattle.aide_db.specs.Columns.{columns_in};
+ghost use Rattle.aide_db.specs.Entry.{has_entry};
 ghost use Rattle.aide_db.specs.Spans.{AreSpans};
 
 use crate::base64_tables::Base64Tables;
 use crate::column::{Column, Columns};
-use crate::entry::{field_under, is_on, name_of};
+use crate::entry::{bits_of, field_under, is_on, name_of};
 use crate::number::{read_mode, read_number};
 use crate::spans::Spans;
 use crate::value::{has_value, is_nought, read_digest, read_link, read_time, read_type};
 use aide_attr::{Attr, AttrSet, FileType, Form};
 use percent_encoding::{PercentDecode, percent_decode};
 
-/// The bytes of a text with escapes, one after another.
+/// Hands out the bytes of a text with escapes, one after another.
 pub type Decoded<'a> = PercentDecode<'a>;
+
+/// Returns the set, with the attribute added if it belongs there.
+pub(crate) fn with_if(set: AttrSet, attr: Attr, belongs: bool) -> AttrSet
+    ensures { (a : Attr) → has result a ≡ (has set a || (belongs && is_attr a attr)) }
+{
+    if belongs {
+        set.union(AttrSet::of(attr))
+    } else {
+        set
+    }
+}
 
 /// An entry of a database, without a copy of its bytes.
 #[derive(Clone, Copy)]
@@ -20,74 +36,105 @@ pub struct View<'a> {
     pub(crate) columns: &'a Columns,
     pub(crate) spans: &'a Spans,
     ghost spanned: { AreSpans line.now spans.now },
+    ghost judged: { has_entry (columns_in columns.now) line.now ≡ true },
 }
 
 impl<'a> View<'a> {
-    ghost use Rattle.std.specs.Prelude.{◌≡◌, is_some, option_map};
+    ghost use Rattle.std.specs.Prelude.{is_some, option_map, None};
     ghost use Rattle.std.specs.Option.{option_copied};
     ghost use Rattle.percent_encoding.specs.Iter.{decoded_bytes};
-    ghost use Rattle.aide_db.specs.Columns.{columns_in};
     ghost use Rattle.aide_db.specs.View.{entry_in, name_in};
     ghost use Rattle.aide_db.specs.Attributes.{type_in, number_in, link_in, digest_in, opaque_in};
     ghost use Rattle.aide_db.specs.Entry.{field_of};
+    ghost use Rattle.aide_db.specs.Places.{bits_in};
     ghost use Rattle.aide_db.specs.Lent.{IsDigest, lent_link};
-    ghost use Rattle.aide_attr.specs.Set.{has};
-    ghost use Rattle.aide_attr.specs.declared.attr.Attr.{Attr};
 
-    /// The path of the entry: the field that writes it, and its bytes.
+    /// Returns the path of the entry twice: the field as it is written, and the decoded bytes.
     pub fn name(&self) -> (&'a [u8], Decoded<'a>)
         ensures field { result.0.now ≡ name_in self.now }
         ensures path { decoded_bytes result.1 ≡ (entry_in self.now).0 }
     {
-        let name = name_of(self.columns.as_slice(), self.line, self.spans);
+        let name = name_of(self.columns, self.line, self.spans);
         (name, percent_decode(name))
     }
 
-    /// The field of an attribute's column, where it counts.
-    pub(crate) fn field_of(&self, attr: Attr) -> Option<&'a [u8]>
-        ensures { option_copied result ≡ field_of (columns_in self.now.columns.now)
-            self.now.line.now attr }
+    /// Returns the number in the field of bits, if there is such a field. It is read once for many attributes.
+    pub(crate) fn bits(&self) -> Option<u64>
+        ensures { result ≡ bits_in (columns_in self.now.columns.now) self.now.line.now }
     {
-        let columns = self.columns.as_slice();
-        match attr.bit() {
-            None => field_under(columns, Column::Of(attr.holder()), self.line, self.spans),
-            Some(bit) => {
-                let bits = field_under(columns, Column::Bits, self.line, self.spans);
-                if is_on(Some(bit), bits) {
-                    field_under(columns, Column::Of(attr.holder()), self.line, self.spans)
-                } else {
-                    None
-                }
-            }
+        bits_of(self.columns, self.line, self.spans)
+    }
+
+    /// Returns whether the attribute has no column. Then the entry lacks the attribute, whatever its line says.
+    pub(crate) fn lacks(&self, attr: Attr) -> bool
+        ensures { result ≡ true → (entry_in self.now).1 attr ≡ None }
+    {
+        match self.columns.index_of(Column::Of(attr.holder())) {
+            None => true,
+            Some(_) => false,
         }
     }
 
-    /// Whether the entry has an attribute.
-    fn has(&self, attr: Attr) -> bool
+    /// Returns the field of an attribute's column, if it counts by these bits.
+    pub(crate) fn field_by(&self, bits: Option<u64>, attr: Attr) -> Option<&'a [u8]>
+        requires { bits ≡ bits_in (columns_in self.now.columns.now) self.now.line.now }
+        ensures { option_copied result ≡ field_of (columns_in self.now.columns.now)
+            self.now.line.now attr }
+    {
+        if is_on(attr.bit(), bits) {
+            field_under(
+                self.columns,
+                Column::Of(attr.holder()),
+                self.line,
+                self.spans,
+            )
+        } else {
+            None
+        }
+    }
+
+    /// Returns the field of an attribute's column, if it counts.
+    fn field_of(&self, attr: Attr) -> Option<&'a [u8]>
+        ensures { option_copied result ≡ field_of (columns_in self.now.columns.now)
+            self.now.line.now attr }
+    {
+        match attr.bit() {
+            None => field_under(
+                self.columns,
+                Column::Of(attr.holder()),
+                self.line,
+                self.spans,
+            ),
+            Some(_) => self.field_by(self.bits(), attr),
+        }
+    }
+
+    /// Returns whether the entry has an attribute, by these bits.
+    fn has(&self, bits: Option<u64>, attr: Attr) -> bool
+        requires { bits ≡ bits_in (columns_in self.now.columns.now) self.now.line.now }
         ensures { result ≡ is_some ((entry_in self.now).1 attr) }
     {
-        match self.field_of(attr) {
+        match self.field_by(bits, attr) {
             None => false,
             Some(field) => has_value(attr.form(), field),
         }
     }
 
-    /// The attributes that the entry has.
+    /// Returns the attributes that the entry has.
     pub fn attrs(&self) -> AttrSet
         ensures { (attr : Attr) → has result attr ≡ is_some ((entry_in self.now).1 attr) }
     {
+        let bits = self.bits();
         let mut set = AttrSet::empty();
         let mut rest: &[Attr] = &Attr::ALL;
         'attrs: while let Some((attr, more)) = rest.split_first() {
-            if self.has(*attr) {
-                set = set.union(AttrSet::of(*attr));
-            }
+            set = with_if(set, *attr, self.has(bits, *attr));
             rest = more;
         }
         set
     }
 
-    /// The type of the file, where the entry has it.
+    /// Returns the type of the file, if the entry has it.
     #[tactic(auto, using(crate::proofs::FieldValues::types_mapped), unfolding(aide_attr::specs::Attr::row_of, aide_attr::specs::Attr::row))]
     pub fn kind(&self) -> Option<FileType>
         ensures { result ≡ type_in ((entry_in self.now).1 Attr.Ftype) }
@@ -98,7 +145,7 @@ impl<'a> View<'a> {
         }
     }
 
-    /// The value of an attribute that is a number, where the entry has it.
+    /// Returns the value of an attribute that is a number, if the entry has it.
     pub fn number(&self, attr: Attr) -> Option<i128>
         ensures { result ≡ number_in ((entry_in self.now).1 attr) }
     {
@@ -117,7 +164,7 @@ impl<'a> View<'a> {
     }
 
     #[tactic(auto, unfolding(aide_attr::specs::Attr::row_of, aide_attr::specs::Attr::row))]
-    /// The name in a symbolic link, where the entry has one or says that there is none.
+    /// Returns the name in a symbolic link, if the entry has one or says that there is none.
     pub fn link(&self) -> Option<Option<Decoded<'a>>>
         ensures { option_map lent_link result ≡ link_in ((entry_in self.now).1 Attr.Lname) }
     {
@@ -127,7 +174,7 @@ impl<'a> View<'a> {
         }
     }
 
-    /// The bytes of a digest, at the front of a buffer, where the entry has it: how many there are.
+    /// Decodes a digest into the front of a buffer, if the entry has it. Returns how many bytes there are.
     pub fn digest(&self, attr: Attr, buffer: &mut [u8; 64]) -> Option<usize>
         ensures { IsDigest (digest_in ((entry_in self.now).1 attr)) result buffer.new }
     {
@@ -146,7 +193,7 @@ impl<'a> View<'a> {
         }
     }
 
-    /// The bytes of an attribute that are of no further meaning, where the entry has it.
+    /// Returns the bytes of an attribute whose bytes have no further meaning, if the entry has it.
     pub fn field(&self, attr: Attr) -> Option<&'a [u8]>
         ensures { option_copied result ≡ opaque_in ((entry_in self.now).1 attr) }
     {

@@ -1,5 +1,5 @@
-//! Databases read by a cursor: sound and faulty ones, cut, too long, from reels that give few bytes, fail or never end,
-//! and on a desk that is refused memory.
+//! Databases read by a cursor: sound, faulty, cut and too long ones. The reels give few bytes at a time, fail or never
+//! end, and allocations of the desk fail.
 ghost use Rattle.std.specs.Prelude.{◌≤◌, ◌<◌, ◌^◌};
 
 use crate::pace::PACES;
@@ -20,7 +20,7 @@ const LIMITS: Limits = Limits {
     bytes: 1_048_576,
 };
 
-/// What a cursor is to answer: the number of entries, and then the end, or a fault with its line.
+/// What a cursor should return: the number of entries, and then the end, or a fault with its line.
 #[derive(Clone, Copy)]
 struct Wanted {
     entries: u64,
@@ -41,7 +41,7 @@ impl Wanted {
     }
 }
 
-/// Reads a database to its end or its fault, and asks once more for that.
+/// Reads a database to its end or its fault. Then asks again, for the same answer.
 fn read_whole<R: Reel, A: Allocator + Copy>(
     rt: &impl Abort,
     reel: R,
@@ -67,7 +67,7 @@ fn read_whole<R: Reel, A: Allocator + Copy>(
     (entries, answer, cursor.into_reel())
 }
 
-/// Reads a text that is given so many bytes at a time, and looks at the answer.
+/// Reads a text that is given at most this number of bytes at a time, and checks the answer.
 fn assert_read<A: Allocator + Copy>(
     rt: &impl Abort,
     desk: &mut Desk<A>,
@@ -86,7 +86,7 @@ fn assert_read<A: Allocator + Copy>(
     }
 }
 
-/// Refuses each growth in turn, and then reads the same text on the same desk. How many growths there are.
+/// Refuses each allocation in turn, and then reads the same text on the same desk. Returns the number of allocations.
 fn refuse_each<A: Allocator + Copy>(rt: &impl Abort, alloc: A, text: &[u8], wanted: Wanted) -> u64 {
     for growth in 0..1000 {
         let refusing = Refusing::new(alloc, growth);

@@ -1,4 +1,4 @@
-//! Attributes: names, expressions and changes; groups that are refused memory, and as many groups as there may be.
+//! Attributes: names, expressions and changes. Groups: failed allocations, and the greatest number of groups.
 use crate::Refusing;
 use aide_attr::{Attr, AttrSet, GroupFault, Groups};
 use std::alloc::Allocator;
@@ -10,12 +10,12 @@ mod expressions;
 mod names;
 mod table;
 
-/// Whether the name stands among these, which stand between blanks.
+/// Whether the name is one of these names, which are separated by blanks.
 fn is_listed(name: &[u8], names: &[u8]) -> bool {
     names.split(|byte| *byte == b' ').any(|n| n == name)
 }
 
-/// Whether the set has these attributes and no other.
+/// Whether the set has exactly these attributes.
 fn has_exactly(set: AttrSet, names: &[u8]) -> bool {
     Attr::ALL
         .iter()
@@ -50,7 +50,7 @@ fn set_of(definition: u32) -> AttrSet {
     }
 }
 
-/// What a name stands for after so many definitions of 40 names in turn.
+/// The set that a name means after this number of definitions, which define 40 names in turn.
 fn wanted(name: u32, definitions: u32) -> Option<AttrSet> {
     let mut set = None;
     for definition in 0..definitions {
@@ -61,12 +61,12 @@ fn wanted(name: u32, definitions: u32) -> Option<AttrSet> {
     set
 }
 
-/// Whether each of the 40 names stands for what it should after so many definitions.
+/// Whether each of the 40 names means the right set after this number of definitions.
 fn are_as_wanted<A: Allocator + Copy>(groups: &Groups<A>, definitions: u32) -> bool {
     (0..40).all(|name| groups.look(&name_of(name)) == wanted(name, definitions))
 }
 
-/// 100 definitions of 40 names, each of which is tried again where it is refused memory. How often that was.
+/// Makes 100 definitions of 40 names. A definition that runs out of memory is tried again. Returns how often that was.
 fn define_all<A: Allocator + Copy>(rt: &impl Abort, groups: &mut Groups<A>) -> u64 {
     let mut refused = 0u64;
     for definition in 0..100 {

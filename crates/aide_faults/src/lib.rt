@@ -1,4 +1,4 @@
-//! Allocators and devices that fail by a plan, and the tests of the crates below that use them.
+//! Allocators and devices that fail by a plan, and the tests of the crates below that use these devices.
 #![tactic(auto)]
 
 #[cfg(test)]

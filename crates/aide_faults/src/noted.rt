@@ -4,8 +4,8 @@ ghost use Rattle.std.specs.Prelude.{◌≡◌};
 use aide_db::{DeviceFault, OpenFault, Reel, Side, Sources};
 use std::cell::Cell;
 
-/// Notes which side was read last, and how many bytes the reel that was opened last has given of each side. What it has
-/// noted is no part of a contract, since it changes behind a shared reference.
+/// Notes which side was read last, and how many bytes the last opened reel of each side has given. These notes are no
+/// part of a contract, because they change through a shared reference.
 pub struct Journal {
     last: Cell<Option<Side>>,
     old_given: Cell<u64>,
@@ -13,7 +13,7 @@ pub struct Journal {
 }
 
 impl Journal {
-    /// A journal of nothing.
+    /// An empty journal.
     pub fn new() -> Journal {
         Journal {
             last: Cell::new(None),
@@ -22,7 +22,7 @@ impl Journal {
         }
     }
 
-    /// The side that was read last, refused reads too, and `None` before the first read.
+    /// The side that was read last, also if the read failed. It is `None` before the first read.
     pub fn last(&self) -> Option<Side> {
         self.last.get()
     }
@@ -44,7 +44,7 @@ impl Journal {
         self.cell(side).set(0);
     }
 
-    /// Notes that a side was read, and gave so many bytes.
+    /// Notes that a side was read, and gave this number of bytes.
     fn read(&self, side: Side, count: usize) {
         self.last.set(Some(side));
         let given = self.cell(side);
@@ -62,7 +62,7 @@ impl Drop for Journal {
     }
 }
 
-/// A reel of other sources, each read of which is noted.
+/// A reel of other sources. Each read of it is noted.
 pub struct NotedReel<'a, R> {
     inner: R,
     side: Side,
@@ -81,7 +81,7 @@ impl<'a, R: Reel> Reel for NotedReel<'a, R> {
     }
 }
 
-/// Hands each call on to other sources, and notes what is read.
+/// Passes each call on to other sources, and notes what is read.
 pub struct NotedSources<'a, S> {
     inner: S,
     journal: &'a Journal,

@@ -8,7 +8,7 @@ pub struct Pace {
     ghost some: { 0 < most },
 }
 
-/// Few bytes at a time, and round about the size of a block.
+/// A few bytes at a time, and numbers of bytes near the size of a block.
 #[cfg(test)]
 pub(crate) const PACES: [Pace; 5] = [
     Pace { most: 1 },
@@ -19,7 +19,7 @@ pub(crate) const PACES: [Pace; 5] = [
 ];
 
 impl Pace {
-    /// At most so many bytes at a time.
+    /// A pace of at most `most` bytes at a time.
     pub fn new(most: usize) -> Pace
         requires { 0 < most }
         ensures { result.most ≡ most }
@@ -27,7 +27,7 @@ impl Pace {
         Pace { most }
     }
 
-    /// The most bytes at a time, as long as a failure is further than that, and otherwise the bytes before it.
+    /// How many bytes to move when a failure comes after `sound` bytes: the lesser of `sound` and the most at a time.
     pub(crate) fn before(self, sound: u64) -> usize
         ensures some { 0 < sound → 0 < result }
         ensures most { result ≤ self.most }

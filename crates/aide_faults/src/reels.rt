@@ -4,7 +4,7 @@ ghost use Rattle.std.specs.Prelude.{◌≡◌, Some, None};
 use crate::pace::Pace;
 use aide_db::{DeviceFault, Reel};
 
-/// Gives the bytes of a slice, few at a time, and fails for good where a chosen number of them has been given.
+/// Gives the bytes of a slice, few at a time. After a chosen number of bytes every read fails.
 #[derive(Drop)]
 pub struct PlannedReel<'a> {
     bytes: &'a [u8],
@@ -14,8 +14,8 @@ pub struct PlannedReel<'a> {
 }
 
 impl<'a> PlannedReel<'a> {
-    /// A reel over these bytes, which gives them at this pace and fails after `sound` of them. Where there are fewer,
-    /// it never fails.
+    /// A reel over these bytes, which gives them at this pace and fails after `sound` of them.
+    /// If there are fewer bytes than `sound`, the reel never fails.
     pub fn new(bytes: &'a [u8], pace: Pace, sound: u64) -> PlannedReel<'a>
         ensures bytes { result.bytes.now ≡ bytes.now }
         ensures pace { result.pace ≡ pace }
@@ -61,7 +61,7 @@ impl<'a> Reel for PlannedReel<'a> {
     }
 }
 
-/// Gives the bytes of a slice, and then one byte for ever. It tells none of them, and never fails.
+/// Gives the bytes of a slice, and then one byte for ever. This reel tells none of its bytes, and never fails.
 #[derive(Drop)]
 pub struct EndlessReel<'a> {
     bytes: &'a [u8],

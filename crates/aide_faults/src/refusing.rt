@@ -1,10 +1,10 @@
-//! An allocator that refuses one growth, chosen by its number, or all from that one on.
+//! An allocator that refuses one allocation, chosen by its number, or all allocations from that one on.
 ghost use Rattle.std.specs.Prelude.{◌≡◌, true, false};
 
 use std::alloc::{AllocError, Allocator};
 use std::cell::Cell;
 
-/// Which growth is refused, whether those after it are too, and how many were asked for so far.
+/// Which allocation is refused, whether all later ones are refused too, and how many were asked for so far.
 struct Plan {
     refused: u64,
     for_good: bool,
@@ -27,7 +27,7 @@ impl Plan {
         self.asked.get()
     }
 
-    /// Counts one more growth, and answers whether it is to be refused.
+    /// Counts one more allocation, and returns whether it is to be refused.
     fn refuses(&self) -> bool {
         let number = self.asked.get();
         self.asked.set(number.saturating_add(1));
@@ -45,19 +45,19 @@ impl Drop for Plan {
     }
 }
 
-/// Hands each call on to another allocator, but for the growths that it refuses. `&Refusing<Global>` is
+/// Passes each call on to another allocator, except for the allocations that it refuses. `&Refusing<Global>` is
 /// `Allocator + Copy`.
 ///
-/// Growths are counted from 0, so that a loop over 0, 1, 2 and so on refuses each in turn, and ends where
-/// [`Refusing::has_refused`] answers that the chosen growth was never asked for. The growths before it succeed. The
-/// count is no part of a contract, since it changes behind a shared reference.
+/// Allocations are counted from 0. So a loop over 0, 1, 2 and so on refuses each allocation in turn. It ends when
+/// [`Refusing::has_refused`] returns that the chosen allocation was never asked for. The allocations before the
+/// chosen one succeed. The count is no part of a contract, because it changes through a shared reference.
 pub struct Refusing<B: Allocator> {
     inner: B,
     plan: Plan,
 }
 
 impl<B: Allocator> Refusing<B> {
-    /// Refuses the growth with this number alone. It takes no memory.
+    /// Refuses only the allocation with this number. Making this allocator needs no memory.
     pub fn new(inner: B, refused: u64) -> Refusing<B>
         ensures inner { result.inner ≡ inner }
         ensures refused { result.plan.refused ≡ refused }
@@ -69,7 +69,7 @@ impl<B: Allocator> Refusing<B> {
         }
     }
 
-    /// Refuses the growth with this number and all after it. It takes no memory.
+    /// Refuses the allocation with this number and all after it. Making this allocator needs no memory.
     pub fn all_from(inner: B, refused: u64) -> Refusing<B>
         ensures inner { result.inner ≡ inner }
         ensures refused { result.plan.refused ≡ refused }
@@ -81,12 +81,12 @@ impl<B: Allocator> Refusing<B> {
         }
     }
 
-    /// How many growths were asked for so far, the refused one among them.
+    /// How many allocations were asked for so far, including refused ones.
     pub fn asked(&self) -> u64 {
         self.plan.asked()
     }
 
-    /// Whether the growth to refuse was asked for.
+    /// Whether the allocation to refuse was asked for.
     pub fn has_refused(&self) -> bool {
         self.plan.refused < self.plan.asked()
     }

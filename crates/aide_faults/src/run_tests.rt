@@ -1,4 +1,4 @@
-//! Runs over devices that fail, change or move few bytes at a time, and on desks that are refused memory.
+//! Runs over devices that fail, change or move few bytes at a time, and on desks whose allocations fail.
 use crate::{Pace, PlannedSources, SidePlan};
 use aide_conf::{Need, Options, Settings, Task};
 use aide_db::{Desk, Limits, Sources};
@@ -30,7 +30,7 @@ const OLD: &[u8] =
 const NEW: &[u8] =
     b"@@begin_db\n@@db_spec name attr perm size\n/a 36 100644 5\n/c 36 100600 7\n@@end_db\n";
 
-/// The report of these two by the options that a configuration has by itself.
+/// The report of these two databases by the default options.
 const REPORT: &[u8] = b"AIDE found differences between the two databases.
 
 Summary:

@@ -1,4 +1,4 @@
-//! Configurations: why they are refused, what they set, how large they may be, and what comes of a refused growth.
+//! Configurations: why they are refused, what they set, how large they may be, and what follows a failed allocation.
 use aide_conf::{ConfFault, ConfFaultKind, ConfText, Need, Settings};
 use std::alloc::Allocator;
 
@@ -11,7 +11,7 @@ mod plain;
 mod set;
 mod texts;
 
-/// The first fault of one text alone, read to be checked.
+/// The first fault of a single text that is read to be checked.
 fn fault_of_file<A: Allocator + Copy>(alloc: A, file: &[u8]) -> Option<ConfFault> {
     Settings::read(alloc, b"", file, b"", Need::Check).err()
 }

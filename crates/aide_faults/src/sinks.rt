@@ -6,7 +6,7 @@ use crate::pace::Pace;
 use aide_db::DeviceFault;
 use aide_report::Sink;
 
-/// Hands bytes on to another sink, few at a time, and fails for good where a chosen number of them has been taken.
+/// Passes bytes on to another sink, few at a time. After a chosen number of bytes every write fails.
 #[derive(Drop)]
 pub struct PlannedSink<W> {
     inner: W,
@@ -17,8 +17,8 @@ pub struct PlannedSink<W> {
 }
 
 impl<W> PlannedSink<W> {
-    /// A sink that takes bytes at this pace, fails after `sound` of them, and fails to flush unless `flushes`. It
-    /// takes no memory.
+    /// A sink that takes bytes at this pace and fails after `sound` of them. A flush fails unless `flushes` is true.
+    /// The sink allocates no memory itself.
     pub fn new(inner: W, pace: Pace, sound: u64, flushes: bool) -> PlannedSink<W>
         ensures inner { result.inner ≡ inner }
         ensures pace { result.pace ≡ pace }

@@ -8,21 +8,21 @@ use crate::pace::Pace;
 use crate::reels::PlannedReel;
 use aide_db::{OpenFault, Side, Sources};
 
-/// Other bytes from an opening on.
+/// Other bytes, given from a chosen opening on.
 #[derive(Clone, Copy)]
 pub struct Change<'a> {
-    /// The first opening that gives them, counted from 1.
+    /// The first opening that gives the other bytes, counted from 1.
     pub opening: u64,
-    /// What it gives.
+    /// The bytes that this and all later openings give.
     pub bytes: &'a [u8],
 }
 
 /// A reel that fails.
 #[derive(Clone, Copy)]
 pub struct Broken {
-    /// The opening that gives it, counted from 1.
+    /// The opening that gives this reel, counted from 1.
     pub opening: u64,
-    /// How many bytes it gives before.
+    /// How many bytes the reel gives before it fails.
     pub sound: u64,
 }
 
@@ -31,7 +31,7 @@ pub struct Broken {
 pub struct SidePlan<'a> {
     /// The bytes of each opening.
     pub bytes: &'a [u8],
-    /// Where other bytes come in their place.
+    /// From which opening on other bytes come instead, if there is such an opening.
     pub change: Option<Change<'a>>,
     /// The opening that is refused, counted from 1, if any.
     pub refused: Option<u64>,
@@ -71,7 +71,7 @@ impl<'a> SidePlan<'a> {
     }
 }
 
-/// Two databases, each given by a plan. Each reel gives its bytes at one pace.
+/// Two databases, each given by a plan. All reels give their bytes at the same pace.
 #[derive(Drop)]
 pub struct PlannedSources<'a> {
     old_plan: SidePlan<'a>,
@@ -85,7 +85,7 @@ pub struct PlannedSources<'a> {
 impl<'a> PlannedSources<'a> {
     ghost use Rattle.aide_faults.specs.Plan.{gives, openings_of};
 
-    /// These two plans, neither database opened yet.
+    /// Sources with these two plans. Neither database has been opened yet.
     pub fn new(old_plan: SidePlan<'a>, new_plan: SidePlan<'a>, pace: Pace) -> PlannedSources<'a>
         ensures bytes { (side : Side) → gives result side
             ≡ steady (by_side old_plan.entry new_plan.entry side) }
@@ -103,7 +103,7 @@ impl<'a> PlannedSources<'a> {
         }
     }
 
-    /// How often a side was opened, refused openings too. The count stops at its last value.
+    /// How often a side was opened, including refused openings. The count stops at its last value.
     pub fn openings(&self, side: Side) -> u64
         ensures { result ≡ openings_of self.now side }
     {
@@ -120,7 +120,7 @@ impl<'a> PlannedSources<'a> {
         self.failures
     }
 
-    /// Counts an opening, and answers its number.
+    /// Counts an opening, and returns its number.
     fn count(&mut self, side: Side) -> u64
         ensures bytes { gives self.new ≡ gives self.old }
         ensures plans { (self.new.old_plan ≡ self.old.old_plan)

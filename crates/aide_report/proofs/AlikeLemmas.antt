@@ -9,10 +9,11 @@ use Rattle.aide_db.specs.DeskView.{DeskView}
 use Rattle.aide_db.specs.Path.{path_cmp}
 use Rattle.aide_db.specs.declared.side.Side.TheVariants.{Old, New}
 use Rattle.aide_db.proofs.PathLaws.{path_cmp_total}
-use Rattle.aide_report.specs.Held.{held_entry}
+use Rattle.aide_report.specs.ChangeView.{alike_of}
+use Rattle.aide_report.specs.NextEntry.{next_entry}
 use Rattle.aide_report.specs.Turn.{turn_of, turn_by, change_at}
-use Rattle.aide_report.specs.declared.merge.Held.{Held}
-use Rattle.aide_report.specs.declared.merge.Held.TheVariants.{Due, Here, Ended}
+use Rattle.aide_report.specs.declared.merge.NextEntry.{NextEntry}
+use Rattle.aide_report.specs.declared.merge.NextEntry.TheVariants.{Due, Here, Ended}
 use Rattle.aide_report.specs.declared.merge.Turn.TheVariants.{Both}
 
 abbrev entry_or : Entry → Option Entry → Entry
@@ -25,26 +26,26 @@ pub same_shown : (d : DeskView) (old new : Entry) → HoldsAlike d → desk_entr
 same_shown d old new (filled, lines, columns) shows_old shows_new =
     ap (entry_or old) (sym shows_old ∙ (λ i. entry_at (columns i) (lines i)) ∙ shows_new)
 
-shown_of_held : (held : Held) (shown : Option Entry) (entry : Entry) → held_entry held shown ≡ Some entry
+shown_of_next : (next : NextEntry) (shown : Option Entry) (entry : Entry) → next_entry next shown ≡ Some entry
     → shown ≡ Some entry
-shown_of_held Due shown entry e = cc
-shown_of_held Here shown entry e = e
-shown_of_held Ended shown entry e = cc
+shown_of_next Due shown entry e = cc
+shown_of_next Here shown entry e = e
+shown_of_next Ended shown entry e = cc
 
 -- it is the turn of both sides
-pub turn_of_alike : (d : DeskView) (old_held new_held : Held) (old new : Entry) → HoldsAlike d
-    → held_entry old_held (desk_entry Old d) ≡ Some old → held_entry new_held (desk_entry New d) ≡ Some new
-    → Both ≡ turn_of (held_entry old_held (desk_entry Old d)) (held_entry new_held (desk_entry New d))
-turn_of_alike d old_held new_held old new alike shows_old shows_new =
-    let same = same_shown d old new alike (shown_of_held old_held (desk_entry Old d) old shows_old)
-    (shown_of_held new_held (desk_entry New d) new shows_new) in
+pub turn_of_alike : (d : DeskView) (old_next new_next : NextEntry) (old new : Entry) → HoldsAlike d
+    → next_entry old_next (desk_entry Old d) ≡ Some old → next_entry new_next (desk_entry New d) ≡ Some new
+    → Both ≡ turn_of (next_entry old_next (desk_entry Old d)) (next_entry new_next (desk_entry New d))
+turn_of_alike d old_next new_next old new alike shows_old shows_new =
+    let same = same_shown d old new alike (shown_of_next old_next (desk_entry Old d) old shows_old)
+    (shown_of_next new_next (desk_entry New d) new shows_new) in
     sym ((λ i. turn_of (shows_old i) (shows_new i)) ∙ ap (λ (e : Entry). turn_by (path_cmp old.0 e.0)) (sym same)
     ∙ ap turn_by (tied_itself path_cmp_total old.0))
 
 -- the change there has this entry on both sides
 pub change_of_alike : (d : DeskView) (old new : Entry) → HoldsAlike d → desk_entry Old d ≡ Some old
     → desk_entry New d ≡ Some new
-    → change_at Both (desk_entry Old d) (desk_entry New d) ≡ (old.0, (Some old.1, Some old.1)) ∷ []
+    → change_at Both (desk_entry Old d) (desk_entry New d) ≡ alike_of old ∷ []
 change_of_alike d old new alike shows_old shows_new =
     (λ i. change_at Both (shows_old i) (shows_new i))
     ∙ ap (λ (e : Entry). (old.0, (Some old.1, Some e.1)) ∷ []) (sym (same_shown d old new alike shows_old shows_new))

@@ -1,14 +1,16 @@
 -- Counts, one change after another.
-use Rattle.std.proofs.Common.{◌≡◌, ℕ, ◌+◌, ◌-◌, ◌<◌, ◌≤◌, Bool, List, [], ◌∷◌, ◌++◌, ap, ◌∙◌, arith}
+use Rattle.std.proofs.Common.{◌≡◌, ℕ, ◌+◌, ◌-◌, ◌<◌, ◌≤◌, Bool, false, refl, List, [], ◌∷◌, ◌++◌, ap, ◌∙◌, arith}
 use Rattle.std.specs.Prelude.{count_by, cond}
 use Rattle.std.proofs.lemmas.List.Sums.{count_by-le-length, sum_by-append}
 use Rattle.aide_conf.specs.declared.options.Options.{Options}
-use Rattle.aide_db.specs.Attributes.{Attributes}
+use Rattle.aide_db.specs.Attributes.{Attributes, Entry}
+use Rattle.aide_report.specs.ChangeView.{alike_of}
 use Rattle.aide_report.specs.Changed.{differ_by}
 use Rattle.aide_report.specs.Changes.{is_added, is_removed, is_changed, is_of_new}
 use Rattle.aide_report.specs.Compare.{Change as Sided}
 use Rattle.aide_report.specs.Counts.{Completes, AreBelow}
 use Rattle.aide_report.specs.Entries.{is_shown_entry}
+use Rattle.aide_report.proofs.SameEntries.{never_differs, shows_nothing}
 use Rattle.aide_text.specs.declared.counts.Counts.{Counts}
 
 abbrev Change : Type 0
@@ -60,6 +62,32 @@ small_more options a b change top m n less e f g h s small = record {
   total = small_one is_of_new change a.total b.total top m n less h small.total;
   shown = small_one (is_shown_entry options) change a.shown b.shown top m n less s small.shown;
 }
+
+-- ---- an entry that both sides have alike is counted only in the total
+
+same_count : (p : Change → Bool) (change : Change) (a : ℕ) → p change ≡ false → a ≡ a + count_by p (change ∷ [])
+same_count p change a none = rw none (omega arith)
+
+pub counts_alike : (options : Options) (a b : Counts) (entry : Entry) (rest changes more all : List Change)
+    → rest ≡ changes ++ more → changes ≡ alike_of entry ∷ [] → b ≡ record a { total = a.total + 1 }
+    → Completes options a rest all → Completes options b more all
+counts_alike options a b entry rest changes more all is one counted so_far =
+    rw counted (counts_more options a (record a { total = a.total + 1 }) (alike_of entry) rest changes more all is one
+    (same_count is_added (alike_of entry) a.added refl)
+    (same_count is_removed (alike_of entry) a.removed refl)
+    (same_count (is_changed (differ_by options.ignore)) (alike_of entry) a.changed (never_differs options.ignore entry.1 entry.1 refl))
+    (omega arith)
+    (same_count (is_shown_entry options) (alike_of entry) a.shown (shows_nothing options entry.1)) so_far)
+
+pub small_alike : (a b : Counts) (top m n : ℕ) → n < m → b ≡ record a { total = a.total + 1 }
+    → AreBelow a (top - m) → AreBelow b (top - n)
+small_alike a b top m n less counted small = rw counted (record {
+  added = omega (arith, small.added);
+  removed = omega (arith, small.removed);
+  changed = omega (arith, small.changed);
+  total = omega (arith, small.total);
+  shown = omega (arith, small.shown);
+})
 
 -- no change was shown
 pub counts_same : (options : Options) (a : Counts) (rest changes more all : List Change) → rest ≡ changes ++ more

@@ -15,15 +15,12 @@ use Rattle.aide_db.specs.declared.side.Side.TheVariants.{Old, New}
 use Rattle.aide_db.proofs.MapLaws.{first_fault_unsound}
 use Rattle.aide_report.specs.LaterFault.{later_by, later_of}
 use Rattle.aide_report.specs.Missing.{IsOfReliable}
-use Rattle.aide_report.specs.PassFaults.{IfDatabase, IfWrite, pass_fault_of}
 use Rattle.aide_report.specs.Openings.{OpensFirst}
 use Rattle.aide_report.specs.Standing.{IsFaultOf}
 use Rattle.aide_report.specs.RunFaults.{IsCaused, IsLater, IsRight, HasPenWritten}
-use Rattle.aide_report.specs.declared.entries.PassFault.{PassFault}
-use Rattle.aide_report.specs.declared.entries.PassFault.TheVariants as passes
 use Rattle.aide_text.specs.Failures.{Rose}
 use Rattle.aide_text.specs.declared.pen.Pen.{Pen}
-use Rattle.aide_report.specs.Runs.{Report, Runs, IsRunFault, StandsOn, HasCause}
+use Rattle.aide_report.specs.Runs.{Report, Runs, IsRunFault, Causes, HasCause}
 use Rattle.aide_report.specs.declared.run_fault.RunFault.{RunFault}
 use Rattle.aide_report.specs.declared.run_fault.RunFault.TheVariants.{Open, Database, Changed, Write}
 use Rattle.aide_report.proofs.FirstFaults.{Runs-unique}
@@ -73,23 +70,23 @@ right_later limits before after same sound (Database fault) later = λ text told
 right_later limits before after same sound (Changed side) later = λ text told. later text (ap (λ bytes. bytes side) same ∙ told) (sound side text told)
 right_later limits before after same sound (Write written) later = tt
 
-stands_on : (rose first : Type 0) (kind : DbFaultKind) → (kind ≡ Read → rose) → (is_outside kind ≡ false → first)
-    → StandsOn kind rose first
-stands_on rose first LineTooLong read inside = inside refl
-stands_on rose first NoBegin read inside = inside refl
-stands_on rose first BadDirective read inside = inside refl
-stands_on rose first BadSpec read inside = inside refl
-stands_on rose first NoSpec read inside = inside refl
-stands_on rose first FieldCount read inside = inside refl
-stands_on rose first BadName read inside = inside refl
-stands_on rose first OutOfOrder read inside = inside refl
-stands_on rose first (BadNumber column) read inside = inside refl
-stands_on rose first (BadTime column) read inside = inside refl
-stands_on rose first (BadDigest column) read inside = inside refl
-stands_on rose first NoEnd read inside = inside refl
-stands_on rose first Memory read inside = tt
-stands_on rose first Read read inside = read refl
-stands_on rose first TooManyBytes read inside = inside refl
+causes_of : (rose first : Type 0) (kind : DbFaultKind) → (kind ≡ Read → rose) → (is_outside kind ≡ false → first)
+    → Causes kind rose first
+causes_of rose first LineTooLong read inside = inside refl
+causes_of rose first NoBegin read inside = inside refl
+causes_of rose first BadDirective read inside = inside refl
+causes_of rose first BadSpec read inside = inside refl
+causes_of rose first NoSpec read inside = inside refl
+causes_of rose first FieldCount read inside = inside refl
+causes_of rose first BadName read inside = inside refl
+causes_of rose first OutOfOrder read inside = inside refl
+causes_of rose first (BadNumber column) read inside = inside refl
+causes_of rose first (BadTime column) read inside = inside refl
+causes_of rose first (BadDigest column) read inside = inside refl
+causes_of rose first NoEnd read inside = inside refl
+causes_of rose first Memory read inside = tt
+causes_of rose first Read read inside = read refl
+causes_of rose first TooManyBytes read inside = inside refl
 
 -- why a run fails
 pub has_cause : (limits : Limits) (task : Asked) (bytes_of : Side → Option (List ℕ)) (sources sink : Type 0) (fault : RunFault)
@@ -99,23 +96,12 @@ pub has_cause : (limits : Limits) (task : Asked) (bytes_of : Side → Option (Li
     (λ side. (text : List ℕ) → bytes_of side ≡ Some text → ⊥)
 has_cause limits task bytes_of sources sink (Open side) caused answer right = caused
 has_cause limits task bytes_of sources sink (Database fault) caused answer right =
-    stands_on sources _ fault.kind caused
+    causes_of sources _ fault.kind caused
     (λ inside old new told_old told_new r runs. Runs-unique limits task old new r (Err fault) runs (answer old new told_old told_new inside))
 has_cause limits task bytes_of sources sink (Changed side) caused answer right = right
 has_cause limits task bytes_of sources sink (Write written) caused answer right = caused
 
 -- ---- the end of a pass
-
-pub if_database : (P Q : DbFault → Type 0) → ((fault : DbFault) → P fault → Q fault) → (fault : PassFault)
-    → IfDatabase P fault → IfDatabase Q fault
-if_database P Q f (passes.Database fault) p = f fault p
-if_database P Q f passes.Write p = tt
-
--- a fault of the text shows that its side is not sound
-pub pass_later : (limits : Limits) (bytes_of : Side → Option (List ℕ)) (fault : PassFault) (sent : ℕ)
-    → IfDatabase (HasFault limits bytes_of) fault → IsLater limits bytes_of (pass_fault_of fault sent)
-pass_later limits bytes_of (passes.Database fault) sent first = later_fault limits bytes_of fault first
-pass_later limits bytes_of passes.Write sent first = tt
 
 pub caused_at : (sources sink : Type 0) (fault : DbFault) → (fault.kind ≡ Read → sources) → (kind : DbFaultKind)
     → IsCaused sources sink (later_by kind fault)
@@ -134,12 +120,6 @@ caused_at sources sink fault read NoEnd = tt
 caused_at sources sink fault read Memory = read
 caused_at sources sink fault read Read = read
 caused_at sources sink fault read TooManyBytes = tt
-
-pub pass_caused : (sources sink : Type 0) (fault : PassFault) (sent : ℕ)
-    → IfDatabase (λ f. f.kind ≡ Read → sources) fault → IfWrite sink fault
-    → IsCaused sources sink (pass_fault_of fault sent)
-pass_caused sources sink (passes.Database fault) sent read write = caused_at sources sink fault read fault.kind
-pass_caused sources sink passes.Write sent read write = write
 
 -- what has risen since a later count has risen since an earlier one
 pub rose_since : (before middle after : ℕ) → before ≤ middle → Rose middle after → Rose before after
@@ -166,12 +146,7 @@ reliable_at bytes_of fault unread Memory = unread
 reliable_at bytes_of fault unread Read = unread
 reliable_at bytes_of fault unread TooManyBytes = tt
 
-pub pass_reliable : (bytes_of : Side → Option (List ℕ)) (fault : PassFault) (sent : ℕ)
-    → IfDatabase (λ f. f.kind ≡ Read → ⊥) fault → IsOfReliable bytes_of (pass_fault_of fault sent)
-pass_reliable bytes_of (passes.Database fault) sent unread = reliable_at bytes_of fault unread fault.kind
-pass_reliable bytes_of passes.Write sent unread = tt
-
-written_at : (pen : Pen) (fault : DbFault) (kind : DbFaultKind) → pen.failed ≡ false
+pub written_at : (pen : Pen) (fault : DbFault) (kind : DbFaultKind) → pen.failed ≡ false
     → HasPenWritten pen (later_by kind fault)
 written_at pen fault LineTooLong unfailed = unfailed
 written_at pen fault NoBegin unfailed = unfailed
@@ -188,11 +163,6 @@ written_at pen fault NoEnd unfailed = unfailed
 written_at pen fault Memory unfailed = unfailed
 written_at pen fault Read unfailed = unfailed
 written_at pen fault TooManyBytes unfailed = unfailed
-
-pub pass_written : (pen : Pen) (fault : PassFault) → IfWrite (pen.failed ≡ true) fault
-    → IfDatabase (λ _. pen.failed ≡ false) fault → HasPenWritten pen (pass_fault_of fault pen.sent)
-pass_written pen (passes.Database fault) write unfailed = written_at pen fault fault.kind unfailed
-pass_written pen passes.Write write unfailed = (write, refl)
 
 -- ---- a fault after the first readings is no fault of a text
 

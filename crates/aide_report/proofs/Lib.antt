@@ -22,3 +22,6 @@ pub mod RoomLemmas
 pub mod AgreementLemmas
 pub mod Examples
 pub mod MissingLemmas
+pub mod CallLemmas
+pub mod PassLemmas
+pub mod ReadingLemmas

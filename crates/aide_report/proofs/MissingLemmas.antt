@@ -1,8 +1,9 @@
 -- A run over what stands at both sides, where a side may not be there.
-use Rattle.std.specs.Prelude.{◌≡◌, ℕ, ◌≤◌, ◌⊎◌, Bool, true, false, Option, Some, None, Result, Ok, Err, List, []}
+use Rattle.std.specs.Prelude.{◌≡◌, ℕ, ◌≤◌, ◌⊎◌, Bool, true, false, Option, Some, None, IsSome, Result, Ok, Err, List, []}
 use Rattle.std.proofs.Common.{refl, sym, ap, subst, ◌∙◌, inl, inr}
 use Rattle.aide_db.specs.Database.{IsSound}
 use Rattle.aide_db.specs.Failures.{is_outside}
+use Rattle.aide_db.specs.Side.{by_side}
 use Rattle.aide_db.specs.declared.fault.DbFault.{DbFault}
 use Rattle.aide_db.specs.declared.fault.DbFaultKind.{DbFaultKind}
 use Rattle.aide_db.specs.declared.fault.DbFaultKind.TheVariants.{Memory, Read}
@@ -15,7 +16,7 @@ use Rattle.aide_report.specs.Asked.{Asked}
 use Rattle.aide_report.specs.Missing.{TellsSide, RunsOver, HasAnswerOver, IsHindered, SendsFront, SendsWhole, StopsFor}
 use Rattle.aide_report.specs.Missing.{run_answer}
 use Rattle.aide_report.specs.RunFaults.{IsCaused, IsFirst, IsLater}
-use Rattle.aide_report.specs.Runs.{Report, Runs, EndsEarly, EndsWell, IsFirstFaultOf, StandsOn}
+use Rattle.aide_report.specs.Runs.{Report, Runs, EndsEarly, EndsWell, IsFirstFaultOf, Causes}
 use Rattle.aide_report.specs.declared.outcome.Outcome.{Outcome}
 use Rattle.aide_report.specs.declared.run_fault.RunFault.{RunFault}
 use Rattle.aide_report.specs.declared.run_fault.RunFault.TheVariants.{Open, Database, Changed, Write}
@@ -104,16 +105,21 @@ hindered_by old new sources sink (Write written) h = absurd h
 
 -- a fault of a database is of its text, or hinders the run
 of_text_or_hindered : (kind : DbFaultKind) (sources first : Type 0) → (kind ≡ Read → sources)
-    → (is_outside kind ≡ false → first) → first ⊎ StandsOn kind sources ⊥
+    → (is_outside kind ≡ false → first) → first ⊎ Causes kind sources ⊥
 of_text_or_hindered Memory sources first read inside = inr tt
 of_text_or_hindered Read sources first read inside = inr (read refl)
 of_text_or_hindered kind sources first read inside = inl (inside refl)
 
 outside_hinders : (kind : DbFaultKind) (sources : Type 0) → (kind ≡ Read → sources) → is_outside kind ≡ true
-    → StandsOn kind sources ⊥
+    → Causes kind sources ⊥
 outside_hinders Memory sources read outside = tt
 outside_hinders Read sources read outside = read refl
 outside_hinders kind sources read outside = true_false (sym outside)
+
+-- where both sides are there, each is
+there_at : (old new : List ℕ) (side : Side) → IsSome (by_side (Some old) (Some new) side)
+there_at old new Old = refl
+there_at old new New = refl
 
 -- the first reading of the old side
 pub first_over : (limits : Limits) (wish : Asked) (bytes_of : Side → Option (List ℕ)) (is_missing : Side → Bool) (old new : Option (List ℕ)) (sources : Type 0) (fault : RunFault)
@@ -128,7 +134,7 @@ first_over limits wish bytes_of is_missing (Some old) new sources (Open side) to
 first_over limits wish bytes_of is_missing (Some old) new sources (Database fault) told first caused gone r runs =
     elim (of_text_or_hindered fault.kind sources (IsFirstFaultOf limits Old old fault) caused (λ inside. (first.0, first.1 old told inside))) [
       | inl bad ↦ stops_right r (IsHindered (Some old) new sources ⊥) (Database fault) (old_fault limits wish old new fault r bad runs)
-      | inr hinders ↦ stops_hindered r (IsHindered (Some old) new sources ⊥) (Database fault) hinders
+      | inr hinders ↦ stops_hindered r (IsHindered (Some old) new sources ⊥) (Database fault) (subst (λ (s : Side). IsSome (by_side (Some old) new s)) (sym first.0) refl, hinders)
     ]
 first_over limits wish bytes_of is_missing (Some old) new sources (Changed side) told first caused gone r runs =
     absurd first
@@ -152,7 +158,7 @@ second_over limits wish bytes_of is_missing (Some old) (Some new) sources (Open 
 second_over limits wish bytes_of is_missing (Some old) (Some new) sources (Database fault) told told_new there sound first caused gone r runs =
     elim (of_text_or_hindered fault.kind sources (IsFirstFaultOf limits New new fault) caused (λ inside. (first.0, first.1 new told_new inside))) [
       | inl bad ↦ stops_right r (IsHindered (Some old) (Some new) sources ⊥) (Database fault) (new_fault limits wish old new fault r (sound old told) bad runs)
-      | inr hinders ↦ stops_hindered r (IsHindered (Some old) (Some new) sources ⊥) (Database fault) hinders
+      | inr hinders ↦ stops_hindered r (IsHindered (Some old) (Some new) sources ⊥) (Database fault) (there_at old new fault.side, hinders)
     ]
 second_over limits wish bytes_of is_missing (Some old) (Some new) sources (Changed side) told told_new there sound first caused gone r runs =
     absurd first
@@ -174,7 +180,7 @@ later_over limits bytes_of is_missing (Some old) (Some new) sources sink (Open O
 later_over limits bytes_of is_missing (Some old) (Some new) sources sink (Open New) told told_new there sound later caused =
     (refl, caused)
 later_over limits bytes_of is_missing (Some old) (Some new) sources sink (Database fault) told told_new there sound later caused =
-    outside_hinders fault.kind sources caused later
+    (there_at old new fault.side, outside_hinders fault.kind sources caused later)
 later_over limits bytes_of is_missing (Some old) (Some new) sources sink (Changed Old) told told_new there sound later caused =
     later old told (sound Old old told)
 later_over limits bytes_of is_missing (Some old) (Some new) sources sink (Changed New) told told_new there sound later caused =

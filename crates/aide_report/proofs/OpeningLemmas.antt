@@ -1,5 +1,5 @@
 -- Which side is refused, by how often each was opened; and that nothing has gone out before the counting has ended.
-use Rattle.std.proofs.Common.{◌≡◌, ◌<◌, ◌≤◌, ◌-◌, ◌^◌, ℕ, ◌+◌, List, [], Option, sym, subst, arith}
+use Rattle.std.proofs.Common.{◌≡◌, ◌<◌, ◌≤◌, ◌-◌, ◌^◌, ℕ, ◌+◌, Bool, List, [], Option, sym, subst, arith}
 use Rattle.std.specs.Io.KnownBytes.{Appends}
 use Rattle.aide_db.specs.Count.{one_more, sum_of}
 use Rattle.aide_db.specs.Side.{by_side}
@@ -12,11 +12,8 @@ use Rattle.aide_db.specs.declared.limits.Limits.{Limits}
 use Rattle.aide_db.specs.declared.side.Side.{Side}
 use Rattle.aide_db.specs.declared.side.Side.TheVariants.{Old, New}
 use Rattle.aide_report.specs.LaterFault.{later_by}
-use Rattle.aide_report.specs.Openings.{OpensExactly, WasOpened, ComesOpened, IsRefusedIn, IsRefusedThere}
-use Rattle.aide_report.specs.PassFaults.{pass_fault_of}
+use Rattle.aide_report.specs.Openings.{OpensExactly, WasOpened, ComesOpened, IsRefusedIn, IsRefusedThere, IsNotGiven}
 use Rattle.aide_report.specs.RunFaults.{IsFirst, HasSentNothing}
-use Rattle.aide_report.specs.declared.entries.PassFault.{PassFault}
-use Rattle.aide_report.specs.declared.entries.PassFault.TheVariants as passes
 use Rattle.aide_report.specs.declared.run_fault.RunFault.{RunFault}
 use Rattle.aide_report.specs.declared.run_fault.RunFault.TheVariants.{Open, Database, Changed, Write}
 use Rattle.aide_text.proofs.Sending.{Appends-nothing}
@@ -72,12 +69,6 @@ refused_by before after fault Memory = tt
 refused_by before after fault Read = tt
 refused_by before after fault TooManyBytes = tt
 
--- the end of a pass refuses no side
-pub refused_pass : (before after : Side → ℕ) (fault : PassFault) (sent : ℕ)
-    → IsRefusedThere before after (pass_fault_of fault sent)
-refused_pass before after (passes.Database fault) sent = refused_by before after fault fault.kind
-refused_pass before after passes.Write sent = tt
-
 -- the old side was opened
 pub comes_opened : (before after : ℕ) (fault : RunFault) → after ≡ one_more before → ComesOpened before after fault
 comes_opened before after (Open side) is = record { passes = 0; of_old = is }
@@ -98,24 +89,42 @@ comes_later before middle after n (Changed side) is opened = was_opened before m
 comes_later before middle after n (Write written) is opened = tt
 
 -- where nothing has gone out
-pub silent_nothing : (opened_old opened_new : ℕ) (bytes : Option (List ℕ)) (fault : RunFault)
+pub unsent_nothing : (opened_old opened_new : ℕ) (bytes : Option (List ℕ)) (fault : RunFault)
     → HasSentNothing opened_old opened_new bytes bytes fault
-silent_nothing opened_old opened_new bytes (Open side) = λ below twice. Appends-nothing bytes
-silent_nothing opened_old opened_new bytes (Database fault) = λ below twice. Appends-nothing bytes
-silent_nothing opened_old opened_new bytes (Changed side) = λ below twice. Appends-nothing bytes
-silent_nothing opened_old opened_new bytes (Write written) = tt
+unsent_nothing opened_old opened_new bytes (Open side) = λ below twice. Appends-nothing bytes
+unsent_nothing opened_old opened_new bytes (Database fault) = λ below twice. Appends-nothing bytes
+unsent_nothing opened_old opened_new bytes (Changed side) = λ below twice. Appends-nothing bytes
+unsent_nothing opened_old opened_new bytes (Write written) = tt
 
-silent_opened : (before middle after : ℕ) (old new : Option (List ℕ)) → middle ≡ sum_of before 2
+unsent_opened : (before middle after : ℕ) (old new : Option (List ℕ)) → middle ≡ sum_of before 2
     → WasOpened middle after
     → after < 2 ^ 64 - 1 → after ≤ before + 2 → Appends old new []
-silent_opened before middle after old new is opened below twice =
+unsent_opened before middle after old new is opened below twice =
     absurd (omega (arith, is, opened.of_old, below, twice))
 
 -- once the old side is opened a third time, what has gone out is left open
-pub silent_begun : (before middle after : ℕ) (old new : Option (List ℕ)) (fault : RunFault) → middle ≡ sum_of before 2
+pub unsent_begun : (before middle after : ℕ) (old new : Option (List ℕ)) (fault : RunFault) → middle ≡ sum_of before 2
     → ComesOpened middle after fault → HasSentNothing before after old new fault
-silent_begun before middle after old new (Open side) is opened = silent_opened before middle after old new is opened
-silent_begun before middle after old new (Database fault) is opened =
-    silent_opened before middle after old new is opened
-silent_begun before middle after old new (Changed side) is opened = silent_opened before middle after old new is opened
-silent_begun before middle after old new (Write written) is opened = tt
+unsent_begun before middle after old new (Open side) is opened = unsent_opened before middle after old new is opened
+unsent_begun before middle after old new (Database fault) is opened =
+    unsent_opened before middle after old new is opened
+unsent_begun before middle after old new (Changed side) is opened = unsent_opened before middle after old new is opened
+unsent_begun before middle after old new (Write written) is opened = tt
+
+-- a fault of a reading is not that of an opening
+pub not_given_by : (was_given : Side → Bool) (fault : DbFault) (kind : DbFaultKind) → IsNotGiven was_given (later_by kind fault)
+not_given_by was_given fault LineTooLong = tt
+not_given_by was_given fault NoBegin = tt
+not_given_by was_given fault BadDirective = tt
+not_given_by was_given fault BadSpec = tt
+not_given_by was_given fault NoSpec = tt
+not_given_by was_given fault FieldCount = tt
+not_given_by was_given fault BadName = tt
+not_given_by was_given fault OutOfOrder = tt
+not_given_by was_given fault (BadNumber column) = tt
+not_given_by was_given fault (BadTime column) = tt
+not_given_by was_given fault (BadDigest column) = tt
+not_given_by was_given fault NoEnd = tt
+not_given_by was_given fault Memory = tt
+not_given_by was_given fault Read = tt
+not_given_by was_given fault TooManyBytes = tt

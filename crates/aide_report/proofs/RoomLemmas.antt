@@ -10,11 +10,8 @@ use Rattle.aide_db.specs.declared.limits.Limits.{Limits}
 use Rattle.aide_db.specs.declared.stage.Stage.{Stage}
 use Rattle.aide_db.specs.declared.stage.Stage.TheVariants.{Start, Begun, Entries, Ended, Failed}
 use Rattle.aide_report.specs.LaterFault.{later_by, later_of}
-use Rattle.aide_report.specs.PassFaults.{IfDatabase, pass_fault_of}
 use Rattle.aide_report.specs.Standing.{IsUnfailed}
 use Rattle.aide_report.specs.Room.{IsNotMemory, IsNotOfMemory}
-use Rattle.aide_report.specs.declared.entries.PassFault.{PassFault}
-use Rattle.aide_report.specs.declared.entries.PassFault.TheVariants as passes
 
 not_true : (b : Bool) → (b ≡ true → false ≡ true) → b ≡ false
 not_true false h = refl
@@ -54,8 +51,3 @@ later_at fault is TooManyBytes = tt
 -- nor does a later fault
 pub later_room : (fault : DbFault) → IsNotMemory fault → IsNotOfMemory (later_of fault)
 later_room fault is = later_at fault is fault.kind
-
--- nor the end of a pass
-pub pass_room : (fault : PassFault) (sent : ℕ) → IfDatabase IsNotMemory fault → IsNotOfMemory (pass_fault_of fault sent)
-pass_room (passes.Database fault) sent is = later_room fault is
-pass_room passes.Write sent is = tt

@@ -22,7 +22,7 @@ use Rattle.aide_report.specs.Merged.{merged}
 use Rattle.aide_report.specs.Entries.{is_shown_entry}
 use Rattle.aide_report.specs.Finding.{IsFinding, old_origin, new_origin, pass_of}
 use Rattle.aide_report.specs.Report.{text_of, counts_of, outcome_by, section_count}
-use Rattle.aide_report.specs.declared.comparison.Finding.{Finding}
+use Rattle.aide_report.specs.declared.finding.Finding.{Finding}
 use Rattle.aide_report.specs.Runs.{Report, report_over, sections_over, Runs, EndsWell, EndsEarly}
 use Rattle.aide_text.specs.Sent.{SendsPart}
 use Rattle.aide_text.specs.declared.counts.Counts.{Counts}

@@ -1,6 +1,6 @@
 -- An entry does not differ from itself.
 use Rattle.std.proofs.Common.{◌≡◌, List, [], ◌∷◌, refl, ap, true, false, Bool, ◌&&◌, ◌||◌, not}
-use Rattle.std.specs.Prelude.{is_some}
+use Rattle.std.specs.Prelude.{Some, is_some}
 use Rattle.std.specs.List.{list_any}
 use Rattle.aide_attr.specs.Attr.{all_attrs}
 use Rattle.aide_attr.specs.Difference.{is_reported, is_shown, shown_at}
@@ -8,9 +8,15 @@ use Rattle.aide_attr.specs.Set.{has}
 use Rattle.aide_attr.specs.declared.attr.Attr.{Attr}
 use Rattle.aide_attr.specs.declared.delta.Ignore.{Ignore}
 use Rattle.aide_attr.specs.declared.level.Level.{Level}
-use Rattle.aide_db.specs.Attributes.{Attributes, sides_between, is_different}
+use Rattle.aide_db.specs.Attributes.{Attributes, Entry, sides_between, is_different}
 use Rattle.aide_db.proofs.ValueLaws.{never_different}
+use Rattle.aide_conf.specs.declared.options.Options.{Options}
+use Rattle.aide_text.specs.declared.section.Section.{Section}
+use Rattle.aide_text.specs.declared.section.Section.TheVariants.{AddedEntries, RemovedEntries, ChangedEntries, AllEntries, Details}
+use Rattle.aide_report.specs.ChangeView.{alike_of}
 use Rattle.aide_report.specs.Changed.{differ_by}
+use Rattle.aide_report.specs.Entries.{shows_any, shows_at}
+use Rattle.aide_report.specs.Sections.{is_in}
 
 none_bool : (d b i j k : Bool) → d ≡ false
     → ((((d && b && b) && i) || ((b && not b) && j)) || ((b && not b) && k)) ≡ false
@@ -33,3 +39,15 @@ pub never_shown : (i : Ignore) (level : Level) (a : Attr) (old new : Attributes)
     → is_shown (sides_between old new) i level a ≡ false
 unfolding differ_by
 never_shown i level a old new e = ap (λ b. b && shown_at (sides_between old new) i level a) (never_differs i old new e)
+
+-- so no section has it
+pub shows_nothing : (options : Options) (old : Attributes) → shows_any options (Some old, Some old) ≡ false
+unfolding shows_any
+shows_nothing options old = none_any (shows_at options (Some old, Some old)) all_attrs (λ a. never_shown options.ignore options.level a old old refl)
+
+pub in_none : (options : Options) (section : Section) (entry : Entry) → is_in options section (alike_of entry) ≡ false
+in_none options AddedEntries entry = refl
+in_none options RemovedEntries entry = refl
+in_none options ChangedEntries entry = never_differs options.ignore entry.1 entry.1 refl
+in_none options AllEntries entry = never_differs options.ignore entry.1 entry.1 refl
+in_none options Details entry = shows_nothing options entry.1

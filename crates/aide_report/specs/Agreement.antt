@@ -1,41 +1,62 @@
--- What a report says first, by the numbers of its outcome, whatever the sources tell of their bytes.
-use Rattle.std.specs.Prelude.{◌≡◌, ℕ, ◌&&◌, not, Bool, false, if◌then◌else◌, Option, List, [], ◌++◌}
+-- What a report says first. The numbers of its outcome determine that, whatever the sources tell of their bytes.
+use Rattle.std.specs.Prelude.{◌≡◌, ℕ, ◌+◌, ◌&&◌, not, Bool, false, if◌then◌else◌, Option, List, []}
+use Rattle.std.specs.Prelude.{◌++◌}
 use Rattle.std.specs.Io.KnownBytes.{Appends}
 use Rattle.aide_attr.specs.declared.level.Level.TheVariants.{DatabaseAttributes}
 use Rattle.aide_conf.specs.declared.options.Options.{Options}
-use Rattle.aide_report.specs.Report.{is_silent}
+use Rattle.aide_db.specs.declared.side.Side.{Side}
+use Rattle.aide_report.specs.Openings.{OpensExactly}
+use Rattle.aide_report.specs.Report.{is_silent, section_count}
 use Rattle.aide_text.specs.Overview.{overview_of, is_different}
 use Rattle.aide_attr.specs.Level.{reaches}
 use Rattle.aide_text.specs.declared.counts.Counts.{Counts}
 use Rattle.aide_report.specs.declared.outcome.Outcome.{Outcome}
 
--- the head and the summary, nothing in a silent report
+-- the head and the summary; a silent report has neither
 abbrev pub beginning_of : Options → (total added removed changed : ℕ) → List ℕ
 beginning_of options total added removed changed =
     if is_silent options (is_different added removed changed) then []
     else overview_of options.level total added removed changed
 
--- whether anything follows: in no silent report, and at no level below that of the databases
+-- whether anything follows this beginning: only if the report is not silent, and its level reaches the databases
 abbrev pub goes_on : Options → (added removed changed : ℕ) → Bool
 goes_on options added removed changed =
-    not (is_silent options (is_different added removed changed)) && reaches options.level DatabaseAttributes
+    not (is_silent options (is_different added removed changed))
+    && reaches options.level DatabaseAttributes
 
--- the same of counts
+-- the beginning of a report with these counts
 abbrev pub beginning_by : Options → Counts → List ℕ
-beginning_by options counts = beginning_of options counts.total counts.added counts.removed counts.changed
+beginning_by options counts =
+    beginning_of options counts.total counts.added counts.removed counts.changed
 
 -- whether anything follows the beginning of a report with these counts
 abbrev pub goes_on_by : Options → Counts → Bool
 goes_on_by options counts = goes_on options counts.added counts.removed counts.changed
 
--- the text has gone out, and more behind it only where that is wanted
+-- the text has gone out, and bytes follow it only if more is wanted
 pub record BeginsWith (text : List ℕ) (wants_more : Bool) (old new : Option (List ℕ)) : Type 0 where
   pub rest : List ℕ
   pub bytes : Appends old new (text ++ rest)
   pub alone : wants_more ≡ false → rest ≡ []
 
--- what has gone out is a report of this outcome, as far as its numbers say
+-- the bytes that went out are a report with this outcome, as far as its numbers determine the report
 abbrev pub IsOfOutcome : Options → Outcome → Option (List ℕ) → Option (List ℕ) → Type 0
 IsOfOutcome options outcome old new =
     BeginsWith (beginning_of options outcome.total outcome.added outcome.removed outcome.changed)
     (goes_on options outcome.added outcome.removed outcome.changed) old new
+
+-- the counts of an outcome, and how many paths show an attribute, which the outcome does not say
+abbrev pub counts_told : Outcome → ℕ → Counts
+counts_told outcome shown = record {
+  added = outcome.added;
+  removed = outcome.removed;
+  changed = outcome.changed;
+  total = outcome.total;
+  shown = shown;
+}
+
+-- Each side was opened to be read whole, to count, and once for each section of entries of a report with this outcome.
+pub record OpensByOutcome (options : Options) (outcome : Outcome)
+    (old new : Side → ℕ) : Type 0 where
+  pub shown : ℕ
+  pub opens : OpensExactly old new (2 + section_count options (counts_told outcome shown))

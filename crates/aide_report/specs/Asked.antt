@@ -11,4 +11,8 @@ pub record Asked : Type 0 where
 
 -- what a task asks for
 abbrev pub asked : Task → Asked
-asked task = record { options = task.options; old_path = task.old_path.now; new_path = task.new_path.now }
+asked task = record {
+  options = task.options;
+  old_path = task.old_path.now;
+  new_path = task.new_path.now;
+}

@@ -1,16 +1,14 @@
 -- Counts of changes.
-use Rattle.std.specs.Prelude.{◌≡◌, ℕ, ◌+◌, ◌<◌, List, count_by, length}
-use Rattle.std.specs.FinMap.{len}
+use Rattle.std.specs.Prelude.{◌≡◌, ℕ, ◌+◌, ◌<◌, List, count_by}
 use Rattle.aide_conf.specs.declared.options.Options.{Options}
 use Rattle.aide_db.specs.Attributes.{Attributes}
 use Rattle.aide_report.specs.Changed.{differ_by}
 use Rattle.aide_report.specs.Changes.{is_added, is_removed, is_changed, is_of_new}
-use Rattle.aide_report.specs.Compare.{Change, added, removed, changed, changes}
+use Rattle.aide_report.specs.Compare.{Change}
 use Rattle.aide_report.specs.Entries.{is_shown_entry}
-use Rattle.aide_db.specs.Map.{Database}
 use Rattle.aide_text.specs.declared.counts.Counts.{Counts}
 
--- the counts so far, and those of the rest, are those of all
+-- the counts so far plus the counts of the rest are the counts of all changes
 pub record Completes (options : Options) (counts : Counts)
     (rest all : List (Change (List ℕ) Attributes)) : Type 0 where
   pub added : counts.added + count_by is_added rest ≡ count_by is_added all
@@ -18,15 +16,8 @@ pub record Completes (options : Options) (counts : Counts)
   pub changed : counts.changed + count_by (is_changed (differ_by options.ignore)) rest
       ≡ count_by (is_changed (differ_by options.ignore)) all
   pub total : counts.total + count_by is_of_new rest ≡ count_by is_of_new all
-  pub shown : counts.shown + count_by (is_shown_entry options) rest ≡ count_by (is_shown_entry options) all
-
--- the numbers of added, removed and changed paths, and of the paths of the new map
-pub record AreCounts (options : Options) (counts : Counts) (old new : Database) : Type 0 where
-  pub added_count : counts.added ≡ length (added old new)
-  pub removed_count : counts.removed ≡ length (removed old new)
-  pub changed_count : counts.changed ≡ length (changed (differ_by options.ignore) old new)
-  pub total_count : counts.total ≡ len new
-  pub shown_count : counts.shown ≡ count_by (is_shown_entry options) (changes old new)
+  pub shown : counts.shown + count_by (is_shown_entry options) rest
+      ≡ count_by (is_shown_entry options) all
 
 -- each count is below a limit
 pub record AreBelow (counts : Counts) (limit : ℕ) : Type 0 where

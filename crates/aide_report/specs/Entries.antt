@@ -1,4 +1,4 @@
--- What a report tells of one change: its line in a list, and its details.
+-- What a report says of one change: its line in a list, and its details.
 use Rattle.std.specs.Prelude.{ℕ, Bool, true, false, ◌&&◌, if◌then◌else◌, List, [], ◌++◌, Option}
 use Rattle.std.specs.Prelude.{Some, None, is_some, codes}
 use Rattle.std.specs.List.{flat_map, filter, list_any}
@@ -24,7 +24,7 @@ use Rattle.aide_text.specs.Values.{side_text}
 abbrev pub Pair : Type 0
 Pair = Found Attributes
 
--- a path, and that pair
+-- a path, and what both databases have there
 abbrev pub PathChange : Type 0
 PathChange = Change (List ℕ) Attributes
 
@@ -37,14 +37,14 @@ letters_of ignore (None, Some new) = alone_letters (type_in (new Ftype)) Added
 letters_of ignore (Some old, None) = alone_letters (type_in (old Ftype)) Removed
 letters_of ignore (Some old, Some new) = summary_letters (sides_between old new) ignore
 
--- the word in place of it
+-- the word in place of the summary string
 abbrev pub word_of : Pair → List ℕ
 word_of (None, None) = []
 word_of (None, Some new) = codes "added"
 word_of (Some old, None) = codes "removed"
 word_of (Some old, Some new) = codes "changed"
 
--- what stands before the path: the summary string, or a word
+-- what precedes the path in a line: the summary string, or a word
 abbrev pub label_of : Options → Pair → List ℕ
 label_of options pair = if options.summarize then letters_of options.ignore pair else word_of pair
 
@@ -54,23 +54,24 @@ list_line options entry = path_line (label_of options entry.1) entry.0
 
 -- ---- details
 
--- the details of added and removed entries are shown
+-- whether the details of added and removed entries are shown
 abbrev pub shows_alone : Level → Bool
 shows_alone AddedRemovedEntries = true
 shows_alone _ = false
 
--- the attribute is shown
+-- whether the attribute is shown
 abbrev pub shows_at : Options → Pair → Attr → Bool
 shows_at options (None, None) a = false
 shows_at options (None, Some new) a = shows_alone options.level && is_some (new a)
 shows_at options (Some old, None) a = shows_alone options.level && is_some (old a)
-shows_at options (Some old, Some new) a = is_shown (sides_between old new) options.ignore options.level a
+shows_at options (Some old, Some new) a =
+    is_shown (sides_between old new) options.ignore options.level a
 
--- some attribute is shown
+-- whether some attribute is shown
 unfoldable pub shows_any : Options → Pair → Bool
 shows_any options pair = list_any (shows_at options pair) all_attrs
 
--- the same of a change
+-- whether a change shows some attribute
 abbrev pub is_shown_entry : Options → PathChange → Bool
 is_shown_entry options entry = shows_any options entry.1
 
@@ -86,12 +87,12 @@ title_word (Some Fifo) = codes "FIFO"
 title_word (Some Socket) = codes "Socket"
 title_word (Some (Other bits)) = codes "Entry"
 
--- the type that a side tells
+-- the type of a side's entry, if the side has an entry and this has a type
 abbrev pub type_on : Option Attributes → Option FileType
 type_on None = None
 type_on (Some attributes) = type_in (attributes Ftype)
 
--- the word for an entry: by the new one's type where it has one, otherwise by the old one's
+-- the word for an entry: by the new entry's type if it has one, otherwise by the old entry's type
 abbrev pub title_of : Pair → List ℕ
 title_of (old, new) = title_word (first_type (type_on new) (type_on old))
 
@@ -100,11 +101,11 @@ unfoldable pub attribute_text : Bool → Pair → Attr → List ℕ
 attribute_text base16 pair a =
     side_by_side (detail_name_of a) (side_text base16 a pair.0) (side_text base16 a pair.1)
 
--- an attribute, where it passes
+-- the text of an attribute that passes, and nothing for any other
 unfoldable pub shown_text : Bool → Pair → (Attr → Bool) → Attr → List ℕ
 shown_text base16 pair shows a = if shows a then attribute_text base16 pair a else []
 
--- the attributes that pass, in their order
+-- the texts of the attributes that pass, in their order
 unfoldable pub attributes_text : Bool → Pair → (Attr → Bool) → List Attr → List ℕ
 attributes_text base16 pair shows attrs = flat_map (attribute_text base16 pair) (filter shows attrs)
 

@@ -9,19 +9,19 @@ use Rattle.aide_db.specs.Skipped.{skipped_in}
 use Rattle.aide_report.specs.Entries.{PathChange}
 use Rattle.aide_report.specs.Merged.{merged}
 use Rattle.aide_report.specs.Report.{Origin, counts_of}
-use Rattle.aide_report.specs.declared.comparison.Finding.{Finding}
+use Rattle.aide_report.specs.declared.finding.Finding.{Finding}
 
--- of sound texts, the counts of their maps and the columns that were passed over
+-- for two sound texts: the counts of their maps, and the columns that were skipped
 pub record IsFinding (options : Options) (finding : Finding) (old new : List ℕ) : Type 0 where
   pub counts : finding.counts ≡ counts_of options (database_of old) (database_of new)
   pub skipped_old : finding.skipped_old ≡ skipped_in (columns_of_text old)
   pub skipped_new : finding.skipped_new ≡ skipped_in (columns_of_text new)
 
--- what the report tells of the old database itself
+-- what the report says of the old database itself
 abbrev pub old_origin : Task → Finding → Origin
 old_origin task finding = record { path = task.old_path.now; digest = finding.digests.of_old }
 
--- what it tells of the new one
+-- what the report says of the new database itself
 abbrev pub new_origin : Task → Finding → Origin
 new_origin task finding = record { path = task.new_path.now; digest = finding.digests.of_new }
 

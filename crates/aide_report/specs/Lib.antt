@@ -13,7 +13,7 @@ pub mod Changes
 pub mod Merged
 pub mod Standing
 pub mod Bound
-pub mod Held
+pub mod NextEntry
 pub mod Turn
 pub mod Merging
 pub mod Changed
@@ -34,3 +34,7 @@ pub mod Room
 pub mod Runs
 pub mod Agreement
 pub mod Missing
+pub mod Seen
+pub mod Passes
+pub mod Readings
+pub mod MergeCalls

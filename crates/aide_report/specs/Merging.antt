@@ -9,31 +9,31 @@ use Rattle.aide_db.specs.declared.limits.Limits.{Limits}
 use Rattle.aide_db.specs.declared.side.Side.{Side}
 use Rattle.aide_db.specs.declared.side.Side.TheVariants.{Old, New}
 use Rattle.aide_report.specs.Compare.{Change}
-use Rattle.aide_report.specs.Held.{ahead, work}
+use Rattle.aide_report.specs.NextEntry.{ahead, work}
 use Rattle.aide_report.specs.Merged.{merged}
 use Rattle.aide_db.specs.Answer.{Stands}
 use Rattle.aide_report.specs.Standing.{rest_of, left_of, IsUnfailed}
 use Rattle.aide_db.specs.declared.stage.Stage.TheVariants.{Ended as AtEnd}
-use Rattle.aide_report.specs.declared.merge.Held.TheVariants.{Here, Ended}
+use Rattle.aide_report.specs.declared.merge.NextEntry.TheVariants.{Here, Ended}
 use Rattle.aide_report.specs.declared.merge.Merge.{Merge}
 
--- the changes that a merge has still to give, of databases of these texts
+-- the changes that a merge has still to give, if the databases have these texts
 abbrev pub remaining : {R : Type 0} → Merge R → DeskView → List ℕ → List ℕ
     → List (Change (List ℕ) Attributes)
 remaining m desk old new =
-    merged path_cmp (ahead m.old_held (desk_entry Old desk) (rest_of m.old_cursor old))
-    (ahead m.new_held (desk_entry New desk) (rest_of m.new_cursor new))
+    merged path_cmp (ahead m.old_next (desk_entry Old desk) (rest_of m.old_cursor old))
+    (ahead m.new_next (desk_entry New desk) (rest_of m.new_cursor new))
 
--- the cursors are of their sides and have not failed, and what is held stands on the desk
+-- the cursors are of their sides and have not failed, and an entry that is here is on the desk
 pub record IsReady {R : Type 0} (m : Merge R) (desk : DeskView) : Type 0 where
   pub old_side : m.old_cursor.side ≡ Old
   pub new_side : m.new_cursor.side ≡ New
   pub old_unfailed : IsUnfailed m.old_cursor.stage
   pub new_unfailed : IsUnfailed m.new_cursor.stage
-  pub old_here : m.old_held ≡ Here → IsSome (desk_entry Old desk)
-  pub new_here : m.new_held ≡ Here → IsSome (desk_entry New desk)
-  pub old_ended : m.old_held ≡ Ended → m.old_cursor.stage ≡ AtEnd
-  pub new_ended : m.new_held ≡ Ended → m.new_cursor.stage ≡ AtEnd
+  pub old_here : m.old_next ≡ Here → IsSome (desk_entry Old desk)
+  pub new_here : m.new_next ≡ Here → IsSome (desk_entry New desk)
+  pub old_ended : m.old_next ≡ Ended → m.old_cursor.stage ≡ AtEnd
+  pub new_ended : m.new_next ≡ Ended → m.new_cursor.stage ≡ AtEnd
 
 -- both databases have been read to their ends
 pub record IsEnded {R : Type 0} (m : Merge R) : Type 0 where
@@ -50,7 +50,8 @@ abbrev pub limits_at : {R : Type 0} → Merge R → Side → Limits
 limits_at m side = (cursor_at m side).limits
 
 -- the cursor of a side stands for a database of this text
-abbrev pub StandsAt : {R : Type 0} → (R → Option (List ℕ)) → Merge R → DeskView → Side → List ℕ → Type 0
+abbrev pub StandsAt : {R : Type 0} → (R → Option (List ℕ)) → Merge R → DeskView → Side → List ℕ
+    → Type 0
 StandsAt to_come m desk side text = Stands to_come (cursor_at m side) desk text
 
 -- how often the reels of both sides have failed
@@ -59,4 +60,4 @@ reels_failed failures m = failures m.old_cursor.reel + failures m.new_cursor.ree
 
 -- a bound on the changes that a merge can still pass on
 abbrev pub total_work : {R : Type 0} → Merge R → ℕ
-total_work m = work m.old_held (left_of m.old_cursor) + work m.new_held (left_of m.new_cursor)
+total_work m = work m.old_next (left_of m.old_cursor) + work m.new_next (left_of m.new_cursor)

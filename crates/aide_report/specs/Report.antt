@@ -25,16 +25,16 @@ pub record Origin : Type 0 where
   pub path : List ℕ
   pub digest : List ℕ
 
--- the path of a database below a word, and its digest
+-- a line with a word and the path of a database, and then the digest of the database
 unfoldable pub origin_lines : Bool → List ℕ → List ℕ → List ℕ → List ℕ
 origin_lines base16 word path digest = path_line word path
     ++ alone (codes "SHA256") (digest_text base16 digest)
 
--- the same of an origin
+-- the lines of an origin
 abbrev pub origin_text : Bool → List ℕ → Origin → List ℕ
 origin_text base16 word origin = origin_lines base16 word origin.path origin.digest
 
--- the title of this part
+-- the title of the part about the databases
 unfoldable pub databases_title : List ℕ
 databases_title = titled (codes "The attributes of the databases:") ++ 10 ∷ []
 
@@ -47,7 +47,7 @@ databases_of base16 old_origin new_origin =
 
 -- ---- the whole
 
--- the numbers of added, removed and changed paths, of the paths of the new map, and of those that show an attribute
+-- how many paths were added, removed and changed, how many the new map has, and how many show an attribute
 abbrev pub counts_of : Options → Database → Database → Counts
 counts_of options old new = record {
   added = length (added old new);
@@ -59,12 +59,14 @@ counts_of options old new = record {
 
 -- the sections of entries
 unfoldable pub sections_text : Options → Counts → List PathChange → List ℕ
-sections_text options counts entries = flat_map (section_text options entries) (sections_of options counts)
+sections_text options counts entries =
+    flat_map (section_text options entries) (sections_of options counts)
 
--- the databases from their level on
+-- the part about the databases, if the level reaches it
 unfoldable pub databases_text : Options → Origin → Origin → List ℕ
 databases_text options old_origin new_origin =
-    when (reaches options.level DatabaseAttributes) (databases_of options.base16 old_origin new_origin)
+    when (reaches options.level DatabaseAttributes)
+    (databases_of options.base16 old_origin new_origin)
 
 -- the head and the summary, the sections, the databases
 unfoldable pub parts_of : Options → Origin → Origin → Counts → List PathChange → List ℕ
@@ -79,9 +81,10 @@ is_silent options differ = options.quiet && not differ
 -- all parts, unless the report is silent
 unfoldable pub text_of : Options → Origin → Origin → Counts → List PathChange → List ℕ
 text_of options old_origin new_origin counts entries =
-    if is_silent options (differs counts) then [] else parts_of options old_origin new_origin counts entries
+    if is_silent options (differs counts) then []
+    else parts_of options old_origin new_origin counts entries
 
--- how many sections of entries it has
+-- how many sections of entries the report has
 abbrev pub section_count : Options → Counts → ℕ
 section_count options counts =
     if is_silent options (differs counts) then 0 else length (sections_of options counts)
@@ -91,7 +94,7 @@ abbrev pub report_of : Options → Origin → Origin → Database → Database �
 report_of options old_origin new_origin old new =
     text_of options old_origin new_origin (counts_of options old new) (changes old new)
 
--- what a run answers, with the numbers of the columns that it passed over
+-- what a run returns, with the skipped columns of each side, a bit for each column
 abbrev pub outcome_by : Counts → ℕ → ℕ → Outcome
 outcome_by counts skipped_old skipped_new = record {
   added = counts.added;
@@ -102,7 +105,8 @@ outcome_by counts skipped_old skipped_new = record {
   skipped_new = skipped_new;
 }
 
--- 1 if an entry was added, 2 if one was removed and 4 if one is changed, in all
+-- the sum of 1 if an entry was added, 2 if one was removed, and 4 if one is changed
 abbrev pub status_of : ℕ → ℕ → ℕ → ℕ
 status_of added removed changed =
-    (if added == 0 then 0 else 1) + ((if removed == 0 then 0 else 2) + (if changed == 0 then 0 else 4))
+    (if added == 0 then 0 else 1)
+    + ((if removed == 0 then 0 else 2) + (if changed == 0 then 0 else 4))

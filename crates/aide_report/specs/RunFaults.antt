@@ -1,4 +1,4 @@
--- What the faults of a run say.
+-- What the faults of a run mean.
 use Rattle.std.specs.Prelude.{◌≡◌, ◌<◌, ◌≤◌, ◌+◌, ◌-◌, ◌^◌, ℕ, Option, Some, List, [], true, ⊤}
 use Rattle.std.specs.Prelude.{false, Result, Ok, Err}
 use Rattle.std.specs.Io.KnownBytes.{Appends}
@@ -12,27 +12,24 @@ use Rattle.aide_report.specs.Standing.{IsFaultOf}
 use Rattle.aide_text.specs.Sent.{IsCounted}
 use Rattle.aide_text.specs.declared.pen.Pen.{Pen}
 use Rattle.aide_report.specs.declared.run_fault.RunFault.{RunFault}
-use Rattle.aide_report.specs.declared.run_fault.RunFault.TheVariants.{Open, Database, Changed, Write}
+use Rattle.aide_report.specs.declared.run_fault.RunFault.TheVariants.{Open, Database, Changed}
+use Rattle.aide_report.specs.declared.run_fault.RunFault.TheVariants.{Write}
 
--- a write failed, and the fault has the number of bytes that went out
-abbrev pub HasWritten : Option (List ℕ) → Option (List ℕ) → RunFault → Type 0
-HasWritten old new (Write written) = IsCounted old new 0 written
-HasWritten old new _ = ⊥
-
--- the same, where a write failed
+-- if a write failed, the fault has the number of bytes that went out
 abbrev pub HasWrittenIfAny : Option (List ℕ) → Option (List ℕ) → RunFault → Type 0
 HasWrittenIfAny old new (Write written) = IsCounted old new 0 written
 HasWrittenIfAny old new _ = ⊤
 
--- Where no write failed and the old side was opened at most twice, which is before the report is begun, nothing has
--- gone out. This speaks of runs in which the count of openings stays below its last value.
-abbrev pub HasSentNothing : (opened_old opened_new : ℕ) → Option (List ℕ) → Option (List ℕ) → RunFault
+-- If no write failed and the old side was opened at most twice, nothing has gone out: the report is begun later.
+-- This is said only of runs in which the count of openings stays below its last value.
+abbrev pub HasSentNothing : (opened_old opened_new : ℕ) → Option (List ℕ) → Option (List ℕ)
+    → RunFault
     → Type 0
 HasSentNothing opened_old opened_new old new (Write written) = ⊤
 HasSentNothing opened_old opened_new old new _ = opened_new < 2 ^ 64 - 1
     → opened_new ≤ opened_old + 2 → Appends old new []
 
--- A side is not opened or not read only where the sources have failed, and a write fails only where the sink has.
+-- If a side could not be opened or read, the sources have failed. If a write failed, the sink has failed.
 abbrev pub IsCaused : Type 0 → Type 0 → RunFault → Type 0
 IsCaused sources sink (Open side) = sources
 IsCaused sources sink (Database fault) = fault.kind ≡ Read → sources
@@ -47,7 +44,8 @@ IsRight limits bytes_of (Database fault) = (text : List ℕ) → bytes_of fault.
 IsRight limits bytes_of (Changed side) = (text : List ℕ) → bytes_of side ≡ Some text → ⊥
 IsRight limits bytes_of (Write written) = ⊤
 
--- A fault of a later pass: of memory or of a device; or a side is called changed, and is not sound or tells no text.
+-- A fault of a later pass. A fault of a database is then of memory or of a device.
+-- A side that is called changed is not sound, or tells no text.
 abbrev pub IsLater : Limits → (Side → Option (List ℕ)) → RunFault → Type 0
 IsLater limits bytes_of (Open side) = ⊤
 IsLater limits bytes_of (Database fault) = is_outside fault.kind ≡ true
@@ -55,17 +53,17 @@ IsLater limits bytes_of (Changed side) = (text : List ℕ) → bytes_of side ≡
     → IsSound limits text → ⊥
 IsLater limits bytes_of (Write written) = ⊤
 
--- a write failed, and the pen has the number of bytes that went out; otherwise none has failed
+-- if a write failed, the fault has the number of bytes that the pen sent; otherwise no write has failed
 abbrev pub HasPenWritten : Pen → RunFault → Type 0
 HasPenWritten pen (Write written) = (pen.failed ≡ true) × (written ≡ pen.sent)
 HasPenWritten pen _ = pen.failed ≡ false
 
--- the sink has failed once where the fault is one of writing, and with any other fault not at all
+-- the sink has failed once if the fault is a failed write, and not at all if it is another fault
 abbrev pub CountsWriteFault : ℕ → ℕ → RunFault → Type 0
 CountsWriteFault before after (Write written) = after ≡ one_more before
 CountsWriteFault before after _ = after ≡ before
 
--- the same, and in a good run not at all
+-- the same after a fault; after `Ok` the sink has not failed at all
 abbrev pub CountsWrites : {T : Type 0} → ℕ → ℕ → Result T RunFault → Type 0
 CountsWrites before after (Ok answer) = after ≡ before
 CountsWrites before after (Err fault) = CountsWriteFault before after fault

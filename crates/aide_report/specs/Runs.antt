@@ -1,4 +1,4 @@
--- What a run over two databases answers.
+-- What a run over two databases returns.
 use Rattle.std.specs.Prelude.{◌≡◌, ℕ, ◌+◌, ◌⊎◌, Option, Some, Result, Ok, Err, List, [], ⊤, false}
 use Rattle.std.specs.Io.KnownBytes.{Appends}
 use Rattle.aide_report.specs.Asked.{Asked}
@@ -18,14 +18,15 @@ use Rattle.aide_report.specs.Report.{Origin, report_of, counts_of, outcome_by, s
 use Rattle.aide_text.specs.Sent.{SendsPart}
 use Rattle.aide_report.specs.declared.outcome.Outcome.{Outcome}
 use Rattle.aide_report.specs.declared.run_fault.RunFault.{RunFault}
-use Rattle.aide_report.specs.declared.run_fault.RunFault.TheVariants.{Open, Database, Changed, Write}
+use Rattle.aide_report.specs.declared.run_fault.RunFault.TheVariants.{Open, Database, Changed}
+use Rattle.aide_report.specs.declared.run_fault.RunFault.TheVariants.{Write}
 
--- a report, and what a good run tells of it
+-- a report, and the outcome that a run returns with it
 pub record Report : Type 0 where
   pub text : List ℕ
   pub outcome : Outcome
 
--- what a report tells of a database itself
+-- what a report says of a database itself
 abbrev pub origin_of : List ℕ → List ℕ → Origin
 origin_of path text = record { path = path; digest = sha256 text }
 
@@ -45,16 +46,17 @@ unfoldable pub sections_over : Asked → List ℕ → List ℕ → ℕ
 sections_over asked old new =
     section_count asked.options (counts_of asked.options (database_of old) (database_of new))
 
--- how often each database is opened for it: to be read whole, to count, and for each of these sections
+-- how often each database is opened for it: once to be read whole, once to count, and once for each section
 abbrev pub openings_over : Asked → List ℕ → List ℕ → ℕ
 openings_over asked old new = 2 + sections_over asked old new
 
 -- the first fault of the text of this side
 abbrev pub IsFirstFaultOf : Limits → Side → List ℕ → DbFault → Type 0
-IsFirstFaultOf limits side text fault = (fault.side ≡ side) × IsFirstFault limits text fault.line fault.kind
+IsFirstFaultOf limits side text fault = (fault.side ≡ side)
+    × IsFirstFault limits text fault.line fault.kind
 
--- The right answer over two texts: the report where both are sound, otherwise the first fault, that of the old one
--- before that of the new one.
+-- The right answer over two texts: the report if both are sound, and otherwise the first fault.
+-- A fault of the old text comes before one of the new text.
 abbrev pub Runs : Limits → Asked → List ℕ → List ℕ → Result Report DbFault → Type 0
 Runs limits asked old new (Ok report) = IsSound limits old × IsSound limits new
     × (report ≡ report_over asked old new)
@@ -72,25 +74,25 @@ IsRunFault limits asked bytes_of (Database fault) = (old new : List ℕ) → byt
     → is_outside fault.kind ≡ false → Runs limits asked old new (Err fault)
 IsRunFault limits asked bytes_of _ = ⊤
 
--- the whole of an answer's report has gone out, and its outcome is told
+-- the whole of an answer's report has gone out, and its outcome is returned
 abbrev pub EndsWell : Result Report DbFault → Outcome → Option (List ℕ) → Option (List ℕ) → Type 0
 EndsWell (Ok report) outcome old new = (report.outcome ≡ outcome) × Appends old new report.text
 EndsWell (Err fault) outcome old new = ⊥
 
--- a front of an answer's report has gone out
+-- the beginning of an answer's report has gone out, and nothing if the answer is a fault
 abbrev pub EndsEarly : Result Report DbFault → Option (List ℕ) → Option (List ℕ) → Type 0
 EndsEarly (Ok report) old new = SendsPart report.text old new
 EndsEarly (Err fault) old new = Appends old new []
 
--- why a database fault comes: a failure of the sources, want of memory, or that it is the answer
-abbrev pub StandsOn : DbFaultKind → Type 0 → Type 0 → Type 0
-StandsOn Read rose first = rose
-StandsOn Memory rose first = ⊤
-StandsOn _ rose first = first
+-- why a database fault comes: the sources failed, memory ran out, or the fault is the answer
+abbrev pub Causes : DbFaultKind → Type 0 → Type 0 → Type 0
+Causes Read rose first = rose
+Causes Memory rose first = ⊤
+Causes _ rose first = first
 
 -- why a fault of a run comes
 abbrev pub HasCause : RunFault → Type 0 → Type 0 → (DbFault → Type 0) → (Side → Type 0) → Type 0
 HasCause (Open side) sources sink first untold = sources
-HasCause (Database fault) sources sink first untold = StandsOn fault.kind sources (first fault)
+HasCause (Database fault) sources sink first untold = Causes fault.kind sources (first fault)
 HasCause (Changed side) sources sink first untold = untold side
 HasCause (Write written) sources sink first untold = sink

@@ -1,61 +1,36 @@
 //! A whole run.
-ghost use Rattle.std.specs.Prelude.{◌≡◌, ◌≤◌, ◌+◌, ◌*◌, ◌^◌, [], ℕ, List, Option, Some, Result, Ok};
-ghost use Rattle.std.specs.Prelude.{Err, IfOk, IfErr, OnOk, OnErr, true};
-ghost use Rattle.std.specs.Prelude.{false, max};
 ghost use Rattle.std.specs.Io.KnownBytes.{Appends};
+ghost use Rattle.std.specs.Prelude.{◌≡◌, ◌≤◌, ◌+◌, ◌*◌, ◌^◌, [], ℕ, List, Option, Some, Result, Ok};
+ghost use Rattle.std.specs.Prelude.{Err, IfOk, IfErr, OnOk, OnErr, true, max};
 ghost use Rattle.aide_db.specs.Database.{IsSound};
-ghost use Rattle.aide_db.specs.Failures.{is_outside};
 ghost use Rattle.aide_db.specs.Longest.{longest_line};
 ghost use Rattle.aide_db.specs.declared.fault.DbFault.{DbFault};
-ghost use Rattle.aide_report.specs.Agreement.{IsOfOutcome};
+ghost use Rattle.aide_report.specs.Agreement.{IsOfOutcome, OpensByOutcome};
 ghost use Rattle.aide_report.specs.Asked.{Asked, asked};
-ghost use Rattle.aide_report.specs.Bound.{Fits, OpensWithin, three_lines};
-ghost use Rattle.aide_report.specs.Digests.{AreDigests};
-ghost use Rattle.aide_text.specs.Failures.{CountsFlush, Rose};
-ghost use Rattle.aide_report.specs.Finding.{IsFinding};
+ghost use Rattle.aide_report.specs.Bound.{three_lines};
 ghost use Rattle.aide_report.specs.Missing.{EndsOver, HasAnswerOver, IsHindered, IsOfReliable};
 ghost use Rattle.aide_report.specs.Missing.{RunsOver, StopsFor, TellsSide};
 ghost use Rattle.aide_report.specs.Openings.{OpensExactly, OpensAtMost, OpensFirst, IsRefusedThere};
-ghost use Rattle.aide_report.specs.Report.{outcome_by};
+ghost use Rattle.aide_report.specs.Openings.{IsNotGiven};
+ghost use Rattle.aide_report.specs.Readings.{ClearsDesk, IsFindingFault, IsFound};
 ghost use Rattle.aide_report.specs.Room.{IsNotOfMemory};
-ghost use Rattle.aide_report.specs.RunFaults.{CountsWrites, IsCaused, IsRight, HasSentNothing};
+ghost use Rattle.aide_report.specs.RunFaults.{IsRight, HasSentNothing, CountsWrites};
 ghost use Rattle.aide_report.specs.RunFaults.{HasWrittenIfAny};
-ghost use Rattle.aide_report.specs.Runs.{Report, Runs, report_over, openings_over, HasAnswer};
-ghost use Rattle.aide_report.specs.Runs.{IsRunFault, EndsWell, EndsEarly, HasCause};
+ghost use Rattle.aide_report.specs.Runs.{Report, Runs, openings_over, HasAnswer, IsRunFault};
+ghost use Rattle.aide_report.specs.Runs.{EndsWell, EndsEarly, HasCause};
+ghost use Rattle.aide_report.specs.Seen.{AreLimits, KeepsSources, seen};
+ghost use Rattle.aide_text.specs.Failures.{CountsFlush, Rose};
 
 use crate::digests::Digests;
+use crate::finding::Finding;
 use crate::outcome::Outcome;
 use crate::pass::{clear, count_pass, read_whole};
 use crate::report::write_report;
 use crate::run_fault::RunFault;
 use aide_conf::{Options, Task};
 use aide_db::{Desk, Limits, Side, Sources};
-use aide_text::{Counts, Sink};
+use aide_text::Sink;
 use std::alloc::Allocator;
-
-/// What the readings and the counting pass have found.
-#[derive(Clone, Copy, Debug, PartialEq, Eq)]
-pub(crate) struct Finding {
-    pub(crate) counts: Counts,
-    pub(crate) digests: Digests,
-    pub(crate) skipped_old: u64,
-    pub(crate) skipped_new: u64,
-}
-
-impl Finding {
-    fn outcome(&self) -> Outcome
-        ensures { result ≡ outcome_by self.now.counts self.now.skipped_old self.now.skipped_new }
-    {
-        Outcome {
-            added: self.counts.added,
-            removed: self.counts.removed,
-            changed: self.counts.changed,
-            total: self.counts.total,
-            skipped_old: self.skipped_old,
-            skipped_new: self.skipped_new,
-        }
-    }
-}
 
 /// Reads both databases whole, the old one first, and then counts their differences in one pass over both.
 fn compare<S: Sources, A: Allocator + Copy>(
@@ -64,43 +39,20 @@ fn compare<S: Sources, A: Allocator + Copy>(
     desk: &mut Desk<A>,
     sources: &mut S,
 ) -> Result<Finding, RunFault>
-    requires line { 14 ≤ limits.line }
-    requires bytes { limits.bytes ≤ 2 ^ 60 }
-    ensures sound { OnOk result ((side : Side) (text : List ℕ)
-        → S.bytes_of sources.old side ≡ Some text → IsSound limits text) }
-    ensures same { S.bytes_of sources.new ≡ S.bytes_of sources.old }
-    ensures finding { IfOk result (λ finding. (old new : List ℕ)
-        → S.bytes_of sources.old Side.Old ≡ Some old → S.bytes_of sources.old Side.New ≡ Some new
-        → IsFinding options.now finding old new) }
-    ensures digests { IfOk result (λ finding. AreDigests (S.bytes_of sources.old) finding.digests) }
-    ensures right { IfErr result (IsRight limits (S.bytes_of sources.old)) }
-    ensures first { (wish : Asked)
-        → IfErr result (IsRunFault limits wish (S.bytes_of sources.old)) }
-    ensures caused { IfErr result (IsCaused
-        (Rose (S.failures sources.old) (S.failures sources.new)) ⊥) }
+    requires { AreLimits limits }
+    ensures sources { KeepsSources (seen S.Sources sources.old) (seen S.Sources sources.new) }
     ensures opens { OnOk result (OpensExactly (S.openings sources.old) (S.openings sources.new) 2) }
     ensures opens_some { OpensAtMost (S.openings sources.old) (S.openings sources.new) 2 }
-    ensures opens_first { IfErr result (OpensFirst
-        (S.openings sources.old) (S.openings sources.new)) }
-    ensures refused { IfErr result (IsRefusedThere
-        (S.openings sources.old) (S.openings sources.new)) }
-    ensures reliable_same { S.is_reliable sources.new ≡ S.is_reliable sources.old }
-    ensures there { OnOk result ((side : Side) → S.is_missing sources.old side ≡ false) }
+    ensures found { IfOk result (IsFound options.now limits (seen S.Sources sources.old)) }
+    ensures fault { IfErr result (IsFindingFault
+        limits (seen S.Sources sources.old) (seen S.Sources sources.new) desk.old.room) }
     ensures over { (wish : Asked) (old new : Option (List ℕ))
         → TellsSide (S.bytes_of sources.old Side.Old) (S.is_missing sources.old Side.Old) old
         → TellsSide (S.bytes_of sources.old Side.New) (S.is_missing sources.old Side.New) new
         → (r : Result Report RunFault) → RunsOver limits wish old new r
         → IfErr result (StopsFor r
         (IsHindered old new (Rose (S.failures sources.old) (S.failures sources.new)) ⊥)) }
-    ensures reliable { S.is_reliable sources.old ≡ true
-        → IfErr result (IsOfReliable (S.bytes_of sources.old)) }
-    ensures never_falls { S.failures sources.old ≤ S.failures sources.new }
-    ensures room { desk.new.room ≡ desk.old.room }
-    ensures memory { limits.line ≤ desk.old.room → IfErr result IsNotOfMemory }
-    ensures fits { (old_line new_line : ℕ)
-        → OpensWithin (S.bytes_of sources.old) limits Side.Old old_line
-        → OpensWithin (S.bytes_of sources.old) limits Side.New new_line
-        → Fits old_line new_line desk.old.peak desk.new }
+    ensures desk { ClearsDesk limits (S.bytes_of sources.old) desk.old desk.new }
 {
     clear(limits, desk);
     let old_reading = match read_whole(sources, Side::Old, limits, desk) {
@@ -127,27 +79,28 @@ fn compare<S: Sources, A: Allocator + Copy>(
 
 /// Compares two databases and writes the report.
 ///
-/// The old database is opened and read whole, then the new one; then both are read together and their differences are
-/// counted; then the report is written, in a further pass for each of its sections of entries, and flushed once, also
-/// where it is empty. In each pass the old side is opened first. Every reel that was opened is closed.
+/// First the old database is opened and read whole, then the new one. Then both are read together, and their
+/// differences are counted. Then the report is written, in another pass for each of its sections of entries, and
+/// flushed once, even if it is empty. In each pass the old side is opened first. Every reel that was opened is
+/// closed.
 ///
 /// - After `Ok` both texts are sound, and exactly the report has gone out: the one function of the options, the
-///   configured paths, the digests and the two maps of entries. It was flushed behind its last byte, and the outcome is
-///   its own.
-/// - After a fault a front of the report has gone out, of which [`RunFault::Write`] tells the length, and nothing where
-///   a text is not sound. As long as a side has not been opened a third time, only a failed write can have let bytes
-///   out.
-/// - Where it is told that a side is not there, nothing goes out, and the answer is [`RunFault::Open`]: of the old
-///   side, or of the new one behind a sound old text. The first fault of the old text comes before a new side that is
-///   not there.
-/// - A fault has a cause: a device that failed, want of memory, the first fault of a text (the old one's before the new
-///   one's), or a side that no longer gives what it first gave. After its first reading a fault of a text is answered
-///   as [`RunFault::Changed`], and so is another digest. A side whose openings all agree is never called changed.
+///   configured paths, the digests and the two maps of entries. It was flushed after its last byte, and the outcome
+///   is its own.
+/// - After a fault the beginning of the report has gone out, and nothing if a text is not sound. [`RunFault::Write`]
+///   has the number of bytes. Until a side is opened a third time, only a failed write can have let bytes out.
+/// - If it is told that a side is not there, nothing goes out, and the answer is [`RunFault::Open`]: of the old side,
+///   or of the new one after a sound old text. The first fault of the old text comes before a new side that is not
+///   there.
+/// - A fault has a cause: a device that failed, an allocation that failed, the first fault of a text (the old one's
+///   before the new one's), or a side that no longer gives what it first gave. After the first reading of a side, a
+///   fault of its text or another digest is [`RunFault::Changed`]. A side whose openings all agree is never called
+///   changed.
 /// - Each side is opened twice, and once more for each section of entries: at most six times.
-/// - What an earlier run left on the desk is let go before anything is read. At no moment does the desk hold more than
-///   the entry line of each side and the line that is read, also where the answer is a fault. A moment is between two
-///   calls of the desk; its peak tells the most that it ever held.
-/// - Where `limits.line` is at most the room that was reserved on the desk, memory is never wanted.
+/// - What an earlier run left on the desk is let go before anything is read. At no moment does the desk hold more
+///   than the entry line of each side and the line that is being read, even if the answer is a fault. A moment is
+///   between two calls of the desk; its peak is the most that it ever held.
+/// - If `limits.line` is at most the room that was reserved on the desk, the run never lacks memory for a line.
 pub fn run<S: Sources, W: Sink, A: Allocator + Copy>(
     task: &Task<'_>,
     limits: Limits,
@@ -158,12 +111,12 @@ pub fn run<S: Sources, W: Sink, A: Allocator + Copy>(
     requires line { 14 ≤ limits.line }
     requires bytes { limits.bytes ≤ 2 ^ 60 }
 
-    // Two texts have a right answer, and so has what stands at both sides, where a side may not be there.
+    // Two texts have a right answer. So has what is at both sides, where a side may also not be there.
     ensures answered { (old new : List ℕ) → HasAnswer limits (asked task.now) old new }
     ensures answered_over { (old new : Option (List ℕ))
         → HasAnswerOver limits (asked task.now) old new }
 
-    // After a good run both texts are sound, the right report has gone out and no other byte, and its outcome is told.
+    // After `Ok` both texts are sound, the right report has gone out and no other byte, and its outcome is returned.
     ensures sound { OnOk result ((side : Side) (text : List ℕ)
         → S.bytes_of sources.old side ≡ Some text → IsSound limits text) }
     ensures ok { IfOk result (λ outcome. (old new : List ℕ)
@@ -171,7 +124,7 @@ pub fn run<S: Sources, W: Sink, A: Allocator + Copy>(
         → (r : Result Report DbFault) → Runs limits (asked task.now) old new r
         → EndsWell r outcome (W.delivered out.old) (W.delivered out.new)) }
 
-    // After a fault a front of the right report has gone out, and nothing where a text is not sound.
+    // After a fault the beginning of the right report has gone out, and nothing if a text is not sound.
     ensures part { OnErr result ((old new : List ℕ) → S.bytes_of sources.old Side.Old ≡ Some old
         → S.bytes_of sources.old Side.New ≡ Some new
         → (r : Result Report DbFault) → Runs limits (asked task.now) old new r
@@ -181,8 +134,8 @@ pub fn run<S: Sources, W: Sink, A: Allocator + Copy>(
         → Appends (W.delivered out.old) (W.delivered out.new) [] }
     ensures written { IfErr result (HasWrittenIfAny (W.delivered out.old) (W.delivered out.new)) }
 
-    // Where it is told of each side what stands there, a text or nothing: the run ends with the right answer, but where
-    // memory was wanted, or a side that is there or the sink has failed. Over reliable sources no such side fails.
+    // If it is told what is at each side, a text or nothing: the run ends with the right answer, unless an
+    // allocation, a side that is there, or the sink has failed. Over reliable sources no such side fails.
     ensures over { (old new : Option (List ℕ))
         → TellsSide (S.bytes_of sources.old Side.Old) (S.is_missing sources.old Side.Old) old
         → TellsSide (S.bytes_of sources.old Side.New) (S.is_missing sources.old Side.New) new
@@ -193,9 +146,9 @@ pub fn run<S: Sources, W: Sink, A: Allocator + Copy>(
     ensures reliable { S.is_reliable sources.old ≡ true
         → IfErr result (IsOfReliable (S.bytes_of sources.old)) }
 
-    // For any sources, also such as tell no bytes: the report begins with the head and the summary of the very outcome
-    // that is told, and is these alone where nothing more is wanted. It is flushed once, after its last byte, and after
-    // a fault not at all. Before both databases have been read and counted nothing goes out.
+    // For any sources, also those that tell no bytes: the report begins with the head and the summary of the very
+    // outcome that is returned, and is only these if nothing more is asked for. It is flushed once, after its last
+    // byte, and after a fault not at all. Before both databases have been read and counted nothing goes out.
     ensures consistent { IfOk result (λ outcome.
         IsOfOutcome task.now.options outcome (W.delivered out.old) (W.delivered out.new)) }
     ensures flushed { OnOk result (W.is_flushed out.new ≡ true) }
@@ -204,8 +157,8 @@ pub fn run<S: Sources, W: Sink, A: Allocator + Copy>(
         (S.openings sources.old Side.Old) (S.openings sources.new Side.Old)
         (W.delivered out.old) (W.delivered out.new)) }
 
-    // Why a fault comes. A side whose openings agree is never called changed, and a fault of its text is its first one.
-    // A write or a flush that fails is told, and none is tried again.
+    // Why a fault comes. A side whose openings agree is never called changed, and a fault of its text is its first
+    // one. A failed write or flush is returned, and none is tried again.
     ensures cause { IfErr result (λ fault. HasCause fault
         (Rose (S.failures sources.old) (S.failures sources.new))
         (Rose (W.failures out.old) (W.failures out.new))
@@ -217,6 +170,7 @@ pub fn run<S: Sources, W: Sink, A: Allocator + Copy>(
     ensures first { IfErr result (IsRunFault limits (asked task.now) (S.bytes_of sources.old)) }
     ensures refused { IfErr result (IsRefusedThere
         (S.openings sources.old) (S.openings sources.new)) }
+    ensures not_given { IfErr result (IsNotGiven (S.was_given sources.new)) }
     ensures sources_never_fall { S.failures sources.old ≤ S.failures sources.new }
     ensures sink_never_falls { W.failures out.old ≤ W.failures out.new }
     ensures sink_fails { CountsWrites (W.failures out.old) (W.failures out.new) result }
@@ -226,6 +180,8 @@ pub fn run<S: Sources, W: Sink, A: Allocator + Copy>(
         → S.bytes_of sources.old Side.New ≡ Some new
         → OpensExactly (S.openings sources.old) (S.openings sources.new)
         (openings_over (asked task.now) old new)) }
+    ensures opens_told { IfOk result (λ outcome. OpensByOutcome task.now.options outcome
+        (S.openings sources.old) (S.openings sources.new)) }
     ensures opens_within { (old new : List ℕ) → S.bytes_of sources.old Side.Old ≡ Some old
         → S.bytes_of sources.old Side.New ≡ Some new → IsSound limits old → IsSound limits new
         → OpensAtMost (S.openings sources.old) (S.openings sources.new)
@@ -234,8 +190,8 @@ pub fn run<S: Sources, W: Sink, A: Allocator + Copy>(
     ensures opens_first { IfErr result (OpensFirst
         (S.openings sources.old) (S.openings sources.new)) }
 
-    // The greatest number of bytes ever held on the desk does not fall, and rises at most to three lines as long as the
-    // limit. Where each opening gives the same bytes, it rises at most to the longest line of each text and one further
+    // The greatest number of bytes ever held on the desk does not fall, and rises at most to three lines as long as
+    // the limit. If each opening gives the same bytes, it rises at most to the longest line of each text and one more
     // line no longer than these.
     ensures peak { desk.old.peak ≤ desk.new.peak }
     ensures below { desk.new.peak ≤ max desk.old.peak (3 * limits.line) }
@@ -243,8 +199,9 @@ pub fn run<S: Sources, W: Sink, A: Allocator + Copy>(
         → S.bytes_of sources.old Side.New ≡ Some new → desk.new.peak
         ≤ max desk.old.peak (three_lines (longest_line limits old) (longest_line limits new)) }
 
-    // Where a line fits into the room that was reserved on the desk, memory is never wanted.
+    // If a line fits into the room that was reserved on the desk, the run never lacks memory.
     ensures room { desk.new.room ≡ desk.old.room }
+    ensures lookups { S.lookups sources.new ≡ S.lookups sources.old }
     ensures memory { limits.line ≤ desk.old.room → IfErr result IsNotOfMemory }
 {
     let finding = match compare(&task.options, limits, desk, sources) {

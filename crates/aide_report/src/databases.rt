@@ -1,12 +1,11 @@
 //! The databases' part of a report.
-ghost use Rattle.std.specs.Prelude.{◌≡◌, codes};
 ghost use Rattle.aide_report.specs.Finding.{old_origin, new_origin};
-ghost use Rattle.aide_text.specs.PenSheet.{sheet};
 ghost use Rattle.aide_report.specs.Report.{databases_of, origin_lines, databases_title};
 ghost use Rattle.aide_report.specs.Report.{databases_text};
+ghost use Rattle.aide_text.specs.PenSheet.{sheet};
 ghost use Rattle.aide_text.specs.Sheet.{Wrote};
 
-use crate::comparison::Finding;
+use crate::finding::Finding;
 use aide_attr::Level;
 use aide_conf::Task;
 use aide_text::{Pen, Sink, SliceFeed, put_digest, put_newline, put_path_line, put_titled};
@@ -61,7 +60,7 @@ fn put_origins<W: Sink>(out: &mut W, pen: &mut Pen, task: &Task<'_>, finding: &F
     );
 }
 
-/// The databases' part, where the level has it.
+/// Writes the databases' part, if the level has it.
 #[tactic(auto, unfolding(crate::specs::Report::databases_text))]
 pub(crate) fn put_databases<W: Sink>(out: &mut W, pen: &mut Pen, task: &Task<'_>, finding: &Finding)
     ensures { Wrote (databases_text task.now.options (old_origin task.now finding.now)

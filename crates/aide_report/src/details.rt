@@ -1,35 +1,30 @@
 //! The details of an entry.
-ghost use Rattle.std.specs.Prelude.{◌≡◌, ◌++◌, Option, None, Some, if◌then◌else◌, [], List};
-ghost use Rattle.std.specs.List.{filter};
-ghost use Rattle.aide_attr.specs.Attr.{detail_name_of};
+ghost use Rattle.std.specs.Prelude.{◌≡◌, Option, None, Some};
 ghost use Rattle.aide_attr.specs.Set.{has};
 ghost use Rattle.aide_attr.specs.declared.attr.Attr.{Attr as AnyAttr};
-ghost use Rattle.aide_db.specs.Attributes.{type_in};
+ghost use Rattle.aide_db.specs.Attributes.{link_in, digest_in, opaque_in};
 ghost use Rattle.aide_db.specs.View.{entry_in};
 ghost use Rattle.aide_report.specs.ChangeView.{change_of};
+ghost use Rattle.aide_report.specs.Entries.{attribute_text, attributes_text, shown_text, title_of};
+ghost use Rattle.aide_report.specs.Entries.{title_word};
+ghost use Rattle.aide_report.specs.Sections.{one_text};
 ghost use Rattle.aide_text.specs.DecodedRest.{decoded_rest};
-ghost use Rattle.aide_report.specs.Entries.{entry_details, attribute_text, attributes_text};
-ghost use Rattle.aide_report.specs.Entries.{shown_text, title_of, title_word, type_on};
-ghost use Rattle.aide_text.specs.Text.{path_line};
 ghost use Rattle.aide_text.specs.PenSheet.{sheet};
 ghost use Rattle.aide_text.specs.Printed.{printed};
 ghost use Rattle.aide_text.specs.ReadyRest.{ready_rest};
-ghost use Rattle.aide_text.specs.SliceRest.{slice_rest};
 ghost use Rattle.aide_text.specs.Sheet.{Wrote};
+ghost use Rattle.aide_text.specs.SliceRest.{slice_rest};
 ghost use Rattle.aide_text.specs.TextRest.{text_rest};
 ghost use Rattle.aide_text.specs.Values.{text_at, side_text, option_text, link_text, digest_text};
-ghost use Rattle.aide_db.specs.Attributes.{link_in, digest_in, opaque_in};
-ghost use Rattle.aide_attr.specs.Summary.{first_type};
 
-use crate::count::Change;
-use crate::difference::shown_in;
-use crate::entries::path_of;
+use crate::change::{Change, path_of};
+use crate::difference::told_of;
 use aide_attr::{Attr, AttrSet, FileType, Form};
 use aide_conf::Options;
 use aide_db::View;
 use aide_text::{
-    DecodedFeed, Pen, Printed, Ready, Sink, SliceFeed, ValueText, digest_of, kind_text, mode_of,
-    number_of, put_newline, put_path_line, put_side_by_side,
+    DecodedFeed, Pen, Printed, Ready, Section, Sink, SliceFeed, ValueText, digest_of, kind_text,
+    mode_of, number_of, put_newline, put_path_line, put_side_by_side,
 };
 
 fn link_value<'a>(view: &View<'a>) -> ValueText<Ready, DecodedFeed<'a>, SliceFeed<'a>>
@@ -84,7 +79,7 @@ fn value<'a>(
     }
 }
 
-/// The old side's value in a change, the empty text where it lacks the entry.
+/// The old side's value in a change, or the empty text if that side has no entry.
 fn old_value<'a>(
     change: Change<'a>,
     attr: Attr,
@@ -97,7 +92,6 @@ fn old_value<'a>(
         Change::Added(_) => ValueText::Short(Ready::of(b"")),
         Change::Removed(old) => value(&old, attr, base16),
         Change::Common(old, _) => value(&old, attr, base16),
-        Change::Alike(both) => value(&both, attr, base16),
     }
 }
 
@@ -114,7 +108,6 @@ fn new_value<'a>(
         Change::Added(new) => value(&new, attr, base16),
         Change::Removed(_) => ValueText::Short(Ready::of(b"")),
         Change::Common(_, new) => value(&new, attr, base16),
-        Change::Alike(both) => value(&both, attr, base16),
     }
 }
 
@@ -169,7 +162,8 @@ fn put_attributes<W: Sink>(
     }
 }
 
-fn word(kind: Option<FileType>) -> &'static [u8]
+/// The word that a title has for a type.
+fn type_word(kind: Option<FileType>) -> &'static [u8]
     ensures { result.now ≡ title_word kind }
 {
     match kind {
@@ -185,34 +179,35 @@ fn word(kind: Option<FileType>) -> &'static [u8]
     }
 }
 
-/// The title word: by the new entry's type where it has one, otherwise by the old entry's.
+/// The title word: by the new entry's type if it has one, otherwise by the old entry's.
 fn title(change: Change<'_>) -> &'static [u8]
     ensures { result.now ≡ title_of (change_of change.entry).1 }
 {
     match change {
-        Change::Added(new) => word(new.kind()),
-        Change::Removed(old) => word(old.kind()),
+        Change::Added(new) => type_word(new.kind()),
+        Change::Removed(old) => type_word(old.kind()),
         Change::Common(old, new) => match new.kind() {
-            None => word(old.kind()),
-            Some(kind) => word(Some(kind)),
+            None => type_word(old.kind()),
+            Some(kind) => type_word(Some(kind)),
         },
-        Change::Alike(both) => word(both.kind()),
     }
 }
 
-/// The details of a change.
+/// Writes the details of a change, and nothing if no attribute is shown.
 pub(crate) fn put_details<W: Sink>(
     out: &mut W,
     pen: &mut Pen,
     options: &Options,
     change: Change<'_>,
 )
-    ensures { Wrote (entry_details options.now (change_of change.entry))
+    ensures { Wrote (one_text options.now Section.Details (change_of change.entry))
         (sheet W.delivered W.failures W.flushes out.old pen.old)
         (sheet W.delivered W.failures W.flushes out.new pen.new) }
 {
-    let shown = shown_in(change, options);
-    put_newline(out, pen);
-    put_path_line(out, pen, title(change), path_of(change));
-    put_attributes(out, pen, change, options.base16, shown, &Attr::ALL);
+    let (shown, _) = told_of(change, options);
+    if !shown.is_empty() {
+        put_newline(out, pen);
+        put_path_line(out, pen, title(change), path_of(change));
+        put_attributes(out, pen, change, options.base16, shown, &Attr::ALL);
+    }
 }

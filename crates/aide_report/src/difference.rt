@@ -1,41 +1,24 @@
 //! How two entries of one path differ, and what a report tells of that.
-ghost use Rattle.std.specs.Prelude.{◌≡◌, ◌&&◌, is_some};
+ghost use Rattle.std.specs.Prelude.{◌≡◌, ◌&&◌, is_some, IfSome};
 ghost use Rattle.aide_attr.specs.Difference.{is_shown};
 ghost use Rattle.aide_attr.specs.Set.{has};
+ghost use Rattle.aide_attr.specs.Summary.{summary_letters};
 ghost use Rattle.aide_attr.specs.declared.attr.Attr.{Attr};
 ghost use Rattle.aide_db.specs.Attributes.{sides_between};
 ghost use Rattle.aide_db.specs.View.{entry_in};
-ghost use Rattle.aide_report.specs.Changed.{differ_by};
 ghost use Rattle.aide_report.specs.ChangeView.{change_of};
+ghost use Rattle.aide_report.specs.Changed.{differ_by};
 ghost use Rattle.aide_report.specs.Changes.{is_changed};
 ghost use Rattle.aide_report.specs.Entries.{shows_at, shows_any, shows_alone, letters_of};
+ghost use Rattle.aide_report.specs.Sections.{is_in};
 
-use crate::count::Change;
+use crate::change::Change;
 use aide_attr::{Alone, AttrSet, Ignore, Level, reported, shown, summary, summary_one};
 use aide_conf::Options;
 use aide_db::{View, delta_of};
+use aide_text::Section;
 
-/// Whether some attribute was changed, added or removed, and is not passed over as such.
-fn differ(old: &View<'_>, new: &View<'_>, ignore: &Ignore) -> bool
-    ensures { result ≡ differ_by ignore.now (entry_in old.now).1 (entry_in new.now).1 }
-{
-    let reported = reported(&delta_of(old, new), ignore);
-    !reported.is_empty()
-}
-
-/// Whether both sides have the entry of a change, and these differ.
-pub(crate) fn is_changed(change: Change<'_>, ignore: &Ignore) -> bool
-    ensures { result ≡ is_changed (differ_by ignore.now) (change_of change.entry) }
-{
-    match change {
-        Change::Added(_) => false,
-        Change::Removed(_) => false,
-        Change::Common(old, new) => differ(&old, &new, ignore),
-        Change::Alike(_) => false,
-    }
-}
-
-/// Whether the details of an entry that one side alone has are shown.
+/// Whether the details of an entry are shown that only one side has.
 fn shows_alone(level: Level) -> bool
     ensures { result ≡ shows_alone level }
 {
@@ -56,43 +39,70 @@ fn alone_in(view: &View<'_>, level: Level) -> AttrSet
     }
 }
 
-/// The attributes that the details of two entries of one path show.
-fn shown_between(old: &View<'_>, new: &View<'_>, options: &Options) -> AttrSet
-    ensures { (attr : Attr) → has result attr
+/// What a report tells of two entries of one path: the attributes that their details show, and whether they differ.
+fn told_between(old: &View<'_>, new: &View<'_>, options: &Options) -> (AttrSet, bool)
+    ensures shown { (attr : Attr) → has result.0 attr
         ≡ is_shown (sides_between (entry_in old.now).1 (entry_in new.now).1)
         options.now.ignore options.now.level attr }
+    ensures differ { result.1 ≡ differ_by options.now.ignore (entry_in old.now).1
+        (entry_in new.now).1 }
 {
-    shown(&delta_of(old, new), &options.ignore, options.level)
+    let delta = delta_of(old, new);
+    let reported = reported(&delta, &options.ignore);
+    let shown = shown(&delta, &options.ignore, options.level);
+    (shown, !reported.is_empty())
 }
 
-/// The attributes that the details of a change show.
-pub(crate) fn shown_in(change: Change<'_>, options: &Options) -> AttrSet
-    ensures { (attr : Attr)
-        → has result attr ≡ shows_at options.now (change_of change.entry).1 attr }
+/// What a report tells of a change: the attributes that its details show, and whether it is a changed entry.
+pub(crate) fn told_of(change: Change<'_>, options: &Options) -> (AttrSet, bool)
+    ensures shown { (attr : Attr)
+        → has result.0 attr ≡ shows_at options.now (change_of change.entry).1 attr }
+    ensures changed { result.1 ≡ is_changed (differ_by options.now.ignore)
+        (change_of change.entry) }
 {
     match change {
-        Change::Added(new) => alone_in(&new, options.level),
-        Change::Removed(old) => alone_in(&old, options.level),
-        Change::Common(old, new) => shown_between(&old, &new, options),
-        Change::Alike(_) => AttrSet::empty(),
+        Change::Added(new) => (alone_in(&new, options.level), false),
+        Change::Removed(old) => (alone_in(&old, options.level), false),
+        Change::Common(old, new) => told_between(&old, &new, options),
     }
 }
 
-/// Whether the details of a change show an attribute.
-pub(crate) fn shows(change: Change<'_>, options: &Options) -> bool
-    ensures { result ≡ shows_any options.now (change_of change.entry).1 }
+/// Whether the details of a change show an attribute, and whether it is a changed entry.
+pub(crate) fn counts_as(change: Change<'_>, options: &Options) -> (bool, bool)
+    ensures shown { result.0 ≡ shows_any options.now (change_of change.entry).1 }
+    ensures changed { result.1 ≡ is_changed (differ_by options.now.ignore)
+        (change_of change.entry) }
 {
-    !shown_in(change, options).is_empty()
+    let (shown, changed) = told_of(change, options);
+    (!shown.is_empty(), changed)
 }
 
-/// The summary string of a change.
-pub(crate) fn letters(change: Change<'_>, ignore: &Ignore) -> [u8; 18]
-    ensures { result ≡ letters_of ignore.now (change_of change.entry).1 }
+/// The summary string of two entries of one path, if they differ.
+fn letters_between(old: &View<'_>, new: &View<'_>, ignore: &Ignore) -> Option<[u8; 18]>
+    ensures differ { is_some result
+        ≡ differ_by ignore.now (entry_in old.now).1 (entry_in new.now).1 }
+    ensures letters { IfSome result (λ letters. letters ≡ summary_letters
+        (sides_between (entry_in old.now).1 (entry_in new.now).1) ignore.now) }
+{
+    let delta = delta_of(old, new);
+    let reported = reported(&delta, ignore);
+    if reported.is_empty() {
+        None
+    } else {
+        Some(summary(&delta, ignore))
+    }
+}
+
+/// The summary string of a change, if it is an added, removed or changed entry.
+pub(crate) fn letters(change: Change<'_>, options: &Options) -> Option<[u8; 18]>
+    ensures listed { is_some result
+        ≡ is_in options.now Section.AllEntries (change_of change.entry) }
+    ensures letters { IfSome result (λ letters. letters
+        ≡ letters_of options.now.ignore (change_of change.entry).1) }
 {
     match change {
-        Change::Added(new) => summary_one(new.kind(), Alone::Added),
-        Change::Removed(old) => summary_one(old.kind(), Alone::Removed),
-        Change::Common(old, new) => summary(&delta_of(&old, &new), ignore),
-        Change::Alike(both) => summary(&delta_of(&both, &both), ignore),
+        Change::Added(new) => Some(summary_one(new.kind(), Alone::Added)),
+        Change::Removed(old) => Some(summary_one(old.kind(), Alone::Removed)),
+        Change::Common(old, new) => letters_between(&old, &new, &options.ignore),
     }
 }

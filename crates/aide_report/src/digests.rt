@@ -1,11 +1,11 @@
 //! The digests of both databases, and whether a later reading has the same.
 ghost use Rattle.std.specs.Prelude.{◌≡◌, ℕ, List, IfSome, IfNone};
+ghost use Rattle.sha2.specs.Sha256.{sha256};
 ghost use Rattle.aide_db.specs.Answer.{StandsFor};
 ghost use Rattle.aide_db.specs.declared.column.Column.{Column};
 ghost use Rattle.aide_db.specs.declared.stage.Stage.TheVariants.{Ended as AtEnd};
 ghost use Rattle.aide_report.specs.Digests.{digest_on};
 ghost use Rattle.aide_report.specs.Merging.{IsEnded, cursor_at};
-ghost use Rattle.sha2.specs.Sha256.{sha256};
 
 use crate::merge::Merge;
 use aide_db::{Cursor, Reel, Side};
@@ -17,7 +17,7 @@ pub(crate) struct Digests {
     pub(crate) of_new: [u8; 32],
 }
 
-/// What the reading of a whole database tells.
+/// What the reading of a whole database found.
 #[derive(Clone, Copy, Debug, PartialEq, Eq)]
 pub(crate) struct WholeReading {
     pub(crate) skipped: u64,

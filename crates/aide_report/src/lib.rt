@@ -1,6 +1,7 @@
 //! Two databases compared: the report, byte by byte, and the status of a run.
 #![tactic(auto)]
 
+mod change;
 mod comparison;
 mod count;
 mod databases;
@@ -8,9 +9,11 @@ mod details;
 mod difference;
 mod digests;
 mod entries;
+mod finding;
 mod merge;
 mod outcome;
 mod pass;
+mod plan;
 mod report;
 mod run_fault;
 mod sections;

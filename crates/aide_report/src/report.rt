@@ -1,29 +1,22 @@
 //! The writing of a report, once both databases are known to be sound and their differences are counted.
-ghost use Rattle.std.specs.Prelude.{◌≡◌, ◌≤◌, ◌^◌, ◌+◌, false, true, ℕ, List, length, Some, OnOk};
-ghost use Rattle.std.specs.Prelude.{IfErr};
+ghost use Rattle.std.specs.Prelude.{◌≡◌, ◌+◌, false, true, ℕ, List, length, Some, OnOk};
+ghost use Rattle.aide_attr.specs.Level.{reaches};
 ghost use Rattle.aide_attr.specs.declared.level.Level.{Level as AnyLevel};
 ghost use Rattle.aide_report.specs.Agreement.{BeginsWith, beginning_by, goes_on_by};
-ghost use Rattle.aide_report.specs.Bound.{Fits, OpensWithin};
 ghost use Rattle.aide_report.specs.Digests.{AreDigests};
-ghost use Rattle.aide_text.specs.Failures.{CountsFlush, Rose};
 ghost use Rattle.aide_report.specs.Finding.{pass_of, old_origin, new_origin};
-ghost use Rattle.aide_report.specs.Missing.{IsOfReliable};
-ghost use Rattle.aide_report.specs.Openings.{OpensExactly, OpensAtMost, ComesOpened};
-ghost use Rattle.aide_report.specs.Openings.{IsRefusedThere};
-ghost use Rattle.aide_report.specs.PassFaults.{Writes};
-ghost use Rattle.aide_text.specs.PenSheet.{sheet};
-ghost use Rattle.aide_text.specs.Overview.{differs, overview_by};
+ghost use Rattle.aide_report.specs.Passes.{FlushesOnce, KeepsPen, Passes, WritesOver, on_sheet};
 ghost use Rattle.aide_report.specs.Report.{is_silent, parts_of, text_of, section_count};
-ghost use Rattle.aide_report.specs.Room.{IsNotOfMemory};
-ghost use Rattle.aide_report.specs.RunFaults.{CountsWrites, IsCaused, IsLater, HasPenWritten};
-ghost use Rattle.aide_report.specs.RunFaults.{HasWrittenIfAny};
-ghost use Rattle.aide_attr.specs.Level.{reaches};
 ghost use Rattle.aide_report.specs.Sections.{sections_of};
+ghost use Rattle.aide_report.specs.Seen.{AreLimits, seen};
+ghost use Rattle.aide_text.specs.Failures.{Rose};
+ghost use Rattle.aide_text.specs.Overview.{differs, overview_by};
 ghost use Rattle.aide_text.specs.Sent.{Sends};
-ghost use Rattle.aide_text.specs.Sheet.{WritesFirst, WritesSome};
+ghost use Rattle.aide_text.specs.Sheet.{WritesFirst};
 
-use crate::comparison::Finding;
 use crate::databases::put_databases;
+use crate::finding::Finding;
+use crate::plan::Plan;
 use crate::run_fault::RunFault;
 use crate::sections::put_sections;
 use aide_conf::{Options, Task};
@@ -40,71 +33,41 @@ fn is_silent(options: &Options, counts: &Counts) -> bool
 
 /// Writes all parts of the report.
 fn put_parts<S: Sources, W: Sink, A: Allocator + Copy>(
-    task: &Task<'_>,
-    limits: Limits,
-    desk: &mut Desk<A>,
+    plan: &Plan<'_>,
     sources: &mut S,
+    desk: &mut Desk<A>,
     out: &mut W,
     pen: &mut Pen,
-    finding: &Finding,
 ) -> Result<(), RunFault>
-    requires line { 14 ≤ limits.line }
-    requires bytes { limits.bytes ≤ 2 ^ 60 }
-    requires digests { AreDigests (S.bytes_of sources.old) finding.now.digests }
+    requires limits { AreLimits plan.now.limits }
+    requires digests { AreDigests (S.bytes_of sources.old) plan.now.finding.now.digests }
     requires writes_on { pen.old.failed ≡ false }
-    ensures opens { OnOk result (OpensExactly (S.openings sources.old) (S.openings sources.new)
-        (length (sections_of task.now.options finding.now.counts))) }
-    ensures opens_some { OpensAtMost (S.openings sources.old) (S.openings sources.new)
-        (length (sections_of task.now.options finding.now.counts)) }
-    ensures writes { (old new : List ℕ) → S.bytes_of sources.old Side.Old ≡ Some old
-        → S.bytes_of sources.old Side.New ≡ Some new
-        → Writes result (parts_of task.now.options (old_origin task.now finding.now)
-        (new_origin task.now finding.now) finding.now.counts (pass_of old new))
-        (sheet W.delivered W.failures W.flushes out.old pen.old)
-        (sheet W.delivered W.failures W.flushes out.new pen.new) }
-    ensures some { WritesSome (sheet W.delivered W.failures W.flushes out.old pen.old)
-        (sheet W.delivered W.failures W.flushes out.new pen.new) }
-    ensures first { OnOk result (WritesFirst (overview_by task.now.options.level finding.now.counts)
-        (reaches task.now.options.level AnyLevel.DatabaseAttributes)
-        (sheet W.delivered W.failures W.flushes out.old pen.old)
-        (sheet W.delivered W.failures W.flushes out.new pen.new)) }
-    ensures writes_on { OnOk result (pen.new.failed ≡ false) }
-    ensures written { IfErr result (HasPenWritten pen.new) }
-    ensures begun { IfErr result (ComesOpened
-        (S.openings sources.old Side.Old) (S.openings sources.new Side.Old)) }
-    ensures refused { IfErr result (IsRefusedThere
-        (S.openings sources.old) (S.openings sources.new)) }
-    ensures later { IfErr result (IsLater limits (S.bytes_of sources.old)) }
-    ensures caused { IfErr result (IsCaused (Rose (S.failures sources.old) (S.failures sources.new))
-        (pen.new.failed ≡ true)) }
-    ensures reliable { S.is_reliable sources.old ≡ true
-        → IfErr result (IsOfReliable (S.bytes_of sources.old)) }
-    ensures never_falls { S.failures sources.old ≤ S.failures sources.new }
-    ensures room { desk.new.room ≡ desk.old.room }
-    ensures memory { limits.line ≤ desk.old.room → IfErr result IsNotOfMemory }
-    ensures fits { (old_line new_line before : ℕ)
-        → OpensWithin (S.bytes_of sources.old) limits Side.Old old_line
-        → OpensWithin (S.bytes_of sources.old) limits Side.New new_line
-        → Fits old_line new_line before desk.old → Fits old_line new_line before desk.new }
+    ensures passes { Passes plan.now.limits
+        (length (sections_of plan.now.task.now.options plan.now.finding.now.counts))
+        (seen S.Sources sources.old) (seen S.Sources sources.new)
+        desk.old desk.new (pen.new.failed ≡ true) result }
+    ensures writes { WritesOver (S.bytes_of sources.old)
+        (λ old new. parts_of plan.now.task.now.options
+        (old_origin plan.now.task.now plan.now.finding.now)
+        (new_origin plan.now.task.now plan.now.finding.now)
+        plan.now.finding.now.counts (pass_of old new))
+        result (on_sheet W.Sink out.old pen.old) (on_sheet W.Sink out.new pen.new) }
+    ensures first { OnOk result (WritesFirst
+        (overview_by plan.now.task.now.options.level plan.now.finding.now.counts)
+        (reaches plan.now.task.now.options.level AnyLevel.DatabaseAttributes)
+        (on_sheet W.Sink out.old pen.old) (on_sheet W.Sink out.new pen.new)) }
+    ensures pen { KeepsPen (on_sheet W.Sink out.old pen.old) (on_sheet W.Sink out.new pen.new)
+        pen.new result }
 {
-    put_overview(out, pen, task.options.level, &finding.counts);
+    put_overview(out, pen, plan.task.options.level, &plan.finding.counts);
     if pen.failed {
         return Err(RunFault::Write { written: pen.sent });
     }
-    match put_sections(
-        sources,
-        limits,
-        desk,
-        out,
-        pen,
-        &task.options,
-        &finding.counts,
-        &finding.digests,
-    ) {
+    match put_sections(plan, sources, desk, out, pen) {
         Ok(()) => {}
         Err(fault) => return Err(fault),
     }
-    put_databases(out, pen, task, finding);
+    put_databases(out, pen, plan.task, plan.finding);
     if pen.failed {
         return Err(RunFault::Write { written: pen.sent });
     }
@@ -113,63 +76,39 @@ fn put_parts<S: Sources, W: Sink, A: Allocator + Copy>(
 
 /// Writes the report, unless nothing is to be written.
 fn put_report<S: Sources, W: Sink, A: Allocator + Copy>(
-    task: &Task<'_>,
-    limits: Limits,
-    desk: &mut Desk<A>,
+    plan: &Plan<'_>,
     sources: &mut S,
+    desk: &mut Desk<A>,
     out: &mut W,
     pen: &mut Pen,
-    finding: &Finding,
 ) -> Result<(), RunFault>
-    requires line { 14 ≤ limits.line }
-    requires bytes { limits.bytes ≤ 2 ^ 60 }
-    requires digests { AreDigests (S.bytes_of sources.old) finding.now.digests }
+    requires limits { AreLimits plan.now.limits }
+    requires digests { AreDigests (S.bytes_of sources.old) plan.now.finding.now.digests }
     requires writes_on { pen.old.failed ≡ false }
-    ensures opens { OnOk result (OpensExactly (S.openings sources.old) (S.openings sources.new)
-        (section_count task.now.options finding.now.counts)) }
-    ensures opens_some { OpensAtMost (S.openings sources.old) (S.openings sources.new)
-        (section_count task.now.options finding.now.counts) }
-    ensures writes { (old new : List ℕ) → S.bytes_of sources.old Side.Old ≡ Some old
-        → S.bytes_of sources.old Side.New ≡ Some new
-        → Writes result (text_of task.now.options (old_origin task.now finding.now)
-        (new_origin task.now finding.now) finding.now.counts (pass_of old new))
-        (sheet W.delivered W.failures W.flushes out.old pen.old)
-        (sheet W.delivered W.failures W.flushes out.new pen.new) }
-    ensures some { WritesSome (sheet W.delivered W.failures W.flushes out.old pen.old)
-        (sheet W.delivered W.failures W.flushes out.new pen.new) }
-    ensures first { OnOk result (WritesFirst (beginning_by task.now.options finding.now.counts)
-        (goes_on_by task.now.options finding.now.counts)
-        (sheet W.delivered W.failures W.flushes out.old pen.old)
-        (sheet W.delivered W.failures W.flushes out.new pen.new)) }
-    ensures writes_on { OnOk result (pen.new.failed ≡ false) }
-    ensures written { IfErr result (HasPenWritten pen.new) }
-    ensures begun { IfErr result (ComesOpened
-        (S.openings sources.old Side.Old) (S.openings sources.new Side.Old)) }
-    ensures refused { IfErr result (IsRefusedThere
-        (S.openings sources.old) (S.openings sources.new)) }
-    ensures later { IfErr result (IsLater limits (S.bytes_of sources.old)) }
-    ensures caused { IfErr result (IsCaused (Rose (S.failures sources.old) (S.failures sources.new))
-        (pen.new.failed ≡ true)) }
-    ensures reliable { S.is_reliable sources.old ≡ true
-        → IfErr result (IsOfReliable (S.bytes_of sources.old)) }
-    ensures never_falls { S.failures sources.old ≤ S.failures sources.new }
-    ensures room { desk.new.room ≡ desk.old.room }
-    ensures memory { limits.line ≤ desk.old.room → IfErr result IsNotOfMemory }
-    ensures fits { (old_line new_line before : ℕ)
-        → OpensWithin (S.bytes_of sources.old) limits Side.Old old_line
-        → OpensWithin (S.bytes_of sources.old) limits Side.New new_line
-        → Fits old_line new_line before desk.old → Fits old_line new_line before desk.new }
+    ensures passes { Passes plan.now.limits
+        (section_count plan.now.task.now.options plan.now.finding.now.counts)
+        (seen S.Sources sources.old) (seen S.Sources sources.new)
+        desk.old desk.new (pen.new.failed ≡ true) result }
+    ensures writes { WritesOver (S.bytes_of sources.old)
+        (λ old new. text_of plan.now.task.now.options
+        (old_origin plan.now.task.now plan.now.finding.now)
+        (new_origin plan.now.task.now plan.now.finding.now)
+        plan.now.finding.now.counts (pass_of old new))
+        result (on_sheet W.Sink out.old pen.old) (on_sheet W.Sink out.new pen.new) }
+    ensures first { OnOk result (WritesFirst
+        (beginning_by plan.now.task.now.options plan.now.finding.now.counts)
+        (goes_on_by plan.now.task.now.options plan.now.finding.now.counts)
+        (on_sheet W.Sink out.old pen.old) (on_sheet W.Sink out.new pen.new)) }
+    ensures pen { KeepsPen (on_sheet W.Sink out.old pen.old) (on_sheet W.Sink out.new pen.new)
+        pen.new result }
 {
-    if is_silent(&task.options, &finding.counts) {
+    if is_silent(&plan.task.options, &plan.finding.counts) {
         return Ok(());
     }
-    match put_parts(task, limits, desk, sources, out, pen, finding) {
-        Ok(()) => Ok(()),
-        Err(fault) => Err(fault),
-    }
+    put_parts(plan, sources, desk, out, pen)
 }
 
-/// Writes the report, and flushes it once, also where it is empty.
+/// Writes the report, and flushes it once, even if it is empty.
 pub(crate) fn write_report<S: Sources, W: Sink, A: Allocator + Copy>(
     task: &Task<'_>,
     limits: Limits,
@@ -178,13 +117,11 @@ pub(crate) fn write_report<S: Sources, W: Sink, A: Allocator + Copy>(
     out: &mut W,
     finding: &Finding,
 ) -> Result<(), RunFault>
-    requires line { 14 ≤ limits.line }
-    requires bytes { limits.bytes ≤ 2 ^ 60 }
+    requires limits { AreLimits limits }
     requires digests { AreDigests (S.bytes_of sources.old) finding.now.digests }
-    ensures opens { OnOk result (OpensExactly (S.openings sources.old) (S.openings sources.new)
-        (section_count task.now.options finding.now.counts)) }
-    ensures opens_some { OpensAtMost (S.openings sources.old) (S.openings sources.new)
-        (section_count task.now.options finding.now.counts) }
+    ensures passes { Passes limits (section_count task.now.options finding.now.counts)
+        (seen S.Sources sources.old) (seen S.Sources sources.new)
+        desk.old desk.new (Rose (W.failures out.old) (W.failures out.new)) result }
     ensures sends { (old new : List ℕ) → S.bytes_of sources.old Side.Old ≡ Some old
         → S.bytes_of sources.old Side.New ≡ Some new
         → Sends result (text_of task.now.options (old_origin task.now finding.now)
@@ -193,30 +130,15 @@ pub(crate) fn write_report<S: Sources, W: Sink, A: Allocator + Copy>(
     ensures first { OnOk result (BeginsWith (beginning_by task.now.options finding.now.counts)
         (goes_on_by task.now.options finding.now.counts)
         (W.delivered out.old) (W.delivered out.new)) }
-    ensures flushed { OnOk result (W.is_flushed out.new ≡ true) }
-    ensures flushes { CountsFlush (W.flushes out.old) (W.flushes out.new) result }
-    ensures written { IfErr result (HasWrittenIfAny (W.delivered out.old) (W.delivered out.new)) }
-    ensures begun { IfErr result (ComesOpened
-        (S.openings sources.old Side.Old) (S.openings sources.new Side.Old)) }
-    ensures refused { IfErr result (IsRefusedThere
-        (S.openings sources.old) (S.openings sources.new)) }
-    ensures later { IfErr result (IsLater limits (S.bytes_of sources.old)) }
-    ensures caused { IfErr result (IsCaused (Rose (S.failures sources.old) (S.failures sources.new))
-        (Rose (W.failures out.old) (W.failures out.new))) }
-    ensures reliable { S.is_reliable sources.old ≡ true
-        → IfErr result (IsOfReliable (S.bytes_of sources.old)) }
-    ensures never_falls { S.failures sources.old ≤ S.failures sources.new }
-    ensures sink_never_falls { W.failures out.old ≤ W.failures out.new }
-    ensures sink_fails { CountsWrites (W.failures out.old) (W.failures out.new) result }
-    ensures room { desk.new.room ≡ desk.old.room }
-    ensures memory { limits.line ≤ desk.old.room → IfErr result IsNotOfMemory }
-    ensures fits { (old_line new_line before : ℕ)
-        → OpensWithin (S.bytes_of sources.old) limits Side.Old old_line
-        → OpensWithin (S.bytes_of sources.old) limits Side.New new_line
-        → Fits old_line new_line before desk.old → Fits old_line new_line before desk.new }
+    ensures sink { FlushesOnce W.Sink out.old out.new result }
 {
+    let plan = Plan {
+        task,
+        limits,
+        finding,
+    };
     let mut pen = Pen::new();
-    match put_report(task, limits, desk, sources, out, &mut pen, finding) {
+    match put_report(&plan, sources, desk, out, &mut pen) {
         Ok(()) => {}
         Err(fault) => return Err(fault),
     }

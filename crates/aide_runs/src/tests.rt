@@ -1,4 +1,4 @@
-//! Sessions over files in memory, and over the machine's.
+//! Sessions over files in memory, and over files of the machine.
 mod devices;
 mod faults;
 mod files;

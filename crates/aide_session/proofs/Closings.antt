@@ -1,6 +1,6 @@
 -- How a session closes over any site.
 use Rattle.std.proofs.Common.{◌≡◌, ◌∙◌, ℕ, ◌≤◌, List, [], Option, Some, None, refl, sym, ap, Bool, true, false, Ok, Err}
-use Rattle.std.proofs.Common.{inl, inr, ◌⊎◌}
+use Rattle.std.proofs.Common.{inl, inr, ◌⊎◌, arith}
 use Rattle.std.specs.Prelude.{Result, ⊤}
 use Rattle.std.specs.Io.KnownBytes.{Keeps}
 use Rattle.std.proofs.Math.Path.{subst}
@@ -16,10 +16,11 @@ use Rattle.aide_db.specs.declared.fault.DbFaultKind.TheVariants.{Read}
 use Rattle.aide_db.specs.declared.side.Side.{Side}
 use Rattle.aide_db.specs.declared.side.Side.TheVariants.{Old, New}
 use Rattle.aide_report.specs.Failures.{Rose}
+use Rattle.aide_report.specs.Openings.{OpensAtMost}
 use Rattle.aide_report.specs.Room.{IsNotOfMemory}
 use Rattle.aide_report.specs.RunFaults.{IsRight}
 use Rattle.aide_report.specs.Missing.{TellsSide}
-use Rattle.aide_report.specs.Runs.{HasCause, StandsOn}
+use Rattle.aide_report.specs.Runs.{HasCause, Causes}
 use Rattle.aide_report.specs.declared.run_fault.RunFault.{RunFault}
 use Rattle.aide_report.specs.declared.run_fault.RunFault.TheVariants.{Open, Database, Changed, Write}
 use Rattle.aide_session.specs.Answer.{Named, limits, need_of}
@@ -35,9 +36,15 @@ use Rattle.aide_session.specs.Put.{Put}
 use Rattle.aide_session.proofs.Endings.{rose_later, sinks}
 use Rattle.aide_session.proofs.PutLemmas.{appends_none, put_none, put_passed}
 
-abbrev course_of : (opened_before opened_after : Side → ℕ) → (flushes_before flushes_after : ℕ) → Bool → Course
-course_of opened_before opened_after flushes_before flushes_after is_flushed =
-    record { opened_before = opened_before; opened_after = opened_after; flushes_before = flushes_before; flushes_after = flushes_after; is_flushed = is_flushed }
+abbrev course_of : (opened_before opened_after : Side → ℕ) → (Side → Bool) → (flushes_before flushes_after : ℕ) → Bool → Course
+course_of opened_before opened_after given_after flushes_before flushes_after is_flushed =
+    record { opened_before = opened_before; opened_after = opened_after; given_after = given_after; flushes_before = flushes_before; flushes_after = flushes_after; is_flushed = is_flushed }
+
+opens_none : (before after : Side → ℕ) → after ≡ before → OpensAtMost before after 6
+opens_none before after is =
+    let of_old = ap (λ (f : Side → ℕ). f Old) is in
+    let of_new = ap (λ (f : Side → ℕ). f New) is in
+    record { of_old = omega (arith, of_old); of_new = omega (arith, of_new) }
 
 -- where only the configuration is named
 abbrev pub only_config : List ℕ → Named
@@ -48,14 +55,14 @@ pub closes_misused : (files : Files) (words : List (List ℕ)) (d e f : Option (
     → course.opened_after ≡ course.opened_before → course.flushes_after ≡ course.flushes_before
     → Closes files words 15 (sinks d d e f m n) course site out
 closes_misused files words d e f m n course site out none put unopened unflushed =
-    record { closing = no_job; named = only_config []; cause = none; status_is = refl; output = (appends_none d, unopened, unflushed); put = put }
+    record { closing = no_job; named = only_config []; cause = none; status_is = refl; output = (appends_none d, unopened, unflushed); opens = tt; opens_some = opens_none course.opened_before course.opened_after unopened; put = put }
 
 pub closes_starved : (files : Files) (words : List (List ℕ)) (d e f : Option (List ℕ)) (m n : ℕ) (course : Course) (site out : Type 0)
     → Put memory_line e f m n
     → course.opened_after ≡ course.opened_before → course.flushes_after ≡ course.flushes_before
     → Closes files words 22 (sinks d d e f m n) course site out
 closes_starved files words d e f m n course site out put unopened unflushed =
-    record { closing = no_memory; named = only_config []; cause = tt; status_is = refl; output = (appends_none d, unopened, unflushed); put = put }
+    record { closing = no_memory; named = only_config []; cause = tt; status_is = refl; output = (appends_none d, unopened, unflushed); opens = tt; opens_some = opens_none course.opened_before course.opened_after unopened; put = put }
 
 asks : (words : List (List ℕ)) (job : JobText) → job_of words ≡ Some job → Asks words (only_config job.config)
 asks words job is = record { job = job; job_is = is; config_is = refl }
@@ -65,7 +72,7 @@ pub closes_unread : (files : Files) (words : List (List ℕ)) (job : JobText) (d
     → Put (unread_line job.config) e f m n → course.opened_after ≡ course.opened_before
     → course.flushes_after ≡ course.flushes_before → Closes files words 18 (sinks d d e f m n) course site out
 closes_unread files words job d e f m n course site out is failed put unopened unflushed =
-    record { closing = no_config; named = only_config job.config; cause = (asks words job is, failed); status_is = refl; output = (appends_none d, unopened, unflushed); put = put }
+    record { closing = no_config; named = only_config job.config; cause = (asks words job is, failed); status_is = refl; output = (appends_none d, unopened, unflushed); opens = tt; opens_some = opens_none course.opened_before course.opened_after unopened; put = put }
 
 pub closes_large : (files : Files) (words : List (List ℕ)) (job : JobText) (d e f : Option (List ℕ)) (m n : ℕ) (course : Course) (site out : Type 0)
     → job_of words ≡ Some job
@@ -73,7 +80,7 @@ pub closes_large : (files : Files) (words : List (List ℕ)) (job : JobText) (d 
     → course.opened_after ≡ course.opened_before → course.flushes_after ≡ course.flushes_before
     → Closes files words 17 (sinks d d e f m n) course site out
 closes_large files words job d e f m n course site out is large put unopened unflushed =
-    record { closing = large_config; named = only_config job.config; cause = (asks words job is, large); status_is = refl; output = (appends_none d, unopened, unflushed); put = put }
+    record { closing = large_config; named = only_config job.config; cause = (asks words job is, large); status_is = refl; output = (appends_none d, unopened, unflushed); opens = tt; opens_some = opens_none course.opened_before course.opened_after unopened; put = put }
 
 -- the configuration of a job was read, and reads as this
 pub asks_and_reads : (files : Files) (words : List (List ℕ)) (job : JobText) (text : List ℕ) (compare : Bool) (read : Result Configured ConfFault)
@@ -97,16 +104,16 @@ pub closes_bad_config : (files : Files) (words : List (List ℕ)) (config : List
     → course.opened_after ≡ course.opened_before → course.flushes_after ≡ course.flushes_before
     → Closes files words 17 (sinks d d e f m n) course site out
 closes_bad_config files words config compare fault d e f m n course site out read put unopened unflushed =
-    record { closing = bad_config fault; named = only_config config; cause = (compare, read); status_is = refl; output = (appends_none d, unopened, unflushed); put = put }
+    record { closing = bad_config fault; named = only_config config; cause = (compare, read); status_is = refl; output = (appends_none d, unopened, unflushed); opens = tt; opens_some = opens_none course.opened_before course.opened_after unopened; put = put }
 
 pub closes_good_config : (files : Files) (words : List (List ℕ)) (config : List ℕ) (s : Configured) (d e : Option (List ℕ)) (m : ℕ) (course : Course) (site out : Type 0)
     → AsksAndReads files words config false (Ok s) → course.opened_after ≡ course.opened_before
     → course.flushes_after ≡ course.flushes_before → Closes files words 0 (sinks d d e e m m) course site out
 closes_good_config files words config s d e m course site out read unopened unflushed =
-    record { closing = good_config; named = only_config config; cause = (s, read); status_is = refl; output = (appends_none d, unopened, unflushed); put = put_none e m }
+    record { closing = good_config; named = only_config config; cause = (s, read); status_is = refl; output = (appends_none d, unopened, unflushed); opens = tt; opens_some = opens_none course.opened_before course.opened_after unopened; put = put_none e m }
 
-read_cause : (kind : DbFaultKind) (site first : Type 0) → StandsOn kind site first → kind ≡ Read → site
-read_cause kind site first stands is = subst (λ (k : DbFaultKind). StandsOn k site first) is stands
+read_cause : (kind : DbFaultKind) (site first : Type 0) → Causes kind site first → kind ≡ Read → site
+read_cause kind site first stands is = subst (λ (k : DbFaultKind). Causes k site first) is stands
 
 -- the cause of a run's fault, over files that the sources tell
 pub run_cause : (files : Files) (named : Named) (bytes_of : Side → Option (List ℕ)) (fault : RunFault) (site out : Type 0) (first : DbFault → Type 0) (untold : Side → Type 0)
@@ -149,6 +156,8 @@ closes_by files words status s course site more out then closes = record {
   cause = cause_by files words closes.named closes.closing site more out then closes.cause;
   status_is = closes.status_is;
   output = closes.output;
+  opens = closes.opens;
+  opens_some = closes.opens_some;
   put = closes.put;
 }
 
@@ -231,11 +240,11 @@ closes_later files later words status s course later_course count later_count en
     (subst (λ (f : Files). Closes f words status s later_course (Rose later_count end) out) same closes))
 
 -- the sides were opened as often
-pub same_course : {S W : Type 0} (openings : S → Side → ℕ) (flushes : W → ℕ) (is_flushed : W → Bool) (before later after : S) (out_old out_new : W)
+pub same_course : {S W : Type 0} (openings : S → Side → ℕ) (was_given : S → Side → Bool) (flushes : W → ℕ) (is_flushed : W → Bool) (before later after : S) (out_old out_new : W)
     → openings later ≡ openings before
-    → course_between openings flushes is_flushed later after out_old out_new ≡ course_between openings flushes is_flushed before after out_old out_new
-same_course openings flushes is_flushed before later after out_old out_new same =
-    ap (λ (opened : Side → ℕ). course_of opened (openings after) (flushes out_old) (flushes out_new) (is_flushed out_new)) same
+    → course_between openings was_given flushes is_flushed later after out_old out_new ≡ course_between openings was_given flushes is_flushed before after out_old out_new
+same_course openings was_given flushes is_flushed before later after out_old out_new same =
+    ap (λ (opened : Side → ℕ). course_of opened (openings after) (was_given after) (flushes out_old) (flushes out_new) (is_flushed out_new)) same
 
 -- the same closing once its lines are passed on
 pub closes_passed : (files : Files) (words : List (List ℕ)) (status : ℕ) (c d e f g : Option (List ℕ)) (m n k : ℕ) (course : Course) (site out : Type 0)
@@ -248,5 +257,7 @@ closes_passed files words status c d e f g m n k course site out kept more close
   cause = closes.cause;
   status_is = closes.status_is;
   output = closes.output;
+  opens = closes.opens;
+  opens_some = closes.opens_some;
   put = put_passed (closing_line closes.named closes.closing) e f g m n k kept more closes.put;
 }

@@ -14,7 +14,7 @@ use Rattle.aide_report.specs.Asked.{Asked}
 use Rattle.aide_report.specs.Failures.{Rose}
 use Rattle.aide_report.specs.Missing.{IsHindered, IsOfReliable, RunsOver, SendsFront, SendsWhole, StopsFor, TellsSide}
 use Rattle.aide_report.specs.Missing.{run_answer}
-use Rattle.aide_report.specs.Runs.{HasCause, StandsOn}
+use Rattle.aide_report.specs.Runs.{HasCause, Causes}
 use Rattle.aide_report.specs.Runs.{Report}
 use Rattle.aide_report.specs.Sent.{SendsPart}
 use Rattle.aide_db.specs.Memory.{is_memory}
@@ -198,7 +198,7 @@ fault_at side line kind = record { side = side; line = line; kind = kind }
 
 run_database : (side : Side) (line : ℕ) (kind : DbFaultKind) (r : Result Report RunFault) (named : Named) (reliable : Bool) (rose first out : Type 0) (old new c d e f : Option (List ℕ)) (m n : ℕ)
     → SendsFront r c d → StopsFor r (IsHindered old new rose out) (Database (fault_at side line kind))
-    → is_memory kind ≡ false → StandsOn kind rose first
+    → is_memory kind ≡ false → Causes kind rose first
     → (reliable ≡ true → kind ≡ db.Read → ⊥) → Put (kind_line (fault_at side line kind) kind) e f m n
     → Ends (answer_by named r) named (kind_status kind) (sinks c d e f m n) ((reliable ≡ false) × rose) out
 run_database side line db.Read r named reliable rose first out old new c d e f m n sent stops fed cause unfailed put =
@@ -207,7 +207,7 @@ run_database side line db.Memory r named reliable rose first out old new c d e f
     absurd (true_is_not_false fed)
 run_database side line kind r named reliable rose first out old new c d e f m n sent stops fed cause unfailed put =
     by_stop r (IsHindered old new rose out) (Database (fault_at side line kind)) (Ends (answer_by named r) named 24 (sinks c d e f m n) ((reliable ≡ false) × rose) out)
-    (run_right r (Database (fault_at side line kind)) named c d e f m n ((reliable ≡ false) × rose) out sent put) (λ hindered. absurd hindered) stops
+    (run_right r (Database (fault_at side line kind)) named c d e f m n ((reliable ≡ false) × rose) out sent put) (λ hindered. absurd hindered.1) stops
 
 -- a side that is there gives its bytes
 told_given : (bytes : Option (List ℕ)) (is_missing : Bool) (file : Option (List ℕ)) → TellsSide bytes is_missing file

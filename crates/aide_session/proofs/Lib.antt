@@ -7,3 +7,4 @@ mod PutLemmas
 mod Closings
 mod Existence
 mod Pages
+mod HeldLemmas

@@ -1,4 +1,5 @@
--- The answer of a session: its output, its error lines and its status, as the words and the files give them.
+-- The answer of a session: its output, its error lines and its status. The arguments and the files
+-- determine it.
 use Rattle.std.specs.Prelude.{◌≡◌, ◌⊎◌, ℕ, ◌^◌, Bool, true, false, List, [], Ok, Err, Result}
 use Rattle.std.specs.Prelude.{Option, Some, None}
 use Rattle.aide_conf.specs.Settings.{Configured}
@@ -25,21 +26,21 @@ pub record Answer : Type 0 where
   pub errors : List ℕ
   pub status : ℕ
 
--- the paths that the words and the configuration name
+-- the paths that the arguments and the configuration name
 pub record Named : Type 0 where
   pub config : List ℕ
   pub old_path : List ℕ
   pub new_path : List ℕ
 
--- what a comparison with these options and of these paths is asked for
+-- what a comparison is asked for, by its options and the two paths
 abbrev pub asked_by : Options → Named → Asked
 asked_by options named = record { options = options; old_path = named.old_path; new_path = named.new_path }
 
--- nothing but lines on standard error, and a status
+-- no output, only lines on standard error, and a status
 abbrev pub refused : List ℕ → ℕ → Answer
 refused lines status = record { output = []; errors = lines; status = status }
 
--- a configuration without a fault
+-- the answer for a configuration without a fault that is only checked
 abbrev pub checked : Answer
 checked = record { output = []; errors = []; status = 0 }
 
@@ -56,9 +57,10 @@ answer_of_run (Ok report) = record {
 }
 answer_of_run (Err fault) = refused (database_line fault) 24
 
--- The answer by what stands at the paths of the two databases: that the old one is not opened, where it is not there;
--- that the new one is not opened, where it alone is not there and the old one is sound, otherwise the old one's first
--- fault; and the answer of their comparison, where both are there.
+-- The answer of a comparison, by what is at the paths of the two databases. If there is no old one,
+-- the answer is that the old one was not opened. If only the new one is missing, there are two
+-- cases: if the old one is sound, the answer is that the new one was not opened, otherwise it is
+-- the first fault of the old one. If both are there, it is the answer of their comparison.
 abbrev pub IsCompared : Options → Named → Option (List ℕ) → Option (List ℕ) → Answer → Type 0
 IsCompared options named None new a = a ≡ refused (open_line Old named.old_path) 18
 IsCompared options named (Some old) None a =
@@ -68,7 +70,8 @@ IsCompared options named (Some old) (Some new) a =
     (run : Result Report DbFault) × Runs limits (asked_by options named) old new run
     × (a ≡ answer_of_run run)
 
--- the comparison of what stands at the two paths that the settings name, of each a database or that there is no file
+-- The comparison of what is at the two paths that the settings name. At each path there is a
+-- database or no file.
 pub record Compares (files : Files) (s : Configured) (named : Named) (a : Answer) : Type 0 where
   pub old_is : s.old_path ≡ Some named.old_path
   pub new_is : s.new_path ≡ Some named.new_path
@@ -78,47 +81,48 @@ pub record Compares (files : Files) (s : Configured) (named : Named) (a : Answer
   pub new_told : files named.new_path ≡ Some new_file
   pub then_is : IsCompared s.options named old_file new_file a
 
--- what a configuration is read for: to compare, or to be checked
+-- what a configuration is read for: a comparison, or only a check
 abbrev pub need_of : Bool → Need
 need_of true = Compare
 need_of false = Check
 
--- the answer where the configuration reads as settings, or has a fault
+-- the answer, by whether the configuration reads as settings or has a fault
 abbrev pub IsReadAnswer : Files → Bool → Result Configured ConfFault → Named → Answer → Type 0
 IsReadAnswer files true (Ok s) named a = Compares files s named a
 IsReadAnswer files false (Ok s) named a = a ≡ checked
 IsReadAnswer files compare (Err fault) named a = a ≡ refused (conf_line fault) 17
 
--- the answer where the configuration has this text
+-- the answer if the configuration has this text
 pub record IsTextAnswer (files : Files) (job : JobText) (text : List ℕ) (named : Named)
     (a : Answer) : Type 0 where
   pub read : Result Configured ConfFault
   pub reads : ReadsAs (need_of job.compare) job.before text job.after read
   pub then_is : IsReadAnswer files job.compare read named a
 
--- the answer by whether the configuration is too large
+-- the answer, by whether the configuration is too large
 abbrev pub IsSizedAnswer : Files → JobText → Bool → List ℕ → Named → Answer → Type 0
 IsSizedAnswer files job true text named a = a ≡ refused too_large_line 17
 IsSizedAnswer files job false text named a = IsTextAnswer files job text named a
 
--- the answer by what stands at the configuration's path
+-- the answer, by what is at the configuration's path
 abbrev pub IsFileAnswer : Files → JobText → Option (List ℕ) → Named → Answer → Type 0
 IsFileAnswer files job None named a = a ≡ refused (unread_line job.config) 18
 IsFileAnswer files job (Some text) named a = IsSizedAnswer files job (is_too_large text) text named a
 
--- the answer to a job, where its configuration's file is known
+-- the answer to a job if it is known what is at its configuration's path
 pub record IsJobAnswer (files : Files) (job : JobText) (named : Named) (a : Answer) : Type 0 where
   pub config_is : named.config ≡ job.config
   pub file : Option (List ℕ)
   pub known : files job.config ≡ Some file
   pub then_is : IsFileAnswer files job file named a
 
--- the answer by the job that the words ask for
+-- the answer, by the job that the arguments ask for
 abbrev pub IsWordsAnswer : Files → Option JobText → Named → Answer → Type 0
 IsWordsAnswer files None named a = a ≡ refused usage_line 15
 IsWordsAnswer files (Some job) named a = IsJobAnswer files job named a
 
--- The answer to the words, over these files: the first fault of the words, of the configuration or of a database, a
--- file that is not there counted among them, or what the job asks for. `named` has the paths that are named on the way.
+-- The answer to the arguments, over these files. It is the first fault of the arguments, of the
+-- configuration or of a database, or else what the job asks for. A named file that is not there
+-- counts as a fault. `named` has the paths that are named on the way.
 abbrev pub IsAnswer : Files → List (List ℕ) → Named → Answer → Type 0
 IsAnswer files words named a = IsWordsAnswer files (job_of words) named a

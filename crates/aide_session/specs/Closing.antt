@@ -1,4 +1,5 @@
--- How a session closes over any site, also one that does not tell its files: what it comes to, and on what that stands.
+-- How a session ends over any site, even one that does not tell its files: its result, and the
+-- cause of this result.
 use Rattle.std.specs.Prelude.{◌≡◌, ℕ, Bool, true, false, List, [], Ok, Err, Result, Option, Some}
 use Rattle.std.specs.Prelude.{None, ⊤}
 use Rattle.std.specs.Io.KnownBytes.{Appends}
@@ -10,26 +11,27 @@ use Rattle.aide_db.specs.Database.{IsSound}
 use Rattle.aide_db.specs.Side.{by_side}
 use Rattle.aide_db.specs.declared.fault.DbFaultKind.TheVariants.{Read}
 use Rattle.aide_db.specs.declared.side.Side.{Side}
-use Rattle.aide_db.specs.declared.side.Side.TheVariants.{Old}
+use Rattle.aide_db.specs.declared.side.Side.TheVariants.{Old, New}
 use Rattle.aide_report.specs.FaultStatus.{fault_status}
-use Rattle.aide_report.specs.Openings.{IsRefusedThere}
+use Rattle.aide_report.specs.Openings.{IsNotGiven, IsRefusedThere, OpensAtMost, OpensExactly, OpensFirst}
 use Rattle.aide_report.specs.Standing.{IsFaultOf}
 use Rattle.aide_report.specs.Room.{IsNotMemory}
 use Rattle.aide_report.specs.Failures.{one_more}
-use Rattle.aide_report.specs.Agreement.{IsOfOutcome}
+use Rattle.aide_report.specs.Agreement.{IsOfOutcome, OpensByOutcome}
 use Rattle.aide_report.specs.Report.{status_of}
 use Rattle.aide_report.specs.RunFaults.{HasSentNothing}
+use Rattle.aide_report.specs.Runs.{openings_over}
 use Rattle.aide_report.specs.declared.outcome.Outcome.{Outcome}
 use Rattle.aide_report.specs.declared.run_fault.RunFault.{RunFault}
 use Rattle.aide_report.specs.declared.run_fault.RunFault.TheVariants.{Open, Database, Changed, Write}
-use Rattle.aide_session.specs.Answer.{Named, limits, need_of}
+use Rattle.aide_session.specs.Answer.{Named, asked_by, limits, need_of}
 use Rattle.aide_session.specs.Ends.{Sinks, Puts}
 use Rattle.aide_session.specs.Files.{Files, IsLarge, is_too_large}
 use Rattle.aide_session.specs.Job.{JobText, job_of}
 use Rattle.aide_session.specs.Lines.{usage_line, memory_line, unread_line, too_large_line}
 use Rattle.aide_session.specs.Lines.{conf_line, run_fault_line, outcome_lines}
 
--- what a session comes to
+-- the result of a session
 pub data Closing : Type 0 where
   no_job : Closing
   no_memory : Closing
@@ -62,28 +64,34 @@ closing_line named good_config = []
 closing_line named (bad_run fault) = run_fault_line named.old_path named.new_path fault
 closing_line named (good_run options outcome) = outcome_lines outcome
 
--- how often each side was opened and the output was flushed, before and after, and whether all of the output is flushed
+-- How often each side was opened and the output was flushed, before and after. Also whether the
+-- last opening of a side is known to have succeeded, and whether all of the output is flushed.
 pub record Course : Type 0 where
   pub opened_before : Side → ℕ
   pub opened_after : Side → ℕ
+  pub given_after : Side → Bool
   pub flushes_before : ℕ
   pub flushes_after : ℕ
   pub is_flushed : Bool
 
--- the same, by what the devices tell
-abbrev pub course_between : {S W : Type 0} → (S → Side → ℕ) → (W → ℕ) → (W → Bool) → S → S → W → W → Course
-course_between openings flushes is_flushed site_old site_new out_old out_new = record {
+-- the course of a session, by what the devices tell
+abbrev pub course_between : {S W : Type 0} → (S → Side → ℕ) → (S → Side → Bool) → (W → ℕ) → (W → Bool) → S → S
+    → W → W → Course
+course_between openings was_given flushes is_flushed site_old site_new out_old out_new = record {
   opened_before = openings site_old;
   opened_after = openings site_new;
+  given_after = was_given site_new;
   flushes_before = flushes out_old;
   flushes_after = flushes out_new;
   is_flushed = is_flushed out_new;
 }
 
--- A good run sends a report that begins with the head and the summary of its outcome, and is these alone where no more
--- is wanted, and flushes it once, after its last byte; any other closing flushes nothing. A run that is given up has
--- sent nothing where no write failed and the report was not begun, and a side that it could not open is the one that
--- was opened last. Every other closing sends nothing and opens no side.
+-- What a session sends, opens and flushes. A good run sends a report that begins with the head and
+-- the summary of its outcome. If the options and the outcome call for no more, the report is only
+-- these two. A good run flushes the report once, after its last byte. No other closing flushes.
+-- A run that ends with a fault has sent nothing if no write failed and the report was not begun. If
+-- it could not open a side, that side was the last one opened. Every other closing sends nothing
+-- and opens no side.
 abbrev pub ClosingOutput : Closing → Course → Option (List ℕ) → Option (List ℕ) → Type 0
 ClosingOutput (good_run options outcome) course before after = IsOfOutcome options outcome before after
     × (course.is_flushed ≡ true) × (course.flushes_after ≡ one_more course.flushes_before)
@@ -94,14 +102,14 @@ ClosingOutput (bad_run fault) course before after =
 ClosingOutput _ course before after = Appends before after [] × (course.opened_after ≡ course.opened_before)
     × (course.flushes_after ≡ course.flushes_before)
 
--- the words ask for a job, and its configuration is the one that is named
+-- the arguments ask for a job, and its configuration is the one that is named
 pub record Asks (words : List (List ℕ)) (named : Named) : Type 0 where
   pub job : JobText
   pub job_is : job_of words ≡ Some job
   pub config_is : named.config ≡ job.config
 
--- The words ask for a job with this configuration, and what it reads as. The text that was read is that of the file,
--- where this is known.
+-- The arguments ask for a job with this configuration, which reads as `read`. If the file is known,
+-- the text that was read is the file's.
 pub record AsksAndReads (files : Files) (words : List (List ℕ)) (config : List ℕ) (compare : Bool)
     (read : Result Configured ConfFault) : Type 0 where
   pub job : JobText
@@ -113,7 +121,7 @@ pub record AsksAndReads (files : Files) (words : List (List ℕ)) (config : List
   pub small : is_too_large text ≡ false
   pub reads : ReadsAs (need_of compare) job.before text job.after read
 
--- the words ask for a comparison of the databases at the paths that are named
+-- the arguments ask for a comparison of the databases at the paths that are named
 pub record AsksToCompare (files : Files) (words : List (List ℕ)) (named : Named) : Type 0 where
   pub settings : Configured
   pub asks : AsksAndReads files words named.config true (Ok settings)
@@ -124,8 +132,10 @@ pub record AsksToCompare (files : Files) (words : List (List ℕ)) (named : Name
 abbrev pub HasText : Files → Named → Side → List ℕ → Type 0
 HasText files named side text = files (by_side named.old_path named.new_path side) ≡ Some (Some text)
 
--- Why a run is given up: the site or the output has counted a failure, or the fault of a database is its first one,
--- where its text is known, and never want of memory; a database whose text is known is never called changed.
+-- The cause of each fault of a run. If a side was not opened, or a read failed, the site has
+-- counted a failure. If a write failed, the output has counted one. A fault of a database is never
+-- out of memory. If the text of the database is known, the fault is the first one of this text,
+-- unless a read failed. A database whose text is known is never reported as changed.
 abbrev pub RunCause : Files → Named → RunFault → (site out : Type 0) → Type 0
 RunCause files named (Open side) site out = site
 RunCause files named (Database fault) site out = (fault.kind ≡ Read → site)
@@ -134,12 +144,13 @@ RunCause files named (Database fault) site out = (fault.kind ≡ Read → site)
 RunCause files named (Changed side) site out = (text : List ℕ) → HasText files named side text → ⊥
 RunCause files named (Write written) site out = out
 
--- both databases are sound, where their texts are known
+-- each database whose text is known is sound
 abbrev pub AreBothSound : Files → Named → Type 0
 AreBothSound files named =
     (side : Side) (text : List ℕ) → HasText files named side text → IsSound limits text
 
--- what a closing stands on; `site` and `out` say that these have counted a failure
+-- The cause of each closing. `site` and `out` mean that the site or the output has counted a
+-- failure.
 abbrev pub ClosingCause : Files → List (List ℕ) → Named → Closing → (site out : Type 0) → Type 0
 ClosingCause files words named no_job site out = job_of words ≡ None
 ClosingCause files words named no_memory site out = ⊤
@@ -155,7 +166,21 @@ ClosingCause files words named (bad_run fault) site out = AsksToCompare files wo
 ClosingCause files words named (good_run options outcome) site out =
     ((asks : AsksToCompare files words named) × (asks.settings.options ≡ options)) × AreBothSound files named
 
--- The status, the lines on standard error and what goes out are those of a closing that stands on its cause.
+-- How often the sides were opened. In a good run each side is opened to be read whole, to count,
+-- and once for each section of entries. The outcome gives this number, and so do both texts if they
+-- are known. In a run that ends with the first fault of a text, no side is opened more than once.
+-- In a run that could not open a side, the last opening of that side was refused.
+abbrev pub ClosingOpens : Files → Named → Closing → Course → Type 0
+ClosingOpens files named (good_run options outcome) course =
+    OpensByOutcome options outcome course.opened_before course.opened_after
+    × ((old new : List ℕ) → HasText files named Old old → HasText files named New new
+    → OpensExactly course.opened_before course.opened_after (openings_over (asked_by options named) old new))
+ClosingOpens files named (bad_run fault) course = OpensFirst course.opened_before course.opened_after fault
+    × IsNotGiven course.given_after fault
+ClosingOpens files named _ course = ⊤
+
+-- The status, the lines on standard error and the output are those of one closing, whose cause
+-- holds.
 pub record Closes (files : Files) (words : List (List ℕ)) (status : ℕ) (sinks : Sinks)
     (course : Course) (site out : Type 0) : Type 0 where
   pub closing : Closing
@@ -163,4 +188,6 @@ pub record Closes (files : Files) (words : List (List ℕ)) (status : ℕ) (sink
   pub cause : ClosingCause files words named closing site out
   pub status_is : status ≡ closing_status closing
   pub output : ClosingOutput closing course sinks.out_old sinks.out_new
+  pub opens : ClosingOpens files named closing course
+  pub opens_some : OpensAtMost course.opened_before course.opened_after 6
   pub put : Puts (closing_line named closing) sinks

@@ -11,8 +11,8 @@ use Rattle.aide_session.specs.Answer.{Answer, Named}
 use Rattle.aide_session.specs.Lines.{memory_line, unread_line, open_line, database_line, write_line}
 use Rattle.aide_session.specs.Put.{Put}
 
--- What went out, by the sinks before and after: the bytes of the output, those of standard error, and the failures that
--- standard error has counted.
+-- What went out, by the sinks before and after: the bytes of the output, the bytes of standard
+-- error, and the failures that standard error has counted.
 pub record Sinks : Type 0 where
   pub out_old : Option (List ℕ)
   pub out_new : Option (List ℕ)
@@ -21,7 +21,7 @@ pub record Sinks : Type 0 where
   pub err_before : ℕ
   pub err_after : ℕ
 
--- what went out between two moments, by what the devices tell of their bytes and failures
+-- what went out between two moments, by the bytes and failures that the devices tell
 abbrev pub sinks_between : {W E : Type 0} → (W → Option (List ℕ)) → (E → Option (List ℕ)) → (E → ℕ)
     → W → W → E → E → Sinks
 sinks_between delivered put failures out_old out_new err_old err_new = record {
@@ -51,31 +51,33 @@ failure_line named (unopened side) = open_line side (by_side named.old_path name
 failure_line named (unread fault) = database_line fault
 failure_line named unwritten = write_line
 
--- A site that is not reliable has counted a failure, by the counts before and after. Of a reliable one nothing fails
--- but the opening of a file that is not there, and that is an answer.
+-- A site that is not reliable has counted a failure, by the counts before and after. On a reliable
+-- site only one thing can fail: opening a file that is not there. That is an answer.
 abbrev pub HasFailed : (is_reliable : Bool) → (before after : ℕ) → Type 0
 HasFailed is_reliable before after = (is_reliable ≡ false) × Rose before after
 
--- what a failure comes from: the site or the output has counted one
+-- the cause of a failure: the site or the output has counted one
 abbrev pub FailureCause : Failure → (site out : Type 0) → Type 0
 FailureCause config_unread site out = site
 FailureCause (unopened side) site out = site
 FailureCause (unread fault) site out = (fault.kind ≡ Read) × site
 FailureCause unwritten site out = out
 
--- with the whole answer
+-- the session ends with the whole answer
 pub record Whole (a : Answer) (status : ℕ) (sinks : Sinks) : Type 0 where
   pub status_is : status ≡ a.status
   pub output : Appends sinks.out_old sinks.out_new a.output
   pub put : Puts a.errors sinks
 
--- for want of memory, with nothing of the output: what a comparison may hold is reserved before anything goes out
+-- The session ends out of memory, without any output. What a comparison may hold is reserved before
+-- anything goes out.
 pub record Starved (a : Answer) (status : ℕ) (sinks : Sinks) : Type 0 where
   pub status_is : status ≡ 22
   pub output : Appends sinks.out_old sinks.out_new []
   pub put : Puts memory_line sinks
 
--- for a failure of the site or of the output, with a front of the output
+-- The session ends with a failure of the site or of the output, after the first bytes of the
+-- answer's output (none, some or all).
 pub record Broken (a : Answer) (named : Named) (status : ℕ) (sinks : Sinks) (site out : Type 0) : Type 0 where
   pub status_is : status ≡ 18
   pub output : SendsPart a.output sinks.out_old sinks.out_new
@@ -83,7 +85,8 @@ pub record Broken (a : Answer) (named : Named) (status : ℕ) (sinks : Sinks) (s
   pub cause : FailureCause failure site out
   pub put : Puts (failure_line named failure) sinks
 
--- In one of these three ways; `site` and `out` say that these have counted a failure.
+-- A session ends in one of these three ways. `site` and `out` mean that the site or the output has
+-- counted a failure.
 abbrev pub Ends : Answer → Named → ℕ → Sinks → (site out : Type 0) → Type 0
 Ends a named status sinks site out = Whole a status sinks
     ⊎ (Starved a status sinks ⊎ Broken a named status sinks site out)

@@ -1,4 +1,4 @@
--- When words have an answer.
+-- When arguments have an answer.
 use Rattle.std.specs.Prelude.{◌≡◌, ℕ, List, Option, Some}
 use Rattle.aide_db.specs.Side.{by_side}
 use Rattle.aide_db.specs.declared.side.Side.{Side}
@@ -7,13 +7,14 @@ use Rattle.aide_session.specs.Closing.{AsksToCompare}
 use Rattle.aide_session.specs.Files.{Files}
 use Rattle.aide_session.specs.Job.{JobText, job_of}
 
--- what stands at the configuration's path is known, and so is what stands at the paths of the databases that it names
+-- it is known what is at the configuration's path, and at the paths of the databases that the
+-- configuration names
 pub record TellsNamed (files : Files) (words : List (List ℕ)) : Type 0 where
   pub config : (job : JobText) → job_of words ≡ Some job → (file : Option (List ℕ))
       × (files job.config ≡ Some file)
   pub databases : (named : Named) → AsksToCompare files words named → (side : Side)
       → (file : Option (List ℕ)) × (files (by_side named.old_path named.new_path side) ≡ Some file)
 
--- the words have an answer over these files
+-- the arguments have an answer over these files
 abbrev pub HasAnswer : Files → List (List ℕ) → Type 0
 HasAnswer files words = (named : Named) × (a : Answer) × IsAnswer files words named a

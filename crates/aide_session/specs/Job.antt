@@ -1,4 +1,4 @@
--- The job that a list of words asks for, by the matches that `clap` states.
+-- The job that a list of arguments asks for, by the matches that `clap` states.
 use Rattle.std.specs.Prelude.{◌&&◌, ◌||◌, not, ℕ, Bool, true, false, List, [], Option, Some, None}
 use Rattle.std.specs.Prelude.{codes, unwrap_or, if◌then◌else◌}
 use Rattle.std.specs.Prelude.{option_and_then}
@@ -10,13 +10,15 @@ use Rattle.clap.specs.Faults.{fault_of}
 use Rattle.clap.specs.declared.builder.action.ArgAction.{ArgAction}
 use Rattle.aide_session.specs.declared.job.Job.{Job}
 use Rattle.clap.specs.declared.builder.action.ArgAction.TheVariants.{Set, SetTrue}
+use Rattle.aide_session.specs.declared.job.WordsFault.{WordsFault}
+use Rattle.aide_session.specs.declared.job.WordsFault.TheVariants as refusal
 
 -- an option by its id, its letter and its action; its long name is its id
 abbrev pub option_rule : Text → ℕ → ArgAction → Rule
 option_rule id letter action =
     record (new_rule id) { short = Some letter; long = Some id; action = Some action }
 
--- the command
+-- the command `aide` with its options
 unfoldable pub aide_command : App
 aide_command = with_rule (with_rule (with_rule (with_rule (with_rule (new_app (codes "aide"))
     (option_rule (codes "compare") 69 SetTrue))
@@ -36,7 +38,7 @@ pub record JobText : Type 0 where
   pub before : Text
   pub after : Text
 
--- the value of an option, empty where it was not given
+-- the value of an option, or the empty text if the option was not given
 abbrev pub text_of : Text → List Row → Text
 text_of id rows = unwrap_or (first_of id rows) []
 
@@ -44,7 +46,7 @@ text_of id rows = unwrap_or (first_of id rows) []
 abbrev pub exactly_one : Bool → Bool → Bool
 exactly_one a b = (a && not b) || (b && not a)
 
--- the job over a configuration, where exactly one of the two flags was given
+-- the job over a configuration, if exactly one of the two flags was given
 abbrev pub job_for : List Row → Text → Option JobText
 job_for rows config =
     if exactly_one (flag_of (codes "compare") rows) (flag_of (codes "config-check") rows)
@@ -55,11 +57,11 @@ job_for rows config =
       after = text_of (codes "after") rows;
     }) else None
 
--- the job of what was matched, where a configuration is named
+-- the job of what was matched, if a configuration is named
 abbrev pub job_of_rows : List Row → Option JobText
 job_of_rows rows = option_and_then (job_for rows) (first_of (codes "config") rows)
 
--- the job of the words, where there is one
+-- the job of the arguments, if there is one
 abbrev pub job_of : List Text → Option JobText
 job_of words =
     if is_empty (fault_of aide_command words) then job_of_rows (matches_of aide_command words) else None
@@ -67,3 +69,8 @@ job_of words =
 -- the texts of a job
 abbrev pub text_of_job : Job → JobText
 text_of_job j = record { compare = j.compare; config = j.config; before = j.before; after = j.after }
+
+-- the number of a reason to refuse arguments, from 1
+abbrev pub number_of_refusal : WordsFault → ℕ
+number_of_refusal refusal.Usage = 1
+number_of_refusal refusal.Memory = 2

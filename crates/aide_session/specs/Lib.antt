@@ -6,5 +6,6 @@ pub mod Sites
 pub mod Answer
 pub mod Ends
 pub mod Closing
+pub mod Held
 pub mod Existence
 pub mod Page

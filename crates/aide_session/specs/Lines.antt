@@ -17,11 +17,11 @@ use Rattle.aide_db.specs.declared.fault.DbFaultKind.TheVariants as db
 use Rattle.aide_conf.specs.Fault.{kind_words, text_word}
 use Rattle.aide_conf.specs.declared.fault.ConfFault.{ConfFault}
 
--- the words are not those of the command
+-- the arguments are not those of the command
 unfoldable pub usage_line : List ℕ
 usage_line = codes "aide: usage: aide (-E | -D) -c FILE [-B TEXT] [-A TEXT]\n"
 
--- no memory is left
+-- out of memory
 unfoldable pub memory_line : List ℕ
 memory_line = codes "aide: out of memory\n"
 
@@ -41,11 +41,11 @@ end_of_line = codes "\n"
 unfoldable pub program_word : List ℕ
 program_word = codes "aide: "
 
--- what stands between a text and its line number
+-- between a text and its line number
 unfoldable pub colon : List ℕ
 colon = codes ":"
 
--- what stands before the words of a fault
+-- before the words of a fault
 unfoldable pub colon_blank : List ℕ
 colon_blank = codes ": "
 
@@ -70,22 +70,22 @@ abbrev pub side_word : Side → List ℕ
 side_word Old = codes "old"
 side_word New = codes "new"
 
--- what stands before the number of a column
+-- before the number of a column
 unfoldable pub blank : List ℕ
 blank = codes " "
 
--- the number of a column, after the words that end in `column`
+-- the number of a column, after words that end in `column`
 unfoldable pub column_number : ℕ → List ℕ
 column_number column = blank ++ decimal column
 
--- the column of a fault that has one
+-- the column of a fault that has one, otherwise nothing
 abbrev pub fault_column : DbFaultKind → List ℕ
 fault_column (db.BadNumber column) = column_number column
 fault_column (db.BadTime column) = column_number column
 fault_column (db.BadDigest column) = column_number column
 fault_column _ = []
 
--- the word behind that of a side, where a line number follows
+-- the word after that of a side, before a line number
 unfoldable pub database_word : List ℕ
 database_word = codes " database:"
 
@@ -104,7 +104,7 @@ database_line fault =
 unfoldable pub open_start : List ℕ
 open_start = codes "aide: cannot open the "
 
--- the word behind that of a side, where a path follows
+-- the word after that of a side, before a path
 unfoldable pub database_blank : List ℕ
 database_blank = codes " database "
 
@@ -116,7 +116,7 @@ open_line side path = open_start ++ (side_word side ++ (database_blank ++ (print
 unfoldable pub changed_start : List ℕ
 changed_start = codes "aide: the "
 
--- the words behind the side that changed
+-- the words after the side that changed
 unfoldable pub changed_end : List ℕ
 changed_end = codes " database changed while it was read\n"
 
@@ -128,7 +128,7 @@ changed_line side = changed_start ++ (side_word side ++ changed_end)
 unfoldable pub column_start : List ℕ
 column_start = codes " database: column "
 
--- the words behind the number of a skipped column
+-- the words after the number of a skipped column
 unfoldable pub skipped_end : List ℕ
 skipped_end = codes " skipped\n"
 
@@ -137,29 +137,30 @@ unfoldable pub skipped_line : Side → ℕ → List ℕ
 skipped_line side column = program_word
     ++ (side_word side ++ (column_start ++ (decimal column ++ skipped_end)))
 
--- the line of the column after a place, if the set of skipped columns has it
+-- the line for the column at a place, if the set of skipped columns has this column
 unfoldable pub place_line : Side → ℕ → ℕ → List ℕ
 place_line side columns place = if bit_at columns place == 1 then skipped_line side (place + 1) else []
 
--- the numbers below n, ascending
+-- the numbers below n, in ascending order
 unfoldable pub below : ℕ → List ℕ
 below zero = []
 below (suc n) = below n ++ n ∷ []
 
--- The lines of the skipped columns, ascending. Bit c - 1 stands for column c, of at most 64.
+-- The lines of the skipped columns, in ascending order. Bit c - 1 means column c; there are at most
+-- 64.
 unfoldable pub skipped_lines : Side → ℕ → List ℕ
 skipped_lines side columns = flat_map (place_line side columns) (below 64)
 
--- the lines after a good run, the old side's first
+-- the lines after a good run, those of the old side first
 abbrev pub outcome_lines : Outcome → List ℕ
 outcome_lines o = skipped_lines Old o.skipped_old ++ skipped_lines New o.skipped_new
 
--- the line of a database's fault, where it comes from a run
+-- the line of a database's fault that ended a run
 abbrev pub kind_line : DbFault → DbFaultKind → List ℕ
 kind_line fault db.Memory = memory_line
 kind_line fault _ = database_line fault
 
--- why a run was given up, over databases of these paths
+-- the line for the fault that ended a run over databases at these paths
 abbrev pub run_fault_line : (old_path new_path : List ℕ) → RunFault → List ℕ
 run_fault_line old_path new_path (Open side) = open_line side (by_side old_path new_path side)
 run_fault_line old_path new_path (Database fault) = kind_line fault fault.kind

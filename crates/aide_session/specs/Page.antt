@@ -1,17 +1,17 @@
--- A page before a sink.
+-- A page in front of a sink.
 use Rattle.std.specs.Prelude.{ℕ, ◌==◌, Bool, List, length, Option}
 use Rattle.std.specs.Io.KnownBytes.{append_known}
 
--- the sink, what the page holds for it, and how much of the page is used
+-- the sink, what the page keeps for the sink, and how much of the page is used
 pub record Paged (W : Type 0) : Type 0 where
   pub sink : W
   pub held : List ℕ
   pub used : ℕ
 
--- the bytes that went into the sink and onto the page, where the sink tells its own
+-- the bytes that went into the sink and onto the page, if the sink tells its own bytes
 abbrev pub known_of : {W : Type 0} → (W → Option (List ℕ)) → Paged W → Option (List ℕ)
 known_of delivered s = append_known (delivered s.sink) s.held
 
--- nothing waits on the page
+-- no byte waits on the page
 abbrev pub holds_none : List ℕ → Bool
 holds_none held = length held == 0

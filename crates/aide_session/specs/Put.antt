@@ -6,7 +6,7 @@ use Rattle.std.specs.Io.KnownBytes.{Appends}
 abbrev pub HasNoFailure : ℕ → ℕ → Type 0
 HasNoFailure before after = (after ≡ before) × (after < 2 ^ 64 - 1)
 
--- where the sink counts no failure, this text and nothing else was put there
+-- If the sink counts no failure, exactly this text was put there.
 pub record Put (text : List ℕ) (old new : Option (List ℕ)) (before after : ℕ) : Type 0 where
   pub never_falls : before ≤ after
   pub exact : HasNoFailure before after → Appends old new text

@@ -6,8 +6,8 @@ use Rattle.aide_db.specs.Side.{by_side}
 use Rattle.aide_db.specs.declared.side.Side.{Side}
 use Rattle.aide_session.specs.Files.{Files}
 
--- A site in memory: files by their paths, in the order in which they were added; the paths of the two sides, how often
--- each was opened; failures.
+-- A site in memory: its files by their paths, in the order in which they were added; the paths of
+-- the two sides; how often each side was opened; the number of failures.
 pub record Shelf : Type 0 where
   pub files : List (List ℕ × List ℕ)
   pub old_path : Option (List ℕ)
@@ -16,7 +16,7 @@ pub record Shelf : Type 0 where
   pub new_openings : ℕ
   pub failures : ℕ
 
--- a site over the machine's files, by their handle, of which nothing is told
+-- a site over the files of the machine, by their handle; it does not tell its files
 pub record Machine (F : Type 0) : Type 0 where
   pub files : F
   pub old_path : Option (List ℕ)
@@ -25,21 +25,21 @@ pub record Machine (F : Type 0) : Type 0 where
   pub new_openings : ℕ
   pub failures : ℕ
 
--- the first of the two that is there
+-- the first of the two if it is there, otherwise the second
 abbrev pub either : Option (List ℕ) → Option (List ℕ) → Option (List ℕ)
 either (Some x) other = Some x
 either None other = other
 
--- the bytes of a file, if the path is its own
+-- the bytes of a file, if this path is the path of the file
 abbrev pub of_file : List ℕ × List ℕ → List ℕ → Option (List ℕ)
 of_file file path = if bytes_eq file.0 path then Some file.1 else None
 
--- the bytes of a path: those of the last file that has it
+-- the bytes at a path: those of the last file that has this path
 unfoldable pub bytes_at : List (List ℕ × List ℕ) → List ℕ → Option (List ℕ)
 bytes_at [] path = None
 bytes_at (file ∷ files) path = either (bytes_at files path) (of_file file path)
 
--- what stands at a path, which a site in memory always tells
+-- what is at a path, which a site in memory always tells
 abbrev pub files_at : Shelf → Files
 files_at s path = Some (bytes_at s.files path)
 
@@ -47,11 +47,11 @@ files_at s path = Some (bytes_at s.files path)
 abbrev pub side_path : Shelf → Side → Option (List ℕ)
 side_path s side = by_side s.old_path s.new_path side
 
--- the bytes of that path
+-- the bytes at the path of a side
 abbrev pub side_bytes : Shelf → Side → Option (List ℕ)
 side_bytes s side = option_and_then (λ path. bytes_at s.files path) (side_path s side)
 
--- a side is not pointed at a file that is there
+-- the side is not pointed at a file that is there
 abbrev pub side_missing : Shelf → Side → Bool
 side_missing s side = is_none (side_bytes s side)
 

@@ -1,6 +1,7 @@
-//! The configuration file, whole.
+//! Reading the whole configuration file.
 ghost use Rattle.std.specs.Prelude.{◌≡◌, ◌≤◌, ℕ, List, Option, Some, None, IfOk, IsErrOf, true};
 ghost use Rattle.std.specs.Prelude.{false};
+ghost use Rattle.aide_db.specs.Count.{one_more};
 ghost use Rattle.aide_report.specs.Failures.{Rose};
 ghost use Rattle.aide_session.specs.Files.{IsLarge, is_too_large};
 
@@ -19,7 +20,7 @@ pub(crate) enum ConfigFault {
 /// The most bytes that a configuration may have.
 const LIMIT: usize = 4_194_304;
 
-/// All bytes of a reel.
+/// Reads all bytes of a reel.
 fn read_all<R: Reel>(alloc: Global, reel: &mut R) -> Result<Vec<u8>, ConfigFault>
     ensures ok { IfOk result (λ text. (bytes : List ℕ) → R.to_come reel.old ≡ Some bytes
         → (bytes ≡ text.items) × (is_too_large bytes ≡ false)) }
@@ -45,7 +46,8 @@ fn read_all<R: Reel>(alloc: Global, reel: &mut R) -> Result<Vec<u8>, ConfigFault
     Err(ConfigFault::TooLarge)
 }
 
-/// Opens the configuration, reads it whole and closes it.
+/// Opens the configuration, reads all of it and closes it.
+#[inline(never)]
 pub(crate) fn read_config<S: Site>(
     alloc: Global,
     site: &mut S,
@@ -64,6 +66,7 @@ pub(crate) fn read_config<S: Site>(
     ensures files { S.file_at site.new ≡ S.file_at site.old }
     ensures reliable { S.is_reliable site.new ≡ S.is_reliable site.old }
     ensures openings { S.openings site.new ≡ S.openings site.old }
+    ensures lookups { S.lookups site.new ≤ one_more (S.lookups site.old) }
     ensures never_falls { S.failures site.old ≤ S.failures site.new }
 {
     let mut reel = match site.config(path) {

@@ -12,7 +12,8 @@ use std::fs;
 use std::marker::Model;
 use std::rt::Files;
 
-/// The machine's files, of whose bytes nothing is told. A read asks the machine for no more than it is asked for.
+/// The files of the machine. Contracts see nothing of their bytes. A read asks the machine for no
+/// more bytes than the caller asks for.
 #[derive(Drop)]
 pub struct FileSite<F> {
     files: F,
@@ -35,7 +36,7 @@ impl<F> Model for FileSite<F> {
     } };
 }
 
-/// A reel over the file of a path.
+/// Opens a reel over the file at a path.
 fn open_file<F: Files>(files: &F, path: &str) -> Option<ReadReel<F::File>>
     ensures { IfSome result (λ r. r.failures ≡ 0) }
 {
@@ -46,7 +47,7 @@ fn open_file<F: Files>(files: &F, path: &str) -> Option<ReadReel<F::File>>
 }
 
 impl<F: Files> FileSite<F> {
-    /// The files of a machine, at which no side is pointed yet. Takes no memory.
+    /// Returns the files of a machine. No side is pointed at a path yet. Takes no memory.
     pub fn new(files: F) -> FileSite<F>
         ensures { result ≡ record {
           files = files;

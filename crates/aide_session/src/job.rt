@@ -1,7 +1,7 @@
 //! What a command line asks for.
 ghost use Rattle.std.specs.Prelude.{◌≡◌, ◌≢◌, [], false, Some, None, IfOk, IsErrOf};
 ghost use Rattle.aide_session.specs.Job.{aide_command, flag_of, option_rule, job_of, text_of};
-ghost use Rattle.aide_session.specs.Job.{text_of_job};
+ghost use Rattle.aide_session.specs.Job.{number_of_refusal, text_of_job};
 ghost use Rattle.clap.specs.Words.{app_of, fault_of, found_of, matches_of, rows_of, rule_of};
 
 use crate::words::{Memory, Word, Words};
@@ -9,26 +9,38 @@ use clap::error::ErrorKind;
 use clap::{Arg, ArgAction, ArgMatches, Command};
 use std::alloc::{AllocError, Global};
 
-/// What the program is to do.
+/// What the command line asks the program to do.
 #[derive(Drop)]
 pub struct Job {
-    /// Whether the databases are to be compared; otherwise the configuration is only checked.
+    /// Whether to compare the databases. Otherwise the configuration is only checked.
     pub compare: bool,
     /// The path of the configuration.
     pub config: Word,
-    /// Lines of configuration before those of the file, empty where none were given.
+    /// Lines of configuration to read before those of the file. Empty if none were given.
     pub before: Word,
-    /// Lines of configuration after those of the file, empty where none were given.
+    /// Lines of configuration to read after those of the file. Empty if none were given.
     pub after: Word,
 }
 
-/// Why words ask for nothing that the program does.
+/// Why a command line is refused.
 #[derive(Clone, Copy, Debug, PartialEq, Eq)]
 pub enum WordsFault {
-    /// The words are not those of the command.
+    /// The arguments are not those of the command.
     Usage,
-    /// No memory was left.
+    /// Out of memory.
     Memory,
+}
+
+impl WordsFault {
+    /// Returns the number of the reason, from 1.
+    pub fn number(self) -> u8
+        ensures { result ≡ number_of_refusal self }
+    {
+        match self {
+            WordsFault::Usage => 1,
+            WordsFault::Memory => 2,
+        }
+    }
 }
 
 impl From<Memory> for WordsFault {
@@ -42,7 +54,7 @@ impl From<Memory> for WordsFault {
     }
 }
 
-/// The option `--id`, with a letter.
+/// Makes the option `--id`, with a letter.
 fn option<'a>(alloc: Global, id: &'a str, letter: char, action: ArgAction) -> Arg<'a>
     ensures rule { rule_of result ≡ option_rule id.now letter action }
     ensures local { result.global ≡ false }
@@ -50,7 +62,7 @@ fn option<'a>(alloc: Global, id: &'a str, letter: char, action: ArgAction) -> Ar
     Arg::new(alloc, id).short(letter).long(id).action(action)
 }
 
-/// The command.
+/// Makes the command `aide` with its options.
 fn command<'a>(alloc: Global) -> Result<Command<'a>, AllocError>
     ensures { IfOk result (λ c. app_of c ≡ aide_command) }
 {
@@ -67,7 +79,7 @@ fn command<'a>(alloc: Global) -> Result<Command<'a>, AllocError>
         .arg(after)
 }
 
-/// The matches of the words.
+/// Matches the arguments against the command.
 fn matches<'a>(alloc: Global, words: &'a [Word]) -> Result<ArgMatches<'a>, WordsFault>
     ensures ok { IfOk result (λ m. (fault_of aide_command words.now ≡ [])
         × (rows_of (found_of m) ≡ matches_of aide_command words.now)) }
@@ -85,7 +97,7 @@ fn matches<'a>(alloc: Global, words: &'a [Word]) -> Result<ArgMatches<'a>, Words
     }
 }
 
-/// Whether a flag was given.
+/// Returns whether a flag was given.
 fn is_set(matches: &ArgMatches<'_>, id: &str) -> bool
     ensures { result ≡ flag_of id.now (rows_of (found_of matches.now)) }
 {
@@ -95,17 +107,19 @@ fn is_set(matches: &ArgMatches<'_>, id: &str) -> bool
     }
 }
 
-/// The text of an option, empty where it was not given.
+/// Returns the text of an option, or the empty text if the option was not given.
 fn text<'a>(matches: &ArgMatches<'a>, id: &str) -> &'a str
     ensures { result.now ≡ text_of id.now (rows_of (found_of matches.now)) }
 {
     matches.get_str(id).unwrap_or("")
 }
 
-/// Reads the words of a command line, the first of which is the program's name:
+/// Reads the arguments of a command line. The first one is the program's name:
 /// `aide (-E | --compare | -D | --config-check) (-c | --config) FILE [-B | --before TEXT] [-A | --after TEXT]`.
 ///
-/// Exactly one of `-E` and `-D` is wanted, and each option at most once. All else is `Usage`, also what asks for help.
+/// Exactly one of `-E` and `-D` has to be given, and each option at most once. Everything else is
+/// `Usage`, including a request for help.
+#[inline(never)]
 pub fn read_words(alloc: Global, words: &Words) -> Result<Job, WordsFault>
     ensures ok { IfOk result (λ job. job_of words.now ≡ Some (text_of_job job)) }
     ensures usage { IsErrOf result WordsFault.Usage → job_of words.now ≡ None }

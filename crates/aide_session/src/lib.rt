@@ -1,7 +1,8 @@
-//! A session: its words, its configuration and its two databases, over any site.
+//! A session over any site: its arguments, its configuration and its two databases.
 #![tactic(auto)]
 
 mod config_file;
+mod databases;
 mod file_site;
 mod job;
 mod lines;
@@ -20,6 +21,6 @@ pub use job::{Job, WordsFault, read_words};
 pub use machine::start;
 pub use memory_site::MemorySite;
 pub use paged_sink::PagedSink;
-pub use program::session;
+pub use program::{session, session_on};
 pub use site::Site;
 pub use words::{Memory, Word, Words};

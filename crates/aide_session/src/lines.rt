@@ -20,7 +20,7 @@ use aide_conf::ConfFault;
 use aide_db::{DbFault, DbFaultKind, Side};
 use aide_report::{Outcome, Sink};
 
-/// How the program is called.
+/// Puts the line that says how to call the program.
 #[tactic(auto, unfolding(crate::specs::Lines::usage_line))]
 pub(crate) fn put_usage_line<E: Sink>(err: &mut E)
     ensures { Put usage_line (E.delivered err.old) (E.delivered err.new)
@@ -32,7 +32,7 @@ pub(crate) fn put_usage_line<E: Sink>(err: &mut E)
     );
 }
 
-/// No memory was left.
+/// Puts the line for out of memory.
 #[tactic(auto, unfolding(crate::specs::Lines::memory_line))]
 pub(crate) fn put_memory_line<E: Sink>(err: &mut E)
     ensures { Put memory_line (E.delivered err.old) (E.delivered err.new)
@@ -41,7 +41,7 @@ pub(crate) fn put_memory_line<E: Sink>(err: &mut E)
     put(err, b"aide: out of memory\n");
 }
 
-/// The configuration is too long.
+/// Puts the line for a configuration that is too long.
 #[tactic(auto, unfolding(crate::specs::Lines::too_large_line))]
 pub(crate) fn put_too_large_line<E: Sink>(err: &mut E)
     ensures { Put too_large_line (E.delivered err.old) (E.delivered err.new)
@@ -53,7 +53,7 @@ pub(crate) fn put_too_large_line<E: Sink>(err: &mut E)
     );
 }
 
-/// The report was not written.
+/// Puts the line for a report that was not written.
 #[tactic(auto, unfolding(crate::specs::Lines::write_line))]
 pub(crate) fn put_write_line<E: Sink>(err: &mut E)
     ensures { Put write_line (E.delivered err.old) (E.delivered err.new)
@@ -62,7 +62,7 @@ pub(crate) fn put_write_line<E: Sink>(err: &mut E)
     put(err, b"aide: cannot write the report\n");
 }
 
-/// The word for a side.
+/// Returns the word for a side.
 fn side_name(of: Side) -> &'static str
     ensures { result.now ≡ side_word of }
 {
@@ -72,7 +72,7 @@ fn side_name(of: Side) -> &'static str
     }
 }
 
-/// The configuration was not opened or not read.
+/// Puts the line for a configuration that was not opened or not read.
 pub(crate) fn put_unread_line<E: Sink>(err: &mut E, path: &str)
     ensures { Put (unread_line path.now) (E.delivered err.old) (E.delivered err.new)
         (E.failures err.old) (E.failures err.new) }
@@ -92,7 +92,7 @@ fn put_conf_place<E: Sink>(err: &mut E, fault: ConfFault)
     put_colon_blank(err);
 }
 
-/// A fault of the configuration.
+/// Puts the line for a fault of the configuration.
 pub(crate) fn put_conf_line<E: Sink>(err: &mut E, fault: ConfFault)
     ensures { Put (conf_line fault) (E.delivered err.old) (E.delivered err.new)
         (E.failures err.old) (E.failures err.new) }
@@ -144,7 +144,7 @@ fn put_fault_column<E: Sink>(err: &mut E, kind: DbFaultKind)
     }
 }
 
-/// A fault of a database.
+/// Puts the line for a fault of a database.
 pub(crate) fn put_database_line<E: Sink>(err: &mut E, fault: DbFault)
     ensures { Put (database_line fault) (E.delivered err.old) (E.delivered err.new)
         (E.failures err.old) (E.failures err.new) }
@@ -156,7 +156,7 @@ pub(crate) fn put_database_line<E: Sink>(err: &mut E, fault: DbFault)
     put_end_of_line(err);
 }
 
-/// A database was not opened.
+/// Puts the line for a database that was not opened.
 pub(crate) fn put_open_line<E: Sink>(err: &mut E, side: Side, path: &str)
     ensures { Put (open_line side path.now) (E.delivered err.old) (E.delivered err.new)
         (E.failures err.old) (E.failures err.new) }
@@ -168,7 +168,7 @@ pub(crate) fn put_open_line<E: Sink>(err: &mut E, side: Side, path: &str)
     put_end_of_line(err);
 }
 
-/// A database changed while it was read.
+/// Puts the line for a database that changed while it was read.
 pub(crate) fn put_changed_line<E: Sink>(err: &mut E, side: Side)
     ensures { Put (changed_line side) (E.delivered err.old) (E.delivered err.new)
         (E.failures err.old) (E.failures err.new) }
@@ -189,7 +189,7 @@ fn put_skipped_line<E: Sink>(err: &mut E, side: Side, column: u64)
     put_skipped_end(err);
 }
 
-/// Whether the column after this place was skipped.
+/// Returns whether the column at this place was skipped.
 fn is_skipped(columns: u64, place: u32) -> bool
     requires { place < 64 }
     ensures { result ≡ (bit_at columns place == 1) }
@@ -217,7 +217,7 @@ fn put_skipped_lines<E: Sink>(err: &mut E, side: Side, columns: u64)
     }
 }
 
-/// The columns that a good run skipped, the old side's first.
+/// Puts a line for each column that a good run skipped, those of the old side first.
 pub(crate) fn put_outcome_lines<E: Sink>(err: &mut E, outcome: &Outcome)
     ensures { Put (outcome_lines outcome.now) (E.delivered err.old) (E.delivered err.new)
         (E.failures err.old) (E.failures err.new) }

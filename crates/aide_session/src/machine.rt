@@ -1,4 +1,4 @@
-//! A session on the machine: its words, its files and its streams.
+//! A session on the machine: its arguments, its files and its streams.
 use crate::file_site::FileSite;
 use crate::paged_sink::PagedSink;
 use crate::program::session;
@@ -7,7 +7,7 @@ use aide_report::WriteSink;
 use std::alloc::Global;
 use std::env;
 
-/// The words of the command line, the program's name first.
+/// Returns the arguments of the command line. The program's name is the first one.
 fn take_words(rt: &HostRuntime, alloc: Global) -> Result<Words, Memory> {
     let Ok(arguments) = env::args(rt) else {
         return Err(Memory);
@@ -19,16 +19,25 @@ fn take_words(rt: &HostRuntime, alloc: Global) -> Result<Words, Memory> {
     Ok(words)
 }
 
-/// Runs the session of the command line over the machine's files: the report goes to standard output, and the lines to
-/// standard error. Answers the exit status, 22 where no memory is left for the words.
-pub fn start(rt: &HostRuntime) -> u8 {
-    let alloc = rt.alloc();
-    let Ok(words) = take_words(rt, alloc) else {
-        let _ = eprintln!(rt; "aide: out of memory");
-        return 22;
-    };
+/// Runs the session of the command line over the machine's files. Memory for the arguments and for
+/// the pages of both streams is reserved before any file is opened.
+fn run_session(rt: &HostRuntime, alloc: Global) -> Result<u8, Memory> {
+    let words = take_words(rt, alloc)?;
     let mut site = FileSite::new(rt);
-    let mut out = PagedSink::new(WriteSink::new(rt.stdout()));
-    let mut err = PagedSink::new(WriteSink::new(rt.stderr()));
-    session(alloc, &words, &mut site, &mut out, &mut err)
+    let mut out = PagedSink::new(alloc, WriteSink::new(rt.stdout()))?;
+    let mut err = PagedSink::new(alloc, WriteSink::new(rt.stderr()))?;
+    Ok(session(alloc, &words, &mut site, &mut out, &mut err))
+}
+
+/// Runs the session of the command line over the machine's files. The report goes to standard
+/// output, and the lines go to standard error. Returns the exit status. The status is 22 if an
+/// allocation for the arguments or for a page fails.
+pub fn start(rt: &HostRuntime) -> u8 {
+    match run_session(rt, rt.alloc()) {
+        Ok(status) => status,
+        Err(Memory) => {
+            let _ = eprintln!(rt; "aide: out of memory");
+            22
+        }
+    }
 }

@@ -1,6 +1,7 @@
 //! A site in memory.
-ghost use Rattle.std.specs.Prelude.{◌≡◌, ◌≢◌, ◌++◌, ◌∷◌, [], ℕ, true, false, List, Option};
-ghost use Rattle.std.specs.Prelude.{Some, None, IfOk, IfSome, IsSome, OnOk, OnErr, option_and_then};
+ghost use Rattle.std.specs.Prelude.{◌≡◌, ◌≤◌, ◌≢◌, ◌++◌, ◌∷◌, [], ℕ, true, false, List, Option};
+ghost use Rattle.std.specs.Prelude.{Some, None, IfOk, IfSome, IsSome, OnOk, OnErr, is_some};
+ghost use Rattle.std.specs.Prelude.{option_and_then};
 ghost use Rattle.std.specs.Option.{option_map};
 ghost use Rattle.aide_session.specs.Sites.{bytes_at, either, files_at, of_file, side_bytes};
 ghost use Rattle.aide_session.specs.Sites.{side_missing, side_openings, side_path};
@@ -15,7 +16,7 @@ use aide_db::{OpenFault, Reel, Side, Sources};
 use std::alloc::Global;
 use std::marker::Model;
 
-/// A file by its path, which contracts see as its path and its bytes.
+/// A file. Contracts see its path and its bytes.
 #[derive(Drop)]
 pub struct StoredFile<'a> {
     path: &'a str,
@@ -28,8 +29,9 @@ impl<'a> Model for StoredFile<'a> {
     ghost view = { λ h. (h.path.now, h.bytes.now) };
 }
 
-/// Files in memory, which are lent to it. Of one path the file added last counts. It tells what stands at every path,
-/// and nothing of it fails but the opening of a file that is not there.
+/// Files in memory, lent to the site. If several files have one path, the file added last counts.
+/// The site tells what is at every path. On this site only one thing can fail: opening a file that
+/// is not there.
 #[derive(Drop)]
 pub struct MemorySite<'a> {
     files: Vec<StoredFile<'a>>,
@@ -52,7 +54,7 @@ impl<'a> Model for MemorySite<'a> {
     } };
 }
 
-/// The bytes of a file if the path is its own, otherwise those found before.
+/// Returns the bytes of a file if this path is the path of the file, otherwise those found before.
 fn later<'a>(found: Option<&'a [u8]>, file: &StoredFile<'a>, path: &str) -> Option<&'a [u8]>
     ensures { option_map (λ b. b.now) result
         ≡ either (of_file file.now path.now) (option_map (λ b. b.now) found.entry) }
@@ -64,7 +66,7 @@ fn later<'a>(found: Option<&'a [u8]>, file: &StoredFile<'a>, path: &str) -> Opti
     }
 }
 
-/// The bytes of the last file of a path.
+/// Returns the bytes of the last file that has this path.
 fn look<'a>(files: &[StoredFile<'a>], path: &str) -> Option<&'a [u8]>
     ensures { option_map (λ b. b.now) result ≡ bytes_at files.now path.now }
 {
@@ -86,7 +88,7 @@ fn look_side<'a>(files: &[StoredFile<'a>], path: &Option<Word>) -> Option<&'a [u
 }
 
 impl<'a> MemorySite<'a> {
-    /// A site without files, whose sides are not pointed yet. Takes no memory.
+    /// Returns a site without files. No side is pointed at a path yet. Takes no memory.
     pub fn new(alloc: Global) -> MemorySite<'a>
         ensures { result ≡ record {
           files = [];
@@ -104,7 +106,8 @@ impl<'a> MemorySite<'a> {
         }
     }
 
-    /// Adds a file. The path and each side that is pointed at it have these bytes from now on.
+    /// Adds a file. From now on these are the bytes at its path, and of each side that is pointed
+    /// at this path.
     pub fn add(&mut self, path: &'a str, bytes: &'a [u8]) -> Result<(), Memory>
         ensures ok { OnOk result (self.new
             ≡ record self.old {
@@ -137,10 +140,13 @@ impl<'a> Sources for MemorySite<'a> {
 
     ghost is_reliable = { λ _. true };
 
-    // A side is refused exactly where it is not pointed at a file that is there.
+    ghost was_given = { λ site side. is_some (side_bytes site side) };
+
+    // The opening is refused exactly if the side is not pointed at a file that is there.
     fn open(&mut self, side: Side) -> Result<&'a [u8], OpenFault>
         ensures missing { OnErr result (side_bytes self.old side ≡ None) }
         ensures there { OnOk result (IsSome (side_bytes self.old side)) }
+        ensures refused { OnErr result (is_some (side_bytes self.new side) ≡ false) }
         ensures refuses { OnOk result (side_missing self.old side ≡ false) }
         ensures fresh { IfOk result (λ reel. ⟦<&'a [u8] as Reel>⟧.failures reel ≡ 0) }
         ensures gives { IfOk result (λ reel. IfSome (side_bytes self.old side)
@@ -180,8 +186,9 @@ impl<'a> Sources for MemorySite<'a> {
 impl<'a> Site for MemorySite<'a> {
     ghost path_of = { side_path };
 
-    // A path is refused exactly where there is no file.
+    // The opening is refused exactly if there is no file at the path.
     fn config(&mut self, path: &str) -> Result<&'a [u8], OpenFault>
+        ensures lookups { 0 ≤ one_more 0 }
         ensures missing { OnErr result (bytes_at self.old.files path.now ≡ None) }
         ensures there { OnOk result (IsSome (bytes_at self.old.files path.now)) }
         ensures gone { OnErr result (files_at self.old path.now ≡ Some None) }

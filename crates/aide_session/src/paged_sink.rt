@@ -1,34 +1,37 @@
 //! A sink that gathers small pieces.
 ghost use Rattle.std.specs.Prelude.{◌≡◌, ◌==◌, ◌&&◌, ◌<◌, ◌≤◌, ℕ, List, [], length, drop, take};
-ghost use Rattle.std.specs.Prelude.{OnOk, Bool};
+ghost use Rattle.std.specs.Prelude.{IfOk, OnOk, Bool, vec_capacity};
 ghost use Rattle.std.specs.Io.KnownBytes.{Appends, Keeps, append_known};
 ghost use Rattle.aide_report.specs.Failures.{CountsFault};
 ghost use Rattle.aide_session.specs.Page.{holds_none, known_of};
 
+use crate::words::Memory;
 use aide_db::DeviceFault;
 use aide_report::{Sink, emit};
-use arrayvec::ArrayVec;
+use std::alloc::Global;
 use std::marker::Model;
 
-/// How many bytes a page has: more than the longest line about a database, whose path has at most 4,096 bytes, each
-/// printed as at most four.
+/// The number of bytes of a page. It is more than the longest line about a database: a path has at
+/// most 4,096 bytes, and each is printed as at most four.
 const PAGE: usize = 32_768;
 
-/// Gathers what it takes in a page of fixed size, and passes the page on to another sink when it is full, and when it
-/// is flushed. It takes no memory.
+/// Gathers bytes in a page of fixed size. When the page is full or the sink is flushed, the page is
+/// passed on to another sink. Memory for the page is reserved when the sink is made. Later calls
+/// allocate nothing.
 ///
-/// Bytes on the page count as delivered; after a failure those that were not passed on stay there.
+/// Bytes on the page count as delivered. After a failure the bytes that were not passed on stay on
+/// the page.
 #[derive(Drop)]
 pub struct PagedSink<W> {
     sink: W,
-    page: ArrayVec<u8, PAGE>,
+    page: Vec<u8>,
     passed: usize,
     ghost within: { passed ≤ length page.items },
+    ghost room: { 32768 ≤ vec_capacity page },
 }
 
 impl<W> Model for PagedSink<W> {
-    ghost use Rattle.std.specs.Prelude.{drop};
-    ghost use Rattle.arrayvec.specs.ArrayVec.{array_vec_len};
+    ghost use Rattle.std.specs.Prelude.{drop, vec_len};
     ghost use Rattle.aide_session.specs.Page.{Paged};
 
     ghost Value = { Paged W };
@@ -36,23 +39,30 @@ impl<W> Model for PagedSink<W> {
     ghost view = { λ s. record {
       sink = s.sink;
       held = drop s.passed s.page.items;
-      used = array_vec_len s.page;
+      used = vec_len s.page;
     } };
 }
 
 impl<W: Sink> PagedSink<W> {
-    /// An empty page before a sink.
-    pub fn new(sink: W) -> PagedSink<W>
-        ensures { result ≡ record { sink = sink; held = []; used = 0 } }
+    /// Makes an empty page in front of a sink. Only this call takes memory.
+    pub fn new(alloc: Global, sink: W) -> Result<PagedSink<W>, Memory>
+    where
+        W: Drop,
+        ensures sink { IfOk result (λ s. s.sink ≡ sink) }
+        ensures held { IfOk result (λ s. s.held ≡ []) }
+        ensures used { IfOk result (λ s. s.used ≡ 0) }
     {
-        PagedSink {
+        let Ok(page) = Vec::with_capacity(alloc, PAGE) else {
+            return Err(Memory);
+        };
+        Ok(PagedSink {
             sink,
-            page: ArrayVec::new(),
+            page,
             passed: 0,
-        }
+        })
     }
 
-    /// Passes on what the page holds.
+    /// Passes on the bytes on the page.
     fn pass(&mut self) -> Result<(), DeviceFault>
         ensures ok { OnOk result (self.new.held ≡ []) }
         ensures room { OnOk result (self.new.used ≡ 0) }
@@ -73,7 +83,7 @@ impl<W: Sink> PagedSink<W> {
         }
     }
 
-    /// Takes bytes from the front, as many as fit on the page.
+    /// Takes as many of the first bytes as fit on the page. Returns their number.
     fn take(&mut self, bytes: &[u8]) -> usize
         requires some { 0 < length bytes.now }
         requires room { self.old.used < 32768 }
@@ -82,8 +92,8 @@ impl<W: Sink> PagedSink<W> {
             (take result bytes.now) }
         ensures sink { self.new.sink ≡ self.old.sink }
     {
-        let count = bytes.len().min(self.page.remaining_capacity());
-        let Ok(()) = self.page.try_extend_from_slice(&bytes[..count]) else {
+        let count = bytes.len().min(PAGE - self.page.len());
+        let Ok(()) = self.page.extend_from_slice(&bytes[..count]) else {
             unreachable!()
         };
         count
@@ -100,7 +110,7 @@ impl<W: Sink> Sink for PagedSink<W> {
     ghost is_flushed = { λ s. W.is_flushed s.sink && holds_none s.held };
 
     fn write(&mut self, bytes: &[u8]) -> Result<usize, DeviceFault> {
-        if self.page.is_full() {
+        if self.page.len() >= PAGE {
             if let Err(fault) = self.pass() {
                 return Err(fault);
             }

@@ -33,7 +33,7 @@ impl Pointed {
         }
     }
 
-    /// The path of a side.
+    /// Returns the path of a side.
     pub(crate) fn path(&self, side: Side) -> &Option<Word>
         ensures { result.now ≡ by_side self.now.old_path self.now.new_path side }
     {

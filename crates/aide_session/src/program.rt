@@ -1,154 +1,31 @@
 //! The whole program over any site.
-ghost use Rattle.std.specs.Prelude.{◌≡◌, ◌≤◌, ◌⊎◌, ℕ, List, Option, Some, None, IsSome, Ok, Err};
-ghost use Rattle.std.specs.Prelude.{Result, true, false};
-ghost use Rattle.aide_db.specs.Side.{by_side};
-ghost use Rattle.aide_db.specs.declared.side.Side.{Side};
+ghost use Rattle.std.specs.Prelude.{◌≡◌, ◌≤◌, ◌⊎◌, ℕ, List, Option, Some, None, Ok, Err};
+ghost use Rattle.std.specs.Prelude.{Result, true, false, max};
+ghost use Rattle.aide_db.specs.Count.{one_more};
 ghost use Rattle.aide_report.specs.Failures.{Rose};
-ghost use Rattle.aide_report.specs.Missing.{TellsSide};
 ghost use Rattle.aide_session.specs.Answer.{Answer, Named, IsAnswer, IsJobAnswer, IsTextAnswer};
-ghost use Rattle.aide_session.specs.Answer.{Compares, IsCompared, need_of};
-ghost use Rattle.aide_session.specs.Closing.{AsksAndReads, AsksToCompare, Closes, HasText};
-ghost use Rattle.aide_session.specs.Closing.{course_between};
+ghost use Rattle.aide_session.specs.Answer.{need_of};
+ghost use Rattle.aide_session.specs.Closing.{Closes, course_between};
 ghost use Rattle.aide_session.specs.Ends.{Ends, HasFailed, Whole, Starved, sinks_between};
 ghost use Rattle.aide_session.specs.Existence.{HasAnswer, TellsNamed};
 ghost use Rattle.aide_session.specs.Files.{is_too_large};
+ghost use Rattle.aide_session.specs.Held.{HoldsWithin, most_held};
 ghost use Rattle.aide_session.specs.Job.{job_of, text_of_job};
-ghost use Rattle.aide_session.specs.Lines.{run_fault_line};
-ghost use Rattle.aide_session.specs.Put.{HasNoFailure, Put};
+ghost use Rattle.aide_session.specs.Put.{HasNoFailure};
 
 use crate::config_file::{ConfigFault, read_config};
+use crate::databases::compare;
 use crate::job::{Job, WordsFault, read_words};
 use crate::lines::{
-    put_changed_line, put_conf_line, put_database_line, put_memory_line, put_open_line,
-    put_outcome_lines, put_too_large_line, put_unread_line, put_usage_line, put_write_line,
+    put_conf_line, put_memory_line, put_too_large_line, put_unread_line, put_usage_line,
 };
 use crate::put::pass_on;
 use crate::site::Site;
-use crate::words::{Memory, Words};
-use aide_conf::{ConfFaultKind, Need, Settings, Task};
-use aide_db::{DbFault, DbFaultKind, Desk, Limits, Side, Sources};
-use aide_report::{RunFault, Sink, run};
+use crate::words::Words;
+use aide_conf::{ConfFaultKind, Need, Settings};
+use aide_db::{Desk, Sources};
+use aide_report::Sink;
 use std::alloc::Global;
-
-/// The most bytes of a line of a database, without its newline.
-const LONGEST: u32 = 1_048_576;
-
-/// The limits of a database: its longest line, and 2^40 bytes in all.
-const LIMITS: Limits = Limits {
-    line: LONGEST,
-    bytes: 1_099_511_627_776,
-};
-
-/// The configured path of a side.
-fn path_of<'a>(task: &Task<'a>, side: Side) -> &'a str
-    ensures { result.now ≡ by_side task.now.old_path.now task.now.new_path.now side }
-{
-    match side {
-        Side::Old => task.old_path,
-        Side::New => task.new_path,
-    }
-}
-
-/// Why a run was given up.
-fn put_run_fault<E: Sink>(err: &mut E, task: &Task<'_>, fault: RunFault)
-    ensures { Put (run_fault_line task.now.old_path.now task.now.new_path.now fault)
-        (E.delivered err.old) (E.delivered err.new) (E.failures err.old) (E.failures err.new) }
-{
-    match fault {
-        RunFault::Open(side) => put_open_line(err, side, path_of(task, side)),
-        RunFault::Database(fault) => match fault.kind {
-            DbFaultKind::Memory => put_memory_line(err),
-            _ => put_database_line(err, fault),
-        },
-        RunFault::Changed(side) => put_changed_line(err, side),
-        RunFault::Write { written: _ } => put_write_line(err),
-    }
-}
-
-/// Compares the databases that the sides of a site are pointed at, on a desk with room for any line.
-fn compare_sides<S: Site, W: Sink, E: Sink>(
-    task: &Task<'_>,
-    desk: &mut Desk<Global>,
-    site: &mut S,
-    out: &mut W,
-    err: &mut E,
-) -> u8
-    requires room { 1048576 ≤ desk.old.room }
-    ensures ends { (named : Named)
-        → named.old_path ≡ task.now.old_path.now → named.new_path ≡ task.now.new_path.now
-        → (old_file new_file : Option (List ℕ))
-        → TellsSide (S.bytes_of site.old Side.Old) (S.is_missing site.old Side.Old) old_file
-        → TellsSide (S.bytes_of site.old Side.New) (S.is_missing site.old Side.New) new_file
-        → (a : Answer) → IsCompared task.now.options named old_file new_file a
-        → Ends a named result
-        (sinks_between W.delivered E.delivered E.failures out.old out.new err.old err.new)
-        (HasFailed (S.is_reliable site.old) (S.failures site.old) (S.failures site.new))
-        (Rose (W.failures out.old) (W.failures out.new)) }
-    ensures closes { (words : List (List ℕ)) (named : Named)
-        → named.old_path ≡ task.now.old_path.now → named.new_path ≡ task.now.new_path.now
-        → (asks : AsksToCompare (S.file_at site.old) words named)
-        → asks.settings.options ≡ task.now.options
-        → ((side : Side) (text : List ℕ) → HasText (S.file_at site.old) named side text
-        → S.bytes_of site.old side ≡ Some text)
-        → Closes (S.file_at site.old) words result
-        (sinks_between W.delivered E.delivered E.failures out.old out.new err.old err.new)
-        (course_between S.openings W.flushes W.is_flushed site.old site.new out.old out.new)
-        (Rose (S.failures site.old) (S.failures site.new))
-        (Rose (W.failures out.old) (W.failures out.new)) }
-    ensures site_never_falls { S.failures site.old ≤ S.failures site.new }
-{
-    match run(task, LIMITS, desk, site, out) {
-        Ok(outcome) => {
-            put_outcome_lines(err, &outcome);
-            outcome.status()
-        }
-        Err(fault) => {
-            put_run_fault(err, task, fault);
-            fault.status()
-        }
-    }
-}
-
-/// Points a site at the databases that the settings name, reserves what a comparison may hold, and compares them.
-fn compare<S: Site, W: Sink, E: Sink>(
-    alloc: Global,
-    settings: &Settings,
-    site: &mut S,
-    out: &mut W,
-    err: &mut E,
-) -> u8
-    requires { IsSome settings.now.old_path × IsSome settings.now.new_path }
-    ensures ends { (named : Named) (a : Answer) → Compares (S.file_at site.old) settings.now named a
-        → Ends a named result
-        (sinks_between W.delivered E.delivered E.failures out.old out.new err.old err.new)
-        (HasFailed (S.is_reliable site.old) (S.failures site.old) (S.failures site.new))
-        (Rose (W.failures out.old) (W.failures out.new)) }
-    ensures closes { (words : List (List ℕ)) (config : List ℕ)
-        → AsksAndReads (S.file_at site.old) words config true (Ok settings.now)
-        → Closes (S.file_at site.old) words result
-        (sinks_between W.delivered E.delivered E.failures out.old out.new err.old err.new)
-        (course_between S.openings W.flushes W.is_flushed site.old site.new out.old out.new)
-        (Rose (S.failures site.old) (S.failures site.new))
-        (Rose (W.failures out.old) (W.failures out.new)) }
-    ensures site_never_falls { S.failures site.old ≤ S.failures site.new }
-{
-    let Some(task) = settings.task() else {
-        unreachable!()
-    };
-    if let Err(Memory) = site.point(alloc, Side::Old, task.old_path) {
-        put_memory_line(err);
-        return 22;
-    }
-    if let Err(Memory) = site.point(alloc, Side::New, task.new_path) {
-        put_memory_line(err);
-        return 22;
-    }
-    let Ok(mut desk) = Desk::reserved(alloc, LONGEST) else {
-        put_memory_line(err);
-        return 22;
-    };
-    compare_sides(&task, &mut desk, site, out, err)
-}
 
 fn need(compare: bool) -> Need
     ensures { result ≡ need_of compare }
@@ -156,11 +33,12 @@ fn need(compare: bool) -> Need
     if compare { Need::Compare } else { Need::Check }
 }
 
-/// The session of a job whose configuration has this text.
+/// Runs the session of a job whose configuration has this text.
 fn after_reading<S: Site, W: Sink, E: Sink>(
     alloc: Global,
     job: &Job,
     text: &[u8],
+    desk: &mut Desk<Global>,
     site: &mut S,
     out: &mut W,
     err: &mut E,
@@ -177,17 +55,24 @@ fn after_reading<S: Site, W: Sink, E: Sink>(
         → file ≡ Some text.now)
         → Closes (S.file_at site.old) words result
         (sinks_between W.delivered E.delivered E.failures out.old out.new err.old err.new)
-        (course_between S.openings W.flushes W.is_flushed site.old site.new out.old out.new)
+        (course_between S.openings S.was_given W.flushes W.is_flushed
+        site.old site.new out.old out.new)
         (Rose (S.failures site.old) (S.failures site.new))
         (Rose (W.failures out.old) (W.failures out.new)) }
     ensures site_never_falls { S.failures site.old ≤ S.failures site.new }
+    ensures lookups { S.lookups site.new ≡ S.lookups site.old }
+    ensures peak { desk.old.peak ≤ desk.new.peak }
+    ensures below { desk.new.peak ≤ max desk.old.peak most_held }
+    ensures bound { (named : Named) (a : Answer)
+        → IsTextAnswer (S.file_at site.old) (text_of_job job.now) text.now named a
+        → HoldsWithin (S.file_at site.old) named desk.old.peak desk.new.peak }
 {
     let before = job.before.as_str().as_bytes();
     let after = job.after.as_str().as_bytes();
     match Settings::read(alloc, before, text, after, need(job.compare)) {
         Ok(settings) => {
             if job.compare {
-                compare(alloc, &settings, site, out, err)
+                compare(alloc, &settings, desk, site, out, err)
             } else {
                 0
             }
@@ -205,10 +90,11 @@ fn after_reading<S: Site, W: Sink, E: Sink>(
     }
 }
 
-/// The session of a job.
+/// Runs the session of a job.
 fn run_job<S: Site, W: Sink, E: Sink>(
     alloc: Global,
     job: &Job,
+    desk: &mut Desk<Global>,
     site: &mut S,
     out: &mut W,
     err: &mut E,
@@ -222,13 +108,20 @@ fn run_job<S: Site, W: Sink, E: Sink>(
     ensures closes { (words : List (List ℕ)) → job_of words ≡ Some (text_of_job job.now)
         → Closes (S.file_at site.old) words result
         (sinks_between W.delivered E.delivered E.failures out.old out.new err.old err.new)
-        (course_between S.openings W.flushes W.is_flushed site.old site.new out.old out.new)
+        (course_between S.openings S.was_given W.flushes W.is_flushed
+        site.old site.new out.old out.new)
         (Rose (S.failures site.old) (S.failures site.new))
         (Rose (W.failures out.old) (W.failures out.new)) }
+    ensures lookups { S.lookups site.new ≤ one_more (S.lookups site.old) }
+    ensures peak { desk.old.peak ≤ desk.new.peak }
+    ensures below { desk.new.peak ≤ max desk.old.peak most_held }
+    ensures bound { (named : Named) (a : Answer)
+        → IsJobAnswer (S.file_at site.old) (text_of_job job.now) named a
+        → HoldsWithin (S.file_at site.old) named desk.old.peak desk.new.peak }
 {
     let path = job.config.as_str();
     match read_config(alloc, site, path) {
-        Ok(text) => after_reading(alloc, job, text.as_slice(), site, out, err),
+        Ok(text) => after_reading(alloc, job, text.as_slice(), desk, site, out, err),
         Err(ConfigFault::TooLarge) => {
             put_too_large_line(err);
             17
@@ -244,10 +137,11 @@ fn run_job<S: Site, W: Sink, E: Sink>(
     }
 }
 
-/// The session of these words, whose lines may still wait in `err`.
+/// Runs the session of these arguments. Its lines may still wait in `err` afterwards.
 fn run_words<S: Site, W: Sink, E: Sink>(
     alloc: Global,
     words: &Words,
+    desk: &mut Desk<Global>,
     site: &mut S,
     out: &mut W,
     err: &mut E,
@@ -259,12 +153,18 @@ fn run_words<S: Site, W: Sink, E: Sink>(
         (Rose (W.failures out.old) (W.failures out.new)) }
     ensures closes { Closes (S.file_at site.old) words.now result
         (sinks_between W.delivered E.delivered E.failures out.old out.new err.old err.new)
-        (course_between S.openings W.flushes W.is_flushed site.old site.new out.old out.new)
+        (course_between S.openings S.was_given W.flushes W.is_flushed
+        site.old site.new out.old out.new)
         (Rose (S.failures site.old) (S.failures site.new))
         (Rose (W.failures out.old) (W.failures out.new)) }
+    ensures lookups { S.lookups site.new ≤ one_more (S.lookups site.old) }
+    ensures peak { desk.old.peak ≤ desk.new.peak }
+    ensures below { desk.new.peak ≤ max desk.old.peak most_held }
+    ensures bound { (named : Named) (a : Answer) → IsAnswer (S.file_at site.old) words.now named a
+        → HoldsWithin (S.file_at site.old) named desk.old.peak desk.new.peak }
 {
     match read_words(alloc, words) {
-        Ok(job) => run_job(alloc, &job, site, out, err),
+        Ok(job) => run_job(alloc, &job, desk, site, out, err),
         Err(WordsFault::Usage) => {
             put_usage_line(err);
             15
@@ -276,27 +176,38 @@ fn run_words<S: Site, W: Sink, E: Sink>(
     }
 }
 
-/// The whole program over any site: reads the words, reads the configuration, and compares the two databases where it
-/// is asked to. The report goes to `out`, one line for a fault to `err`, or after a good comparison one line for each
-/// column that was skipped; `err` is flushed at the end. Answers the exit status.
+/// Runs the whole program over any site, on this desk. Reads the arguments, then the configuration,
+/// and then compares the two databases if a comparison is asked for. Returns the exit status.
 ///
-/// A file that is named and not there is told like a fault, in its turn: the configuration, the old database, and,
-/// behind a sound old one, the new database. A failure of `err` changes nothing.
-pub fn session<S: Site, W: Sink, E: Sink>(
+/// The report goes to `out`. Lines go to `err`: one line for a fault, or after a good comparison
+/// one line for each column that was skipped. `err` is flushed at the end. A failure of `err`
+/// changes nothing.
+///
+/// A file that is named and not there is reported like a fault, in this order: the configuration,
+/// the old database and, if the old one is sound, the new database.
+///
+/// The desk keeps the bytes of the databases. It gets room for any line after the configuration has
+/// been read and before a database is opened.
+pub fn session_on<S: Site, W: Sink, E: Sink>(
     alloc: Global,
     words: &Words,
+    desk: &mut Desk<Global>,
     site: &mut S,
     out: &mut W,
     err: &mut E,
 ) -> u8
-    // The answer to the words; or want of memory, with nothing of its output; or a failure that was counted, of the
-    // output or of a site that is not reliable, with a front of its output.
+    // The session ends in one of three ways:
+    // - with the answer to the arguments;
+    // - out of memory, with no output;
+    // - with a failure that was counted, after the first bytes of the answer's output (none, some
+    //   or all). Only the output or a site that is not reliable can fail so.
     ensures ends { (named : Named) (a : Answer) → IsAnswer (S.file_at site.old) words.now named a
         → Ends a named result
         (sinks_between W.delivered E.delivered E.failures out.old out.new err.old err.new)
         (HasFailed (S.is_reliable site.old) (S.failures site.old) (S.failures site.new))
         (Rose (W.failures out.old) (W.failures out.new)) }
-    // Where no failure was counted: the answer to the words, or want of memory.
+    // If no failure was counted, the session ends with the answer to the arguments or out of
+    // memory.
     ensures exact { (named : Named) (a : Answer) → IsAnswer (S.file_at site.old) words.now named a
         → HasNoFailure (S.failures site.old) (S.failures site.new)
         → HasNoFailure (W.failures out.old) (W.failures out.new)
@@ -304,8 +215,9 @@ pub fn session<S: Site, W: Sink, E: Sink>(
         (sinks_between W.delivered E.delivered E.failures out.old out.new err.old err.new)
         ⊎ Starved a result
         (sinks_between W.delivered E.delivered E.failures out.old out.new err.old err.new) }
-    // Over a reliable site, where a file that is not there counts as a failure but is an answer, and an output that
-    // counts no failure: the answer to the words, or want of memory.
+    // Over a reliable site, if the output counts no failure, the session ends with the answer to
+    // the arguments or out of memory. On such a site a file that is not there counts as a failure,
+    // but is an answer.
     ensures reliable { (named : Named) (a : Answer)
         → IsAnswer (S.file_at site.old) words.now named a
         → S.is_reliable site.old ≡ true → HasNoFailure (W.failures out.old) (W.failures out.new)
@@ -313,20 +225,91 @@ pub fn session<S: Site, W: Sink, E: Sink>(
         (sinks_between W.delivered E.delivered E.failures out.old out.new err.old err.new)
         ⊎ Starved a result
         (sinks_between W.delivered E.delivered E.failures out.old out.new err.old err.new) }
-    // The lines have been passed on, where standard error counts no failure.
+    // If standard error counts no failure, the lines have been passed on.
     ensures passed_on { HasNoFailure (E.failures err.old) (E.failures err.new)
         → E.is_flushed err.new ≡ true }
-    // There is an answer where it is told of the files that are named what stands at their paths.
+    // If the site tells what is at the paths of the named files, there is an answer.
     ensures answered { TellsNamed (S.file_at site.old) words.now
         → HasAnswer (S.file_at site.old) words.now }
-    // Whatever the site: the lines, the status and what went out, by what they stand on.
+    // Over any site: the lines, the status and the output are those of one closing, whose cause
+    // holds.
     ensures closes { Closes (S.file_at site.old) words.now result
         (sinks_between W.delivered E.delivered E.failures out.old out.new err.old err.new)
-        (course_between S.openings W.flushes W.is_flushed site.old site.new out.old out.new)
+        (course_between S.openings S.was_given W.flushes W.is_flushed
+        site.old site.new out.old out.new)
         (Rose (S.failures site.old) (S.failures site.new))
         (Rose (W.failures out.old) (W.failures out.new)) }
+    // Besides the databases at most one file is opened, at most once.
+    ensures lookups { S.lookups site.new ≤ one_more (S.lookups site.old) }
+
+    // The greatest number of bytes ever held on the desk does not fall. It rises at most to three
+    // lines as long as the limit. If the files are known, it rises at most to three of their lines:
+    // the longest of each database, and another no longer than these.
+    ensures peak { desk.old.peak ≤ desk.new.peak }
+    ensures below { desk.new.peak ≤ max desk.old.peak most_held }
+    ensures bound { (named : Named) (a : Answer) → IsAnswer (S.file_at site.old) words.now named a
+        → HoldsWithin (S.file_at site.old) named desk.old.peak desk.new.peak }
 {
-    let status = run_words(alloc, words, site, out, err);
+    let status = run_words(alloc, words, desk, site, out, err);
     pass_on(err);
     status
+}
+
+/// Runs the whole program over any site like [`session_on`], with a desk of its own that has held
+/// nothing before.
+pub fn session<S: Site, W: Sink, E: Sink>(
+    alloc: Global,
+    words: &Words,
+    site: &mut S,
+    out: &mut W,
+    err: &mut E,
+) -> u8
+    // The session ends in one of three ways:
+    // - with the answer to the arguments;
+    // - out of memory, with no output;
+    // - with a failure that was counted, after the first bytes of the answer's output (none, some
+    //   or all). Only the output or a site that is not reliable can fail so.
+    ensures ends { (named : Named) (a : Answer) → IsAnswer (S.file_at site.old) words.now named a
+        → Ends a named result
+        (sinks_between W.delivered E.delivered E.failures out.old out.new err.old err.new)
+        (HasFailed (S.is_reliable site.old) (S.failures site.old) (S.failures site.new))
+        (Rose (W.failures out.old) (W.failures out.new)) }
+    // If no failure was counted, the session ends with the answer to the arguments or out of
+    // memory.
+    ensures exact { (named : Named) (a : Answer) → IsAnswer (S.file_at site.old) words.now named a
+        → HasNoFailure (S.failures site.old) (S.failures site.new)
+        → HasNoFailure (W.failures out.old) (W.failures out.new)
+        → Whole a result
+        (sinks_between W.delivered E.delivered E.failures out.old out.new err.old err.new)
+        ⊎ Starved a result
+        (sinks_between W.delivered E.delivered E.failures out.old out.new err.old err.new) }
+    // Over a reliable site, if the output counts no failure, the session ends with the answer to
+    // the arguments or out of memory. On such a site a file that is not there counts as a failure,
+    // but is an answer.
+    ensures reliable { (named : Named) (a : Answer)
+        → IsAnswer (S.file_at site.old) words.now named a
+        → S.is_reliable site.old ≡ true → HasNoFailure (W.failures out.old) (W.failures out.new)
+        → Whole a result
+        (sinks_between W.delivered E.delivered E.failures out.old out.new err.old err.new)
+        ⊎ Starved a result
+        (sinks_between W.delivered E.delivered E.failures out.old out.new err.old err.new) }
+    // If standard error counts no failure, the lines have been passed on.
+    ensures passed_on { HasNoFailure (E.failures err.old) (E.failures err.new)
+        → E.is_flushed err.new ≡ true }
+    // If the site tells what is at the paths of the named files, there is an answer.
+    ensures answered { TellsNamed (S.file_at site.old) words.now
+        → HasAnswer (S.file_at site.old) words.now }
+    // Over any site: the lines, the status and the output are those of one closing, whose cause
+    // holds.
+    ensures closes { Closes (S.file_at site.old) words.now result
+        (sinks_between W.delivered E.delivered E.failures out.old out.new err.old err.new)
+        (course_between S.openings S.was_given W.flushes W.is_flushed
+        site.old site.new out.old out.new)
+        (Rose (S.failures site.old) (S.failures site.new))
+        (Rose (W.failures out.old) (W.failures out.new)) }
+    // Besides the databases at most one file is opened, at most once.
+    ensures lookups { S.lookups site.new ≤ one_more (S.lookups site.old) }
+{
+    let mut desk = Desk::new(alloc);
+    session_on(alloc, words, &mut desk, site, out, err)
 }

@@ -15,7 +15,7 @@ pub(crate) fn put<E: Sink>(err: &mut E, bytes: &[u8])
     if let Err(_) = emit(err, bytes) {}
 }
 
-/// Puts a path there as it is printed.
+/// Puts a path on standard error, in its printed form.
 pub(crate) fn put_path<E: Sink>(err: &mut E, path: &[u8])
     ensures { Put (printed path.now) (E.delivered err.old) (E.delivered err.new)
         (E.failures err.old) (E.failures err.new) }
@@ -23,7 +23,7 @@ pub(crate) fn put_path<E: Sink>(err: &mut E, path: &[u8])
     if let Err(_) = emit_path(err, path) {}
 }
 
-/// Puts a number there in decimal.
+/// Puts a number on standard error, in decimal.
 pub(crate) fn put_number<E: Sink>(err: &mut E, number: u64)
     ensures { Put (decimal number) (E.delivered err.old) (E.delivered err.new)
         (E.failures err.old) (E.failures err.new) }
@@ -32,7 +32,7 @@ pub(crate) fn put_number<E: Sink>(err: &mut E, number: u64)
     put(err, buffer.format(number).as_bytes());
 }
 
-/// Passes on what was put there.
+/// Passes on what was put on standard error.
 pub(crate) fn pass_on<E: Sink>(err: &mut E)
     ensures kept { Keeps (E.delivered err.old) (E.delivered err.new) }
     ensures never_falls { E.failures err.old ≤ E.failures err.new }

@@ -1,5 +1,6 @@
 //! Where the files of a session come from.
-ghost use Rattle.std.specs.Prelude.{◌≡◌, ◌≢◌, ℕ, true, List, Option, Some, None, IfOk, OnOk, OnErr};
+ghost use Rattle.std.specs.Prelude.{◌≡◌, ◌≤◌, ◌≢◌, ℕ, true, List, Option, Some, None, IfOk, OnOk};
+ghost use Rattle.std.specs.Prelude.{OnErr};
 ghost use Rattle.aide_db.specs.Count.{one_more};
 ghost use Rattle.aide_session.specs.Files.{GivesFile};
 
@@ -14,9 +15,9 @@ pub trait Site: Sources {
     /// The path that a side is pointed at, if any.
     ghost path_of: { Self → Side → Option (List ℕ) };
 
-    /// Opens the file of a path. The reel is to be closed like every other.
+    /// Opens the file at a path. The caller has to close the reel like every other.
     ///
-    /// Where no file is there it is refused, and the failure is counted.
+    /// If there is no file, the opening is refused and the failure is counted.
     fn config(&mut self, path: &str) -> Result<Self::R, OpenFault>
         ensures fresh { IfOk result (λ r. Self.R.failures r ≡ 0) }
         ensures gives { IfOk result (λ r. (file : Option (List ℕ))
@@ -29,10 +30,12 @@ pub trait Site: Sources {
         ensures gone { Self.is_reliable self.old ≡ true
             → OnErr result (Self.file_at self.old path.now ≡ Some None) }
         ensures openings { Self.openings self.new ≡ Self.openings self.old }
+        ensures lookups { Self.lookups self.new ≤ one_more (Self.lookups self.old) }
         ensures ok { OnOk result (Self.failures self.new ≡ Self.failures self.old) }
         ensures fault { OnErr result (Self.failures self.new ≡ one_more (Self.failures self.old)) };
 
-    /// Makes the bytes of a side those of a path, of which it keeps a copy.
+    /// Points a side at a path: the bytes of the side are then those at the path. The site keeps a
+    /// copy of the path.
     fn point(&mut self, alloc: Global, side: Side, path: &str) -> Result<(), Memory>
         ensures pointed { OnOk result ((bytes : List ℕ)
             → Self.file_at self.old path.now ≡ Some (Some bytes)
@@ -52,5 +55,6 @@ pub trait Site: Sources {
         ensures files { Self.file_at self.new ≡ Self.file_at self.old }
         ensures openings { Self.openings self.new ≡ Self.openings self.old }
         ensures reliable { Self.is_reliable self.new ≡ Self.is_reliable self.old }
+        ensures lookups { Self.lookups self.new ≡ Self.lookups self.old }
         ensures failures { Self.failures self.new ≡ Self.failures self.old };
 }

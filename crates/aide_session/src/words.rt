@@ -1,15 +1,15 @@
-//! Words of a command line.
+//! The arguments of a command line.
 ghost use Rattle.std.specs.Prelude.{◌≡◌, ℕ, List, [], ◌∷◌, ◌++◌, OnOk, OnErr, IfOk, string_bytes};
 
 use std::alloc::Global;
 use std::convert::AsStr;
 use std::marker::Model;
 
-/// No memory was left.
+/// Out of memory.
 #[derive(Clone, Copy, Debug, PartialEq, Eq)]
 pub struct Memory;
 
-/// A text of its own, which contracts see as its bytes.
+/// An owned text. Contracts see its bytes.
 #[derive(Drop)]
 pub struct Word {
     text: String,
@@ -22,7 +22,7 @@ impl Model for Word {
 }
 
 impl Word {
-    /// A copy of a text.
+    /// Copies a text.
     pub fn new(alloc: Global, text: &str) -> Result<Word, Memory>
         ensures { IfOk result (λ word. word ≡ text.now) }
     {
@@ -32,7 +32,7 @@ impl Word {
         }
     }
 
-    /// The text.
+    /// Returns the text.
     pub fn as_str(&self) -> &str
         ensures { result.now ≡ self.now }
     {
@@ -48,7 +48,8 @@ impl AsStr for Word {
     }
 }
 
-/// The words of a command line, the program's name first. Contracts see the list of their bytes.
+/// The arguments of a command line. The program's name is the first one. Contracts see the list of
+/// their bytes.
 #[derive(Drop)]
 pub struct Words {
     list: Vec<Word>,
@@ -62,7 +63,7 @@ impl Model for Words {
 }
 
 impl Words {
-    /// No words. Takes no memory.
+    /// Returns an empty list. Takes no memory.
     pub fn new(alloc: Global) -> Words
         ensures { result ≡ [] }
     {
@@ -72,7 +73,7 @@ impl Words {
         }
     }
 
-    /// Adds a copy of a word at the end.
+    /// Adds a copy of an argument at the end.
     pub fn push(&mut self, word: &str) -> Result<(), Memory>
         ensures ok { OnOk result (self.new ≡ self.old ++ word.now ∷ []) }
         ensures err { OnErr result (self.new ≡ self.old) }
@@ -84,7 +85,7 @@ impl Words {
         }
     }
 
-    /// The words in order.
+    /// Returns the arguments in order.
     pub fn as_slice(&self) -> &[Word]
         ensures { result.now ≡ self.now }
     {

@@ -2,7 +2,7 @@
 use Rattle.std.proofs.Common.{◌≡◌, ℕ, zero, suc, ◌+◌, ◌≤◌, ◌<◌, max, List, [], ◌∷◌, ◌++◌, length, take, drop, refl, sym}
 use Rattle.std.proofs.Common.{ap, ◌∙◌, arith, length-drop, true, false, Bool, if◌then◌else◌, append_assoc, subst}
 use Rattle.std.specs.Prelude.{slice_set, not, ◌==◌}
-use Rattle.std.proofs.lemmas.List.{append-nil, take_more_set, take_all, drop_all, length-take}
+use Rattle.std.proofs.lemmas.List.{append-nil, take-append-drop, take_more_set, take_all, drop_all, length-take}
 use Rattle.std.proofs.Math.Seq.{take-append_seam, drop-append_seam}
 use Rattle.aide_text.specs.Text.{piece_count, pair_line, pair_lines, next_line, has_lines, margin, heading, line_count}
 use Rattle.aide_text.specs.Text.{side_by_side, single_line, single_lines, next_single, has_bytes, alone}
@@ -32,11 +32,23 @@ cut_short piece rest text whole none short =
       none ∙ sym (drop_all 32 text fits),
     )
 
--- ---- lines
-
 pub no_length : (xs : List ℕ) → length xs ≡ 0 → xs ≡ []
 no_length [] e = refl
 no_length (x ∷ xs) e = absurd (omega (arith, e))
+
+-- a piece is the front of a text: what is left behind it, and none left where it is empty
+module _ (text piece rest : List ℕ) (is : piece ≡ take 32 text) where
+  pub piece_more : rest ≡ drop 32 text → text ≡ piece ++ rest
+  piece_more left = sym (ap (λ p. p ++ rest) is ∙ ap (λ r. take 32 text ++ r) left ∙ take-append-drop 32 text)
+
+  pub piece_shorter : rest ≡ drop 32 text → (length piece ≡ 0 → ⊥) → length rest < length text
+  piece_shorter left some =
+      omega (arith, ap (λ (l : List ℕ). length l) left, length-drop 32 text, ap (λ (l : List ℕ). length l) is, length-take 32 text, some)
+
+  pub piece_none : length piece ≡ 0 → text ≡ []
+  piece_none none = no_length text (omega (arith, ap (λ (l : List ℕ). length l) is, length-take 32 text, none))
+
+-- ---- lines
 
 -- the lines after the first
 abbrev pub later_lines : List ℕ → List ℕ → List ℕ

@@ -1,6 +1,6 @@
 -- What a pen has written, piece by piece.
 use Rattle.std.proofs.Common.{◌≡◌, ◌∙◌, ℕ, ◌+◌, ◌<◌, ◌≤◌, Bool, true, false, List, [], ◌∷◌, ◌++◌, length, take, drop}
-use Rattle.std.proofs.Common.{get_or, Option, None, Some, refl, sym, ap, subst, append_assoc, length-append, arith}
+use Rattle.std.proofs.Common.{get_or, refl, sym, ap, subst, append_assoc, length-append, arith}
 use Rattle.std.proofs.lemmas.List.{append-nil, take-append-drop, length-take-le, take_more}
 use Rattle.std.proofs.lemmas.Grind.{flat_map-append}
 use Rattle.std.specs.Io.KnownBytes.{Appends}
@@ -8,7 +8,6 @@ use Rattle.aide_db.specs.Count.{sum_of}
 use Rattle.aide_text.specs.Printed.{printed, printed_byte}
 use Rattle.aide_text.specs.Failures.{one_more}
 use Rattle.aide_text.specs.Sent.{SendsPart}
-use Rattle.aide_text.specs.Feed.{HandsOut}
 use Rattle.aide_text.specs.Sheet.{Sheet, Adds, WroteBy, Wrote, Writing, WritesPart, WritesSome}
 use Rattle.aide_text.proofs.Sending.{Appends-Appends, Appends-nothing}
 
@@ -84,11 +83,6 @@ pub printed_more : (bytes : List ℕ) (i : ℕ) → i < length bytes
     → printed (take i bytes) ++ printed_byte (get_or bytes i 0) ≡ printed (take (i + 1) bytes)
 printed_more bytes i h =
     sym (ap printed (take_more bytes i 0 h) ∙ flat_map-append printed_byte (take i bytes) (get_or bytes i 0 ∷ []) ∙ ap (λ l. printed (take i bytes) ++ l) (append-nil (printed_byte (get_or bytes i 0))))
-
--- a feed that gives no byte has none
-pub none_left : (o : Option ℕ) (before after : List ℕ) → ((c : ℕ) → o ≡ Some c → ⊥) → HandsOut o before after → before ≡ []
-none_left None before after none taken = taken.0
-none_left (Some c) before after none taken = absurd (none c refl)
 
 -- ---- a text that is being written
 

@@ -1,4 +1,4 @@
--- What stands first in a report: whether the databases differ, and the numbers of entries.
+-- The beginning of a report: whether the databases differ, and the numbers of entries.
 use Rattle.std.specs.Prelude.{ℕ, ◌==◌, ◌||◌, not, Bool, if◌then◌else◌, List, [], ◌++◌, decimal, codes}
 use Rattle.aide_attr.specs.declared.level.Level.{Level}
 use Rattle.aide_attr.specs.declared.level.Level.TheVariants.{Summary}
@@ -6,19 +6,19 @@ use Rattle.aide_attr.specs.Level.{reaches}
 use Rattle.aide_text.specs.Text.{ended}
 use Rattle.aide_text.specs.declared.counts.Counts.{Counts}
 
--- by the numbers of added, removed and changed entries, whether there is any
+-- whether one of the numbers of added, removed and changed entries is not 0
 abbrev pub is_different : (added removed changed : ℕ) → Bool
 is_different added removed changed = not (added == 0) || (not (removed == 0) || not (changed == 0))
 
--- the same of counts
+-- whether these counts have an added, removed or changed entry
 abbrev pub differs : Counts → Bool
 differs counts = is_different counts.added counts.removed counts.changed
 
--- a part of the report, where it is wanted
+-- a part of the report, if it is wanted, and otherwise the empty text
 abbrev pub when : Bool → List ℕ → List ℕ
 when wanted text = if wanted then text else []
 
--- the first line
+-- the first line of the report
 unfoldable pub head_of : Bool → List ℕ
 head_of differ = if differ
     then codes "AIDE found differences between the two databases.\n"
@@ -28,7 +28,7 @@ head_of differ = if differ
 unfoldable pub summary_title : List ℕ
 summary_title = codes "\nSummary:\n"
 
--- a number in decimal behind a label
+-- a line with a label and a number in decimal
 unfoldable pub number_line : List ℕ → ℕ → List ℕ
 number_line label n = label ++ ended (decimal n)
 
@@ -38,7 +38,7 @@ first_numbers total added =
     number_line (codes "  Total number of entries: ") total
     ++ number_line (codes "  Added entries:           ") added
 
--- its last two lines
+-- the last two lines of the summary
 unfoldable pub last_numbers : (removed changed : ℕ) → List ℕ
 last_numbers removed changed =
     number_line (codes "  Removed entries:         ") removed
@@ -49,12 +49,12 @@ unfoldable pub summary_of : (total added removed changed : ℕ) → List ℕ
 summary_of total added removed changed = summary_title
     ++ (first_numbers total added ++ last_numbers removed changed)
 
--- the head, and the summary from its level on
+-- the head, and the summary if the level is at least `Summary`
 unfoldable pub overview_of : Level → (total added removed changed : ℕ) → List ℕ
 overview_of level total added removed changed =
     head_of (is_different added removed changed)
     ++ when (reaches level Summary) (summary_of total added removed changed)
 
--- the same of counts
+-- the head and the summary, with the numbers of these counts
 abbrev pub overview_by : Level → Counts → List ℕ
 overview_by level counts = overview_of level counts.total counts.added counts.removed counts.changed

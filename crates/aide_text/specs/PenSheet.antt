@@ -1,9 +1,9 @@
--- A pen and its sink as a sheet.
+-- The sheet that a pen and its sink make up.
 use Rattle.std.specs.Prelude.{ℕ, Option, List}
 use Rattle.aide_text.specs.Sheet.{Sheet}
 use Rattle.aide_text.specs.declared.pen.Pen.{Pen}
 
--- what the sink shows, and what the pen has counted
+-- what contracts see of the sink, and what the pen has counted
 abbrev pub sheet : {W : Type 0} → (W → Option (List ℕ)) → (W → ℕ) → (W → ℕ) → W → Pen → Sheet
 sheet delivered failures flushes out pen = record {
   bytes = delivered out;

@@ -2,7 +2,7 @@
 use Rattle.std.specs.Prelude.{ℕ, ◌+◌, ◌/◌, ◌%◌, ◌==◌, ◌||◌, if◌then◌else◌, Bool, List, [], ◌∷◌, nat_lt}
 use Rattle.std.specs.List.{flat_map}
 
--- control bytes and the backslash
+-- the byte is a control byte or the backslash
 abbrev pub is_escaped : ℕ → Bool
 is_escaped c = nat_lt c 32 || (c == 127 || c == 92)
 
@@ -10,10 +10,10 @@ is_escaped c = nat_lt c 32 || (c == 127 || c == 92)
 abbrev pub octal_escape : ℕ → List ℕ
 octal_escape c = 92 ∷ (48 + c / 64) ∷ (48 + c / 8 % 8) ∷ (48 + c % 8) ∷ []
 
--- a byte as it is printed
+-- how a byte is printed
 abbrev pub printed_byte : ℕ → List ℕ
 printed_byte c = if is_escaped c then octal_escape c else (c ∷ [])
 
--- byte by byte
+-- how a path is printed, byte by byte
 abbrev pub printed : List ℕ → List ℕ
 printed path = flat_map printed_byte path

@@ -1,4 +1,4 @@
--- What a printed text has still to give.
+-- The bytes that a printed text still hands out.
 use Rattle.std.specs.Prelude.{ℕ, List, ◌++◌, drop}
 use Rattle.aide_text.specs.Printed.{printed}
 use Rattle.aide_text.specs.declared.feed.Printed.{Printed}

@@ -1,4 +1,4 @@
--- What a short text has still to give.
+-- The bytes that a short text still hands out.
 use Rattle.std.specs.Prelude.{ℕ, List, take, drop}
 use Rattle.aide_text.specs.declared.ready.Ready.{Ready}
 

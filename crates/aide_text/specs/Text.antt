@@ -1,10 +1,10 @@
--- Texts of the report: what is padded and cut.
+-- Texts of the report that are padded and cut.
 use Rattle.std.specs.Prelude.{ℕ, zero, suc, ◌+◌, ◌-◌, ◌/◌, ◌==◌, if◌then◌else◌, Bool, List, [], ◌∷◌}
 use Rattle.std.specs.Prelude.{◌++◌, not, max, take, drop, length}
 use Rattle.std.specs.Prelude.{replicate, codes}
 use Rattle.aide_text.specs.Printed.{printed}
 
--- a text, and blanks up to a width in bytes
+-- a text, padded with blanks to a width in bytes
 unfoldable pub padded : ℕ → List ℕ → List ℕ
 padded width text = text ++ replicate (width - length text) 32
 
@@ -12,19 +12,19 @@ padded width text = text ++ replicate (width - length text) 32
 unfoldable pub ended : List ℕ → List ℕ
 ended text = text ++ 10 ∷ []
 
--- what parts two texts side by side
+-- the bar between two texts side by side
 unfoldable pub bar : List ℕ
 bar = codes " | "
 
--- what stands before a line below the first
+-- the margin of each line below the first
 unfoldable pub margin : List ℕ
 margin = replicate 14 32
 
--- what stands before a name
+-- the blanks before a name
 unfoldable pub indent : List ℕ
 indent = codes "  "
 
--- what stands behind a name
+-- the colon and the blank after a name
 unfoldable pub colon_blank : List ℕ
 colon_blank = codes ": "
 
@@ -32,11 +32,11 @@ colon_blank = codes ": "
 unfoldable pub empty_line : List ℕ
 empty_line = 10 ∷ []
 
--- a word, a colon and a path
+-- a line with a word, a colon and a path
 unfoldable pub path_line : List ℕ → List ℕ → List ℕ
 path_line word path = word ++ (colon_blank ++ ended (printed path))
 
--- the head of a line: a name left in ten columns
+-- the head of a line: a name, aligned to the left in ten columns
 unfoldable pub heading : List ℕ → List ℕ
 heading name = indent ++ (padded 10 name ++ colon_blank)
 
@@ -46,11 +46,11 @@ piece_count text = (length text + 31) / 32
 
 -- ---- two texts side by side
 
--- the old piece left in 32 columns, and what parts it from the new one
+-- the old piece, aligned to the left in 32 columns, and the bar between it and the new piece
 unfoldable pub left_part : List ℕ → List ℕ
 left_part a = padded 32 a ++ bar
 
--- a piece of each text
+-- a piece of each text, and the end of the line
 unfoldable pub pair_body : List ℕ → List ℕ → List ℕ
 pair_body a b = left_part a ++ ended b
 
@@ -58,7 +58,7 @@ pair_body a b = left_part a ++ ended b
 unfoldable pub pair_line : List ℕ → List ℕ → List ℕ → List ℕ
 pair_line head a b = head ++ pair_body a b
 
--- the first lines, as many as are said, the first one with this head
+-- that many first lines of two texts; the first line has this head
 unfoldable pub pair_lines : List ℕ → ℕ → List ℕ → List ℕ → List ℕ
 pair_lines head zero a b = []
 pair_lines head (suc n) a b = pair_line head (take 32 a) (take 32 b)
@@ -68,7 +68,7 @@ pair_lines head (suc n) a b = pair_line head (take 32 a) (take 32 b)
 abbrev pub has_lines : List ℕ → List ℕ → Bool
 has_lines a b = not (length a + length b == 0)
 
--- the next line below the first one, where either text has more
+-- the next line below the first one, if either text has more bytes
 unfoldable pub next_line : List ℕ → List ℕ → List ℕ
 next_line a b = if has_lines a b then pair_line margin (take 32 a) (take 32 b) else []
 
@@ -76,17 +76,17 @@ next_line a b = if has_lines a b then pair_line margin (take 32 a) (take 32 b) e
 abbrev pub line_count : List ℕ → List ℕ → ℕ
 line_count a b = max 1 (max (piece_count a) (piece_count b))
 
--- two texts side by side below a name
+-- two texts side by side, next to a name
 abbrev pub side_by_side : List ℕ → List ℕ → List ℕ → List ℕ
 side_by_side name a b = pair_lines (heading name) (line_count a b) a b
 
--- ---- one text over lines
+-- ---- one text on several lines
 
--- one line: its head, and a piece
+-- one line: its head, and a piece of the text
 unfoldable pub single_line : List ℕ → List ℕ → List ℕ
 single_line head a = head ++ ended a
 
--- the first lines, as many as are said, the first one with this head
+-- that many first lines of a text; the first line has this head
 unfoldable pub single_lines : List ℕ → ℕ → List ℕ → List ℕ
 single_lines head zero a = []
 single_lines head (suc n) a = single_line head (take 32 a) ++ single_lines margin n (drop 32 a)
@@ -95,10 +95,10 @@ single_lines head (suc n) a = single_line head (take 32 a) ++ single_lines margi
 abbrev pub has_bytes : List ℕ → Bool
 has_bytes a = not (length a == 0)
 
--- the next line below the first one, where the text has more
+-- the next line below the first one, if the text has more bytes
 unfoldable pub next_single : List ℕ → List ℕ
 next_single a = if has_bytes a then single_line margin (take 32 a) else []
 
--- one text below a name
+-- one text, next to a name
 unfoldable pub alone : List ℕ → List ℕ → List ℕ
 alone name a = single_lines (heading name) (max 1 (piece_count a)) a

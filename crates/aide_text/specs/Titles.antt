@@ -14,7 +14,7 @@ rule_before = codes "\n---------------------------------------------------\n"
 unfoldable pub rule_after : List ℕ
 rule_after = codes "---------------------------------------------------\n"
 
--- a title between rules
+-- a title between two rules of hyphens
 unfoldable pub titled : List ℕ → List ℕ
 titled title = rule_before ++ (ended title ++ rule_after)
 
@@ -26,7 +26,7 @@ title_of ChangedEntries = codes "Changed entries:"
 title_of AllEntries = codes "Added, removed and changed entries:"
 title_of Details = codes "Detailed information about changes:"
 
--- the empty line below the title, which the details have before each entry
+-- The empty line below the title. The details have none here, because each of their entries begins with one.
 abbrev pub gap_of : Section → List ℕ
 gap_of AddedEntries = 10 ∷ []
 gap_of RemovedEntries = 10 ∷ []

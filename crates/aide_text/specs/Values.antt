@@ -16,7 +16,7 @@ use Rattle.aide_attr.specs.declared.form.Form.TheVariants.{Kind, Mode, Number, T
 use Rattle.aide_db.specs.Attributes.{Attributes, Value, type_in, link_in, number_in, digest_in, opaque_in}
 use Rattle.aide_text.specs.Printed.{printed}
 
--- a type as a value
+-- how a type of file is written
 abbrev pub type_text : FileType → List ℕ
 type_text File = codes "File"
 type_text Directory = codes "Directory"
@@ -31,20 +31,20 @@ type_text (Other bits) = codes "Other"
 abbrev pub octal_text : ℕ → List ℕ
 octal_text n = (48 + n / 512 % 8) ∷ (48 + n / 64 % 8) ∷ (48 + n / 8 % 8) ∷ (48 + n % 8) ∷ []
 
--- a mode as a value
+-- how a mode is written
 abbrev pub mode_text : ℤ → List ℕ
 mode_text n = octal_text (nat_abs n)
 
--- nothing where there is no link name
+-- how a link name is written, or the empty text if there is none
 abbrev pub link_text : Option (List ℕ) → List ℕ
 link_text None = []
 link_text (Some name) = printed name
 
--- in base 16 or base 64
+-- how a digest is written, in base 16 or base 64
 unfoldable pub digest_text : Bool → List ℕ → List ℕ
 digest_text base16 bytes = if base16 then encode_lower bytes else encode_of standard bytes
 
--- the text of a value, the empty text where there is none
+-- the text of a value, or the empty text if there is no value
 abbrev pub option_text : {X : Type 0} → (X → List ℕ) → Option X → List ℕ
 option_text text None = []
 option_text text (Some x) = text x
@@ -59,11 +59,11 @@ value_in base16 Time value = option_text signed_decimal (number_in value)
 value_in base16 (Digest least most) value = option_text (digest_text base16) (digest_in value)
 value_in base16 Opaque value = option_text printed (opaque_in value)
 
--- the text of an attribute's value by its form, the empty text where there is none
+-- the text of an attribute's value by its form, or the empty text if there is no value
 abbrev pub text_at : Bool → Attr → Option Value → List ℕ
 text_at base16 a value = value_in base16 (form_of a) value
 
--- the empty text where the side lacks the entry, too
+-- the text of an attribute's value on one side; it is also empty if the side lacks the entry
 abbrev pub side_text : Bool → Attr → Option Attributes → List ℕ
 side_text base16 a None = []
 side_text base16 a (Some attributes) = text_at base16 a (attributes a)

@@ -5,11 +5,11 @@ ghost use Rattle.aide_text.specs.Overview.{differs};
 /// The numbers of entries of two databases.
 #[derive(Clone, Copy, Debug, PartialEq, Eq)]
 pub struct Counts {
-    /// The entries of the new database alone.
+    /// The entries that only the new database has.
     pub added: u64,
-    /// The entries of the old database alone.
+    /// The entries that only the old database has.
     pub removed: u64,
-    /// The entries of both that are reported as changed.
+    /// The entries of both databases that are reported as changed.
     pub changed: u64,
     /// All entries of the new database.
     pub total: u64,
@@ -18,7 +18,7 @@ pub struct Counts {
 }
 
 impl Counts {
-    /// Nothing is counted yet.
+    /// Returns counts that are all 0.
     pub fn new() -> Counts
         ensures { result ≡ record { added = 0; removed = 0; changed = 0; total = 0; shown = 0 } }
     {
@@ -31,7 +31,7 @@ impl Counts {
         }
     }
 
-    /// Whether an entry was added, removed or changed.
+    /// Returns whether an entry was added, removed or changed.
     pub fn is_different(&self) -> bool
         ensures { result ≡ differs self.now }
     {

@@ -1,4 +1,4 @@
-//! A lent text with escapes as a feed.
+//! A feed over a lent text with escapes.
 
 ghost use Rattle.std.specs.Prelude.{◌≡◌, ℕ, List};
 ghost use Rattle.percent_encoding.specs.Iter.{decoded_bytes};
@@ -6,14 +6,14 @@ ghost use Rattle.percent_encoding.specs.Iter.{decoded_bytes};
 use crate::feed::Feed;
 use aide_db::Decoded;
 
-/// The bytes of a text with escapes.
+/// Hands out the bytes of a text whose escapes are decoded.
 #[derive(Clone, Copy, Drop)]
 pub struct DecodedFeed<'a> {
     bytes: Decoded<'a>,
 }
 
 impl<'a> DecodedFeed<'a> {
-    /// All bytes of a decoded text.
+    /// Returns a feed of all bytes of a decoded text.
     pub fn of(bytes: Decoded<'a>) -> DecodedFeed<'a>
         ensures { decoded_rest result ≡ decoded_bytes bytes.entry }
     {

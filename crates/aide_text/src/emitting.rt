@@ -1,4 +1,4 @@
-//! Writing all of a text to a sink, and how far it came where the sink fails.
+//! Writes a whole text to a sink, or returns how many bytes went out before the sink failed.
 ghost use Rattle.std.specs.Prelude.{◌≡◌, ◌<◌, ℕ, length, take, OnOk, IfErr};
 ghost use Rattle.std.specs.Io.KnownBytes.{Appends};
 ghost use Rattle.aide_text.specs.Failures.{CountsFault};
@@ -7,7 +7,8 @@ ghost use Rattle.aide_text.specs.Sent.{IsCut};
 
 use crate::sink::Sink;
 
-/// Writes all of these bytes. Where the sink fails, it answers how many went out: exactly the first of them, not all.
+/// Writes all of these bytes. If the sink fails, the error is how many bytes went out: that many first bytes of the
+/// text, and fewer than all.
 pub fn emit<W: Sink>(out: &mut W, bytes: &[u8]) -> Result<(), u64>
     ensures ok { OnOk result (Appends (W.delivered out.old) (W.delivered out.new) bytes.now) }
     ensures fewer { IfErr result (λ n. n < length bytes.now) }
@@ -26,8 +27,8 @@ pub fn emit<W: Sink>(out: &mut W, bytes: &[u8]) -> Result<(), u64>
     Ok(())
 }
 
-/// Writes these bytes as a path is printed: a control byte or a backslash as a backslash and three octal digits. Where
-/// the sink fails, it answers how many printed bytes went out, `u64::MAX` where there were more.
+/// Writes these bytes as a path is printed: a control byte or a backslash becomes a backslash and three octal digits.
+/// If the sink fails, the error is how many printed bytes went out, or `u64::MAX` if there were more.
 pub fn emit_path<W: Sink>(out: &mut W, bytes: &[u8]) -> Result<(), u64>
     ensures ok { OnOk result (Appends (W.delivered out.old) (W.delivered out.new)
         (printed bytes.now)) }

@@ -7,17 +7,17 @@ ghost use Rattle.aide_text.specs.Printed.{printed};
 
 use crate::emitting::{needs_escape, octal_escape};
 
-/// Bytes that are handed out one after another.
+/// Hands out the bytes of a text one after another.
 pub trait Feed: Drop {
     /// The bytes that are still to come.
     ghost rest: { Self → List ℕ };
 
-    /// Hands out the next byte, where there is one.
+    /// Hands out the next byte, or `None` if no byte is left.
     fn next_byte(&mut self) -> Option<u8>
         ensures { HandsOut result (rest self.old) (rest self.new) };
 }
 
-/// Bytes as a path is printed.
+/// Hands out the bytes of another feed as a path is printed.
 #[derive(Clone, Copy, Debug, Drop)]
 pub struct Printed<B> {
     bytes: B,
@@ -28,7 +28,8 @@ pub struct Printed<B> {
 impl<B: Feed> Printed<B> {
     ghost use Rattle.aide_text.specs.PrintedRest.{printed_rest};
 
-    /// The bytes of a feed, printed: a control byte or a backslash as a backslash and three octal digits.
+    /// Returns the bytes of a feed as a path is printed: a control byte or a backslash becomes a backslash and three
+    /// octal digits.
     pub fn of(bytes: B) -> Printed<B>
         ensures { printed_rest B.rest result ≡ printed (B.rest bytes) }
     {

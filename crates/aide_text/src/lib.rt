@@ -1,4 +1,4 @@
-//! The texts of a report and their writers: everything of a report that knows no database.
+//! The texts of a report and their writers: the parts of a report that do not read a database.
 #![tactic(auto)]
 
 mod counts;

@@ -1,4 +1,4 @@
-//! Lines of padded and cut text.
+//! Writes lines of padded and cut text.
 ghost use Rattle.std.specs.Prelude.{◌≡◌, ◌≤◌, replicate, take, drop, if◌then◌else◌, []};
 ghost use Rattle.aide_text.specs.PenSheet.{sheet};
 ghost use Rattle.aide_text.specs.Sheet.{Wrote};
@@ -15,7 +15,7 @@ use crate::sink::Sink;
 
 const BLANKS: [u8; 32] = [b' '; 32];
 
-/// This many blanks.
+/// Returns this many blanks.
 fn blanks(count: usize) -> &'static [u8]
     requires { count ≤ 32 }
     ensures { result.now ≡ replicate count 32 }
@@ -23,7 +23,7 @@ fn blanks(count: usize) -> &'static [u8]
     &BLANKS[..count]
 }
 
-/// A text, left in a width.
+/// Writes a text, aligned to the left and padded with blanks to a width.
 fn put_padded<W: Sink>(out: &mut W, pen: &mut Pen, width: usize, text: &[u8])
     requires { width ≤ 32 }
     ensures { Wrote (padded width text.now) (sheet W.delivered W.failures W.flushes out.old pen.old)
@@ -57,7 +57,7 @@ fn put_separator<W: Sink>(out: &mut W, pen: &mut Pen)
     put(out, pen, b": ");
 }
 
-/// The head of a line: a name left in ten columns.
+/// Writes the head of a line: a name, aligned to the left in ten columns.
 fn put_heading<W: Sink>(out: &mut W, pen: &mut Pen, name: &[u8])
     ensures { Wrote (heading name.now) (sheet W.delivered W.failures W.flushes out.old pen.old)
         (sheet W.delivered W.failures W.flushes out.new pen.new) }
@@ -67,14 +67,14 @@ fn put_heading<W: Sink>(out: &mut W, pen: &mut Pen, name: &[u8])
     put_separator(out, pen);
 }
 
-/// The first 32 bytes, or all.
+/// Returns the first 32 bytes, or all if there are fewer.
 fn piece(text: &[u8]) -> &[u8]
     ensures { result.now ≡ take 32 text.now }
 {
     if text.len() < 32 { text } else { &text[..32] }
 }
 
-/// The bytes behind the first 32.
+/// Returns the bytes after the first 32.
 fn behind(text: &[u8]) -> &[u8]
     ensures { result.now ≡ drop 32 text.now }
 {
@@ -99,7 +99,7 @@ fn put_more<W: Sink>(out: &mut W, pen: &mut Pen, text: &[u8])
     put_ended(out, pen, piece(text));
 }
 
-/// A text cut into pieces, below a name.
+/// Writes a text, cut into pieces of 32 bytes, next to a name.
 pub(crate) fn put_alone<W: Sink>(out: &mut W, pen: &mut Pen, name: &[u8], text: &[u8])
     ensures { Wrote (alone name.now text.now)
         (sheet W.delivered W.failures W.flushes out.old pen.old)
@@ -121,7 +121,7 @@ fn put_bar<W: Sink>(out: &mut W, pen: &mut Pen)
     put(out, pen, b" | ");
 }
 
-/// The old piece left in 32 columns, and what parts it from the new one.
+/// Writes the old piece, aligned to the left in 32 columns, and the bar between it and the new piece.
 fn put_left<W: Sink>(out: &mut W, pen: &mut Pen, text: &[u8])
     ensures { Wrote (left_part text.now) (sheet W.delivered W.failures W.flushes out.old pen.old)
         (sheet W.delivered W.failures W.flushes out.new pen.new) }
@@ -163,14 +163,14 @@ fn put_more_line<W: Sink>(out: &mut W, pen: &mut Pen, old_piece: &[u8], new_piec
     put_pair(out, pen, old_piece, new_piece);
 }
 
-/// Whether either piece has a byte.
+/// Returns whether either piece has a byte.
 fn has_more(old_piece: &Piece, new_piece: &Piece) -> bool
     ensures { result ≡ has_lines (piece_text old_piece.now) (piece_text new_piece.now) }
 {
     old_piece.len() + new_piece.len() != 0
 }
 
-/// The line with the name.
+/// Writes the first line: the name, and the first piece of each text.
 fn put_name_line<W: Sink, B: Feed, C: Feed>(
     out: &mut W,
     pen: &mut Pen,
@@ -201,7 +201,7 @@ fn put_pieces<W: Sink>(out: &mut W, pen: &mut Pen, more: bool, old_piece: &Piece
     }
 }
 
-/// The next line below the first, where a text has one; whether there was one.
+/// Writes the next line below the first, if either text has more bytes. Returns whether there was such a line.
 fn put_next_line<W: Sink, B: Feed, C: Feed>(
     out: &mut W,
     pen: &mut Pen,
@@ -222,7 +222,7 @@ fn put_next_line<W: Sink, B: Feed, C: Feed>(
     more
 }
 
-/// Two texts side by side, cut into pieces, below a name of at most ten bytes.
+/// Writes two texts side by side, cut into pieces, next to a name of at most ten bytes.
 pub fn put_side_by_side<W: Sink, B: Feed, C: Feed>(
     out: &mut W,
     pen: &mut Pen,

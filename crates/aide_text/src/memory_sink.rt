@@ -6,7 +6,7 @@ use aide_db::DeviceFault;
 use std::alloc::Allocator;
 use std::marker::Model;
 
-/// Keeps what was delivered. A growth that is refused is a failure.
+/// Keeps the bytes that were delivered. A failed allocation is a failure of this sink.
 #[derive(Drop)]
 pub struct MemorySink<A: Allocator + Copy> {
     bytes: Vec<u8, A>,
@@ -27,7 +27,7 @@ impl<A: Allocator + Copy> Model for MemorySink<A> {
 }
 
 impl<A: Allocator + Copy> MemorySink<A> {
-    /// A sink without bytes. It takes no memory.
+    /// Returns a sink without bytes. It allocates no memory.
     pub fn new(alloc: A) -> MemorySink<A>
         ensures { result ≡ record { bytes = []; failures = 0; flushes = 0 } }
     {
@@ -38,14 +38,14 @@ impl<A: Allocator + Copy> MemorySink<A> {
         }
     }
 
-    /// How often the sink was flushed. The count stops at its last value.
+    /// Returns how often the sink was flushed. The count stops at `u64::MAX`.
     pub fn flushes(&self) -> u64
         ensures { result ≡ self.now.flushes }
     {
         self.flushes
     }
 
-    /// All bytes delivered so far.
+    /// Returns all bytes delivered so far.
     pub fn bytes(&self) -> &[u8]
         ensures { result.now ≡ self.now.bytes }
     {

@@ -1,4 +1,4 @@
-//! What stands first in a report: whether the databases differ, and the numbers of entries.
+//! Writes the beginning of a report: whether the databases differ, and the numbers of entries.
 ghost use Rattle.std.specs.Prelude.{◌≡◌, ◌++◌};
 ghost use Rattle.aide_attr.specs.declared.level.Level.{Level as AnyLevel};
 ghost use Rattle.aide_text.specs.Overview.{head_of, summary_title, number_line, first_numbers};
@@ -12,7 +12,7 @@ use crate::pen::{Pen, put, put_newline, put_number};
 use crate::sink::Sink;
 use aide_attr::Level;
 
-/// The first line: whether the databases differ.
+/// Writes the first line: whether the databases differ.
 #[tactic(auto, unfolding(crate::specs::Overview::head_of))]
 fn put_head<W: Sink>(out: &mut W, pen: &mut Pen, differ: bool)
     ensures { Wrote (head_of differ) (sheet W.delivered W.failures W.flushes out.old pen.old)
@@ -69,7 +69,7 @@ fn put_last_numbers<W: Sink>(out: &mut W, pen: &mut Pen, removed: u64, changed: 
     put_number_line(out, pen, b"  Changed entries:         ", changed);
 }
 
-/// The numbers of entries.
+/// Writes the summary: the numbers of entries.
 fn put_summary<W: Sink>(out: &mut W, pen: &mut Pen, counts: &Counts)
     ensures { Wrote (summary_of
         counts.now.total counts.now.added counts.now.removed counts.now.changed)
@@ -92,7 +92,7 @@ fn put_wanted_summary<W: Sink>(out: &mut W, pen: &mut Pen, level: Level, counts:
     }
 }
 
-/// The head and the summary.
+/// Writes the head, and the summary if the level asks for it.
 pub fn put_overview<W: Sink>(out: &mut W, pen: &mut Pen, level: Level, counts: &Counts)
     ensures { Wrote (overview_by level counts.now)
         (sheet W.delivered W.failures W.flushes out.old pen.old)

@@ -1,26 +1,27 @@
-//! Writing a report piece by piece.
+//! Writes a report piece by piece.
 ghost use Rattle.std.specs.Prelude.{◌≡◌, ◌++◌, ◌∷◌, [], false, decimal};
 ghost use Rattle.aide_text.specs.Text.{empty_line, colon_blank, ended};
 ghost use Rattle.aide_text.specs.PenSheet.{sheet};
-ghost use Rattle.aide_text.specs.Printed.{printed, printed_byte};
+ghost use Rattle.aide_text.specs.Printed.{printed};
 ghost use Rattle.aide_text.specs.Sheet.{Wrote};
 
-use crate::emitting::{emit, needs_escape, octal_escape};
-use crate::feed::Feed;
+use crate::emitting::emit;
+use crate::feed::{Feed, Printed};
+use crate::piece::Piece;
 use crate::sink::Sink;
 use itoa::Buffer;
 
-/// Counts the bytes of a report that have gone out. Once the sink has failed it writes nothing more.
+/// Counts the bytes of a report that have gone out. Once the sink has failed, the pen writes nothing more.
 #[derive(Clone, Copy, Debug, PartialEq, Eq)]
 pub struct Pen {
-    /// The bytes that have gone out; the count stops at its last value.
+    /// The bytes that have gone out. The count stops at `u64::MAX`.
     pub sent: u64,
     /// Whether the sink has failed.
     pub failed: bool,
 }
 
 impl Pen {
-    /// A pen that has written nothing.
+    /// Returns a pen that has written nothing.
     pub fn new() -> Pen
         ensures { result ≡ record { sent = 0; failed = false } }
     {
@@ -48,25 +49,18 @@ pub fn put<W: Sink>(out: &mut W, pen: &mut Pen, bytes: &[u8])
     }
 }
 
-/// Writes a byte as it is printed in a path.
-fn put_byte<W: Sink>(out: &mut W, pen: &mut Pen, c: u8)
-    ensures { Wrote (printed_byte c) (sheet W.delivered W.failures W.flushes out.old pen.old)
-        (sheet W.delivered W.failures W.flushes out.new pen.new) }
-{
-    if needs_escape(c) {
-        put(out, pen, &octal_escape(c));
-    } else {
-        put(out, pen, &[c]);
-    }
-}
-
-/// Writes the bytes of a feed as a path is printed.
-fn put_path<W: Sink, B: Feed>(out: &mut W, pen: &mut Pen, mut path: B)
+/// Writes the bytes of a feed in the way that a path is printed.
+fn put_path<W: Sink, B: Feed>(out: &mut W, pen: &mut Pen, path: B)
     ensures { Wrote (printed (B.rest path)) (sheet W.delivered W.failures W.flushes out.old pen.old)
         (sheet W.delivered W.failures W.flushes out.new pen.new) }
 {
-    'bytes: while let Some(c) = path.next_byte() {
-        put_byte(out, pen, c);
+    let mut text = Printed::of(path);
+    'pieces: loop {
+        let piece = Piece::of(&mut text);
+        if piece.len() == 0 {
+            return;
+        }
+        put(out, pen, piece.bytes());
     }
 }
 

@@ -15,7 +15,7 @@ pub(crate) struct Piece {
 impl Piece {
     ghost use Rattle.aide_text.specs.PieceText.{piece_text};
 
-    /// The next piece of a text.
+    /// Takes the next piece of a text: its next 32 bytes, or all that are left.
     pub(crate) fn of<T: Feed>(text: &mut T) -> Piece
         ensures piece { piece_text result ≡ take 32 (T.rest text.old) }
         ensures rest { T.rest text.new ≡ drop 32 (T.rest text.old) }

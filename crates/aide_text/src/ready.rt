@@ -1,10 +1,10 @@
-//! A short text, kept in place.
+//! A short text that is kept in place, as a feed.
 
 ghost use Rattle.std.specs.Prelude.{◌≡◌, ◌<◌, ◌≤◌, ◌++◌, ◌∷◌, [], ◌-◌, ℕ, List, length, take, drop};
 
 use crate::feed::Feed;
 
-/// A short text.
+/// Hands out a short text.
 #[derive(Clone, Copy, Debug)]
 pub struct Ready {
     bytes: [u8; 128],
@@ -16,7 +16,7 @@ pub struct Ready {
 impl Ready {
     ghost use Rattle.aide_text.specs.ReadyRest.{ready_rest};
 
-    /// A copy of this text.
+    /// Returns a feed of a copy of this text.
     pub fn of(text: &[u8]) -> Ready
         requires { length text.now ≤ 128 }
         ensures { ready_rest result ≡ text.now }

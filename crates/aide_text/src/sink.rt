@@ -8,22 +8,23 @@ use aide_db::DeviceFault;
 use std::io::Write;
 use std::marker::Model;
 
-/// A device that takes bytes. Contracts see the bytes delivered, where the device tells them, a count of failures, how
-/// often it was flushed, and whether all that was delivered has been flushed. Both counts stop at `u64::MAX`.
+/// A device that takes bytes. Contracts see the bytes delivered, if the device tells them, and how often it has failed.
+/// They also see how often it was flushed, and whether all delivered bytes have been flushed. Both counts stop at
+/// `u64::MAX`.
 pub trait Sink {
-    /// The bytes delivered so far, where the device tells them.
+    /// The bytes delivered so far, if the device tells them.
     ghost delivered: { Self → Option (List ℕ) };
 
     /// How often the device has failed.
     ghost failures: { Self → ℕ };
 
-    /// How often the device was flushed, refused flushes aside.
+    /// How often the device was flushed. Failed flushes do not count.
     ghost flushes: { Self → ℕ };
 
-    /// Whether all that was delivered has been flushed.
+    /// Whether all delivered bytes have been flushed.
     ghost is_flushed: { Self → Bool };
 
-    /// Takes bytes from the front, at least one of them, and answers how many.
+    /// Takes the first of these bytes, at least one, and returns how many it took.
     fn write(&mut self, bytes: &[u8]) -> Result<usize, DeviceFault>
         requires { 0 < length bytes.now }
         ensures some { IfOk result (λ n. (0 < n) × (n ≤ length bytes.now)) }
@@ -31,7 +32,7 @@ pub trait Sink {
         ensures flushes { flushes self.new ≡ flushes self.old }
         ensures fault { CountsFault (failures self.old) (failures self.new) result };
 
-    /// Passes on what the device has taken so far. It delivers no byte of its own.
+    /// Passes on the bytes that the device has taken so far. It adds no byte of its own.
     fn flush(&mut self) -> Result<(), DeviceFault>
         ensures bytes { Keeps (delivered self.old) (delivered self.new) }
         ensures flushed { OnOk result (is_flushed self.new ≡ true) }
@@ -39,7 +40,7 @@ pub trait Sink {
         ensures fault { CountsFault (failures self.old) (failures self.new) result };
 }
 
-/// A sink over any writer. Every error of the writer is a failure, and so is a write that takes no byte.
+/// A sink over any writer. Every error of the writer counts as a failure, and so does a write that takes no byte.
 #[derive(Drop)]
 pub struct WriteSink<W> {
     writer: W,
@@ -62,7 +63,7 @@ impl<W> Model for WriteSink<W> {
 }
 
 impl<W: Write> WriteSink<W> {
-    /// A sink that has counted no failure. It takes no memory.
+    /// Returns a sink that has counted no failure. It allocates no memory.
     pub fn new(writer: W) -> WriteSink<W>
         ensures { result ≡ record {
           device = writer;
@@ -79,14 +80,14 @@ impl<W: Write> WriteSink<W> {
         }
     }
 
-    /// How often the writer was flushed, refused flushes aside. The count stops at its last value.
+    /// Returns how often the writer was flushed. Failed flushes do not count. The count stops at `u64::MAX`.
     pub fn flushes(&self) -> u64
         ensures { result ≡ self.now.flushes }
     {
         self.flushes
     }
 
-    /// The writer, as it is.
+    /// Hands back the writer as it is.
     pub fn into_inner(self) -> W
         ensures { result ≡ self.device }
     {

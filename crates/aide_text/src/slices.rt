@@ -1,17 +1,17 @@
-//! A slice as a feed.
+//! A feed over a slice.
 
 ghost use Rattle.std.specs.Prelude.{◌≡◌, ℕ, List};
 
 use crate::feed::Feed;
 
-/// The bytes of a slice.
+/// Hands out the bytes of a slice.
 #[derive(Clone, Copy, Debug, Drop)]
 pub struct SliceFeed<'a> {
     bytes: &'a [u8],
 }
 
 impl<'a> SliceFeed<'a> {
-    /// All bytes of a slice.
+    /// Returns a feed of all bytes of a slice.
     pub fn of(bytes: &'a [u8]) -> SliceFeed<'a>
         ensures { slice_rest result ≡ bytes.now }
     {

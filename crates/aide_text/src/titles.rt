@@ -1,4 +1,4 @@
-//! The titles of the parts of a report.
+//! Writes the titles of the parts of a report.
 ghost use Rattle.std.specs.Prelude.{◌≡◌, ◌++◌};
 ghost use Rattle.aide_text.specs.PenSheet.{sheet};
 ghost use Rattle.aide_text.specs.Sheet.{Wrote};
@@ -35,7 +35,7 @@ fn put_rule_after<W: Sink>(out: &mut W, pen: &mut Pen)
     );
 }
 
-/// A title between rules.
+/// Writes a title between two rules of hyphens.
 pub fn put_titled<W: Sink>(out: &mut W, pen: &mut Pen, title: &[u8])
     ensures { Wrote (titled title.now) (sheet W.delivered W.failures W.flushes out.old pen.old)
         (sheet W.delivered W.failures W.flushes out.new pen.new) }
@@ -69,7 +69,7 @@ fn gap(section: Section) -> &'static [u8]
     }
 }
 
-/// The title lines of a section.
+/// Writes the title lines of a section.
 pub fn put_section_head<W: Sink>(out: &mut W, pen: &mut Pen, section: Section)
     ensures { Wrote (section_head section) (sheet W.delivered W.failures W.flushes out.old pen.old)
         (sheet W.delivered W.failures W.flushes out.new pen.new) }
@@ -78,7 +78,7 @@ pub fn put_section_head<W: Sink>(out: &mut W, pen: &mut Pen, section: Section)
     put(out, pen, gap(section));
 }
 
-/// A word, a colon and a path.
+/// Writes a line with a word, a colon and a path.
 pub fn put_path_line<W: Sink, B: Feed>(out: &mut W, pen: &mut Pen, word: &[u8], path: B)
     ensures { Wrote (path_line word.now (B.rest path))
         (sheet W.delivered W.failures W.flushes out.old pen.old)

@@ -14,15 +14,14 @@ use aide_attr::FileType;
 use base64::engine::general_purpose::STANDARD;
 use itoa::Buffer;
 
-/// The text of a value, as it is handed out: a short one that is kept in place, or a link name or a field, which are
-/// printed as a path is.
+/// Hands out the text of a value. A short text is kept in place. A link name and a field are printed as a path is.
 #[derive(Clone, Copy, Drop)]
 pub enum ValueText<S, L, F> {
     /// A text that is kept in place.
     Short(S),
     /// A link name.
     Link(Printed<L>),
-    /// A field as the database has it.
+    /// A field, with the bytes that the database has.
     Field(Printed<F>),
 }
 
@@ -54,7 +53,7 @@ fn word(kind: FileType) -> &'static [u8]
     }
 }
 
-/// A type as a word, the empty text where there is none.
+/// Returns the word for a type of file, or the empty text if there is no type.
 pub fn kind_text(kind: Option<FileType>) -> Ready
     ensures { ready_rest result ≡ option_text type_text kind }
 {
@@ -83,7 +82,7 @@ fn octal_digit(n: u128) -> u8
 
 ghost use Rattle.std.specs.Prelude.{◌+◌, ◌%◌};
 
-/// A mode as four octal digits, the empty text where there is none.
+/// Returns a mode as four octal digits, or the empty text if there is no mode.
 pub fn mode_of(mode: Option<i128>) -> Ready
     ensures { ready_rest result ≡ option_text mode_text mode }
 {
@@ -93,7 +92,7 @@ pub fn mode_of(mode: Option<i128>) -> Ready
     }
 }
 
-/// A number in decimal, the empty text where there is none.
+/// Returns a number in decimal, or the empty text if there is no number.
 pub fn number_of(number: Option<i128>) -> Ready
     ensures { ready_rest result ≡ option_text signed_decimal number }
 {
@@ -131,7 +130,8 @@ fn base64_of(bytes: &[u8]) -> Ready
     }
 }
 
-/// A digest of at most 64 bytes as a text: in base 16 (lowercase), otherwise in base 64 (RFC 4648 section 4).
+/// Returns a digest of at most 64 bytes as a text, in base 16 (lowercase) if `base16` is set. Otherwise the text is
+/// in base 64 (RFC 4648 section 4).
 #[tactic(auto, unfolding(crate::specs::Values::digest_text))]
 pub fn digest_of(base16: bool, bytes: &[u8]) -> Ready
     requires { length bytes.now ≤ 64 }

@@ -1,4 +1,4 @@
--- What comes of a text by expansion.
+-- The result of expanding a text.
 use Rattle.std.specs.Prelude.{ℕ, ◌≡◌, ◌<◌, ◌≤◌, true, false, nat_lt, List, Option, Some, None}
 use Rattle.std.specs.Prelude.{length, Vec}
 use Rattle.aide_conf.specs.declared.expansion.Expanded.{Expanded}
@@ -14,7 +14,7 @@ use Rattle.aide_conf.specs.Limits.{longest_line, longest_value}
 abbrev pub expanded_by : {A : Type 0} → Names (Vec ℕ A) → List ℕ → List ℕ
 expanded_by variables text = expansion_after (value_by (values_of variables)) 0 text
 
--- what a line is whose expansion has these bytes
+-- the result for a line whose expansion has these bytes
 abbrev pub IsExpandedLine : {A : Type 0} → List ℕ → Expanded A → Type 0
 IsExpandedLine out Skipped = is_skipped (strip out) ≡ true
 IsExpandedLine out TooLong = (is_skipped (strip out) ≡ false)
@@ -23,7 +23,7 @@ IsExpandedLine out (Line bytes) =
     (bytes.items ≡ strip out) × (is_skipped (strip out) ≡ false)
     × (nat_lt longest_line (length (strip out)) ≡ false)
 
--- the value whose expansion has these bytes, where they are not too many
+-- the result for a value whose expansion has these bytes, unless they are too many
 abbrev pub IsExpandedValue : {A : Type 0} → List ℕ → Option (Vec ℕ A) → Type 0
 IsExpandedValue out None = longest_value < length out
 IsExpandedValue out (Some bytes) = (bytes.items ≡ out) × (length out ≤ longest_value)

@@ -1,4 +1,4 @@
--- What the code keeps after some places, and what each of its methods does to it.
+-- What the code keeps after some places, and how each of its methods changes that.
 use Rattle.std.specs.Prelude.{
   ℕ,
   ◌≡◌,
@@ -71,7 +71,7 @@ use Rattle.aide_conf.specs.code.Variables.{Values, values_of}
 use Rattle.aide_conf.specs.Settings.{AreOptions, counted, fixes}
 use Rattle.aide_attr.specs.Groups.{most_groups}
 
--- the bytes of a path, where there is one
+-- the bytes of a path, if there is one
 abbrev pub text_at : {A : Type 0} → Option (String A) → Option (List ℕ)
 text_at o = option_map (λ t. string_bytes t) o
 
@@ -106,46 +106,47 @@ place_at text n line = record { text = text; number = n; line = line }
 abbrev pub unless_fixed : {A : Type 0} → Pass A → Options → Pass A
 unless_fixed p o = if p.fixed then p else record p { options = o }
 
--- the options with this level, and all else as before
+-- the options with this level, otherwise as before
 abbrev pub with_level : Level → Options → Options
 with_level l o = record o { level = l }
 
--- the options with this value of a switch, and all else as before
+-- the options with this value of a switch, otherwise as before
 abbrev pub with_switch : Switch → Bool → Options → Options
 with_switch Grouped b o = record o { grouped = b }
 with_switch Summarize b o = record o { summarize = b }
 with_switch Base16 b o = record o { base16 = b }
 with_switch Quiet b o = record o { quiet = b }
 
--- the options with this set of attributes, and all else as before
+-- the options with this set of attributes, otherwise as before
 abbrev pub with_attrs : AttrList → AttrSet → Options → Options
 with_attrs IgnoreAdded s o = record o { ignore = record o.ignore { added = s } }
 with_attrs IgnoreRemoved s o = record o { ignore = record o.ignore { removed = s } }
 with_attrs IgnoreChanged s o = record o { ignore = record o.ignore { changed = s } }
 with_attrs Force s o = record o { ignore = record o.ignore { force = s } }
 
--- the path of a database is this one, and all else as before
+-- the path of a database is this one, and everything else is as before
 abbrev pub NamesPath : {A : Type 0} → Database → List ℕ → Pass A → Pass A → Type 0
 NamesPath Old path p q = (text_at q.old_path ≡ Some path) × (q ≡ record p { old_path = q.old_path })
 NamesPath New path p q = (text_at q.new_path ≡ Some path) × (q ≡ record p { new_path = q.new_path })
 
--- a group has this set, and all else is as before
+-- a group has this set, and everything else is as before
 pub record HasNewGroup {A : Type 0} (name : List ℕ) (set : AttrSet) (p q : Pass A) : Type 0 where
   pub room : IsSome (finmap.get (names_of p.groups) name) ⊎ (finmap.len (names_of p.groups) < most_groups)
   pub table : names_of q.groups ≡ finmap.insert (names_of p.groups) name set
   pub others : q ≡ record p { groups = q.groups }
 
--- the fault of an answer, where it is one
+-- the fault of an answer, if the answer is a fault
 abbrev pub fault_of : {E : Type 0} → Result E ConfFaultKind → Option ConfFaultKind
 fault_of (Ok u) = None
 fault_of (Err kind) = Some kind
 
--- no fault, or this one, or want of memory
+-- the answer is this fault, or `Ok` if there is none, or out of memory
 abbrev pub IsAnswered : {E : Type 0} → Option ConfFaultKind → Result E ConfFaultKind → Type 0
 IsAnswered fault (Ok u) = fault ≡ None
 IsAnswered fault (Err kind) = (fault ≡ Some kind) ⊎ (kind ≡ Memory)
 
--- What is taken where this is what a line says, so deep in blocks, and in the second part of the innermost or not.
+-- The result of taking a line that says this, by its depth in blocks and whether the innermost
+-- block is in its second part.
 abbrev pub TakesReading : {A E : Type 0} → List Marked → ℕ → Bool → Reading → Pass A
     → Result E ConfFaultKind → Type 0
 TakesReading earlier depth divided r p (Ok u) =
@@ -159,7 +160,7 @@ TakesReading earlier depth divided r p (Err kind) =
 
 -- ---- places
 
--- what is taken at one place, after which these blocks are open
+-- the result of taking one place, after which these blocks are open
 abbrev pub TakesOne : {A E : Type 0} → Need → List Marked → Place → Pass A → List Frame
     → Result E ConfFaultKind → Type 0
 TakesOne need earlier at p fs (Ok u) =
@@ -169,12 +170,12 @@ TakesOne need earlier at p fs (Err kind) =
     ((x : Marked) × (x.place ≡ at) × IsMarkedWell earlier x × (fault_at need earlier x ≡ Some kind))
     ⊎ ((kind ≡ Memory) × Grows earlier at)
 
--- some more places
+-- the next places are taken without a fault
 abbrev pub Takes : {A : Type 0} → Need → List Marked → List Place → Pass A → Type 0
 Takes need earlier ps p = (xs : List Marked) × (map (λ x. x.place) xs ≡ ps)
     × AreSound need earlier xs × StandsFor (earlier ++ xs) p
 
--- a fault within them
+-- a fault at one of the next places
 pub record Stops (need : Need) (earlier : List Marked) (ps : List Place) (e : ConfFault) : Type 0 where
   pub lines : List Marked
   pub at : Place
@@ -188,7 +189,7 @@ pub record Stops (need : Need) (earlier : List Marked) (ps : List Place) (e : Co
       × (fault_at need (earlier ++ lines) x ≡ Some e.kind))
       ⊎ ((e.kind ≡ Memory) × Grows (earlier ++ lines) at)
 
--- what comes of some more places: all are taken, or a fault stops the pass at one of them
+-- the result of taking the next places: all are taken, or a fault stops the pass at one of them
 abbrev pub TakesAll : {A E : Type 0} → Need → List Marked → List Place → Pass A → Result E ConfFault
     → Type 0
 TakesAll need earlier ps p (Ok u) = Takes need earlier ps p
@@ -196,11 +197,11 @@ TakesAll need earlier ps p (Err e) = Stops need earlier ps e
 
 -- ---- refusals of one method
 
--- the kind of an expression's fault
+-- the kind of fault of an expression without a meaning
 abbrev pub IsMisjudged : (List ℕ → Option (Attr → Bool)) → List ℕ → ConfFaultKind → Type 0
 IsMisjudged look text kind = (e : ExprFault) × IsFault look text e
     × (verdict_fault (Some (Err e)) ≡ Some kind)
 
--- a group cannot be defined: there are too many, or memory is wanted
+-- a group cannot be defined: there are too many, or an allocation failed
 abbrev pub HasNoRoom : {A : Type 0} → List ℕ → Pass A → ConfFaultKind → Type 0
 HasNoRoom name p kind = ((kind ≡ TooMany) × IsFull (names_of p.groups) name) ⊎ (kind ≡ Memory)

@@ -1,4 +1,4 @@
--- What the code gives for a line: an item, or a reading.
+-- What the code returns for a line: an item, or a reading.
 use Rattle.std.specs.Prelude.{ℕ, ◌≡◌, true, List, Option, option_map, Result, Ok, Err}
 use Rattle.std.specs.Borrow.{Bor}
 use Rattle.aide_attr.specs.Name.{is_group_name}
@@ -13,11 +13,11 @@ use Rattle.aide_conf.specs.Reading.{Reading, Nothing, Faulty}
 use Rattle.aide_conf.specs.Reading.{NamesDatabase, SetsLevel, SetsSwitch, SetsAttributes}
 use Rattle.aide_conf.specs.Reading.{EndsOptions, DefinesGroup}
 
--- the bytes that are borrowed, where some are
+-- the bytes that are borrowed, if any
 abbrev pub bytes_at : Option (Bor (List ℕ)) → Option (List ℕ)
 bytes_at o = option_map (λ r. r.now) o
 
--- the reading that the code's answer stands for
+-- the reading that the code's answer means
 abbrev pub said_by : Said → Reading
 said_by code.Nothing = Nothing
 said_by (code.NamesDatabase d p) = NamesDatabase d p.now
@@ -27,12 +27,12 @@ said_by (code.SetsAttributes l e) = SetsAttributes l e.now
 said_by code.EndsOptions = EndsOptions
 said_by (code.DefinesGroup n e) = DefinesGroup n.now e.now
 
--- a fault, or what is said
+-- the reading of an answer: a fault, or what the line says
 abbrev pub said : Result Said ConfFaultKind → Reading
 said (Err k) = Faulty k
 said (Ok s) = said_by s
 
--- a group that is defined has a name that groups may have
+-- if a group is defined, it has a name that groups may have
 abbrev pub IsNamedWell : Said → Type 0
 IsNamedWell code.Nothing = Unit {0}
 IsNamedWell (code.NamesDatabase d p) = Unit {0}

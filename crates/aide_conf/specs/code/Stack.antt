@@ -5,7 +5,7 @@ use Rattle.aide_conf.specs.declared.blocks.Blocks.{Blocks}
 use Rattle.aide_conf.specs.Blocks.{Shape, Opens, Divides, Closes, Single, Seen, opens, divides}
 use Rattle.aide_conf.specs.Blocks.{Balanced, IsUsedRight}
 
--- one is true and the other is not
+-- exactly one of the two is true
 abbrev pub differ : Bool → Bool → Bool
 differ true s = not s
 differ false s = s
@@ -28,31 +28,31 @@ top_divided (f ∷ fs) = f.second
 abbrev pub opened : Bool → Bool → List Frame → List Frame
 opened used first fs = record { used = used; first = first; second = false } ∷ fs
 
--- the open blocks after a line that begins the second part of the innermost
+-- the open blocks after a line that begins the second part of the innermost one
 abbrev pub divided_at : List Frame → List Frame
 divided_at [] = []
 divided_at (f ∷ fs) = record f { second = true } ∷ fs
 
--- the open blocks after a line that ends the innermost
+-- the open blocks after a line that ends the innermost one
 abbrev pub closed_at : List Frame → List Frame
 closed_at [] = []
 closed_at (f ∷ fs) = fs
 
--- the open blocks, which the code keeps with the outermost first
+-- the open blocks, the innermost first; the code keeps them with the outermost first
 abbrev pub frames_of : {A : Type 0} → Blocks A → List Frame
 frames_of b = reverse b.frames.items
 
--- the open blocks after one more line
+-- the open blocks after another line
 abbrev pub frames_after : Shape → Bool → Bool → List Frame → List Frame
 frames_after Opens used first fs = opened used first fs
 frames_after Divides used first fs = divided_at fs
 frames_after Closes used first fs = closed_at fs
 frames_after Single used first fs = fs
 
--- ---- what the frames stand for
+-- ---- what the frames mean
 
--- The lines between an opening line and the line that is read: one part, or one part, a dividing line and more;
--- `second` says which.
+-- The lines between an opening line and the line that is read. If `second` is false, they are one
+-- part. If it is true, they are one part, a dividing line and another part.
 abbrev pub Body : Bool → List Seen → Type 0
 Body false w = Balanced w
 Body true w =

@@ -3,7 +3,7 @@ use Rattle.std.specs.Prelude.{ℕ, List, [], unwrap_or, Vec}
 use Rattle.std.specs.FinMap.{get}
 use Rattle.aide_attr.specs.Table.{Names, seen}
 
--- values under names
+-- a map from names to values
 abbrev pub Values : Type 0
 Values = Names (List ℕ)
 
@@ -11,6 +11,6 @@ Values = Names (List ℕ)
 abbrev pub values_of : {A : Type 0} → Names (Vec ℕ A) → Values
 values_of table = seen (λ v. v.items) table
 
--- the value of a name, which is empty where none is defined
+-- the value of a name, which is empty if the name is not defined
 abbrev pub value_by : Values → List ℕ → List ℕ
 value_by values name = unwrap_or (get values name) []

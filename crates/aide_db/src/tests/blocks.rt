@@ -1,4 +1,4 @@
-//! Bytes that come in blocks, from slices and from readers.
+//! Tests of bytes that come in blocks, from slices and from readers.
 
 use super::{LIMITS, read};
 use crate::{Cursor, DbFault, DbFaultKind, Desk, DeviceFault, ReadReel, Reel, Side, Step};
@@ -15,7 +15,7 @@ fn reads_from_a_reader(rt: HostRuntime) {
     assert!(rt; reel.into_reader() == b"c".as_slice());
 }
 
-/// Fills each request as far as it can, and keeps what it answered.
+/// Fills each request as far as it can, and keeps the counts that it returned.
 #[derive(Drop)]
 struct LoggedReel<'a> {
     bytes: &'a [u8],
@@ -83,7 +83,7 @@ fn reads_by_blocks(rt: HostRuntime) -> Result<(), Fail> {
     Ok(())
 }
 
-// An entry whose newline is byte 4,095, 4,096 or 4,097, and one out of order behind it.
+// An entry whose newline is byte 4,095, 4,096 or 4,097, and after it an entry out of order.
 #[test]
 fn orders_across_a_border(rt: HostRuntime) -> Result<(), Fail> {
     let alloc = rt.alloc();

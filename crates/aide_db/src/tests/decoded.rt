@@ -1,4 +1,4 @@
-//! The values of fields that hold bytes: link names, digests and names.
+//! Tests of the values of fields that hold bytes: link names, digests and names.
 
 use super::{LIMITS, says, with_field};
 use crate::{Cursor, Desk, Side};

@@ -1,4 +1,4 @@
-//! How two entries of one path differ.
+//! Tests of how two entries of one path differ.
 
 use super::{E256, LIMITS, with_field};
 use crate::{Cursor, Desk, Side, cmp_names, delta_of};
@@ -7,7 +7,7 @@ use std::alloc::Global;
 use std::cmp::Ordering;
 use std::test::Fail;
 
-/// How the first entries of two databases differ, where their paths are equal.
+/// Returns how the first entries of two databases differ, if their paths are equal.
 fn delta(alloc: Global, old: &[u8], new: &[u8]) -> Option<Delta> {
     let mut desk = Desk::new(alloc);
     let mut first = Cursor::start(Side::Old, old, LIMITS, &mut desk);
@@ -25,7 +25,7 @@ fn delta(alloc: Global, old: &[u8], new: &[u8]) -> Option<Delta> {
     Some(delta_of(&before, &after))
 }
 
-/// Two fields of a column, and whether this attribute, and it alone, is changed.
+/// Two fields of a column, and whether this attribute is changed. No other attribute is.
 struct Pair {
     column: &'static [u8],
     old_field: &'static [u8],
@@ -192,7 +192,7 @@ fn tells_what_changed(rt: HostRuntime) {
     }
 }
 
-// A digest that the new database has and the old one does not, as an attribute like any other.
+// A digest that only the new database has is an attribute like any other.
 #[test]
 fn tells_a_further_digest(rt: HostRuntime) -> Result<(), Fail> {
     let old: &[u8] = b"@@begin_db\n@@db_spec name md5\n/a 1B2M2Y8AsgTpgAmY7PhCfg==\n@@end_db\n";
@@ -212,7 +212,7 @@ fn tells_a_further_digest(rt: HostRuntime) -> Result<(), Fail> {
     Ok(())
 }
 
-// What an entry has goes by the bits of its `attr`, where it has that column.
+// The bits of the `attr` column decide which attributes an entry has, if there is that column.
 #[test]
 fn has_what_its_bits_say(rt: HostRuntime) {
     let old: &[u8] = b"@@begin_db\n@@db_spec name attr size uid\n/a 32 7 5\n@@end_db\n";

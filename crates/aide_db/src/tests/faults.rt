@@ -1,4 +1,4 @@
-//! Texts and their first faults, and the limits on lines and on bytes.
+//! Tests of texts and their first faults, and of the limits on lines and on bytes.
 
 use super::{LIMITS, read};
 use crate::{DbFault, DbFaultKind, Limits, Side};
@@ -180,7 +180,7 @@ fn takes_sound_texts(rt: HostRuntime) {
     }
 }
 
-/// A text within limits, and the line and number of its fault, none for a sound text.
+/// A text under limits, and the line and number of its fault, or none for a sound text.
 struct Limited {
     line: u32,
     bytes: u64,
@@ -247,7 +247,7 @@ fn keeps_the_limits(rt: HostRuntime) {
     }
 }
 
-/// The answer to a front and a run of 2,097,152 times one byte behind it.
+/// Returns the answer for a text that consists of `front` and then 2,097,152 times one byte.
 fn read_run(alloc: Global, front: &[u8], byte: u8) -> Result<Result<u32, DbFault>, Fail> {
     let mut text = Vec::from_slice(alloc, front)?;
     text.extend_from_slice(vec![in alloc; byte; 2_097_152]?.as_slice())?;
@@ -265,7 +265,8 @@ fn takes_no_more_than_the_limits(rt: HostRuntime) -> Result<(), Fail> {
     Ok(())
 }
 
-/// Below how many bytes of a cut text which answer comes: the line and the number of the fault, none at the end.
+/// The answer for a text that is cut to fewer than `below` bytes, and to no fewer than the row before says: the line
+/// and the number of its fault, or twice 0 if it has none.
 struct Cut {
     below: usize,
     line: u64,

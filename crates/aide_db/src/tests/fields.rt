@@ -1,4 +1,4 @@
-//! The values of single fields, by their forms: numbers and types, and the fields that are refused.
+//! Tests of the values of single fields, by their forms: numbers and types, and the fields that are refused.
 
 use super::{LIMITS, read, with_field};
 use crate::{Cursor, DbFault, DbFaultKind, Desk, Side};

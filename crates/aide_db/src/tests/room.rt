@@ -1,4 +1,4 @@
-//! What a desk holds, what it ever held, and the room that was reserved on it.
+//! Tests of what a desk holds, what it ever held, and the room that was reserved on it.
 
 use super::LIMITS;
 use crate::{Cursor, DbFaultKind, Desk, DeskFault, Limits, MemorySources, Side, Sources, Step};

@@ -6,7 +6,7 @@ use aide_db::{DbFaultKind as Kind, Desk, DeviceFault, Limits, Reel};
 use std::alloc::{AllocError, Global};
 use std::test::Fail;
 
-/// A slice that fills each request as far as it can, and notes the first answers.
+/// A reel over a slice that fills each request as far as it can. Notes its first answers.
 #[derive(Drop)]
 struct WatchedReel<'a> {
     bytes: &'a [u8],
@@ -102,7 +102,7 @@ const READS: [Reads; 6] = [
     },
 ];
 
-/// A sound database of so many bytes, most of them behind its end line.
+/// A sound database of this number of bytes. Most of them follow its end line.
 fn database_of(alloc: Global, bytes: usize) -> Result<Vec<u8>, AllocError> {
     let mut text = Vec::from_slice(alloc, b"@@begin_db\n@@db_spec name size\n/a 1\n@@end_db\n")?;
     text.resize(bytes, b'x')?;

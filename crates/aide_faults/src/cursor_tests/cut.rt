@@ -9,7 +9,7 @@ use std::process::Abort;
 const SOUND: &[u8] =
     b"@@begin_db\n@@db_spec name attr perm size\n/b 36 40755 4096\n/c 36 100644 10\n@@end_db\n";
 
-/// What a cursor answers of a text that is cut after so many bytes: the fault, or the end.
+/// What a cursor returns for a text that is cut after this number of bytes: the fault, or the end.
 struct Cut {
     least: usize,
     most: usize,
@@ -132,7 +132,7 @@ fn cut_after_each_byte(rt: HostRuntime) {
     assert!(rt; tried == 84);
 }
 
-/// A row of places at which a reel fails: so many entries come before it, and its line.
+/// A range of places at which a reel fails, with the number of entries before the failure, and the line of the fault.
 struct Place {
     least: u64,
     most: u64,
@@ -173,7 +173,7 @@ const PLACES: [Place; 5] = [
     },
 ];
 
-/// Reads from a reel that fails behind so many bytes, at each pace.
+/// Reads, at each pace, from a reel that fails after this number of bytes.
 fn assert_fails<A: Allocator + Copy>(
     rt: &impl Abort,
     desk: &mut Desk<A>,

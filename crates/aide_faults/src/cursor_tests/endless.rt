@@ -4,7 +4,7 @@ use crate::EndlessReel;
 use aide_db::{DbFaultKind as Kind, Desk, Limits};
 use std::test::Fail;
 
-/// A text behind which one byte stands for ever, and its fault.
+/// A text that one byte follows for ever, and its fault.
 struct Endless {
     text: &'static [u8],
     byte: u8,

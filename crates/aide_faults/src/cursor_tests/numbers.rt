@@ -1,4 +1,4 @@
-//! Numbers and times of an entry, and fields that are out of form.
+//! Numbers and times of an entry, and malformed fields.
 use super::values::first;
 use aide_attr::Attr;
 use aide_db::{DbFault, DbFaultKind as Kind, Desk, Side, Step};

@@ -1,11 +1,11 @@
-//! Texts that are refused, each at a line and for a reason, and some that are not.
+//! Texts that are refused, each at a line and for a reason, and some texts that are not refused.
 use super::{LIMITS, Wanted, assert_read, refuse_each};
 use aide_db::{DbFaultKind as Kind, Desk, Limits};
 use std::alloc::Global;
 use std::process::Abort;
 use std::test::Fail;
 
-/// A text, and what a cursor answers.
+/// A text, and what a cursor returns for it.
 struct Row {
     text: &'static [u8],
     entries: u64,
@@ -277,7 +277,7 @@ const ENTRIES: [Row; 22] = [
     },
 ];
 
-/// Looks at each row at each pace, and refuses each of its growths.
+/// Checks each row at each pace, and refuses each of its allocations.
 fn assert_rows(rt: &impl Abort, alloc: Global, rows: &[Row]) {
     let mut desk = Desk::new(alloc);
     for row in rows {

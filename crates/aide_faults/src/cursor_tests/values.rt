@@ -1,11 +1,11 @@
-//! Types, names, links and digests of an entry, and what it lacks.
+//! Types, names, links and digests of an entry, and the attributes that it lacks.
 use super::LIMITS;
 use aide_attr::{Attr, FileType};
 use aide_db::{Cursor, DbFault, Decoded, Desk, Side, Step};
 use std::alloc::{AllocError, Global};
 use std::test::Fail;
 
-/// A database of one entry with a path and one field more.
+/// A database of one entry with a path and one other field.
 fn database(alloc: Global, column: &[u8], field: &[u8]) -> Result<Vec<u8>, AllocError> {
     let mut text = Vec::from_slice(alloc, b"@@begin_db\n@@db_spec name ")?;
     text.extend_from_slice(column)?;
@@ -15,7 +15,7 @@ fn database(alloc: Global, column: &[u8], field: &[u8]) -> Result<Vec<u8>, Alloc
     Ok(text)
 }
 
-/// The answer to the first line of an entry, which is left on the desk.
+/// The answer to the first entry line. The line stays on the desk.
 pub(super) fn first(
     alloc: Global,
     desk: &mut Desk<Global>,
@@ -29,7 +29,7 @@ pub(super) fn first(
     Ok(answer)
 }
 
-/// Whether a text with escapes says these bytes.
+/// Whether a text with escapes means these bytes.
 fn says(decoded: Decoded<'_>, bytes: &[u8]) -> bool {
     let mut left = decoded;
     for byte in bytes {
@@ -40,7 +40,7 @@ fn says(decoded: Decoded<'_>, bytes: &[u8]) -> bool {
     left.next().is_none()
 }
 
-/// A mode, and the type that it tells.
+/// A mode, and the type that it gives.
 struct Type {
     field: &'static [u8],
     kind: Option<FileType>,
@@ -104,7 +104,7 @@ fn types(rt: HostRuntime) -> Result<(), Fail> {
     Ok(())
 }
 
-/// A field that writes a link's name, and the name: `None` is no name.
+/// A field with the name of a link, and that name. `None` means that there is no name.
 struct Link {
     field: &'static [u8],
     name: Option<&'static [u8]>,
@@ -170,7 +170,7 @@ fn links(rt: HostRuntime) -> Result<(), Fail> {
     Ok(())
 }
 
-/// A field of a digest: how many bytes it says, the first and the last of them.
+/// A field with a digest: how many bytes the digest has, and the first and the last of them.
 struct Digest {
     column: &'static [u8],
     attr: Attr,
@@ -248,7 +248,7 @@ fn digests(rt: HostRuntime) -> Result<(), Fail> {
     Ok(())
 }
 
-/// A field that writes a path, or another text.
+/// A field with a path or another text.
 struct Text {
     field: &'static [u8],
     text: &'static [u8],
@@ -302,7 +302,7 @@ fn names(rt: HostRuntime) -> Result<(), Fail> {
     Ok(())
 }
 
-/// A column and a field that the entry lacks, and whose attribute it has with another field.
+/// A column and its attribute, a field with which the entry lacks the attribute, and a field with which it has it.
 struct Lacking {
     column: &'static [u8],
     attr: Attr,

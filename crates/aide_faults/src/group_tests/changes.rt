@@ -1,12 +1,12 @@
-//! What of a change is reported and shown, and its summary string.
+//! Which attributes of a change are reported and shown, and its summary string.
 use super::{has_exactly, set_named};
 use aide_attr::{Alone, Delta, FileType, Ignore, Level, reported, shown, summary, summary_one};
 use std::cmp::Ordering;
 use std::process::Abort;
 use std::test::Fail;
 
-/// Two entries of one path by the names of their attributes, what is passed over, and the level: what is reported, what
-/// the details show, and the summary string.
+/// A change: two entries of one path by the names of their attributes, the ignored attributes, and the level. Also
+/// what is expected: the reported attributes, those that the details show, and the summary string.
 struct Change {
     old: &'static [u8],
     new: &'static [u8],
@@ -42,7 +42,7 @@ const SHRUNK: Change = Change {
     summary: b"f > .             ",
 };
 
-/// One digest went and another came.
+/// One digest was removed and another was added.
 const OTHER_DIGEST: Change = Change {
     old: b"md5",
     new: b"sha256",
@@ -60,7 +60,7 @@ const OTHER_DIGEST: Change = Change {
     summary: b"?           +     ",
 };
 
-/// A digest of further ones that is another.
+/// One of the further digests changed.
 const FURTHER_DIGEST: Change = Change {
     old: b"sha3_256",
     new: b"sha3_256",

@@ -1,18 +1,18 @@
-//! What expressions mean, and where they fail.
+//! What expressions mean, and at which place a faulty one is refused.
 use super::has_exactly;
 use aide_attr::{ExprFault, GroupFault, Groups};
 use std::alloc::Global;
 use std::process::Abort;
 use std::test::Fail;
 
-/// A definition by an expression, and the number of its refusal, 0 for none.
+/// A definition by an expression, and the number of its refusal, or 0 if it is not refused.
 struct Definition {
     name: &'static [u8],
     text: &'static [u8],
     refused: u8,
 }
 
-/// In this order, one after the other.
+/// The definitions are made in this order.
 const DEFINITIONS: [Definition; 9] = [
     Definition {
         name: b"p",
@@ -61,7 +61,7 @@ const DEFINITIONS: [Definition; 9] = [
     },
 ];
 
-/// A text, and the attributes that it means after these definitions.
+/// A text, and the attributes that the text means after these definitions.
 struct Meaning {
     text: &'static [u8],
     names: &'static [u8],
@@ -134,7 +134,7 @@ const MEANINGS: [Meaning; 16] = [
     },
 ];
 
-/// A text that means nothing, with the number of its refusal and the place of a byte.
+/// A text that is refused, with the number of its refusal and the place of the faulty byte.
 struct Faulty {
     text: &'static [u8],
     number: u8,
@@ -214,7 +214,7 @@ const FAULTY: [Faulty; 14] = [
     },
 ];
 
-/// The number of the refusal of a definition, 0 for none.
+/// The number of the refusal of a definition, or 0 if it is not refused.
 fn define(groups: &mut Groups<Global>, row: &Definition) -> u8 {
     let Ok(set) = groups.eval(row.text) else {
         return 9;
@@ -225,7 +225,7 @@ fn define(groups: &mut Groups<Global>, row: &Definition) -> u8 {
     }
 }
 
-/// The groups of the definitions.
+/// The groups that the definitions give.
 fn defined(rt: &impl Abort, alloc: Global) -> Groups<Global> {
     let mut groups = Groups::new(alloc);
     for row in &DEFINITIONS {
@@ -234,7 +234,7 @@ fn defined(rt: &impl Abort, alloc: Global) -> Groups<Global> {
     groups
 }
 
-/// The refusal of this number at this place.
+/// The refusal with this number at this place.
 fn fault_of(number: u8, at: usize) -> ExprFault {
     if number == 1 {
         ExprFault::UnknownName { at }

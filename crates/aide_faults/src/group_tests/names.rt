@@ -1,8 +1,8 @@
-//! The names that groups may have, the names that stand for something beforehand, and levels.
+//! The names that groups may have, the predefined names, and levels.
 use aide_attr::{Attr, Known, Level, is_blank, is_group_name, is_word};
 use std::test::Fail;
 
-/// A name: whether it has the form of one, whether a group may have it, and whether it stands for no attribute.
+/// A name: whether it has the form of a name, whether a group may have it, and whether it means the empty set.
 struct Name {
     name: &'static [u8],
     is_word: bool,
@@ -121,7 +121,7 @@ fn forms_of_names(rt: HostRuntime) -> Result<(), Fail> {
     Ok(())
 }
 
-/// A level with its name, and whether it tells what the lists of entries and the details of changed attributes add.
+/// A level with its name, and whether it reaches the lists of entries and the details of changed attributes.
 struct LevelName {
     name: &'static [u8],
     level: Level,

@@ -4,8 +4,8 @@ use std::cmp::Ordering;
 use std::process::Abort;
 use std::test::Fail;
 
-/// A line of the table: the names, the bit or 64 where there is none, how the column writes the value, and the letter
-/// that a summary string has where this attribute alone is changed.
+/// A line of the table: the names, the bit (64 if there is none), and how the column writes the value. Also the letter
+/// that a summary string has if only this attribute is changed.
 struct Line {
     name: &'static [u8],
     detail_name: &'static [u8],
@@ -282,7 +282,7 @@ const LINES: [Line; 33] = [
     },
 ];
 
-/// The summary string of an entry in which this attribute alone is changed.
+/// The summary string of an entry in which only this attribute is changed.
 fn summary_of(attr: Attr) -> [u8; 18] {
     let one = AttrSet::of(attr);
     let none = AttrSet::empty();

@@ -1,4 +1,4 @@
-//! Reports of the head line alone: what is counted, and the status.
+//! Reports with only the head line: what is counted, and the status.
 use super::rows::{Row, assert_reported};
 use super::{DIFFERENT, NEW, OLD, SAME};
 

@@ -1,4 +1,4 @@
-//! Runs whose growths are refused, each in turn.
+//! Runs in which each allocation fails in turn.
 use super::trial::{Trial, assert_serves, line_at};
 use super::{NEW, OLD, REPORT, SAME, options_of, pair, run_over};
 use crate::{Journal, NotedSources, Pace, PlannedSources, Refusing, SidePlan};
@@ -8,7 +8,7 @@ use std::alloc::Global;
 use std::process::Abort;
 use std::test::Fail;
 
-/// Sources of two databases that give a byte at a time, so that a growth is refused at the byte that was given last.
+/// Sources of two databases that give a byte at a time. So an allocation fails at the byte that was given last.
 fn slow_sources<'a>(trial: &Trial<'a>) -> PlannedSources<'a> {
     let old = SidePlan::plain(trial.old);
     PlannedSources::new(old, SidePlan::plain(trial.new), Pace::new(1))
@@ -19,15 +19,15 @@ fn plain_sources() -> PlannedSources<'static> {
     PlannedSources::new(SidePlan::plain(OLD), SidePlan::plain(NEW), Pace::new(4096))
 }
 
-/// How many growths were refused in a run, and how many of them behind the first reading of both sides.
+/// How many allocations were refused in a run, and how many of them came after the first reading of both sides.
 #[derive(Clone, Copy, Debug, PartialEq, Eq)]
 struct Refusals {
     all: u64,
     late: u64,
 }
 
-/// Refuses a growth of a run, looks at the side and the line that are told, and runs on the same desk again. How often
-/// the new side was opened, and `None` where there is no such growth.
+/// Refuses an allocation of a run, checks the side and the line that are reported, and runs on the same desk again.
+/// Returns how often the new side was opened, or `None` if there is no such allocation.
 fn refuse_one(rt: &impl Abort, alloc: Global, trial: &Trial<'_>, growth: u64) -> Option<u64> {
     let refusing = Refusing::new(alloc, growth);
     let mut desk = Desk::new(&refusing);
@@ -56,7 +56,7 @@ fn refuse_one(rt: &impl Abort, alloc: Global, trial: &Trial<'_>, growth: u64) ->
     Some(openings)
 }
 
-/// Refuses each growth of a run in turn.
+/// Refuses each allocation of a run in turn.
 fn refuse_each(rt: &impl Abort, alloc: Global, trial: &Trial<'_>) -> Refusals {
     let mut refusals = Refusals { all: 0, late: 0 };
     for growth in 0..1000 {

@@ -1,4 +1,4 @@
-//! 200,000 entries a side, and two runs over one desk.
+//! 200,000 entries on each side, and two runs over one desk.
 use super::{SAME, options_of, run_over};
 use crate::pace::PACES;
 use crate::{PlannedSources, SidePlan};
@@ -21,8 +21,8 @@ fn digits(number: u32) -> [u8; 6] {
     ]
 }
 
-/// A database of the entries below 200,200 but those whose number leaves this rest by 1,001. Each is 30 bytes long, and
-/// one in 1,001 tells the size that is given.
+/// A database of the entries with numbers below 200,200, without those whose remainder by 1,001 is `rest`. Each entry
+/// is 30 bytes long. One in 1,001 has the given size.
 fn database(alloc: Global, rest: u32, size: u8) -> Result<Vec<u8>, AllocError> {
     let mut text = Vec::from_slice(alloc, b"@@begin_db\n@@db_spec name size\n")?;
     for number in 0..200_200 {
@@ -83,8 +83,8 @@ fn as_many_entries_as_a_system_has(rt: HostRuntime) -> Result<(), Fail> {
     assert!(rt; answer == Ok(wanted), "{answer:?}");
     assert!(rt; desk.peak() == 90 && wanted.status() == 7);
     assert!(rt; sources.openings(Side::Old) == 6 && sources.openings(Side::New) == 6);
-    // The head and the summary have seven lines; each list has five and one an entry, the details have four and three
-    // an entry, and the databases have eleven.
+    // The head and the summary have seven lines, and the databases have eleven. Each list has five lines, and one
+    // for each entry. The details have four lines, and three for each entry.
     let lines = out.bytes().iter().filter(|byte| **byte == b'\n').count();
     assert!(rt; out.bytes().starts_with(FRONT) && lines == 7 + 3 * (5 + 200) + 4 + 600 + 11);
     Ok(())

@@ -1,4 +1,4 @@
-//! Everything fails in turn, at each level, in a run over databases with every form of field.
+//! At each level everything fails in turn, in a run over databases with every form of field.
 use super::refused::{break_readings, cut_and_damage, refuse_openings};
 use super::rows::assert_written;
 use super::trial::Trial;

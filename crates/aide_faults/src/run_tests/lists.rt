@@ -1,4 +1,4 @@
-//! Reports down to the lists of entries.
+//! Reports that go as far as the lists of entries.
 use super::rows::{Row, assert_reported};
 use super::{NEW, OLD};
 

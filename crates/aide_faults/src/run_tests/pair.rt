@@ -132,7 +132,7 @@ New database: /new
               USEm3ta8sYo=
 ";
 
-/// A level: the line that sets it in a configuration, how often each side is opened, and the report behind its head.
+/// A level: the line that sets it in a configuration, how often each side is opened, and the report after its head.
 pub(super) struct LevelRow {
     pub(super) options: &'static [u8],
     pub(super) openings: u64,

@@ -10,7 +10,7 @@ use std::test::Fail;
 
 const SIDES: [Side; 2] = [Side::Old, Side::New];
 
-/// Two databases, one of them unsound, the fault, and how often the new one is opened: the old one is opened once.
+/// Two databases, one of them unsound, the fault, and how often the new one is opened. The old one is opened once.
 struct Unsound {
     old: &'static [u8],
     new: &'static [u8],
@@ -179,7 +179,7 @@ pub(super) fn break_readings(rt: &impl Abort, alloc: Global, trial: &Trial<'_>) 
     }
 }
 
-/// Gives another text from each opening but the first on.
+/// Makes a run for each opening after the first. From this opening on, the side gives another text.
 fn change_side(rt: &impl Abort, alloc: Global, trial: &Trial<'_>, side: Side, bytes: &[u8]) {
     for opening in 2..trial.openings.saturating_add(1) {
         let plan = SidePlan {
@@ -193,7 +193,7 @@ fn change_side(rt: &impl Abort, alloc: Global, trial: &Trial<'_>, side: Side, by
     }
 }
 
-/// Cuts each side behind each byte from each opening on, and damages each byte.
+/// Cuts each side after each byte, from each opening on. Also damages each byte.
 pub(super) fn cut_and_damage(
     rt: &impl Abort,
     alloc: Global,
@@ -214,7 +214,7 @@ pub(super) fn cut_and_damage(
     Ok(())
 }
 
-/// A database in place of each of the two: other sizes, the same entries in other bytes, and no entries.
+/// A database in place of one of the two: with other sizes, with the same entries in other bytes, or with no entries.
 struct Other {
     side: Side,
     bytes: &'static [u8],
@@ -258,7 +258,7 @@ fn whole_trial(rt: &impl Abort, alloc: Global) -> Trial<'static> {
     }
 }
 
-/// One database on both sides.
+/// The same database on both sides.
 fn same_trial(rt: &impl Abort, alloc: Global) -> Trial<'static> {
     Trial {
         options: options_of(rt, alloc, b"report_level=minimal"),
@@ -292,7 +292,7 @@ fn databases_cut_and_damaged(rt: HostRuntime) -> Result<(), Fail> {
     cut_and_damage(&rt, rt.alloc(), &whole_trial(&rt, rt.alloc()))
 }
 
-/// Lets both sides fail at the same byte of the same opening: the old one is told, which is read first.
+/// Lets both sides fail at the same byte of the same opening. The old side is reported, because it is read first.
 fn break_both(rt: &impl Abort, alloc: Global, trial: &Trial<'_>, opening: u64, sound: usize) {
     let broken = Some(Broken {
         opening,
@@ -315,7 +315,8 @@ fn break_both(rt: &impl Abort, alloc: Global, trial: &Trial<'_>, opening: u64, s
     assert_stops(rt, alloc, trial, &wrong);
 }
 
-/// Two databases of the same lines need an entry of each other's by turns, and other ones at least the first one.
+/// If two databases have the same lines, a run reads an entry of each side by turns. Otherwise it reads at least the
+/// first entry of each in this order.
 #[test]
 fn the_old_side_is_read_first(rt: HostRuntime) {
     let trial = same_trial(&rt, rt.alloc());
@@ -330,7 +331,7 @@ fn the_old_side_is_read_first(rt: HostRuntime) {
     }
 }
 
-/// Both sides change in the same opening.
+/// Both sides change in the same opening. The old side is reported.
 #[test]
 fn a_changed_old_side_is_told_first(rt: HostRuntime) {
     let trial = same_trial(&rt, rt.alloc());

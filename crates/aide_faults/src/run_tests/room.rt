@@ -1,4 +1,4 @@
-//! Runs on a desk with room for the longest line, which ask for no memory.
+//! Runs on a desk with room for the longest line. These runs need no other memory.
 use super::trial::database;
 use super::{DIFFERENT, SAME, options_of, pair, run_over};
 use crate::{Pace, PlannedSources, Refusing, SidePlan};
@@ -16,8 +16,8 @@ const TWO: &[u8] = b"@@begin_db\n@@db_spec name size\n/aaaaaaaaaaaaaaaaaaaaaaaaa
 const LONGER: &[u8] = b"@@begin_db\n@@db_spec name size\n/aaaaaaaaaaaaaaaaaaaaaaaaaaa 1\n\
 /bbbbbbbbbbbbbbbbbbbbbbbbbbbb 1\n@@end_db\n";
 
-/// A line limit, the old database, the first growth behind the desk's own that is refused, and the report: none where
-/// the old database has a line too long.
+/// A line limit, the old database, the first allocation that is refused (counted with those of the desk), and the
+/// report. The report is empty if the old database has a line that is too long.
 struct Roomy {
     line: u32,
     old: &'static [u8],
@@ -58,7 +58,7 @@ const ROOMY: [Roomy; 5] = [
     },
 ];
 
-/// Runs on a desk with room for lines of 30 bytes, and looks at the answer, the report and the peak.
+/// Runs on a desk with room for lines of 30 bytes, and checks the answer, the report and the peak.
 fn assert_roomy(rt: &impl Abort, alloc: Global, task: &Task<'_>, row: &Roomy) {
     let limits = Limits {
         line: row.line,

@@ -9,7 +9,7 @@ use std::alloc::{Allocator, Global};
 use std::io::{self, Error, ErrorKind, Write};
 use std::process::Abort;
 
-/// The lines of a configuration, two databases, and what a run over them answers and writes.
+/// The lines of a configuration, two databases, and what a run over them returns and writes.
 pub(super) struct Row {
     pub(super) options: &'static [u8],
     pub(super) old: &'static [u8],
@@ -25,7 +25,7 @@ pub(super) struct Row {
     pub(super) report: &'static [u8],
 }
 
-/// Takes bytes at a pace, keeps them, and counts how often it is flushed and behind how many bytes.
+/// Takes bytes at a pace and keeps them. Counts its flushes, and notes after how many bytes they came.
 #[derive(Drop)]
 pub(super) struct CountingWriter<A: Allocator + Copy> {
     pace: Pace,
@@ -44,7 +44,7 @@ impl<A: Allocator + Copy> CountingWriter<A> {
         }
     }
 
-    /// Whether it holds these bytes, and was flushed once, behind the last of them.
+    /// Whether the writer has exactly these bytes, and was flushed once, after the last of them.
     fn is_done_with(&self, bytes: &[u8]) -> bool {
         self.bytes.as_slice() == bytes && self.flushes == 1 && self.flushed == bytes.len()
     }
@@ -66,7 +66,7 @@ impl<A: Allocator + Copy> Write for CountingWriter<A> {
     }
 }
 
-/// Runs at each pace of reading and writing, and looks at the report, the openings and the flush.
+/// Runs at each pace of reading and writing, and checks the report, the openings and the flush.
 pub(super) fn assert_written(rt: &impl Abort, alloc: Global, trial: &Trial<'_>) {
     let mut desk = Desk::new(alloc);
     for pace in &PACES {
@@ -74,7 +74,7 @@ pub(super) fn assert_written(rt: &impl Abort, alloc: Global, trial: &Trial<'_>) 
     }
 }
 
-/// Runs at a pace, looks at the report, the openings and the flush, and answers the outcome.
+/// Runs at a pace, checks the report, the openings and the flush, and returns the outcome.
 fn written_at(
     rt: &impl Abort,
     alloc: Global,
@@ -98,7 +98,7 @@ fn written_at(
     answer
 }
 
-/// Runs at each pace of reading and writing, and looks at the whole answer.
+/// Runs at each pace of reading and writing, and checks the whole answer.
 pub(super) fn assert_reported(rt: &impl Abort, alloc: Global, row: &Row) {
     let trial = Trial {
         options: options_of(rt, alloc, row.options),

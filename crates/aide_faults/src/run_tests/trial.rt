@@ -1,4 +1,4 @@
-//! A run over two databases of which something fails or changes, and over the same desk again.
+//! A run over two databases in which something fails or changes, and then a good run over the same desk.
 use super::run_over;
 use crate::{Pace, PlannedSink, PlannedSources, SidePlan};
 use aide_conf::Options;
@@ -17,7 +17,7 @@ pub(super) struct Trial<'a> {
     pub(super) openings: u64,
 }
 
-/// What is wrong with a run: how its databases are given, the fault that it answers, and how often each side is opened.
+/// What is wrong with a run: how its databases are given, the fault that it returns, and how often it opens each side.
 #[derive(Clone, Copy)]
 pub(super) struct Wrong<'a> {
     pub(super) old: SidePlan<'a>,
@@ -28,7 +28,7 @@ pub(super) struct Wrong<'a> {
 }
 
 impl<'a> Trial<'a> {
-    /// Nothing wrong yet but the fault of a side in an opening.
+    /// The fault of a side in an opening. The plans of both sides are still without a failure.
     pub(super) fn wrong(self, side: Side, opening: u64, fault: RunFault) -> Wrong<'a> {
         Wrong {
             old: SidePlan::plain(self.old),
@@ -52,7 +52,7 @@ impl<'a> Trial<'a> {
 }
 
 impl<'a> Wrong<'a> {
-    /// The same with another plan for a side.
+    /// This, with another plan for a side.
     pub(super) fn with(self, side: Side, plan: SidePlan<'a>) -> Wrong<'a> {
         match side {
             Side::Old => Wrong { old: plan, ..self },
@@ -61,7 +61,7 @@ impl<'a> Wrong<'a> {
     }
 }
 
-/// A fault of a database, as a run answers it.
+/// A fault of a database, as a run returns it.
 pub(super) fn database(side: Side, line: u64, kind: DbFaultKind) -> RunFault {
     RunFault::Database(DbFault { side, line, kind })
 }
@@ -72,8 +72,8 @@ pub(super) fn line_at(text: &[u8], bytes: usize) -> u64 {
     (newlines.count() as u64).saturating_add(1)
 }
 
-/// Looks at the fault, the openings, and what went out: before the third opening nothing, not even to a sink that takes
-/// nothing, and later a front of the report, unless a database has changed.
+/// Checks the fault, the openings and the bytes that went out. Up to the second opening no bytes go out: the sink takes
+/// none and must not fail. Later the beginning of the report goes out, unless a database has changed.
 pub(super) fn assert_stops(rt: &impl Abort, alloc: Global, trial: &Trial<'_>, wrong: &Wrong<'_>) {
     let mut desk = Desk::new(alloc);
     let pace = Pace::new(4096);
@@ -97,7 +97,7 @@ pub(super) fn assert_stops(rt: &impl Abort, alloc: Global, trial: &Trial<'_>, wr
     assert_serves(rt, alloc, trial, &mut desk);
 }
 
-/// Runs over the databases themselves on a desk that was used before, and looks at the report.
+/// Runs over the unchanged databases on a desk that was used before, and checks the report.
 pub(super) fn assert_serves<A: Allocator + Copy>(
     rt: &impl Abort,
     alloc: Global,

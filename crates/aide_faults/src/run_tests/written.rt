@@ -1,4 +1,4 @@
-//! Sinks that fail at each byte, or to flush, or have little room.
+//! Sinks that fail at each byte or at a flush, or that have little room.
 use super::trial::Trial;
 use super::{NEW, OLD, REPORT, options_of, run_over};
 use crate::pace::PACES;
@@ -9,8 +9,8 @@ use arrayvec::ArrayVec;
 use std::alloc::Global;
 use std::process::Abort;
 
-/// Runs to a sink that takes bytes at a pace, and so many in all, or does not flush. All that it could take has gone
-/// out, and no more.
+/// Writes the report to a sink that takes bytes at a pace, takes at most `room` bytes in all, and fails to flush.
+/// Exactly the bytes that the sink could take have gone out.
 fn assert_cut(rt: &impl Abort, alloc: Global, trial: &Trial<'_>, pace: Pace, room: usize) {
     let mut desk = Desk::new(alloc);
     let (old, new) = (SidePlan::plain(trial.old), SidePlan::plain(trial.new));
@@ -30,7 +30,7 @@ fn assert_cut(rt: &impl Abort, alloc: Global, trial: &Trial<'_>, pace: Pace, roo
     assert!(rt; out.inner().bytes() == front);
 }
 
-/// Cuts the report at each byte, and behind the last one by a flush that fails.
+/// Cuts the report at each byte, and after the last byte by a flush that fails.
 pub(super) fn cut_report(rt: &impl Abort, alloc: Global, trial: &Trial<'_>) {
     for pace in &PACES {
         for room in 0..trial.report.len().saturating_add(1) {

@@ -1,4 +1,4 @@
-//! Random configurations with blocks and variables, read by the plain program too.
+//! Random configurations with blocks and variables. The plain program reads them too, and must agree.
 ghost use Rattle.std.specs.Prelude.{◌<◌};
 
 use super::plain::{Told, answer};
@@ -87,7 +87,7 @@ const HOSTILE: [&[u8]; 36] = [
     b"database_in=@@{$}",
 ];
 
-/// Numbers that look random, the same in each run.
+/// Numbers that look random, and are the same in each run.
 #[derive(Drop)]
 struct Dice {
     state: u64,
@@ -113,7 +113,7 @@ impl Dice {
         }
     }
 
-    /// A line of a block, and how many are open behind it.
+    /// A line of a block, and how many blocks are open after it.
     fn block_line(&mut self, open: u64) -> (&'static [u8], u64) {
         match self.roll(4) {
             0 if open > 0 => (b"@@else", open),
@@ -123,7 +123,7 @@ impl Dice {
         }
     }
 
-    /// Adds a line with names in the places for them.
+    /// Adds a line, with names in place of each `$`.
     fn push_line(&mut self, text: &mut Vec<u8>, line: &[u8]) -> Result<(), AllocError> {
         for byte in line {
             if *byte == b'$' {
@@ -170,7 +170,7 @@ fn told_of(answer: Result<Settings, ConfFault>) -> Result<Told, ConfFault> {
     })
 }
 
-/// Compares both answers to three texts, and gives the number of the fault, or 0.
+/// Compares the two answers to three texts. Returns the number of the fault, or 0 if there is none.
 fn compare(rt: &impl Abort, alloc: Global, texts: [&[u8]; 3], need: Need) -> Result<u8, Fail> {
     let [before, file, after] = texts;
     let wanted = answer(alloc, texts, need)?;
@@ -198,7 +198,7 @@ fn random_texts(rt: HostRuntime) -> Result<(), Fail> {
             }
         }
     }
-    // No fault, and each that the lines can have.
+    // No fault, and each fault that the lines can have.
     for number in [0, 1, 2, 3, 4, 5, 7, 8, 9, 10, 11, 15, 16, 17] {
         let count = seen.get(number).copied().unwrap_or(0);
         assert!(rt; count >= 10, "{seen:?}");

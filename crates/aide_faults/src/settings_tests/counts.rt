@@ -6,7 +6,7 @@ use std::alloc::{AllocError, Global};
 use std::process::Abort;
 use std::test::Fail;
 
-/// A tail behind 1,024 definitions, and the text's first fault.
+/// A tail that follows 1,024 definitions, and the first fault of the text.
 struct Many {
     tail: &'static [u8],
     line: u64,
@@ -59,7 +59,7 @@ const GROUPS: [Many; 3] = [
     },
 ];
 
-/// Adds a line for each number below 1,024: a head, a name of its own, and a tail.
+/// Adds a line for each number below 1,024: a head, a name that no other line has, and a tail.
 fn push_many(text: &mut Vec<u8>, head: &[u8], tail: &[u8]) -> Result<(), AllocError> {
     for number in 0..1024u32 {
         text.extend_from_slice(head)?;
@@ -71,7 +71,7 @@ fn push_many(text: &mut Vec<u8>, head: &[u8], tail: &[u8]) -> Result<(), AllocEr
     Ok(())
 }
 
-/// Each tail has its fault behind these lines, which have none, and the plain program gives the same.
+/// Each tail has its fault after these lines, which have none. The plain program finds the same fault.
 fn check_many(rt: &impl Abort, alloc: Global, many: &[u8], table: &[Many]) -> Result<(), Fail> {
     assert!(rt; fault_of_file(alloc, many).is_none());
     for row in table {

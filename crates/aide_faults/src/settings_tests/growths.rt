@@ -1,11 +1,11 @@
-//! Each growth refused in turn while a configuration is read.
+//! Each allocation fails in turn while a configuration is read.
 use crate::Refusing;
 use aide_attr::{Attr, AttrSet};
 use aide_conf::{ConfFaultKind, ConfText, Need, Options, Settings, Task};
 use std::alloc::Allocator;
 use std::process::Abort;
 
-/// Three texts, and what they say.
+/// Three texts, and the settings that they give.
 #[derive(Clone, Copy)]
 struct Reading<'a> {
     texts: [&'a [u8]; 3],
@@ -52,8 +52,8 @@ fn is_read<A: Allocator + Copy>(alloc: A, reading: &Reading<'_>) -> bool {
     }
 }
 
-/// The place at which a growth is refused, and told as want of memory; none where there is no such growth. After it the
-/// texts are read in full.
+/// The place at which an allocation fails and is reported as out of memory. It is `None` if there is no such
+/// allocation. After the failure the texts are read in full.
 fn refused_at<A: Allocator + Copy>(
     rt: &impl Abort,
     alloc: A,
@@ -76,7 +76,7 @@ fn refused_at<A: Allocator + Copy>(
     }
 }
 
-/// Refuses each growth in turn. The places never go back, and these are among them.
+/// Refuses each allocation in turn. The reported places never go back. The places in `growing` are among them.
 fn refuse_each<A: Allocator + Copy>(
     rt: &impl Abort,
     alloc: A,
@@ -113,7 +113,7 @@ database_new=file:/new\ndatabase=file:/older\n",
         force: AttrSet::of(Attr::Perm),
         added: AttrSet::of(Attr::Perm).union(AttrSet::of(Attr::Size)),
     };
-    // New groups and paths cannot but take memory.
+    // New groups and paths always need memory.
     let growing = [(0, 1), (1, 1), (1, 2), (1, 4), (1, 6), (1, 7), (2, 1)];
     refuse_each(&rt, rt.alloc(), &reading, &growing);
 }
@@ -134,7 +134,7 @@ fn blocks_and_variables(rt: HostRuntime) {
         force: AttrSet::of(Attr::Perm),
         added: AttrSet::empty(),
     };
-    // The first variable, the first path, the first group and the second path cannot but take memory.
+    // The first variable, the first path, the first group and the second path always need memory.
     let growing = [(0, 1), (1, 2), (1, 11), (2, 1)];
     refuse_each(&rt, rt.alloc(), &reading, &growing);
 }

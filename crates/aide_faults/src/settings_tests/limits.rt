@@ -1,4 +1,4 @@
-//! How deep and how long.
+//! How deep blocks may be nested, and how long lines, names, values and texts may be.
 use super::plain::answer;
 use super::{at, fault_of_file};
 use aide_conf::{ConfFaultKind as Kind, Need};
@@ -8,7 +8,7 @@ use std::test::Fail;
 
 mod expanded;
 
-/// A text: a head, a piece so many times, `x` so many times, and a tail; and its first fault.
+/// The parts of a text, and its first fault. The text is a head, a repeated piece, a repeated `x`, and a tail.
 struct Long {
     head: &'static [u8],
     piece: &'static [u8],
@@ -19,7 +19,7 @@ struct Long {
     kind: Kind,
 }
 
-/// Such a text without a fault.
+/// The parts of such a text without a fault.
 #[derive(Clone, Copy)]
 struct Sound {
     head: &'static [u8],
@@ -385,7 +385,7 @@ const SOUND: [Sound; 14] = [
     },
 ];
 
-/// Adds a piece so many times.
+/// Adds a piece the given number of times.
 fn repeat(text: &mut Vec<u8>, piece: &[u8], times: u32) -> Result<(), AllocError> {
     for _ in 0..times {
         text.extend_from_slice(piece)?;
@@ -402,7 +402,7 @@ fn push_text(text: &mut Vec<u8>, row: Sound) -> Result<(), AllocError> {
     Ok(())
 }
 
-/// Each text has its fault behind these lines, and the plain program gives the same.
+/// Each text has its fault after these lines, and the plain program finds the same fault.
 fn check_long(rt: &impl Abort, alloc: Global, before: &[u8], table: &[Long]) -> Result<(), Fail> {
     for row in table {
         let Long {
@@ -436,7 +436,7 @@ fn check_long(rt: &impl Abort, alloc: Global, before: &[u8], table: &[Long]) -> 
     Ok(())
 }
 
-/// Each text is read behind these lines, and the plain program reads it.
+/// Each text is read after these lines without a fault, also by the plain program.
 fn check_sound(rt: &impl Abort, alloc: Global, before: &[u8], table: &[Sound]) -> Result<(), Fail> {
     for row in table {
         let mut text = Vec::from_slice(alloc, before)?;

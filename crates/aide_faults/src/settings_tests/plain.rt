@@ -1,8 +1,8 @@
-//! What a configuration with blocks and variables says, found slowly from its whole texts.
+//! The plain program. From the whole texts it finds slowly what a configuration with blocks and variables says.
 //!
-//! A block is found by counting over the lines behind its opening line, and a variable by looking back for the last
-//! line that defines it or takes it away. There is no stack and no table of variables. It knows the options that the
-//! texts to compare have.
+//! A block is found by counting over the lines after its opening line. A variable is found by looking back for the
+//! last line that defines or removes it. There is no stack and no table of variables. The program knows only the
+//! options that the compared texts have.
 
 use aide_attr::{Groups, Level};
 use aide_conf::{ConfFault, ConfFaultKind as Kind, ConfText, Need};
@@ -13,39 +13,39 @@ mod effect;
 
 use effect::{Effect, effect_of};
 
-/// What a line is by its first bytes.
+/// What a line is, by its first bytes.
 #[derive(Clone, Copy)]
 enum Form<'a> {
     /// An empty line or a comment.
     Nothing,
-    /// The first line of a block, its variable, and whether its first part is for where this is defined.
+    /// The first line of a block: its variable, and whether the first part is used if the variable is defined.
     Opens(&'a [u8], bool),
-    /// One whose condition is out of form.
+    /// The first line of a block whose condition is malformed.
     OpensOddly,
     Divides,
     Closes,
-    /// A definition: a variable and its value as it stands in the line.
+    /// A definition: a variable, and its value as the line has it, not yet expanded.
     Defines(&'a [u8], &'a [u8]),
-    /// A variable that is taken away.
+    /// A variable that is removed.
     Removes(&'a [u8]),
-    /// A directive that is refused, and whether it is so in an unused part too.
+    /// A directive that is refused, and whether it is refused in an unused part too.
     Refused(Kind, bool),
-    /// No directive.
+    /// A line that is no directive.
     Other,
 }
 
-/// A line, and what the lines before it make of it.
+/// A line, and what it means after the lines before it.
 #[derive(Drop)]
 struct Mark<'a> {
     /// The line without the blanks around it.
     bytes: &'a [u8],
     form: Form<'a>,
     used: bool,
-    /// Of a used line the value that it defines, or what it expands to.
+    /// If the line is used: the value that it defines, or what it expands to.
     expanded: Vec<u8>,
 }
 
-/// Where a line stands in a block that began before it.
+/// Where a line is in a block that began before it.
 #[derive(Clone, Copy)]
 enum Part {
     Outside,
@@ -74,7 +74,7 @@ fn stripped(bytes: &[u8]) -> &[u8] {
     }
 }
 
-/// The bytes before the first space or tab, and those from it on.
+/// The bytes before the first space or tab, and the bytes from there on.
 fn cut_at_blank(bytes: &[u8]) -> (&[u8], &[u8]) {
     let blank = bytes
         .iter()
@@ -107,7 +107,7 @@ fn form_of(line: &[u8]) -> Form<'_> {
     }
 }
 
-/// The form of a directive, by its word and what follows it.
+/// The form of a directive, by its word and what follows the word.
 fn directive<'a>(word: &[u8], rest: &'a [u8]) -> Form<'a> {
     match word {
         b"define" => {
@@ -137,7 +137,7 @@ fn condition(rest: &[u8]) -> Form<'_> {
     }
 }
 
-/// The value that a variable has behind these lines, where it is defined.
+/// The value that a variable has after these lines, if it is defined.
 fn value_of<'a>(earlier: &'a [Mark<'_>], name: &[u8]) -> Option<&'a [u8]> {
     for mark in earlier.iter().rev() {
         match mark.form {
@@ -149,14 +149,14 @@ fn value_of<'a>(earlier: &'a [Mark<'_>], name: &[u8]) -> Option<&'a [u8]> {
     None
 }
 
-/// The name in `@@{NAME}`, where the bytes begin with that.
+/// The name in `@@{NAME}`, if the bytes begin with such a reference.
 fn name_at(bytes: &[u8]) -> Option<&[u8]> {
     let rest = bytes.strip_prefix(b"@@{")?;
     let end = rest.iter().position(|byte| *byte == b'}')?;
     rest.get(..end)
 }
 
-/// What the bytes expand to behind these lines.
+/// What the bytes expand to after these lines.
 fn expand(alloc: Global, earlier: &[Mark<'_>], bytes: &[u8]) -> Result<Vec<u8>, AllocError> {
     let mut all = Vec::new(alloc);
     let mut of_the_name = 0usize;
@@ -176,7 +176,7 @@ fn expand(alloc: Global, earlier: &[Mark<'_>], bytes: &[u8]) -> Result<Vec<u8>, 
     Ok(all)
 }
 
-/// Where the line behind these stands in the block that begins with the first of them.
+/// Where the line after these lines is in the block that begins with the first of them.
 fn part_behind(lines: &[Mark<'_>]) -> Part {
     let mut open = 0u64;
     let mut part = Part::Outside;
@@ -197,7 +197,7 @@ fn part_behind(lines: &[Mark<'_>]) -> Part {
     part
 }
 
-/// Whether the first of these lines lets the line behind them be used.
+/// Whether the first of these lines lets the line after them be used.
 fn chooses(before: &[Mark<'_>], lines: &[Mark<'_>]) -> bool {
     let Some(opening) = lines.first() else {
         return true;
@@ -213,7 +213,7 @@ fn chooses(before: &[Mark<'_>], lines: &[Mark<'_>]) -> bool {
     }
 }
 
-/// Whether the line behind these is used. Its text begins with the line at `start`.
+/// Whether the line after these lines is used. Its text begins with the line at `start`.
 fn is_used(earlier: &[Mark<'_>], start: usize) -> bool {
     for place in start..earlier.len() {
         if let Some((before, lines)) = earlier.split_at_checked(place) {
@@ -225,7 +225,7 @@ fn is_used(earlier: &[Mark<'_>], start: usize) -> bool {
     true
 }
 
-/// How many blocks enclose the line behind these lines of its text, and its part of the innermost one.
+/// How many blocks enclose the line after these lines of its text, and its part of the innermost block.
 fn around(lines: &[Mark<'_>]) -> (u64, Part) {
     let mut depth = 0u64;
     let mut innermost = Part::Outside;
@@ -241,7 +241,7 @@ fn around(lines: &[Mark<'_>]) -> (u64, Part) {
     (depth, innermost)
 }
 
-/// The groups behind some lines, and how many there are.
+/// The groups that are defined after some lines, and how many there are.
 #[derive(Drop)]
 struct Defined {
     groups: Groups<Global>,
@@ -249,7 +249,7 @@ struct Defined {
 }
 
 impl Defined {
-    /// Takes in what one more line defines, which has no fault.
+    /// Adds what one more line defines. The line has no fault.
     fn push(&mut self, mark: &Mark<'_>) -> Result<(), Fail> {
         if let Ok(Effect::Group(name, set)) = effect_of(mark, &self.groups) {
             if self.groups.look(name).is_none() {
@@ -260,7 +260,7 @@ impl Defined {
         Ok(())
     }
 
-    /// Why a line that is no directive is refused, where it is.
+    /// Why a line that is no directive is refused, or `None` if it is not.
     fn fault_of(&self, mark: &Mark<'_>) -> Option<Kind> {
         match effect_of(mark, &self.groups) {
             Ok(Effect::Group(name, _)) if self.count >= 1024 && self.groups.look(name).is_none() =>
@@ -271,7 +271,7 @@ impl Defined {
     }
 }
 
-/// Whether a line sets a variable, which no line among the later ones sets or takes away again.
+/// Whether a line defines a variable that no later line defines again or removes.
 fn stays_defined(mark: &Mark<'_>, later: &[Mark<'_>]) -> bool {
     match mark.form {
         Form::Defines(name, _) if mark.used => !later.iter().any(|other| other.used
@@ -280,7 +280,7 @@ fn stays_defined(mark: &Mark<'_>, later: &[Mark<'_>]) -> bool {
     }
 }
 
-/// Whether one more variable of this name is one too many behind these lines.
+/// Whether a new variable of this name is one too many after these lines.
 fn is_one_too_many(earlier: &[Mark<'_>], name: &[u8]) -> bool {
     if earlier.len() < 1024 || value_of(earlier, name).is_some() {
         return false;
@@ -294,7 +294,7 @@ fn is_one_too_many(earlier: &[Mark<'_>], name: &[u8]) -> bool {
     count >= 1024
 }
 
-/// Why a directive is refused, where it is. It stands behind these lines of its text.
+/// Why a directive is refused, or `None` if it is not. The directive follows these lines of its text.
 fn fault_of_directive(lines: &[Mark<'_>], mark: &Mark<'_>) -> Option<Kind> {
     let (depth, part) = around(lines);
     match (mark.form, part) {
@@ -316,7 +316,8 @@ fn fault_of_directive(lines: &[Mark<'_>], mark: &Mark<'_>) -> Option<Kind> {
     }
 }
 
-/// Why a line is refused, where it is. It stands behind these, and its text begins with the line at `start`.
+/// Why a line is refused, or `None` if it is not. The line follows the earlier ones.
+/// Its text begins with the line at `start`.
 fn fault_of(
     earlier: &[Mark<'_>],
     start: usize,
@@ -335,7 +336,7 @@ fn fault_of(
     }
 }
 
-/// A line behind these, as they make it.
+/// The mark of a line that follows the earlier ones.
 fn mark_of<'a>(
     alloc: Global,
     earlier: &[Mark<'_>],
@@ -358,8 +359,8 @@ fn mark_of<'a>(
     })
 }
 
-/// Marks the lines of a text behind those of the texts before it. The answer is the number of its first line with a
-/// fault, and the kind; without one, its number of lines plus one.
+/// Marks the lines of a text, after the lines of the texts before it. The answer is the number of the first line with
+/// a fault, and the kind of the fault. Without a fault the number is the number of lines plus one.
 fn mark_text<'a>(
     alloc: Global,
     marks: &mut Vec<Mark<'a>>,
@@ -388,7 +389,7 @@ fn mark_text<'a>(
     Ok((number, (depth > 0).then_some(Kind::MissingEndif)))
 }
 
-/// Which database these lines do not name.
+/// Which database these lines do not name, if any.
 fn missing(marks: &[Mark<'_>], none: &Groups<Global>) -> Option<Kind> {
     let is_old = |mark: &Mark<'_>| matches!(effect_of(mark, none), Ok(Effect::OldPath));
     let is_new = |mark: &Mark<'_>| matches!(effect_of(mark, none), Ok(Effect::NewPath));

@@ -6,7 +6,7 @@ use std::alloc::Global;
 use std::process::Abort;
 use std::test::Fail;
 
-/// Files that set `report_quiet` and leave the level as it is, by blocks and expansion.
+/// Files that use blocks and expansion to set `report_quiet`, and leave the level as it is.
 const QUIET: [&[u8]; 40] = [
     b"@@if not defined A\nreport_quiet=yes\n@@else\nnonsense\n@@endif",
     b"@@define V x\n@@if\tdefined \t V \nreport_quiet=yes\n@@endif",
@@ -70,7 +70,7 @@ const MINIMAL: [&[u8]; 16] = [
     b"@@define U stdout\nreport_level=minimal\nreport_url=@@{U}\nreport_level=summary",
 ];
 
-/// Lines that an unused part passes over.
+/// Lines that are ignored in an unused part of a block.
 const PASSED: [&[u8]; 22] = [
     b"nonsense",
     b"p = s",
@@ -144,7 +144,7 @@ fn told(alloc: Global, file: &[u8]) -> Option<Told> {
     }
 }
 
-/// Each file says this, and the plain program gives the same.
+/// Each file sets these values, and the plain program gives the same answer.
 fn check_told(rt: &impl Abort, alloc: Global, table: &[&[u8]], wanted: Told) -> Result<(), Fail> {
     for file in table {
         assert!(rt; told(alloc, file) == Some(wanted), "{file:?}");
@@ -168,7 +168,7 @@ fn levels_and_switches(rt: HostRuntime) -> Result<(), Fail> {
     check_told(&rt, rt.alloc(), &MINIMAL, minimal)
 }
 
-/// A line between others is passed over.
+/// Each line of the table is ignored between `open` and `close`.
 fn check_passed(rt: &impl Abort, alloc: Global, open: &[u8], close: &[u8]) -> Result<(), Fail> {
     let quiet = Told {
         level: Level::ChangedAttributes,
@@ -206,7 +206,7 @@ fn lines_that_are_passed_over(rt: HostRuntime) -> Result<(), Fail> {
     )
 }
 
-/// The options of a file; none where it is refused.
+/// The options of a file, or `None` if the file is refused.
 fn options_of(alloc: Global, file: &[u8]) -> Option<Options> {
     match Settings::read(alloc, b"", file, b"", Need::Check) {
         Ok(settings) => Some(settings.options()),
@@ -222,7 +222,7 @@ fn attributes_that_are_forced(rt: HostRuntime) {
     }
 }
 
-/// Whether these are the options of a configuration that sets none.
+/// Whether these are the options of a configuration that sets no option.
 fn are_defaults(options: Option<Options>) -> bool {
     let Some(
         Options {
@@ -263,7 +263,7 @@ report_ignore_added_attrs=p\nreport_ignore_removed_attrs=s\nreport_ignore_change
     Ok(())
 }
 
-/// The paths that a file and a text before it name.
+/// The database paths that a file and a text before it name.
 fn check_paths(rt: &impl Abort, alloc: Global, before: &[u8], file: &[u8], old: &str, new: &str) {
     match Settings::read(alloc, before, file, b"", Need::Compare) {
         Ok(settings) => match settings.task() {

@@ -226,7 +226,7 @@ const QUIET: [Quiet; 5] = [
     },
 ];
 
-/// Each three texts have their fault, and the plain program gives the same.
+/// Each row of three texts has its fault, and the plain program finds the same fault.
 fn check_texts(rt: &impl Abort, alloc: Global, table: &[Texts]) -> Result<(), Fail> {
     for row in table {
         let Texts {

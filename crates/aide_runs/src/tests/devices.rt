@@ -1,4 +1,4 @@
-//! Standard output and standard error that fail, and pages before them.
+//! Sessions whose standard output or standard error fails, and a `PagedSink` over a sink that fails.
 use super::session::{CONF, site_of, words_of};
 use aide_faults::{Pace, PlannedSink, Refusing};
 use aide_report::{MemorySink, Sink};
@@ -15,7 +15,7 @@ const NEW: &[u8] =
 
 const FULL: &[u8] = b"aide: cannot write the report\n";
 
-/// What a comparison of these two writes to standard output.
+/// What a comparison of these two databases writes to standard output.
 fn report(rt: &impl Abort, alloc: Global) -> Result<MemorySink<Global>, Memory> {
     let mut site = site_of(alloc, CONF, OLD, NEW)?;
     let words = words_of(alloc, "aide -E -c /conf")?;
@@ -26,7 +26,7 @@ fn report(rt: &impl Abort, alloc: Global) -> Result<MemorySink<Global>, Memory> 
     Ok(out)
 }
 
-/// The same where standard output fails after so many bytes.
+/// Checks the same comparison when standard output fails after `sound` bytes.
 fn assert_stops(rt: &impl Abort, alloc: Global, whole: &[u8], sound: usize) -> Result<(), Memory> {
     let mut site = site_of(alloc, CONF, OLD, NEW)?;
     let words = words_of(alloc, "aide -E -c /conf")?;
@@ -52,7 +52,7 @@ fn stops_at_each_byte(rt: HostRuntime) -> Result<(), Fail> {
     Ok(())
 }
 
-/// A session whose standard output is refused one growth. Whether it was refused one.
+/// Runs a session in which standard output is refused one allocation. Returns whether that allocation was refused.
 fn refuses_growth(
     rt: &impl Abort,
     alloc: Global,
@@ -90,7 +90,7 @@ fn stops_at_each_growth(rt: HostRuntime) -> Result<(), Fail> {
     Ok(())
 }
 
-/// A session whose standard error fails at once, and what is wanted of it.
+/// A session whose standard error fails at once, with the expected output and status.
 struct Deaf {
     line: &'static str,
     old: &'static [u8],
@@ -139,7 +139,7 @@ fn goes_on_without_standard_error(rt: HostRuntime) -> Result<(), Fail> {
 fn gathers_pieces(rt: HostRuntime) -> Result<(), Fail> {
     let alloc = rt.alloc();
     let inner = PlannedSink::new(MemorySink::new(alloc), Pace::new(4096), 40_000, true);
-    let mut page = PagedSink::new(inner);
+    let mut page = PagedSink::new(alloc, inner)?;
     let piece = [b'x'; 1000];
     for _ in 0..40 {
         aide_report::emit(&mut page, &piece).unwrap_or(());

@@ -1,4 +1,4 @@
-//! Comparisons that write one line or none, their faults among them.
+//! Comparisons that write at most one line, including those with a fault.
 use super::session::{Row, check};
 use std::test::Fail;
 

@@ -1,4 +1,4 @@
-//! Long files, and the machine's files.
+//! Long files, and files of the machine.
 use super::session::{assert_silent, site_of, words_of};
 use aide_report::MemorySink;
 use aide_session::{FileSite, MemorySite, session};
@@ -20,7 +20,7 @@ fn bounds_a_configuration(rt: HostRuntime) -> Result<(), Fail> {
     Ok(())
 }
 
-/// A database with one entry line of so many bytes.
+/// A database with one entry line of `bytes` bytes.
 fn long_entry(alloc: Global, bytes: usize) -> Result<Vec<u8>, AllocError> {
     let mut text = Vec::new(alloc);
     text.extend_from_slice(b"@@begin_db\n@@db_spec name\n/")?;

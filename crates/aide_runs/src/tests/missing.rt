@@ -1,4 +1,4 @@
-//! Files that a job names and that are not there, and what is told of them in their order.
+//! Files that a job names and that are missing, and the error lines about them, in the order of the files.
 use super::session::{CONF, assert_silent};
 use aide_session::{Memory, MemorySite};
 use std::alloc::Global;
@@ -16,8 +16,8 @@ const NO_OLD: &str = "aide: cannot open the old database /old\n";
 
 const NO_NEW: &str = "aide: cannot open the new database /new\n";
 
-/// What stands at the paths of a configuration and two databases, and the error lines and the status of their
-/// comparison, which writes no report.
+/// What is at the paths of a configuration and two databases, and the error lines and the status of their comparison.
+/// The comparison writes no report.
 struct Row {
     name: &'static str,
     conf: Option<&'static [u8]>,
@@ -118,7 +118,7 @@ const ROWS: [Row; 11] = [
     },
 ];
 
-/// Adds a file, where there is one.
+/// Adds a file, if there is one.
 fn add<'a>(site: &mut MemorySite<'a>, path: &'a str, file: Option<&'a [u8]>) -> Result<(), Memory> {
     match file {
         Some(bytes) => site.add(path, bytes),
@@ -126,7 +126,7 @@ fn add<'a>(site: &mut MemorySite<'a>, path: &'a str, file: Option<&'a [u8]>) -> 
     }
 }
 
-/// A site with what stands at the paths of a row.
+/// A site with the files of a row at their paths.
 fn site_of(alloc: Global, row: &Row) -> Result<MemorySite<'static>, Memory> {
     let mut site = MemorySite::new(alloc);
     add(&mut site, "/conf", row.conf)?;

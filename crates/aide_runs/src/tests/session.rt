@@ -1,4 +1,4 @@
-//! A session over files in memory, and all that it does.
+//! Runs a session over files in memory, and checks all that it does.
 use aide_report::MemorySink;
 use aide_session::{Memory, MemorySite, Words, session};
 use std::alloc::Global;
@@ -6,7 +6,7 @@ use std::process::Abort;
 
 pub(super) const CONF: &[u8] = b"database_in=file:/old\ndatabase_new=file:/new\n";
 
-/// Options, two databases, and the output, the error lines and the status of their comparison.
+/// Options and two databases, with the output, the error lines and the status of their comparison.
 pub(super) struct Row {
     pub(super) name: &'static str,
     pub(super) options: &'static str,
@@ -17,7 +17,7 @@ pub(super) struct Row {
     pub(super) status: u8,
 }
 
-/// The words of a command line, given with blanks between them.
+/// The arguments of a command line, which are separated by blanks in `line`.
 pub(super) fn words_of(alloc: Global, line: &str) -> Result<Words, Memory> {
     let mut words = Words::new(alloc);
     for word in line.split(' ') {
@@ -40,7 +40,7 @@ pub(super) fn site_of<'a>(
     Ok(site)
 }
 
-/// Runs a session whose standard output is to stay empty, and looks at its error lines and its status.
+/// Runs a session, and checks its error lines and its status. Its standard output must stay empty.
 pub(super) fn assert_silent(
     rt: &impl Abort,
     alloc: Global,
@@ -62,7 +62,7 @@ pub(super) fn assert_silent(
     Ok(())
 }
 
-/// Compares the two databases of a row with its options.
+/// Compares the two databases of a row with its options, and checks the result.
 pub(super) fn check(rt: &impl Abort, alloc: Global, row: &Row) -> Result<(), Memory> {
     let mut site = site_of(alloc, CONF, row.old, row.new)?;
     let mut words = words_of(alloc, "aide --compare --config /conf --after")?;

@@ -1,11 +1,11 @@
-//! Words and configurations, and what they come to before a database is read.
+//! Command lines and configurations, and what follows from them before a database is read.
 use super::session::{assert_silent, words_of};
 use aide_session::{MemorySite, WordsFault, read_words};
 use std::test::Fail;
 
 const USAGE: &str = "aide: usage: aide (-E | -D) -c FILE [-B TEXT] [-A TEXT]\n";
 
-/// Words, the text of `/conf`, and the error lines and the status of their session.
+/// A command line and the text of `/conf`, with the error lines and the status of their session.
 struct Row {
     words: &'static str,
     conf: &'static [u8],

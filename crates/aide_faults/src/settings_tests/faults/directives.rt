@@ -3,7 +3,7 @@ use super::{Faulty, check_faults, check_plain};
 use aide_conf::ConfFaultKind as Kind;
 use std::test::Fail;
 
-/// Blocks that are not closed, closed twice or divided twice, and what stands in them.
+/// Blocks that are not closed, closed twice or divided twice, and the lines in them.
 const BLOCKS: [Faulty; 26] = [
     Faulty {
         file: b"@@else",
@@ -137,7 +137,7 @@ const BLOCKS: [Faulty; 26] = [
     },
 ];
 
-/// Directives out of form.
+/// Malformed directives.
 const DIRECTIVES: [Faulty; 34] = [
     Faulty {
         file: b"@@",

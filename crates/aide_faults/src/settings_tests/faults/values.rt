@@ -3,7 +3,7 @@ use super::{Faulty, check_faults, check_plain};
 use aide_conf::ConfFaultKind as Kind;
 use std::test::Fail;
 
-/// Lines that are refused for what they expand to.
+/// Lines that are refused because of what they expand to.
 const EXPANDED: [Faulty; 24] = [
     Faulty {
         file: b"@@define A @@{B\n@@define B x\n@@{A}}=p",
@@ -127,7 +127,7 @@ const EXPANDED: [Faulty; 24] = [
     },
 ];
 
-/// Names and values that are refused, and directives that are left out.
+/// Names and values that are refused, and directives that are not supported.
 const VALUES: [Faulty; 47] = [
     Faulty {
         file: b"@@if version A",

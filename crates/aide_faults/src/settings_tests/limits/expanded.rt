@@ -1,4 +1,4 @@
-//! How long, once variables are expanded.
+//! How long a line may be after its variables are expanded.
 use super::{Long, Sound, check_long, check_sound};
 use aide_conf::ConfFaultKind as Kind;
 use std::test::Fail;
@@ -9,7 +9,7 @@ const DOUBLED: &[u8] = b"@@define A0 x\n@@define A1 @@{A0}@@{A0}\n@@define A2 @@
 @@define A7 @@{A6}@@{A6}\n@@define A8 @@{A7}@@{A7}\n@@define A9 @@{A8}@@{A8}\n@@define A10 @@{A9}@@{A9}\n\
 @@define A11 @@{A10}@@{A10}\n@@define A12 @@{A11}@@{A11}\n";
 
-/// Behind these lines.
+/// The texts that follow those lines, and their faults.
 const LONG_BEHIND: [Long; 8] = [
     Long {
         head: b"@@define A13 ",

@@ -10,14 +10,14 @@ pub(super) enum Effect<'a> {
     Nothing,
     Level(Level),
     Quiet(bool),
-    /// The report options are fixed.
+    /// The line fixes the report options: later lines do not change them.
     Fixes,
     OldPath,
     NewPath,
     Group(&'a [u8], AttrSet),
 }
 
-/// The path of a database URL that is in form, but for its length.
+/// The path of a database URL that is well-formed. Its length is not checked.
 fn path_of(url: &[u8]) -> Result<&[u8], Kind> {
     if url == b"stdin".as_slice() {
         return Err(Kind::LeftOut);
@@ -42,7 +42,7 @@ fn level_of(name: &[u8]) -> Result<Level, Kind> {
     }
 }
 
-/// What the value of an option sets, or of any other name as that of a group.
+/// What a value sets: the option with this name, or a group if no option has this name.
 fn effect_of_value<'a>(
     name: &'a [u8],
     value: &'a [u8],
@@ -75,7 +75,7 @@ fn effect_of_value<'a>(
     }
 }
 
-/// What a line sets once it is expanded, or why it is refused.
+/// What a line sets after it is expanded, or why it is refused.
 pub(super) fn effect_of<'a>(
     mark: &'a Mark<'_>,
     groups: &Groups<Global>,

@@ -1,16 +1,17 @@
-use Rattle.std.proofs.Common.{◌∙◌, ◌+◌, ap, sym, subst, arith}
+use Rattle.std.proofs.Common.{◌∙◌, ◌+◌, ap, refl, sym, subst, arith}
 use Rattle.aide_db.specs.declared.side.Side.TheVariants.{Old, New}
 use Rattle.aide_report.specs.Asked.{asked}
 use Rattle.aide_text.specs.Failures.{Rose}
 use Rattle.aide_report.specs.Missing.{IsHindered}
 use Rattle.aide_report.specs.Report.{section_count}
 use Rattle.aide_report.specs.RunFaults.{IsLater}
-use Rattle.aide_report.proofs.BoundLemmas.{fits_limit, fits_within, fits_later}
+use Rattle.aide_report.proofs.BoundLemmas.{fits_limit, fits_within}
 use Rattle.aide_report.proofs.FaultLemmas.{has_cause, right_later, answer_later, first_later, rose_later}
 use Rattle.aide_report.proofs.FirstFaults.{Runs-exists}
 use Rattle.aide_report.proofs.MissingLemmas.{RunsOver-exists, front_over, hindered_by, later_over, nothing_front}
 use Rattle.aide_report.proofs.MissingLemmas.{stops_by, stops_hindered, whole_over}
-use Rattle.aide_report.proofs.OpeningLemmas.{refused_later, silent_nothing, silent_begun}
+use Rattle.aide_report.proofs.OpeningLemmas.{refused_later, unsent_nothing, unsent_begun}
+use Rattle.aide_report.proofs.ReadingLemmas.{clears_then}
 use Rattle.aide_report.proofs.ReportLemmas.{caused_as, counts_nothing}
 use Rattle.aide_report.proofs.RunLemmas.{ends_well, ends_early, nothing_early, sections_are}
 use Rattle.aide_report.proofs.SectionsLemmas.{opens_more, opens_then, sections_few}
@@ -18,59 +19,59 @@ use Rattle.aide_report.proofs.comparison.run.Goals as goal
 
 pub write_report-requires-clause-digests : goal.write_report-requires-clause-digests
 write_report-requires-clause-digests g c side text told =
-    c.in-Ok.ensures.digests side text (ap (λ bytes. bytes side) (sym c.compare.ensures.same) ∙ told)
+    c.in-Ok.ensures.found.digests side text (ap (λ bytes. bytes side) (sym c.compare.ensures.sources.same) ∙ told)
 
 pub returns-in-Err-clause-cause : goal.returns-in-Err-clause-cause
 returns-in-Err-clause-cause g c =
     let sources = Rose (g.S.Sources.failures c.args.sources.now) (g.S.Sources.failures c.compare.new.sources) in
     let sink = Rose (g.W.Sink.failures c.args.out.now) (g.W.Sink.failures c.args.out.now) in
     has_cause c.args.limits (asked c.args.task.now) (g.S.Sources.bytes_of c.args.sources.now) sources sink
-    c.in-Err.fault (caused_as sources ⊥ sink c.in-Err.fault (λ none. absurd none) c.in-Err.ensures.caused) (c.in-Err.ensures.first (asked c.args.task.now)) c.in-Err.ensures.right
+    c.in-Err.fault (caused_as sources ⊥ sink c.in-Err.fault (λ none. absurd none) c.in-Err.ensures.fault.caused) (c.in-Err.ensures.fault.first (asked c.args.task.now)) c.in-Err.ensures.fault.right
 
 pub returns-in-Ok-write_report-clause-ok : goal.returns-in-Ok-write_report-clause-ok
 returns-in-Ok-write_report-clause-ok g c old new told_old told_new r runs =
-    let same = c.compare.ensures.same in
+    let same = c.compare.ensures.sources.same in
     rw c.outcome.ensures (ends_well c.args.limits c.args.task.now c.in-Ok.finding old new (g.W.Sink.delivered c.args.out.now) (g.W.Sink.delivered c.write_report.new.out)
-    (c.in-Ok.ensures.sound Old old told_old) (c.in-Ok.ensures.sound New new told_new) (c.in-Ok.ensures.finding old new told_old told_new)
-    (record { of_old = c.in-Ok.ensures.digests Old old told_old; of_new = c.in-Ok.ensures.digests New new told_new })
+    (c.in-Ok.ensures.found.sound Old old told_old) (c.in-Ok.ensures.found.sound New new told_new) (c.in-Ok.ensures.found.of_texts old new told_old told_new)
+    (record { of_old = c.in-Ok.ensures.found.digests Old old told_old; of_new = c.in-Ok.ensures.found.digests New new told_new })
     (c.in-Ok-write_report.ensures.sends old new (ap (λ bytes. bytes Old) same ∙ told_old) (ap (λ bytes. bytes New) same ∙ told_new)) r runs)
 
 pub returns-in-Ok-write_report-clause-nothing : goal.returns-in-Ok-write_report-clause-nothing
 returns-in-Ok-write_report-clause-nothing g c side text told unsound =
-    absurd (unsound (c.in-Ok.ensures.sound side text told))
+    absurd (unsound (c.in-Ok.ensures.found.sound side text told))
 
 pub returns-in-Ok-write_report-clause-opens : goal.returns-in-Ok-write_report-clause-opens
 returns-in-Ok-write_report-clause-opens g c old new told_old told_new =
     opens_more _ _ _ 2 (section_count c.args.task.now.options c.in-Ok.finding.counts) _
-    (ap (λ n. 2 + n) (sym (sections_are c.args.task.now c.in-Ok.finding old new (c.in-Ok.ensures.finding old new told_old told_new))))
-    c.in-Ok.ensures.opens c.in-Ok-write_report.ensures.opens
+    (ap (λ n. 2 + n) (sym (sections_are c.args.task.now c.in-Ok.finding old new (c.in-Ok.ensures.found.of_texts old new told_old told_new))))
+    c.in-Ok.ensures.opens c.in-Ok-write_report.ensures.passes.opens
 
 pub returns-in-Ok-write_report-clause-opens_within : goal.returns-in-Ok-write_report-clause-opens_within
 returns-in-Ok-write_report-clause-opens_within g c old new told_old told_new sound_old sound_new =
-    let are = sections_are c.args.task.now c.in-Ok.finding old new (c.in-Ok.ensures.finding old new told_old told_new) in
-    opens_then _ _ _ 2 (section_count c.args.task.now.options c.in-Ok.finding.counts) _ (omega (arith, are)) c.in-Ok.ensures.opens c.in-Ok-write_report.ensures.opens_some
+    let are = sections_are c.args.task.now c.in-Ok.finding old new (c.in-Ok.ensures.found.of_texts old new told_old told_new) in
+    opens_then _ _ _ 2 (section_count c.args.task.now.options c.in-Ok.finding.counts) _ (omega (arith, are)) c.in-Ok.ensures.opens c.in-Ok-write_report.ensures.passes.opens_some
 
 pub returns-in-Ok-write_report-clause-opens_some : goal.returns-in-Ok-write_report-clause-opens_some
 returns-in-Ok-write_report-clause-opens_some g c =
     let few = sections_few c.args.task.now.options c.in-Ok.finding.counts in
-    opens_then _ _ _ 2 (section_count c.args.task.now.options c.in-Ok.finding.counts) _ (omega (arith, few)) c.in-Ok.ensures.opens c.in-Ok-write_report.ensures.opens_some
+    opens_then _ _ _ 2 (section_count c.args.task.now.options c.in-Ok.finding.counts) _ (omega (arith, few)) c.in-Ok.ensures.opens c.in-Ok-write_report.ensures.passes.opens_some
 
 pub returns-in-Err-write_report-clause-part : goal.returns-in-Err-write_report-clause-part
 returns-in-Err-write_report-clause-part g c old new told_old told_new r runs =
-    let same = c.compare.ensures.same in
+    let same = c.compare.ensures.sources.same in
     ends_early c.args.limits c.args.task.now c.in-Ok.finding old new (g.W.Sink.delivered c.args.out.now) (g.W.Sink.delivered c.write_report.new.out)
-    (c.in-Ok.ensures.sound Old old told_old) (c.in-Ok.ensures.sound New new told_new) (c.in-Ok.ensures.finding old new told_old told_new)
-    (record { of_old = c.in-Ok.ensures.digests Old old told_old; of_new = c.in-Ok.ensures.digests New new told_new })
+    (c.in-Ok.ensures.found.sound Old old told_old) (c.in-Ok.ensures.found.sound New new told_new) (c.in-Ok.ensures.found.of_texts old new told_old told_new)
+    (record { of_old = c.in-Ok.ensures.found.digests Old old told_old; of_new = c.in-Ok.ensures.found.digests New new told_new })
     (c.in-Err-write_report.ensures.sends old new (ap (λ bytes. bytes Old) same ∙ told_old) (ap (λ bytes. bytes New) same ∙ told_new)) r runs
 
 pub returns-in-Err-write_report-clause-nothing : goal.returns-in-Err-write_report-clause-nothing
 returns-in-Err-write_report-clause-nothing g c side text told unsound =
-    absurd (unsound (c.in-Ok.ensures.sound side text told))
+    absurd (unsound (c.in-Ok.ensures.found.sound side text told))
 
 pub returns-in-Err-write_report-clause-right : goal.returns-in-Err-write_report-clause-right
 returns-in-Err-write_report-clause-right g c =
-    right_later c.args.limits (g.S.Sources.bytes_of c.args.sources.now) (g.S.Sources.bytes_of c.compare.new.sources) c.compare.ensures.same
-    c.in-Ok.ensures.sound c.in-Err-write_report.fault c.in-Err-write_report.ensures.later
+    right_later c.args.limits (g.S.Sources.bytes_of c.args.sources.now) (g.S.Sources.bytes_of c.compare.new.sources) c.compare.ensures.sources.same
+    c.in-Ok.ensures.found.sound c.in-Err-write_report.fault c.in-Err-write_report.ensures.passes.fault.later
 
 pub returns-in-Err-write_report-clause-cause : goal.returns-in-Err-write_report-clause-cause
 returns-in-Err-write_report-clause-cause g c =
@@ -78,98 +79,92 @@ returns-in-Err-write_report-clause-cause g c =
     let sink = Rose (g.W.Sink.failures c.args.out.now) (g.W.Sink.failures c.write_report.new.out) in
     has_cause c.args.limits (asked c.args.task.now) (g.S.Sources.bytes_of c.args.sources.now) sources sink c.in-Err-write_report.fault
     (rose_later (Rose (g.S.Sources.failures c.compare.new.sources) (g.S.Sources.failures c.write_report.new.sources)) sources sink c.in-Err-write_report.fault
-    (λ rose below. let later = rose below in omega (arith, later, c.in-Ok.ensures.never_falls)) c.in-Err-write_report.ensures.caused)
-    (answer_later c.args.limits (asked c.args.task.now) (g.S.Sources.bytes_of c.args.sources.now) (g.S.Sources.bytes_of c.compare.new.sources) c.in-Err-write_report.fault c.in-Err-write_report.ensures.later)
-    (right_later c.args.limits (g.S.Sources.bytes_of c.args.sources.now) (g.S.Sources.bytes_of c.compare.new.sources) c.compare.ensures.same
-    c.in-Ok.ensures.sound c.in-Err-write_report.fault c.in-Err-write_report.ensures.later)
+    (λ rose below. let later = rose below in omega (arith, later, c.in-Ok.ensures.sources.never_falls)) c.in-Err-write_report.ensures.passes.fault.caused)
+    (answer_later c.args.limits (asked c.args.task.now) (g.S.Sources.bytes_of c.args.sources.now) (g.S.Sources.bytes_of c.compare.new.sources) c.in-Err-write_report.fault c.in-Err-write_report.ensures.passes.fault.later)
+    (right_later c.args.limits (g.S.Sources.bytes_of c.args.sources.now) (g.S.Sources.bytes_of c.compare.new.sources) c.compare.ensures.sources.same
+    c.in-Ok.ensures.found.sound c.in-Err-write_report.fault c.in-Err-write_report.ensures.passes.fault.later)
 
 pub returns-in-Err-write_report-clause-opens_within : goal.returns-in-Err-write_report-clause-opens_within
 returns-in-Err-write_report-clause-opens_within g c old new told_old told_new sound_old sound_new =
-    let are = sections_are c.args.task.now c.in-Ok.finding old new (c.in-Ok.ensures.finding old new told_old told_new) in
-    opens_then _ _ _ 2 (section_count c.args.task.now.options c.in-Ok.finding.counts) _ (omega (arith, are)) c.in-Ok.ensures.opens c.in-Err-write_report.ensures.opens_some
+    let are = sections_are c.args.task.now c.in-Ok.finding old new (c.in-Ok.ensures.found.of_texts old new told_old told_new) in
+    opens_then _ _ _ 2 (section_count c.args.task.now.options c.in-Ok.finding.counts) _ (omega (arith, are)) c.in-Ok.ensures.opens c.in-Err-write_report.ensures.passes.opens_some
 
 pub returns-in-Err-write_report-clause-opens_some : goal.returns-in-Err-write_report-clause-opens_some
 returns-in-Err-write_report-clause-opens_some g c =
     let few = sections_few c.args.task.now.options c.in-Ok.finding.counts in
-    opens_then _ _ _ 2 (section_count c.args.task.now.options c.in-Ok.finding.counts) _ (omega (arith, few)) c.in-Ok.ensures.opens c.in-Err-write_report.ensures.opens_some
+    opens_then _ _ _ 2 (section_count c.args.task.now.options c.in-Ok.finding.counts) _ (omega (arith, few)) c.in-Ok.ensures.opens c.in-Err-write_report.ensures.passes.opens_some
 
 pub returns-in-Err-write_report-clause-opens_first : goal.returns-in-Err-write_report-clause-opens_first
 returns-in-Err-write_report-clause-opens_first g c =
     first_later c.args.limits (g.S.Sources.bytes_of c.compare.new.sources) (g.S.Sources.openings c.args.sources.now) (g.S.Sources.openings c.write_report.new.sources)
-    c.in-Err-write_report.fault c.in-Err-write_report.ensures.later
+    c.in-Err-write_report.fault c.in-Err-write_report.ensures.passes.fault.later
 
 pub returns-in-Err-clause-peak : goal.returns-in-Err-clause-peak
 returns-in-Err-clause-peak g c =
-    (fits_limit (g.S.Sources.bytes_of c.args.sources.now) c.args.limits c.args.desk.now c.compare.new.desk c.compare.ensures.fits).0
+    (fits_limit (g.S.Sources.bytes_of c.args.sources.now) c.args.limits c.args.desk.now c.compare.new.desk c.compare.ensures.desk.fits).0
 
 pub returns-in-Err-clause-below : goal.returns-in-Err-clause-below
 returns-in-Err-clause-below g c =
-    (fits_limit (g.S.Sources.bytes_of c.args.sources.now) c.args.limits c.args.desk.now c.compare.new.desk c.compare.ensures.fits).1
+    (fits_limit (g.S.Sources.bytes_of c.args.sources.now) c.args.limits c.args.desk.now c.compare.new.desk c.compare.ensures.desk.fits).1
 
 pub returns-in-Err-clause-bound : goal.returns-in-Err-clause-bound
 returns-in-Err-clause-bound g c =
-    fits_within (g.S.Sources.bytes_of c.args.sources.now) c.args.limits c.args.desk.now c.compare.new.desk c.compare.ensures.fits
+    fits_within (g.S.Sources.bytes_of c.args.sources.now) c.args.limits c.args.desk.now c.compare.new.desk c.compare.ensures.desk.fits
 
 pub returns-in-Ok-write_report-clause-peak : goal.returns-in-Ok-write_report-clause-peak
 returns-in-Ok-write_report-clause-peak g c =
     (fits_limit (g.S.Sources.bytes_of c.args.sources.now) c.args.limits c.args.desk.now c.write_report.new.desk
-    (fits_later (g.S.Sources.bytes_of c.args.sources.now) (g.S.Sources.bytes_of c.compare.new.sources) c.args.limits c.args.desk.now c.compare.new.desk c.write_report.new.desk c.compare.ensures.same
-    c.compare.ensures.fits c.write_report.ensures.fits)).0
+    (clears_then c.compare.ensures.sources.same c.compare.ensures.desk c.write_report.ensures.passes.desk).fits).0
 
 pub returns-in-Ok-write_report-clause-below : goal.returns-in-Ok-write_report-clause-below
 returns-in-Ok-write_report-clause-below g c =
     (fits_limit (g.S.Sources.bytes_of c.args.sources.now) c.args.limits c.args.desk.now c.write_report.new.desk
-    (fits_later (g.S.Sources.bytes_of c.args.sources.now) (g.S.Sources.bytes_of c.compare.new.sources) c.args.limits c.args.desk.now c.compare.new.desk c.write_report.new.desk c.compare.ensures.same
-    c.compare.ensures.fits c.write_report.ensures.fits)).1
+    (clears_then c.compare.ensures.sources.same c.compare.ensures.desk c.write_report.ensures.passes.desk).fits).1
 
 pub returns-in-Ok-write_report-clause-bound : goal.returns-in-Ok-write_report-clause-bound
 returns-in-Ok-write_report-clause-bound g c =
     fits_within (g.S.Sources.bytes_of c.args.sources.now) c.args.limits c.args.desk.now c.write_report.new.desk
-    (fits_later (g.S.Sources.bytes_of c.args.sources.now) (g.S.Sources.bytes_of c.compare.new.sources) c.args.limits c.args.desk.now c.compare.new.desk c.write_report.new.desk c.compare.ensures.same
-    c.compare.ensures.fits c.write_report.ensures.fits)
+    (clears_then c.compare.ensures.sources.same c.compare.ensures.desk c.write_report.ensures.passes.desk).fits
 
 pub returns-in-Err-write_report-clause-peak : goal.returns-in-Err-write_report-clause-peak
 returns-in-Err-write_report-clause-peak g c =
     (fits_limit (g.S.Sources.bytes_of c.args.sources.now) c.args.limits c.args.desk.now c.write_report.new.desk
-    (fits_later (g.S.Sources.bytes_of c.args.sources.now) (g.S.Sources.bytes_of c.compare.new.sources) c.args.limits c.args.desk.now c.compare.new.desk c.write_report.new.desk c.compare.ensures.same
-    c.compare.ensures.fits c.write_report.ensures.fits)).0
+    (clears_then c.compare.ensures.sources.same c.compare.ensures.desk c.write_report.ensures.passes.desk).fits).0
 
 pub returns-in-Err-write_report-clause-below : goal.returns-in-Err-write_report-clause-below
 returns-in-Err-write_report-clause-below g c =
     (fits_limit (g.S.Sources.bytes_of c.args.sources.now) c.args.limits c.args.desk.now c.write_report.new.desk
-    (fits_later (g.S.Sources.bytes_of c.args.sources.now) (g.S.Sources.bytes_of c.compare.new.sources) c.args.limits c.args.desk.now c.compare.new.desk c.write_report.new.desk c.compare.ensures.same
-    c.compare.ensures.fits c.write_report.ensures.fits)).1
+    (clears_then c.compare.ensures.sources.same c.compare.ensures.desk c.write_report.ensures.passes.desk).fits).1
 
 pub returns-in-Err-write_report-clause-bound : goal.returns-in-Err-write_report-clause-bound
 returns-in-Err-write_report-clause-bound g c =
     fits_within (g.S.Sources.bytes_of c.args.sources.now) c.args.limits c.args.desk.now c.write_report.new.desk
-    (fits_later (g.S.Sources.bytes_of c.args.sources.now) (g.S.Sources.bytes_of c.compare.new.sources) c.args.limits c.args.desk.now c.compare.new.desk c.write_report.new.desk c.compare.ensures.same
-    c.compare.ensures.fits c.write_report.ensures.fits)
+    (clears_then c.compare.ensures.sources.same c.compare.ensures.desk c.write_report.ensures.passes.desk).fits
 
 pub returns-in-Err-clause-part : goal.returns-in-Err-clause-part
 returns-in-Err-clause-part g c old new told_old told_new r runs = nothing_early r (g.W.Sink.delivered c.args.out.now)
 
 pub returns-in-Err-clause-unsent : goal.returns-in-Err-clause-unsent
 returns-in-Err-clause-unsent g c =
-    silent_nothing (g.S.Sources.openings c.args.sources.now Old) (g.S.Sources.openings c.compare.new.sources Old) (g.W.Sink.delivered c.args.out.now) c.in-Err.fault
+    unsent_nothing (g.S.Sources.openings c.args.sources.now Old) (g.S.Sources.openings c.compare.new.sources Old) (g.W.Sink.delivered c.args.out.now) c.in-Err.fault
 
 pub returns-in-Err-write_report-clause-unsent : goal.returns-in-Err-write_report-clause-unsent
 returns-in-Err-write_report-clause-unsent g c =
-    silent_begun (g.S.Sources.openings c.args.sources.now Old) (g.S.Sources.openings c.compare.new.sources Old) (g.S.Sources.openings c.write_report.new.sources Old)
-    (g.W.Sink.delivered c.args.out.now) (g.W.Sink.delivered c.write_report.new.out) c.in-Err-write_report.fault c.in-Ok.ensures.opens.of_old c.in-Err-write_report.ensures.begun
+    unsent_begun (g.S.Sources.openings c.args.sources.now Old) (g.S.Sources.openings c.compare.new.sources Old) (g.S.Sources.openings c.write_report.new.sources Old)
+    (g.W.Sink.delivered c.args.out.now) (g.W.Sink.delivered c.write_report.new.out) c.in-Err-write_report.fault c.in-Ok.ensures.opens.of_old c.in-Err-write_report.ensures.passes.fault.begun
 
 pub returns-in-Err-write_report-clause-refused : goal.returns-in-Err-write_report-clause-refused
 returns-in-Err-write_report-clause-refused g c =
     refused_later (g.S.Sources.openings c.args.sources.now) (g.S.Sources.openings c.compare.new.sources) (g.S.Sources.openings c.write_report.new.sources) 2
-    c.in-Err-write_report.fault c.in-Ok.ensures.opens c.in-Err-write_report.ensures.refused
+    c.in-Err-write_report.fault c.in-Ok.ensures.opens c.in-Err-write_report.ensures.passes.fault.refused
 
 pub returns-in-Err-write_report-clause-first : goal.returns-in-Err-write_report-clause-first
 returns-in-Err-write_report-clause-first g c =
     answer_later c.args.limits (asked c.args.task.now) (g.S.Sources.bytes_of c.args.sources.now) (g.S.Sources.bytes_of c.compare.new.sources)
-    c.in-Err-write_report.fault c.in-Err-write_report.ensures.later
+    c.in-Err-write_report.fault c.in-Err-write_report.ensures.passes.fault.later
 
 pub returns-in-Err-clause-first : goal.returns-in-Err-clause-first
-returns-in-Err-clause-first g c = c.in-Err.ensures.first (asked c.args.task.now)
+returns-in-Err-clause-first g c = c.in-Err.ensures.fault.first (asked c.args.task.now)
 
 pub returns-in-Ok-write_report-clause-consistent : goal.returns-in-Ok-write_report-clause-consistent
 returns-in-Ok-write_report-clause-consistent g c = rw c.outcome.ensures c.in-Ok-write_report.ensures.first
@@ -209,7 +204,7 @@ returns-in-Err-clause-over g c = λ old new told_old told_new r runs.
 pub returns-in-Ok-write_report-clause-over : goal.returns-in-Ok-write_report-clause-over
 returns-in-Ok-write_report-clause-over g c = λ old new told_old told_new r runs.
     whole_over c.args.limits (asked c.args.task.now) (g.S.Sources.bytes_of c.args.sources.now) (g.S.Sources.is_missing c.args.sources.now) old new c.outcome.result
-    (g.W.Sink.delivered c.args.out.now) (g.W.Sink.delivered c.write_report.new.out) told_old told_new c.in-Ok.ensures.there
+    (g.W.Sink.delivered c.args.out.now) (g.W.Sink.delivered c.write_report.new.out) told_old told_new c.in-Ok.ensures.found.there
     (returns-in-Ok-write_report-clause-ok g c) r runs
 
 pub returns-in-Err-write_report-clause-over : goal.returns-in-Err-write_report-clause-over
@@ -221,15 +216,21 @@ returns-in-Err-write_report-clause-over g c = λ old new told_old told_new r run
     let bytes_of = g.S.Sources.bytes_of c.args.sources.now in
     let is_missing = g.S.Sources.is_missing c.args.sources.now in (
       stops_hindered r (IsHindered old new (Rose before after) sink) fault
-          (later_over c.args.limits bytes_of is_missing old new (Rose before after) sink fault told_old told_new c.in-Ok.ensures.there c.in-Ok.ensures.sound
-          (subst (λ bytes. IsLater c.args.limits bytes fault) c.compare.ensures.same c.in-Err-write_report.ensures.later)
+          (later_over c.args.limits bytes_of is_missing old new (Rose before after) sink fault told_old told_new c.in-Ok.ensures.found.there c.in-Ok.ensures.found.sound
+          (subst (λ bytes. IsLater c.args.limits bytes fault) c.compare.ensures.sources.same c.in-Err-write_report.ensures.passes.fault.later)
           (rose_later (Rose (g.S.Sources.failures c.compare.new.sources) after) (Rose before after) sink fault
-          (λ rose below. let later = rose below in omega (arith, later, c.in-Ok.ensures.never_falls)) c.in-Err-write_report.ensures.caused)),
+          (λ rose below. let later = rose below in omega (arith, later, c.in-Ok.ensures.sources.never_falls)) c.in-Err-write_report.ensures.passes.fault.caused)),
       front_over c.args.limits (asked c.args.task.now) bytes_of is_missing old new (g.W.Sink.delivered c.args.out.now) (g.W.Sink.delivered c.write_report.new.out)
-          told_old told_new c.in-Ok.ensures.there (returns-in-Err-write_report-clause-part g c) r runs,
+          told_old told_new c.in-Ok.ensures.found.there (returns-in-Err-write_report-clause-part g c) r runs,
     )
 
 pub returns-in-Err-clause-sink_fails : goal.returns-in-Err-clause-sink_fails
 returns-in-Err-clause-sink_fails g c =
     counts_nothing (Rose (g.S.Sources.failures c.args.sources.now) (g.S.Sources.failures c.compare.new.sources)) (g.W.Sink.failures c.args.out.now)
-    c.in-Err.fault c.in-Err.ensures.caused
+    c.in-Err.fault c.in-Err.ensures.fault.caused
+
+pub returns-in-Ok-write_report-clause-opens_told : goal.returns-in-Ok-write_report-clause-opens_told
+returns-in-Ok-write_report-clause-opens_told g c = rw c.outcome.ensures (record {
+  shown = c.in-Ok.finding.counts.shown;
+  opens = opens_more _ _ _ 2 (section_count c.args.task.now.options c.in-Ok.finding.counts) _ refl c.in-Ok.ensures.opens c.in-Ok-write_report.ensures.passes.opens;
+})

@@ -1,24 +1,19 @@
 -- What has been counted and what the merge has still to give is the whole.
-use Rattle.std.proofs.Common.{◌≡◌, ◌^◌, ◌-◌, ℕ, List}
-use Rattle.aide_db.specs.declared.side.Side.{Side}
+use Rattle.std.proofs.Common.{◌^◌, ◌-◌, ℕ, List}
 use Rattle.aide_db.specs.declared.side.Side.TheVariants.{Old, New}
-use Rattle.aide_report.specs.Bound.{FitsAfterBoth}
 use Rattle.aide_report.specs.Counts.{Completes, AreBelow}
-use Rattle.aide_report.specs.Merging.{remaining, IsReady, StandsAt, limits_at, total_work}
+use Rattle.aide_report.specs.Merging.{remaining, IsReady, StandsAt, total_work}
+use Rattle.aide_report.specs.MergeCalls.{KeepsMerge}
 use Rattle.aide_report.proofs.count.count.Given as goal
 
 abbrev pub invariant-pass : goal.invariant-pass
 invariant-pass g l = record {
   ready : IsReady l.merge l.desk;
   small : AreBelow l.counts (2 ^ 62 - total_work l.merge);
-  limits : (side : Side) → limits_at l.merge side ≡ limits_at l.fn.merge side;
-  stands : (side : Side) (text : List ℕ) → StandsAt g.R.Reel.to_come l.fn.merge l.fn.desk side text
-      → StandsAt g.R.Reel.to_come l.merge l.desk side text;
+  keeps : KeepsMerge g.R.Reel l.fn.merge l.merge l.fn.desk l.desk;
   counts : (old new : List ℕ) → StandsAt g.R.Reel.to_come l.fn.merge l.fn.desk Old old
       → StandsAt g.R.Reel.to_come l.fn.merge l.fn.desk New new
       → Completes l.options l.counts (remaining l.merge l.desk old new) (remaining l.fn.merge l.fn.desk old new);
-  room : l.desk.room ≡ l.fn.desk.room;
-  fits : FitsAfterBoth g.R.Reel.to_come l.fn.merge l.fn.desk l.desk;
 }
 
 abbrev pub decreases-pass : goal.decreases-pass

@@ -1,12 +1,15 @@
-use Rattle.std.proofs.Common.{◌∙◌, sym, ap, if◌then◌else◌, []}
+use Rattle.std.proofs.Common.{◌∙◌, sym}
 use Rattle.aide_report.specs.ChangeView.{change_of}
+use Rattle.aide_report.proofs.EntriesLemmas.{listed_text, unlisted_text}
 use Rattle.aide_text.specs.PenSheet.{sheet}
-use Rattle.aide_report.specs.Sections.{entry_text, one_text}
 use Rattle.aide_text.proofs.Sheets.{wrote_as, wrote_nothing}
 use Rattle.aide_report.proofs.entries.put_change.Goals as goal
 
-pub returns-else-has_change : goal.returns-else-has_change
-unfolding one_text
-returns-else-has_change g c =
-    wrote_as (sym (ap (λ b. if b then entry_text c.args.options.now c.args.section (change_of c.args.change) else []) (sym c.has_change.ensures ∙ c.if-has_change.false)))
+pub returns-then-lists : goal.returns-then-lists
+returns-then-lists g c =
+    wrote_as (listed_text c.args.options.now c.args.section (change_of c.args.change) (sym c.lists.ensures ∙ c.if-lists.true)) c.put_listed.ensures
+
+pub returns-else-lists : goal.returns-else-lists
+returns-else-lists g c =
+    wrote_as (unlisted_text c.args.options.now c.args.section (change_of c.args.change) c.in_default.not-Details (sym c.lists.ensures ∙ c.if-lists.false))
     (wrote_nothing (sheet g.W.Sink.delivered g.W.Sink.failures g.W.Sink.flushes c.args.out.now c.args.pen.now))

@@ -4,5 +4,5 @@ use Rattle.aide_report.proofs.merge.next_turn.Goals as goal
 
 pub returns-then-is_alike : goal.returns-then-is_alike
 returns-then-is_alike g c =
-    turn_of_alike c.args.desk.now c.args.old_held c.args.new_held (entry_in c.in-Some-Some.old) (entry_in c.in-Some-Some.new)
-    (c.is_alike.ensures.only c.if-is_alike.true) (rw c.in-Some-Some.is-0 at c.held_view-old.ensures) (rw c.in-Some-Some.is-1 at c.held_view-new.ensures)
+    turn_of_alike c.args.desk.now c.args.old_next c.args.new_next (entry_in c.in-Some-Some.old) (entry_in c.in-Some-Some.new)
+    (c.is_alike.ensures.only c.if-is_alike.true) (rw c.in-Some-Some.is-0 at c.next_view-old.ensures) (rw c.in-Some-Some.is-1 at c.next_view-new.ensures)

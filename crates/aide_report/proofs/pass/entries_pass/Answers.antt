@@ -1,107 +1,77 @@
-use Rattle.std.proofs.Common.{◌≡◌, ◌<◌, ◌∙◌, subst, List, ℕ}
-use Rattle.std.specs.Prelude.{Some, true}
+use Rattle.std.proofs.Common.{subst}
+use Rattle.std.proofs.lemmas.Result.{err_from_is_err_and}
 use Rattle.aide_db.specs.Desk.{list_of, columns_of_side}
 use Rattle.aide_db.specs.Map.{entries_of}
 use Rattle.aide_db.specs.Path.{path_cmp}
-use Rattle.aide_db.specs.declared.fault.DbFaultKind.TheVariants.{Read}
-use Rattle.aide_db.specs.declared.limits.Limits.{Limits}
-use Rattle.aide_text.specs.Failures.{Rose}
+use Rattle.aide_db.specs.declared.side.Side.TheVariants.{Old, New}
 use Rattle.aide_report.specs.Merged.{merged}
-use Rattle.aide_text.specs.PenSheet.{sheet}
-use Rattle.aide_report.specs.Standing.{IsFaultOf}
+use Rattle.aide_report.specs.Merging.{cursor_at}
+use Rattle.aide_report.specs.Passes.{on_sheet}
 use Rattle.aide_report.specs.Sections.{entries_text}
+use Rattle.aide_text.specs.Failures.{Rose}
 use Rattle.aide_text.specs.Sheet.{Wrote, WritesPart}
-use Rattle.aide_report.specs.Merging.{StandsAt, cursor_at, limits_at, reels_failed}
-use Rattle.aide_report.proofs.FaultLemmas.{HasFault, if_database, none_failed, pass_caused, pass_later, pass_reliable, pass_written, rose_since}
-use Rattle.aide_report.proofs.OpeningLemmas.{refused_pass}
-use Rattle.aide_report.proofs.RoomLemmas.{pass_room, still_fits}
-use Rattle.aide_report.proofs.SideLemmas.{of_sides}
-use Rattle.aide_text.proofs.Sheets.{part_whole, part_nothing}
+use Rattle.aide_text.proofs.Sheets.{part_whole, part_nothing, some_nothing}
+use Rattle.aide_report.proofs.PassLemmas.{pass_changed, pass_done, pass_stopped, passes_err, stop_written, unwritten}
 use Rattle.aide_report.proofs.pass.entries_pass.Goals as goal
 
-pub returns-in-Err-clause-writes : goal.returns-in-Err-clause-writes
-returns-in-Err-clause-writes g c old new told_old told_new =
-    part_nothing (entries_text c.args.options.now c.args.section (merged path_cmp (entries_of old) (entries_of new))) (sheet g.W.Sink.delivered g.W.Sink.failures g.W.Sink.flushes c.args.out.now c.args.pen.now)
+pub returns-in_err-merge-clause-passes : goal.returns-in_err-merge-clause-passes
+returns-in_err-merge-clause-passes g c =
+    let p = err_from_is_err_and c.from_residual.result c.from_residual.ensures.1 in rw (p.1, p.2) (passes_err (λ none. absurd none) c.in_err-merge.ensures.passes)
+
+pub returns-in_err-merge-clause-writes : goal.returns-in_err-merge-clause-writes
+returns-in_err-merge-clause-writes g c old new told_old told_new =
+    let p = err_from_is_err_and c.from_residual.result c.from_residual.ensures.1 in rw p.1 (part_nothing (entries_text c.args.plan.now.task.now.options c.args.section (merged path_cmp (entries_of old) (entries_of new))) (on_sheet g.W.Sink c.args.out.now c.args.pen.now))
+
+pub returns-in-None-clause-passes : goal.returns-in-None-clause-passes
+returns-in-None-clause-passes g c =
+    pass_done c.in_ok-merge.ensures.passes c.in_ok-merge.ensures.opened c.put_entries.ensures.keeps c.close_both.ensures.keeps c.close_both.ensures.openings
 
 pub returns-in-None-clause-writes : goal.returns-in-None-clause-writes
 returns-in-None-clause-writes g c old new told_old told_new =
-    subst (λ all. Wrote (entries_text c.args.options.now c.args.section all) (sheet g.W.Sink.delivered g.W.Sink.failures g.W.Sink.flushes c.args.out.now c.args.pen.now) (sheet g.W.Sink.delivered g.W.Sink.failures g.W.Sink.flushes c.put_entries.new.out c.put_entries.new.pen)) (c.in-Ok.ensures.rest old new)
-    (c.in-Ok-put_entries.ensures.writes old new (c.in-Ok.ensures.stands_old old told_old) (c.in-Ok.ensures.stands_new new told_new))
+    let opened = c.in_ok-merge.ensures.opened in
+    subst (λ all. Wrote (entries_text c.args.plan.now.task.now.options c.args.section all) (on_sheet g.W.Sink c.args.out.now c.args.pen.now) (on_sheet g.W.Sink c.put_entries.new.out c.put_entries.new.pen)) (opened.rest old new)
+    (c.in-Ok.ensures.writes old new (opened.stands Old old told_old) (opened.stands New new told_new))
+
+pub returns-in-Some-clause-passes : goal.returns-in-Some-clause-passes
+returns-in-Some-clause-passes g c =
+    let cursor = cursor_at c.put_entries.new.merge c.in-Some.side in
+    pass_changed c.in_ok-merge.ensures.passes c.in_ok-merge.ensures.opened c.put_entries.ensures.keeps c.close_both.ensures.keeps c.close_both.ensures.openings
+    (λ text told sound. c.in-Some.ensures.changed (list_of cursor.side c.put_entries.new.desk) (columns_of_side cursor.side c.put_entries.new.desk) text
+    (c.put_entries.ensures.keeps.stands c.in-Some.side text (c.in_ok-merge.ensures.opened.stands c.in-Some.side text told))
+    (c.requires.digests c.in-Some.side text told))
 
 pub returns-in-Some-clause-writes : goal.returns-in-Some-clause-writes
 returns-in-Some-clause-writes g c old new told_old told_new =
-    part_whole (subst (λ all. Wrote (entries_text c.args.options.now c.args.section all) (sheet g.W.Sink.delivered g.W.Sink.failures g.W.Sink.flushes c.args.out.now c.args.pen.now) (sheet g.W.Sink.delivered g.W.Sink.failures g.W.Sink.flushes c.put_entries.new.out c.put_entries.new.pen)) (c.in-Ok.ensures.rest old new)
-    (c.in-Ok-put_entries.ensures.writes old new (c.in-Ok.ensures.stands_old old told_old) (c.in-Ok.ensures.stands_new new told_new)))
+    let opened = c.in_ok-merge.ensures.opened in
+    part_whole (subst (λ all. Wrote (entries_text c.args.plan.now.task.now.options c.args.section all) (on_sheet g.W.Sink c.args.out.now c.args.pen.now) (on_sheet g.W.Sink c.put_entries.new.out c.put_entries.new.pen)) (opened.rest old new)
+    (c.in-Ok.ensures.writes old new (opened.stands Old old told_old) (opened.stands New new told_new)))
 
-pub returns-in-Err-put_entries-clause-writes : goal.returns-in-Err-put_entries-clause-writes
-returns-in-Err-put_entries-clause-writes g c old new told_old told_new =
-    subst (λ all. WritesPart (entries_text c.args.options.now c.args.section all) (sheet g.W.Sink.delivered g.W.Sink.failures g.W.Sink.flushes c.args.out.now c.args.pen.now) (sheet g.W.Sink.delivered g.W.Sink.failures g.W.Sink.flushes c.put_entries.new.out c.put_entries.new.pen)) (c.in-Ok.ensures.rest old new)
-    (c.in-Err-put_entries.ensures.writes old new (c.in-Ok.ensures.stands_old old told_old) (c.in-Ok.ensures.stands_new new told_new))
+pub returns-in-Err-clause-passes : goal.returns-in-Err-clause-passes
+returns-in-Err-clause-passes g c =
+    let closed = c.close_both-in-Err.ensures in
+    rw c.pass_fault.ensures (pass_stopped c.in-Err.fault c.put_entries.new.pen.sent c.put_entries.new.pen c.in_ok-merge.ensures.passes c.in_ok-merge.ensures.opened c.put_entries.ensures.keeps
+    closed.keeps closed.openings closed.rose closed.unfailed c.in-Err.ensures.fault)
 
-pub returns-in-Some-clause-later : goal.returns-in-Some-clause-later
-returns-in-Some-clause-later g c text told sound =
-    let cursor = cursor_at c.put_entries.new.merge c.in-Some.side in
-    c.in-Some.ensures.changed (list_of cursor.side c.put_entries.new.desk) (columns_of_side cursor.side c.put_entries.new.desk) text
-    (c.in-Ok-put_entries.ensures.stands c.in-Some.side text
-    (of_sides (λ side bytes. g.S.Sources.bytes_of c.args.sources.now side ≡ Some bytes) (StandsAt g.S.R.Reel.to_come c.in-Ok.merge c.open_both.new.desk)
-    c.in-Ok.ensures.stands_old c.in-Ok.ensures.stands_new c.in-Some.side text told))
-    (c.requires.digests c.in-Some.side text told)
+pub returns-in-Err-clause-writes : goal.returns-in-Err-clause-writes
+returns-in-Err-clause-writes g c old new told_old told_new =
+    let opened = c.in_ok-merge.ensures.opened in
+    subst (λ all. WritesPart (entries_text c.args.plan.now.task.now.options c.args.section all) (on_sheet g.W.Sink c.args.out.now c.args.pen.now) (on_sheet g.W.Sink c.put_entries.new.out c.put_entries.new.pen)) (opened.rest old new)
+    (c.in-Err.ensures.writes old new (opened.stands Old old told_old) (opened.stands New new told_new))
 
-pub returns-in-Err-put_entries-clause-later : goal.returns-in-Err-put_entries-clause-later
-returns-in-Err-put_entries-clause-later g c =
-    rw c.pass_fault.ensures (pass_later c.args.limits (g.S.Sources.bytes_of c.args.sources.now) c.in-Err-put_entries.fault c.put_entries.new.pen.sent
-    (if_database (λ fault. (text : List ℕ) → StandsAt g.S.R.Reel.to_come c.in-Ok.merge c.open_both.new.desk fault.side text → IsFaultOf (limits_at c.in-Ok.merge fault.side) text fault)
-    (HasFault c.args.limits (g.S.Sources.bytes_of c.args.sources.now))
-    (λ fault first text told. subst (λ (limits : Limits). IsFaultOf limits text fault) (c.in-Ok.ensures.limits fault.side)
-    (first text
-    (of_sides (λ side bytes. g.S.Sources.bytes_of c.args.sources.now side ≡ Some bytes) (StandsAt g.S.R.Reel.to_come c.in-Ok.merge c.open_both.new.desk)
-    c.in-Ok.ensures.stands_old c.in-Ok.ensures.stands_new fault.side text told)))
-    c.in-Err-put_entries.fault c.in-Err-put_entries.ensures.fault))
+pub returns-in-Err-clause-pen : goal.returns-in-Err-clause-pen
+returns-in-Err-clause-pen g c = record {
+  some = c.put_entries.ensures.some;
+  writes_on = tt;
+  written = rw c.pass_fault.ensures (stop_written g.S.R.Reel c.in_ok-merge.merge c.put_entries.new.merge c.open_both.new.desk c.put_entries.new.pen c.in-Err.fault c.in-Err.ensures.fault);
+}
 
-pub returns-in-None-clause-fits : goal.returns-in-None-clause-fits
-returns-in-None-clause-fits g c old_line new_line before within_old within_new fits =
-    c.put_entries.ensures.fits old_line new_line before (c.in-Ok.ensures.within_old old_line within_old) (c.in-Ok.ensures.within_new new_line within_new)
-    (c.open_both.ensures.fits old_line new_line before fits)
+pub put_entries-requires-clause-ready : goal.put_entries-requires-clause-ready
+put_entries-requires-clause-ready g c = c.in_ok-merge.ensures.opened.ready
 
-pub returns-in-Some-clause-fits : goal.returns-in-Some-clause-fits
-returns-in-Some-clause-fits g c old_line new_line before within_old within_new fits =
-    c.put_entries.ensures.fits old_line new_line before (c.in-Ok.ensures.within_old old_line within_old) (c.in-Ok.ensures.within_new new_line within_new)
-    (c.open_both.ensures.fits old_line new_line before fits)
-
-pub returns-in-Err-put_entries-clause-fits : goal.returns-in-Err-put_entries-clause-fits
-returns-in-Err-put_entries-clause-fits g c old_line new_line before within_old within_new fits =
-    c.put_entries.ensures.fits old_line new_line before (c.in-Ok.ensures.within_old old_line within_old) (c.in-Ok.ensures.within_new new_line within_new)
-    (c.open_both.ensures.fits old_line new_line before fits)
-
-pub returns-in-Err-put_entries-clause-refused : goal.returns-in-Err-put_entries-clause-refused
-returns-in-Err-put_entries-clause-refused g c =
-    rw c.pass_fault.ensures (refused_pass (g.S.Sources.openings c.args.sources.now) (g.S.Sources.openings c.close_both-in-Err-put_entries.new.sources) c.in-Err-put_entries.fault c.put_entries.new.pen.sent)
-
-pub returns-in-Err-put_entries-clause-memory : goal.returns-in-Err-put_entries-clause-memory
-returns-in-Err-put_entries-clause-memory g c le =
-    rw c.pass_fault.ensures (pass_room c.in-Err-put_entries.fault c.put_entries.new.pen.sent
-    (c.in-Err-put_entries.ensures.memory (λ side. still_fits c.args.limits (limits_at c.in-Ok.merge side) c.args.desk.now.room c.open_both.new.desk.room
-    (c.in-Ok.ensures.limits side) c.open_both.ensures.room le)))
-
-pub returns-in-Err-put_entries-clause-written : goal.returns-in-Err-put_entries-clause-written
-returns-in-Err-put_entries-clause-written g c =
-    rw c.pass_fault.ensures (pass_written c.put_entries.new.pen c.in-Err-put_entries.fault c.in-Err-put_entries.ensures.write c.in-Err-put_entries.ensures.unfailed)
-
-pub returns-in-Err-put_entries-clause-caused : goal.returns-in-Err-put_entries-clause-caused
-returns-in-Err-put_entries-clause-caused g c =
-    let before = g.S.Sources.failures c.args.sources.now in
-    let middle = g.S.Sources.failures c.open_both.new.sources in
-    let after = g.S.Sources.failures c.close_both-in-Err-put_entries.new.sources in
-    rw c.pass_fault.ensures (pass_caused (Rose before after) (c.put_entries.new.pen.failed ≡ true) c.in-Err-put_entries.fault c.put_entries.new.pen.sent
-    (if_database (λ fault. fault.kind ≡ Read → 0 < reels_failed g.S.R.Reel.failures c.put_entries.new.merge) (λ fault. fault.kind ≡ Read → Rose before after)
-    (λ fault read is. rose_since before middle after c.open_both.ensures.never_falls (c.close_both-in-Err-put_entries.ensures.rose (read is)))
-    c.in-Err-put_entries.fault c.in-Err-put_entries.ensures.read)
-    c.in-Err-put_entries.ensures.write)
-
-pub returns-in-Err-put_entries-clause-reliable : goal.returns-in-Err-put_entries-clause-reliable
-returns-in-Err-put_entries-clause-reliable g c reliable =
-    rw c.pass_fault.ensures (pass_reliable (g.S.Sources.bytes_of c.args.sources.now) c.in-Err-put_entries.fault c.put_entries.new.pen.sent
-    (if_database (λ fault. fault.kind ≡ Read → 0 < reels_failed g.S.R.Reel.failures c.put_entries.new.merge) (λ fault. fault.kind ≡ Read → ⊥)
-    (λ fault read is. none_failed (reels_failed g.S.R.Reel.failures c.put_entries.new.merge)
-    (c.close_both-in-Err-put_entries.ensures.unfailed (c.open_both.ensures.reliable_same ∙ reliable)) (read is))
-    c.in-Err-put_entries.fault c.in-Err-put_entries.ensures.read))
+pub returns-in_err-merge-clause-pen : goal.returns-in_err-merge-clause-pen
+returns-in_err-merge-clause-pen g c =
+    let p = err_from_is_err_and c.from_residual.result c.from_residual.ensures.1 in rw (p.1, p.2) (record {
+      some = some_nothing (on_sheet g.W.Sink c.args.out.now c.args.pen.now);
+      writes_on = tt;
+      written = unwritten (Rose (g.S.Sources.failures c.args.sources.now) (g.S.Sources.failures c.open_both.new.sources)) c.args.pen.now c.in_err-merge.field-0.0 c.requires.writes_on c.in_err-merge.ensures.passes.fault.caused;
+    })

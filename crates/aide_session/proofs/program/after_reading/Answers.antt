@@ -6,6 +6,7 @@ use Rattle.aide_session.proofs.Closings.{reads_same, refused_as}
 use Rattle.aide_session.proofs.Endings.{ends_refused, ends_starved}
 use Rattle.aide_session.proofs.PutLemmas.{put_none}
 use Rattle.aide_session.proofs.AnswerSteps.{checked_is, compares_is, fault_is}
+use Rattle.aide_session.proofs.HeldLemmas.{same_held}
 use Rattle.aide_session.proofs.program.after_reading.Goals as goal
 
 pub returns-then-job-clause-ends : goal.returns-then-job-clause-ends
@@ -82,3 +83,23 @@ returns-clause-closes g c = λ words is small text_is.
     let fault = c.in-Err.fault in
     let reads = reads_same _ _ before job.before text after job.after (Err fault) c.need.ensures before_is after_is (refused_as c.need.result before text after fault c.in-Err.ensures.err c.in_default.not-Memory) in
     closes_bad_config _ words job.config job.compare fault _ _ _ _ _ _ _ _ (asks_and_reads _ words job text job.compare (Err fault) is small text_is refl reads) c.put_conf_line.ensures refl refl
+
+pub returns-then-job-clause-bound : goal.returns-then-job-clause-bound
+returns-then-job-clause-bound g c = λ named a is.
+    let job = text_of_job c.args.job.now in
+    let text = c.args.text.now in
+    let before = c.as_bytes-before.result.now in
+    let after = c.as_bytes-after.result.now in
+    let before_is = c.as_bytes-before.ensures.value ∙ c.as_str.ensures in
+    let after_is = c.as_bytes-after.ensures.value ∙ c.as_str-2.ensures in
+    let reads = reads_same _ _ job.before before text job.after after is.read (sym c.need.ensures) (sym before_is) (sym after_is) is.reads in
+    c.compare.ensures.bound named a (compares_is _ job.compare c.in-Ok.settings is.read named a c.if-job.true (c.in-Ok.ensures.only_ok is.read reads) is.then_is)
+
+pub returns-in-Ok-clause-bound : goal.returns-in-Ok-clause-bound
+returns-in-Ok-clause-bound g c = λ named a is. same_held (g.S.Sources.file_at c.args.site.now) named c.args.desk.now.peak
+
+pub returns-in-Memory-clause-bound : goal.returns-in-Memory-clause-bound
+returns-in-Memory-clause-bound g c = λ named a is. same_held (g.S.Sources.file_at c.args.site.now) named c.args.desk.now.peak
+
+pub returns-clause-bound : goal.returns-clause-bound
+returns-clause-bound g c = λ named a is. same_held (g.S.Sources.file_at c.args.site.now) named c.args.desk.now.peak

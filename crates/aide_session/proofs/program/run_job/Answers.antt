@@ -9,6 +9,7 @@ use Rattle.aide_session.proofs.Closings.{closes_later, closes_large, closes_star
 use Rattle.aide_session.proofs.Endings.{by_reliable, ends_broken, ends_by, ends_refused, ends_starved, failed_later}
 use Rattle.aide_session.proofs.AnswerSteps.{large_is, same_file, text_is, unread_is}
 use Rattle.aide_session.proofs.PutLemmas.{put_as}
+use Rattle.aide_session.proofs.HeldLemmas.{held_over, same_held}
 use Rattle.aide_session.proofs.program.run_job.Goals as goal
 
 pub returns-in-Ok-clause-ends : goal.returns-in-Ok-clause-ends
@@ -29,7 +30,7 @@ returns-in-Ok-clause-closes g c = λ words is.
     let same = sym c.as_slice.ensures.value in
     let small = subst (λ (text : List ℕ). is_too_large text ≡ false) same c.in-Ok.ensures.small in
     closes_later files later words _ _ _ _ _ _ _ _ c.read_config.ensures.files
-    (same_course g.S.Sources.openings g.W.Sink.flushes g.W.Sink.is_flushed c.args.site.now c.read_config.new.site c.after_reading.new.site c.args.out.now c.after_reading.new.out c.read_config.ensures.openings)
+    (same_course g.S.Sources.openings g.S.Sources.was_given g.W.Sink.flushes g.W.Sink.is_flushed c.args.site.now c.read_config.new.site c.after_reading.new.site c.args.out.now c.after_reading.new.out c.read_config.ensures.openings)
     c.read_config.ensures.never_falls
     (c.after_reading.ensures.closes words is small
     (λ file known.
@@ -76,3 +77,22 @@ returns-in-Err-Memory-clause-ends g c = λ named a is. ends_starved a named _ _ 
 
 pub returns-in-Err-Memory-clause-closes : goal.returns-in-Err-Memory-clause-closes
 returns-in-Err-Memory-clause-closes g c = λ words is. closes_starved _ words _ _ _ _ _ _ _ _ c.put_memory_line.ensures c.read_config.ensures.openings refl
+
+pub returns-in-Ok-clause-bound : goal.returns-in-Ok-clause-bound
+returns-in-Ok-clause-bound g c = λ named a is.
+    let job = text_of_job c.args.job.now in
+    let files = g.S.Sources.file_at c.args.site.now in
+    let known = subst (λ (path : List ℕ). files path ≡ Some is.file) (sym c.as_str-path.ensures) is.known in
+    let of_text = text_is files job is.file c.in-Ok.text.items named a (c.in-Ok.ensures.ok is.file known) is.then_is in
+    let of_slice = subst (λ (text : List ℕ). IsTextAnswer files job text named a) (sym c.as_slice.ensures.value) of_text in
+    held_over files _ named _ _ c.read_config.ensures.files
+    (c.after_reading.ensures.bound named a (subst (λ (f : Files). IsTextAnswer f job c.as_slice.result.now named a) (sym c.read_config.ensures.files) of_slice))
+
+pub returns-in-Err-TooLarge-clause-bound : goal.returns-in-Err-TooLarge-clause-bound
+returns-in-Err-TooLarge-clause-bound g c = λ named a is. same_held (g.S.Sources.file_at c.args.site.now) named c.args.desk.now.peak
+
+pub returns-in-Err-Unread-clause-bound : goal.returns-in-Err-Unread-clause-bound
+returns-in-Err-Unread-clause-bound g c = λ named a is. same_held (g.S.Sources.file_at c.args.site.now) named c.args.desk.now.peak
+
+pub returns-in-Err-Memory-clause-bound : goal.returns-in-Err-Memory-clause-bound
+returns-in-Err-Memory-clause-bound g c = λ named a is. same_held (g.S.Sources.file_at c.args.site.now) named c.args.desk.now.peak

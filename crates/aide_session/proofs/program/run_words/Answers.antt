@@ -4,6 +4,7 @@ use Rattle.aide_session.specs.Lines.{usage_line}
 use Rattle.aide_session.proofs.Closings.{closes_misused, closes_starved}
 use Rattle.aide_session.proofs.Endings.{ends_refused, ends_starved}
 use Rattle.aide_session.proofs.AnswerSteps.{job_is, usage_is}
+use Rattle.aide_session.proofs.HeldLemmas.{same_held}
 use Rattle.aide_session.proofs.program.run_words.Goals as goal
 
 pub returns-in-Ok-clause-ends : goal.returns-in-Ok-clause-ends
@@ -28,3 +29,12 @@ returns-in-Err-Memory-clause-ends g c = λ named a is. ends_starved a named _ _ 
 pub returns-in-Err-Memory-clause-closes : goal.returns-in-Err-Memory-clause-closes
 returns-in-Err-Memory-clause-closes g c =
     closes_starved _ c.args.words.now _ _ _ _ _ _ _ _ c.put_memory_line.ensures refl refl
+
+pub returns-in-Ok-clause-bound : goal.returns-in-Ok-clause-bound
+returns-in-Ok-clause-bound g c = λ named a is. c.run_job.ensures.bound named a (job_is _ c.args.words.now (text_of_job c.in-Ok.job) named a c.in-Ok.ensures.ok is)
+
+pub returns-in-Err-Usage-clause-bound : goal.returns-in-Err-Usage-clause-bound
+returns-in-Err-Usage-clause-bound g c = λ named a is. same_held (g.S.Sources.file_at c.args.site.now) named c.args.desk.now.peak
+
+pub returns-in-Err-Memory-clause-bound : goal.returns-in-Err-Memory-clause-bound
+returns-in-Err-Memory-clause-bound g c = λ named a is. same_held (g.S.Sources.file_at c.args.site.now) named c.args.desk.now.peak

@@ -1,15 +1,28 @@
-use Rattle.std.proofs.Common.{ap}
+use Rattle.std.proofs.Common.{◌∙◌, sym}
 use Rattle.aide_text.specs.PenSheet.{sheet}
+use Rattle.aide_text.specs.PieceText.{piece_text}
 use Rattle.aide_text.specs.Printed.{printed}
-use Rattle.aide_text.proofs.Sheets.{writing_start, writing_more, writing_done, none_left}
+use Rattle.aide_text.specs.PrintedRest.{printed_rest}
+use Rattle.aide_text.proofs.Pieces.{piece_more, piece_shorter, piece_none}
+use Rattle.aide_text.proofs.Sheets.{writing_start, writing_more, writing_as, writing_done}
 use Rattle.aide_text.proofs.pen.put_path.Goals as goal
 
-pub bytes-init : goal.bytes-init
-bytes-init g c =
-    writing_start (printed (g.B.Feed.rest c.args.path)) (sheet g.W.Sink.delivered g.W.Sink.failures g.W.Sink.flushes c.args.out.now c.args.pen.now)
+pub pieces-init : goal.pieces-init
+pieces-init g c =
+    writing_as (sym c.of-text.ensures)
+    (writing_start (printed (g.B.Feed.rest c.args.path)) (sheet g.W.Sink.delivered g.W.Sink.failures g.W.Sink.flushes c.args.out.now c.args.pen.now))
 
-pub bytes-preserved : goal.bytes-preserved
-bytes-preserved g c = writing_more (ap printed c.in-Some.ensures) c.bytes.invariant c.put_byte.ensures
+pub pieces-smaller : goal.pieces-smaller
+pieces-smaller g c =
+    piece_shorter (printed_rest g.B.Feed.rest c.pieces.text) (piece_text c.of-piece.result) (printed_rest g.B.Feed.rest c.of-piece.new.text)
+    c.of-piece.ensures.piece c.of-piece.ensures.rest (λ none. c.if-len-eq0.false (c.len.ensures.value ∙ none))
 
-pub returns : goal.returns
-returns g c = writing_done (ap printed (none_left _ _ _ c.in_default.not-Some c.next_byte.ensures)) c.bytes.invariant
+pub pieces-preserved : goal.pieces-preserved
+pieces-preserved g c =
+    writing_more (piece_more (printed_rest g.B.Feed.rest c.pieces.text) c.bytes.result.now (printed_rest g.B.Feed.rest c.of-piece.new.text)
+    (c.bytes.ensures ∙ c.of-piece.ensures.piece) c.of-piece.ensures.rest) c.pieces.invariant c.put.ensures
+
+pub returns-then-len-eq0 : goal.returns-then-len-eq0
+returns-then-len-eq0 g c =
+    writing_done (piece_none (printed_rest g.B.Feed.rest c.pieces.text) (piece_text c.of-piece.result) (printed_rest g.B.Feed.rest c.of-piece.new.text)
+    c.of-piece.ensures.piece (sym c.len.ensures.value ∙ c.if-len-eq0.true)) c.pieces.invariant

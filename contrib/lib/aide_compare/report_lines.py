@@ -1,0 +1,75 @@
+"""The lines of a report, and how names are printed in it."""
+import re
+
+# A path or value has at most as many bytes as a line of a database, each printed as four.
+LINE_LIMIT = 4 * 1048576 + 64
+RULE = b'-' * 51
+
+# Control bytes and the backslash are printed as a backslash and three octal digits.
+ESCAPE = re.compile(rb'\\([0-7]{3})')
+PRINTED = re.compile(rb'(?:[^\x00-\x1f\x7f\\]|\\(?:0[0-3][0-7]|134|177))*')
+
+
+class Refused(Exception):
+    """What is wrong with a line, so that the text is no whole report."""
+
+    def __init__(self, number, words):
+        super().__init__('line %d: %s' % (number, words))
+
+
+class Lines:
+    """The lines of a text without their newlines: the next one, and the number of the one taken last."""
+
+    def __init__(self, file):
+        self.readline, self.number, self.coming = file.readline, -1, b''
+        self.take()
+
+    def take(self):
+        line = self.coming
+        self.number += 1
+        if line is not None:
+            coming = self.readline(LINE_LIMIT)
+            self.coming = coming[:-1] if coming[-1:] == b'\n' else self.end(coming)
+        return line
+
+    def end(self, rest):
+        """Nothing, if the text ends with a whole line."""
+        if rest:
+            raise Refused(self.number + 1, 'too long for a report' if len(rest) == LINE_LIMIT else
+                          'the report is cut in this line')
+
+    def refuse(self, line, wanted):
+        raise Refused(self.number, ('the report is cut before %s' if line is None else 'this is not %s') % wanted)
+
+    def expect(self, wanted):
+        line = self.take()
+        if line != wanted:
+            self.refuse(line, 'an empty line' if not wanted else 'a rule' if wanted == RULE else 'its next part')
+
+    def match(self, pattern, wanted):
+        line = self.take()
+        found = pattern.fullmatch(line) if line is not None else None
+        return found or self.refuse(line, wanted)
+
+    def read_title(self):
+        """The title of a part; the empty line before the part is taken already."""
+        self.expect(RULE)
+        title = self.take()
+        self.expect(RULE)
+        return title
+
+
+def unprinted(text, number):
+    """The bytes that are printed as a text."""
+    if not PRINTED.fullmatch(text):
+        raise Refused(number, 'no report prints a name or value so')
+    return ESCAPE.sub(lambda found: bytes([int(found.group(1), 8)]), text) if b'\\' in text else text
+
+
+def put_bytes(fields, key, value):
+    """Adds bytes to an object: as text, and in base 16 too if they are not UTF-8."""
+    try:
+        fields[key] = value.decode('utf-8')
+    except UnicodeDecodeError:
+        fields[key] = value.decode('utf-8', 'replace')
+        fields[key + '_hex'] = value.hex()

@@ -1,0 +1,40 @@
+//! A caller of `session`. It runs a command line over files in memory, as the program does over files of the machine.
+use aide_report::MemorySink;
+use aide_session::{Memory, MemorySite, Words, session};
+use std::alloc::Global;
+
+/// The results of a session.
+#[derive(Drop)]
+pub(crate) struct Ended {
+    /// The exit status.
+    pub(crate) status: u8,
+    /// Standard output.
+    pub(crate) output: MemorySink<Global>,
+    /// Standard error.
+    pub(crate) errors: MemorySink<Global>,
+}
+
+/// Runs `aide --compare --config /conf` over three files in memory.
+pub(crate) fn run_session(
+    alloc: Global,
+    config: &[u8],
+    old: &[u8],
+    new: &[u8],
+) -> Result<Ended, Memory> {
+    let mut words = Words::new(alloc);
+    for word in ["aide", "--compare", "--config", "/conf"] {
+        words.push(word)?;
+    }
+    let mut site = MemorySite::new(alloc);
+    site.add("/conf", config)?;
+    site.add("/old", old)?;
+    site.add("/new", new)?;
+    let mut output = MemorySink::new(alloc);
+    let mut errors = MemorySink::new(alloc);
+    let status = session(alloc, &words, &mut site, &mut output, &mut errors);
+    Ok(Ended {
+        status,
+        output,
+        errors,
+    })
+}

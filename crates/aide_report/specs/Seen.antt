@@ -1,0 +1,66 @@
+-- What contracts say of the sources at one moment, and what each call over them keeps.
+use Rattle.std.specs.Prelude.{ℕ, ◌≡◌, ◌≤◌, ◌^◌, Bool, true, false, Option, None, List}
+use Rattle.aide_db.specs.Count.{one_more}
+use Rattle.aide_db.specs.Side.{other_side}
+use Rattle.aide_db.specs.declared.limits.Limits.{Limits}
+use Rattle.aide_db.specs.declared.side.Side.{Side}
+use Rattle.aide_db.specs.declared.sources.Sources.{Ghosts as AnySources}
+
+-- The limits leave room for the shortest spec line, and no sum of bytes overflows.
+pub record AreLimits (limits : Limits) : Type 0 where
+  pub line : 14 ≤ limits.line
+  pub bytes : limits.bytes ≤ 2 ^ 60
+
+-- All that contracts say of the sources at one moment.
+pub record Seen : Type 0 where
+  -- the bytes that each opening of a side gives, if the sources report them
+  pub bytes_of : Side → Option (List ℕ)
+  -- whether a side is reported to be missing
+  pub is_missing : Side → Bool
+  -- whether only the opening of a side that has no bytes can fail
+  pub is_reliable : Bool
+  -- how often each side was opened
+  pub openings : Side → ℕ
+  -- how often a device has failed
+  pub failures : ℕ
+  -- how often a file that is no side was opened
+  pub lookups : ℕ
+  -- whether the last opening of a side is known to have succeeded
+  pub was_given : Side → Bool
+
+-- all that contracts say of sources of any kind
+abbrev pub seen : {S R : Type 0} → AnySources S R → S → Seen
+seen s sources = record {
+  bytes_of = s.bytes_of sources;
+  is_missing = s.is_missing sources;
+  is_reliable = s.is_reliable sources;
+  openings = s.openings sources;
+  failures = s.failures sources;
+  lookups = s.lookups sources;
+  was_given = s.was_given sources;
+}
+
+-- A call over the sources leaves everything but its openings and failures as it was.
+pub record KeepsSources (a b : Seen) : Type 0 where
+  -- each side gives the same bytes as before
+  pub same : b.bytes_of ≡ a.bytes_of
+  -- the same sides are missing
+  pub missing_same : b.is_missing ≡ a.is_missing
+  -- the sources are as reliable as before
+  pub reliable_same : b.is_reliable ≡ a.is_reliable
+  -- no other file was opened
+  pub lookups : b.lookups ≡ a.lookups
+  -- the count of failures does not fall
+  pub never_falls : a.failures ≤ b.failures
+
+-- One side was opened once, the other side not at all.
+pub record OpensOnce (a b : Seen) (side : Side) : Type 0 where
+  pub opens : b.openings side ≡ one_more (a.openings side)
+  pub others : b.openings (other_side side) ≡ a.openings (other_side side)
+
+-- The opening of a side was refused.
+pub record IsRefusedAt (a b : Seen) (side : Side) : Type 0 where
+  -- reliable sources refuse only a side that has no bytes
+  pub gives_none : a.is_reliable ≡ true → a.bytes_of side ≡ None
+  -- the opening is not known to have succeeded
+  pub refused : b.was_given side ≡ false

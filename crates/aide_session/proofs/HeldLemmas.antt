@@ -1,0 +1,16 @@
+-- What a session holds at once.
+use Rattle.std.proofs.Common.{◌≡◌, ℕ, arith}
+use Rattle.std.proofs.Math.Path.{subst}
+use Rattle.aide_session.specs.Answer.{Named}
+use Rattle.aide_session.specs.Files.{Files}
+use Rattle.aide_session.specs.Held.{HoldsWithin}
+
+-- a desk that is left alone
+pub same_held : (files : Files) (named : Named) (peak : ℕ) → HoldsWithin files named peak peak
+same_held files named peak = λ old new has_old has_new. omega arith
+
+-- the same files
+pub held_over : (files later : Files) (named : Named) (before after : ℕ) → later ≡ files
+    → HoldsWithin later named before after → HoldsWithin files named before after
+held_over files later named before after same held =
+    subst (λ (f : Files). HoldsWithin f named before after) same held

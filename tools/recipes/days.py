@@ -1,0 +1,234 @@
+"""The days of a watched host, with an intruder and then without AIDE, and what each way of reporting says on each of them."""
+import glob
+import os
+import re
+import shutil
+import time
+
+from .hosts import HOSTS, STORE, lines_of, put_stub
+from .trial import FLEET, NOBODY
+from .watched import STORED, Watched
+
+STATE = STORE + "/state"
+
+
+def put_stubs(trial):
+    """The commands of the machine that the tools call: what they are given is kept."""
+    os.makedirs(trial.path("/var/lib/prometheus/node-exporter"), exist_ok=True)
+    trial.write("/usr/local/sbin/sendmail", '#!/bin/sh\ncat >> "%s/tmp/mailed"\n' % trial.root, 0o755)
+    trial.stub("logger", 'printf "%%s\\n" "$*" >> "%s/tmp/logged"; [ -t 0 ] || cat >> "%s/tmp/logged"' % (trial.root, trial.root))
+    trial.stub("systemctl", "exit 0")
+    put_stub(trial)
+
+
+def taken(trial, name):
+    """What a stub was given since the last call; None if it was not called."""
+    path = trial.path("/tmp/" + name)
+    if not os.path.exists(path):
+        return None
+    text = trial.read("/tmp/" + name)
+    os.remove(path)
+    return text
+
+
+def units_command(trial):
+    """What the service of systemd starts."""
+    text = trial.read("/usr/local/lib/systemd/system/aide-compare.service")
+    return re.search(r"^ExecStart=(.*)$", text, re.M).group(1)
+
+
+def crons_command(trial):
+    """What cron starts by the file that the recipe has put into /etc/cron.d."""
+    lines = trial.read("/etc/cron.d/aide-compare").splitlines()
+    jobs = [line for line in lines if re.match(r"[0-9*]", line)]
+    trial.check(len(jobs) == 1 and len(jobs[0].split(None, 6)) == 7, "cron.d: one job", jobs)
+    return jobs[0].split(None, 6)[6]
+
+
+class Day:
+    """One day: every way is asked, and says what the counts ask for; None if it is to be quiet."""
+
+    def __init__(self, trial, page, name, counts):
+        self.trial, self.page, self.name, self.counts = trial, page, name, counts
+        self.status = 0 if counts is None else sum(bit for bit, count in zip((1, 2, 4), counts) if count)
+
+    def check(self, good, name, got):
+        self.trial.check(good, "%s: %s" % (self.name, name), got)
+
+    def says_counts(self, text):
+        """The summary of a report has the counts."""
+        found = re.findall(r"^  (?:Added|Removed|Changed) entries: *(\d+)$", text, re.M)
+        return tuple(map(int, found[:3])) == self.counts
+
+    def ask_all(self):
+        for way in (self.ask_run, self.ask_mail, self.ask_check, self.ask_metrics, self.ask_log, self.ask_fleet):
+            way()
+
+    def ask_run(self):
+        done = self.page.run("compare")
+        good = "NO differences" in done[1] if self.counts is None else self.says_counts(done[1])
+        self.check(done[0] == self.status and good and not done[2], "the report", done)
+
+    def ask_mail(self):
+        for name, command in (("timer", units_command(self.trial)), ("cron", crons_command(self.trial))):
+            os.remove(self.trial.path(STATE))
+            taken(self.trial, "mailed")
+            done, mail = self.trial.shell(command), taken(self.trial, "mailed")
+            good = mail is None if self.counts is None else self.says_counts(mail or "")
+            self.check(done == (self.status, "", "") and good, "mail by " + name, (done, mail))
+            state = self.trial.read(STATE)
+            self.check("\nstatus=%d\n" % self.status in state, "the state after mail by " + name, state)
+        done, mail = self.trial.run([self.trial.path("/etc/cron.daily/aide-compare")]), taken(self.trial, "mailed")
+        good = mail is None if self.counts is None else self.says_counts(mail or "")
+        self.check(done == (0, "", "") and good, "mail by cron.daily", (done, mail))
+
+    def ask_check(self):
+        done = self.page.run("check", rights=NOBODY)
+        counts = self.counts or (0, 0, 0)
+        text = "added %d, removed %d, changed %d" % counts
+        good = re.search(r"\bOK\b" if self.counts is None else r"\bCRITICAL\b", done[1]) and done[1].count("\n") == 1
+        numbers = re.findall(r"(?:added|removed|changed)'?=(\d+)", done[1].partition("|")[2])
+        good = good and tuple(map(int, numbers[:3])) == counts
+        self.check(done[0] == (0 if self.counts is None else 2) and good, "the check (%s)" % text, done)
+        self.prints("check", done[1])
+
+    def ask_metrics(self):
+        done = self.page.run("metrics")
+        files = glob.glob(self.trial.path("/var/lib/prometheus/node-exporter/*.prom"))
+        text = "".join(open(name).read() for name in files)
+        got = tuple(int(number) for number in re.findall(r"^aide_compare_(?:added|removed|changed)_entries (\d+)$", text, re.M))
+        self.check(done == (0, "", "") and got == (self.counts or (0, 0, 0)), "metrics", (done, text))
+        for name in files:
+            done = self.trial.run(["cat", name], rights=NOBODY)
+            self.check(done[0] == 0, "metrics: the exporter can read them", done)
+
+    def ask_log(self):
+        done, text = self.page.run("log"), taken(self.trial, "logged") or ""
+        counts = self.counts or (0, 0, 0)
+        got = tuple(int(number) for number in re.findall(r"\b(?:added|removed|changed)[ =](\d+)", text))
+        self.check(done[0] == 0 and got[:3] == counts, "log", (done, text))
+        self.prints("log", text.partition("\n")[2])
+
+    def ask_fleet(self):
+        done = self.page.run("hosts")
+        lines, summary = lines_of(done[1])
+        text = "no differences" if self.counts is None else "added %d, removed %d, changed %d" % self.counts
+        self.check(done[0] == self.status and lines == {"www": (str(self.status), text)}, "fleet", (done, summary))
+        self.prints("hosts", done[1])
+
+    def prints(self, name, output):
+        """The page shows what is printed about the stored databases."""
+        if self.counts == STORED:
+            self.page.prints(name, output)
+
+
+def try_days(trial, page, with_packages):
+    put_stubs(trial)
+    play(trial, page, Watched(trial, None))
+    aide = shutil.which("aide") if with_packages else None
+    if aide:
+        for folder in ("/remote", "/srv/www", "/var/lib/aide", STORE):
+            shutil.rmtree(trial.path(folder))
+        os.makedirs(trial.path("/var/lib/aide"), 0o700)
+        play(trial, page, Watched(trial, aide))
+    else:
+        print("skipped: nights by AIDE itself; stored databases were used instead")
+
+
+def play(trial, page, watched):
+    trial.stub("aideinit", "exit 0")
+    watched.baseline()
+    watched.nightly()
+    done = page.run("first")
+    trial.check(done[0] == 0 and not done[2], "first", done)
+    page.prints("first", done[1])
+    for name in ("cron", "cron daily"):
+        done = page.run(name)
+        trial.check(done == (0, "", ""), name, done)
+    trial.write(HOSTS, "www\n")
+    os.makedirs(trial.path("/remote"))
+    os.symlink(trial.path("/var/lib/aide"), trial.path("/remote/www"))
+    done = page.run("first host")
+    trial.check(done[0] == 0 and "SHA-256 " in done[1], "the first database of a host", done)
+    Day(trial, page, "day 0", None).ask_all()
+    watched.nightly()
+    Day(trial, page, "day 1", None).ask_all()
+    watched.intrude()
+    watched.nightly()
+    Day(trial, page, "day 2", watched.counts).ask_all()
+    watched.nightly()
+    Day(trial, page, "day 3", watched.counts).ask_all()
+    accept(trial, page)
+    watched.nightly()
+    Day(trial, page, "day 4", None).ask_all()
+    check_privacy(trial)
+    go_without_aide(trial, page)
+    watched.nightly()
+    Day(trial, page, "day 8", None).ask_all()
+
+
+def accept(trial, page):
+    """A wrong digest is refused, the right one is taken, for the host itself and for the one that collects."""
+    baseline, new = trial.path("/var/lib/aide/aide.db"), trial.path("/var/lib/aide/aide.db.new")
+    before = open(baseline, "rb").read()
+    done = trial.run(["aide-compare-accept", "--sha256", "0" * 64, new, baseline])
+    trial.check(done[0] == 1 and open(baseline, "rb").read() == before, "a wrong digest is refused", done)
+    done = page.run("accept")
+    trial.check(done[0] == 0 and open(baseline, "rb").read() == open(new, "rb").read(), "the right one is accepted", done)
+    trial.check(open(baseline + ".previous", "rb").read() == before, "the former baseline is kept")
+    done = trial.shell("accept-host --sha256 %s www" % ("0" * 64))
+    trial.check(done[0] == 1, "a wrong digest is refused for a host", done)
+    done = page.run("accept host")
+    trial.check(done[0] == 0, "the right one is accepted for a host", done)
+
+
+def set_age(trial, name, hours):
+    """A database was written so many hours ago, and ten minutes."""
+    moment = time.time() - hours * 3600 - 600
+    os.utime(trial.path("/var/lib/aide/" + name), (moment, moment))
+
+
+def go_without_aide(trial, page):
+    """AIDE no longer runs, so the new database stays as it was, and its time too. The age of the baseline says nothing."""
+    set_age(trial, "aide.db", 1000)
+    for name, hours in (("day 5", 28), ("day 6", 52), ("day 7", 76)):
+        set_age(trial, "aide.db.new", hours)
+        if hours < 50:
+            Day(trial, page, name, None).ask_all()
+        else:
+            ask_about_age(trial, page, name, "aide.db.new is %d hours old, more than --age allows" % hours)
+    page.prints("age", page.run("age")[2])
+
+
+def ask_about_age(trial, page, name, reason):
+    """Every way says that the new database is too old: nothing was compared."""
+    daily = trial.path("/etc/cron.daily/aide-compare")
+    for way, command, status in (("timer", units_command(trial), 18), ("cron", crons_command(trial), 18), ("cron.daily", daily, 0)):
+        trial.write(STATE, "")
+        taken(trial, "mailed")
+        done, mail = trial.shell(command), taken(trial, "mailed") or ""
+        good = done == (status, "", "") and re.search(r"^Subject: .*: no comparison \(status 18\)$", mail, re.M) and reason in mail
+        trial.check(good, "%s: mail by %s" % (name, way), (done, mail))
+        state = trial.read(STATE)
+        good = "\nstatus=18\n" in state and re.search(r"^error=.*" + re.escape(reason), state, re.M)
+        trial.check(good, "%s: the state after mail by %s" % (name, way), state)
+    done = page.run("age")
+    trial.check(done[:2] == (18, "") and reason in done[2], name + ": the report", done)
+    done = page.run("check", rights=NOBODY)
+    good = done[0] == 3 and done[1].startswith("AIDE UNKNOWN: ") and reason in done[1] and done[1].count("\n") == 1
+    trial.check(good, name + ": the check", done)
+    done, text = page.run("metrics"), trial.read("/var/lib/prometheus/node-exporter/aide-compare.prom")
+    good = done == (0, "", "") and "\naide_compare_status 18\n" in text and "_entries" not in text
+    trial.check(good, name + ": metrics", (done, text))
+    done, text = page.run("log"), taken(trial, "logged") or ""
+    trial.check(done[0] == 0 and "no comparison: status=18" in text and reason in text, name + ": log", (done, text))
+
+
+def check_privacy(trial):
+    """Nobody else can read a database or a report; everyone may read the state."""
+    trial.is_private("databases", ["/var/lib/aide", STORE + "/hosts"])
+    left = os.listdir(trial.path("/var/tmp")) + [name for name in os.listdir(trial.path("/tmp")) if "aide" in name]
+    trial.check(not left, "nothing is left in temporary folders", left)
+    done = trial.run(["cat", trial.path(STATE)], rights=NOBODY)
+    trial.check(done[0] == 0 and done[1].startswith("format=1\n"), "everyone may read the state", done)
+    trial.check(os.access(trial.path(FLEET + "/compare-hosts"), os.X_OK), "the scripts for many hosts are installed")

@@ -1,0 +1,176 @@
+"""Faults of one host: none is taken for "no differences", and none loses a baseline or a state."""
+import gzip
+import os
+import random
+import re
+import resource
+import signal
+import time
+
+from .days import STATE, crons_command, put_stubs, taken
+from .hosts import HEAD, NEW, OLD
+from .trial import NOBODY, wait_until
+
+BASELINE, NEWEST = "/var/lib/aide/aide.db", "/var/lib/aide/aide.db.new"
+
+
+def put(trial, old, new):
+    for name, text in ((BASELINE, old), (NEWEST, new)):
+        trial.write(name, text if isinstance(text, bytes) else gzip.compress(text.encode()), 0o600)
+
+
+def large(digit):
+    """A database of about a megabyte that gzip cannot make small."""
+    numbers = random.Random(digit)
+    lines = ["/f%06d 36 100644 %d\n" % (number, numbers.getrandbits(60)) for number in range(30000)]
+    return HEAD + "".join(lines) + "@@end_db\n"
+
+
+def no_room(size):
+    def limits():
+        signal.signal(signal.SIGXFSZ, signal.SIG_IGN)
+        resource.setrlimit(resource.RLIMIT_FSIZE, (size, size))
+
+    return limits
+
+
+def check_told(trial, page, name, reason, **more):
+    """No comparison: by the command, by mail, by the check, in the metrics and in the log."""
+    done = page.run("compare", **more)
+    trial.check(done[0] in (18, 24) and not done[1] and re.search(reason, done[2]), name + ": the command", done)
+    taken(trial, "mailed")
+    done, mail = trial.shell(crons_command(trial), **more), taken(trial, "mailed") or ""
+    trial.check(done[0] in (18, 24) and "no comparison" in mail and re.search(reason, mail), name + ": mail", (done, mail))
+    done = page.run("check", rights=NOBODY)
+    trial.check(done[0] == 3 and "UNKNOWN" in done[1] and done[1].count("\n") == 1, name + ": the check", done)
+    done = page.run("metrics")
+    text = trial.read("/var/lib/prometheus/node-exporter/aide-compare.prom")
+    trial.check(done[0] == 0 and re.search(r"_status (18|24)$", text, re.M) and "added" not in text.replace("1 added", ""),
+                name + ": metrics", text)
+    done, text = page.run("log"), taken(trial, "logged") or ""
+    trial.check("no comparison" in text, name + ": log", (done, text))
+
+
+def try_damaged(trial, page):
+    whole = gzip.compress(os.urandom(3000) + NEW.encode())
+    for name, text, reason in (
+        ("gzip cut short", gzip.compress(large(1).encode())[:-5000], "cut short"),
+        ("gzip with a wrong end", whole[:-8] + b"\0" * 8, "damaged"),
+        ("an empty database", b"", "no @@begin_db"),
+        ("no end", NEW.replace("@@end_db\n", ""), "no @@end_db"),
+        ("something else", "x\n", "no @@begin_db"),
+    ):
+        put(trial, OLD, text)
+        check_told(trial, page, name, reason)
+        baseline = open(trial.path(BASELINE), "rb").read()
+        done = page.run("accept")
+        same = open(trial.path(BASELINE), "rb").read() == baseline
+        trial.check(done[0] in (1, 18) and same, name + ": is not accepted", done)
+
+
+def try_missing(trial, page):
+    put(trial, OLD, NEW)
+    os.remove(trial.path(NEWEST))
+    check_told(trial, page, "no new database", "cannot open|no such file")
+
+
+def try_no_room(trial, page):
+    put(trial, large(1), large(2))
+    check_told(trial, page, "no room", "cannot (copy|unpack|write)", limits=no_room(300000))
+    put(trial, large(1), large(1))
+    trial.check(page.run("compare")[0] == 0, "with room again")
+    before = open(trial.path(BASELINE), "rb").read()
+    put(trial, before, large(2))
+    trial.check(trial.shell(crons_command(trial))[0] == 4, "the state for accepting")
+    done = page.run("accept", limits=no_room(300000))
+    same = open(trial.path(BASELINE), "rb").read() == before
+    trial.check(done[0] == 18 and same, "no room: the baseline stays", done)
+
+
+def try_no_right(trial, page):
+    """Another user reads no database. As another user than root, the folder is shut instead."""
+    put(trial, OLD, NEW)
+    os.chmod(trial.path("/var/lib/aide"), 0o700 if os.geteuid() == 0 else 0)
+    done = page.run("compare", rights=NOBODY)
+    os.chmod(trial.path("/var/lib/aide"), 0o700)
+    trial.check(done[0] == 18 and not done[1] and done[2], "no right to read the databases", done)
+
+
+def try_killed(trial):
+    """A run that is killed while it reads: the state before it stays, and nothing is left that others can read."""
+    put(trial, OLD, OLD)
+    words = ["aide-compare-run", "--state", trial.path(STATE)]
+    trial.check(trial.run(words)[0] == 0, "a whole run")
+    before = trial.read(STATE)
+    pipe = trial.path("/tmp/pipe")
+    os.mkfifo(pipe)
+    for number in (signal.SIGTERM, signal.SIGINT, signal.SIGHUP, signal.SIGKILL):
+        folders = lambda: [name for name in os.listdir(trial.path("/var/tmp")) if name.startswith("aide")]
+        known = folders()
+        process = trial.start(["sh", "-c", 'exec "$0" "$@"'] + words + [pipe, trial.path(NEWEST)])
+        trial.check(wait_until(lambda: len(folders()) > len(known)), "the run has begun")
+        time.sleep(0.1)
+        process.send_signal(number)
+        writer = os.open(pipe, os.O_RDWR | os.O_NONBLOCK)
+        os.close(writer)
+        process.communicate()
+        trial.check(process.returncode not in range(8), "killed by %d: the status" % number, process.returncode)
+        trial.check(trial.read(STATE) == before, "killed by %d: the state stays" % number)
+        left = [name for name in folders() if name not in known]
+        trial.check(number == signal.SIGKILL or not left, "killed by %d: nothing is left" % number, left)
+        modes = [os.stat(trial.path("/var/tmp/" + name)).st_mode & 0o077 for name in left]
+        trial.check(not any(modes), "killed by %d: what is left is private" % number, modes)
+
+
+def try_accept_killed(trial):
+    """Wherever accepting is killed, the baseline is the whole former or the whole new one."""
+    texts = [gzip.compress(large(number).encode()) for number in (1, 2)]
+    put(trial, *texts)
+    trial.check(trial.shell(crons_command(trial))[0] == 4, "the state before accepting")
+    words = ["aide-compare-accept", "--state", trial.path(STATE), trial.path(NEWEST), trial.path(BASELINE)]
+    seen = set()
+    for number in range(12):
+        put(trial, *texts)
+        process = trial.start(words)
+        time.sleep(number * 0.012)
+        process.kill()
+        process.communicate()
+        got = open(trial.path(BASELINE), "rb").read()
+        trial.check(got in texts, "accepting was killed: a whole baseline", (number, len(got)))
+        seen.add(got)
+    trial.check(trial.run(words)[0] == 0, "accepting after it was killed")
+
+
+def try_twice(trial):
+    put(trial, large(1), large(2))
+    words = ["aide-compare-run", "--state", trial.path(STATE)]
+    runs = [trial.start(words) for _ in range(4)]
+    answers = {(run.communicate()[0], run.returncode) for run in runs}
+    trial.check(len(answers) == 1 and answers.pop()[1] == 4, "four runs at once: one answer")
+    state = trial.read(STATE)
+    trial.check(state.count("\n") == 12 and "\nchanged=30000\n" in state, "four runs at once: a whole state", state)
+
+
+def try_names(trial):
+    folder = "/tmp/a blank and é"
+    for name, text in (("old $(x) 'é'.db", OLD), ("-new ü.db", gzip.compress(NEW.encode()))):
+        trial.write("%s/%s" % (folder, name), text)
+    old, new = (trial.path("%s/%s" % (folder, name)) for name in ("old $(x) 'é'.db", "-new ü.db"))
+    state = trial.path(folder + "/a state")
+    done = trial.run(["aide-compare-run", "--state", state, old, new])
+    trial.check(done[0] == 7 and ": /a é\n" in done[1] and not done[2], "names with blanks and é", done)
+    trial.check(trial.run(["aide-compare-accept", "--state", state, new, old])[0] == 0, "they are accepted too")
+    trial.check(trial.run(["aide-compare-run", old, new])[0] == 0, "and then quiet")
+
+
+def try_faults(trial, page, with_packages):
+    del with_packages
+    put_stubs(trial)
+    for name in ("cron", "cron daily"):
+        page.run(name)
+    names = (("database_in", BASELINE), ("database_new", NEWEST))
+    trial.write("/etc/aide/aide.conf", "".join("%s=file:%s\n" % (key, trial.path(name)) for key, name in names))
+    for part in (try_damaged, try_missing, try_no_room, try_no_right):
+        part(trial, page)
+    for part in (try_killed, try_accept_killed, try_twice, try_names):
+        part(trial)

@@ -1,0 +1,282 @@
+"""Many hosts: fetched by a small program in ssh's place, compared, accepted; taken over, damaged and dead ones among them."""
+import gzip
+import os
+import re
+import signal
+import subprocess
+import time
+
+from .trial import FLEET, NOBODY, wait_until
+
+HEAD = "@@begin_db\n@@db_spec name attr perm size\n"
+OLD = HEAD + "/b 36 40755 4096\n/c 36 100644 10\n@@end_db\n"
+NEW = HEAD + "/a%20%C3%A9 36 100644 5\n/c 36 100600 7\n@@end_db\n"
+LATER = HEAD + "/a%20%C3%A9 36 100644 5\n/c 36 100600 8\n@@end_db\n"
+STORE = "/var/lib/aide-compare"
+HOSTS = "/etc/aide-compare/hosts"
+SSH = """\
+while [ "${1#-}" != "$1" ]; do [ "$1" = -o ] && shift; shift; done
+host=$1 file=${2##*/}
+case $host in
+    down*) echo "ssh: connect to host $host port 22: No route to host" >&2; exit 255 ;;
+    endless) exec cat /dev/zero ;;
+    loud) exec cat /dev/zero >&2 ;;
+    slow) exec sleep 600 ;;
+    silent) exit 0 ;;
+    broken) head -c 30 "ROOT/remote/$host/$file"; exit 255 ;;
+esac
+exec cat "ROOT/remote/$host/$file"
+"""
+# What each host ends with, and what its line says.
+WANTED = {
+    "same": (0, "no differences"),
+    "other": (7, "added 1, removed 1, changed 1"),
+    "zipped": (0, "no differences"),
+    "user@other.example-1": (7, "added 1, removed 1, changed 1"),
+    "forged": (24, "no @@begin_db"),
+    "cut": (None, "cut short|damaged"),
+    "bomb": (18, "more than 100000 bytes unpacked"),
+    "down": (18, "No route to host"),
+    "endless": (18, "sent more than 50000 bytes"),
+    "loud": (18, "ssh ended with"),
+    "silent": (18, "sent nothing"),
+    "broken": (18, "ssh ended with 255"),
+    "first": (18, "no baseline yet"),
+    "a b": (15, "the name of a host"),
+    "é": (15, "the name of a host"),
+    "-x": (15, "the name of a host"),
+    "a/b": (15, "the name of a host"),
+    "a..b": (15, "the name of a host"),
+    "..": (15, "the name of a host"),
+    "$(touch x)": (15, "the name of a host"),
+}
+
+
+def put_stub(trial):
+    trial.stub("ssh", SSH.replace("ROOT", trial.root))
+
+
+def put_host(trial, name, text, baseline=OLD):
+    trial.write("/remote/%s/aide.db.new" % name, text)
+    trial.write("/remote/%s/aide.db" % name, OLD)
+    if baseline is not None:
+        trial.write("%s/hosts/%s/aide.db" % (STORE, name), baseline, 0o600)
+
+
+def tool(trial, name):
+    return trial.path("%s/%s" % (FLEET, name))
+
+
+def put_hosts(trial):
+    put_stub(trial)
+    zipped = gzip.compress(os.urandom(2000) + NEW.encode())
+    texts = {"other": NEW, "user@other.example-1": NEW, "forged": "x\n", "zipped": gzip.compress(OLD.encode())}
+    texts.update(cut=zipped[:-100], bomb=gzip.compress(b"\0" * 1000000))
+    for name in WANTED:
+        if WANTED[name][0] != 15:
+            put_host(trial, name, texts.get(name, OLD), None if name == "first" else OLD)
+    trial.write(HOSTS, "# the hosts\n\n  same \n" + "".join("%s\n" % name for name in WANTED))
+
+
+def lines_of(output):
+    """The lines of compare-hosts by host, and its summary."""
+    *lines, summary = output.split("\n")[:-1] or [""]
+    return {line.split(" ", 2)[0]: tuple(line.split(" ", 2)[1:]) for line in lines}, summary
+
+
+def shown(name):
+    return re.sub(rb"[^!-~]", b"?", name.encode()).decode()
+
+
+def check_lines(trial, name, done):
+    lines, summary = lines_of(done[1])
+    trial.check(done[0] == 24, name + ": the greatest status", done)
+    trial.check(set(lines) == {shown(host) for host in WANTED}, name + ": a line for each host", sorted(lines))
+    for host, (status, text) in WANTED.items():
+        got = lines.get(shown(host), ("", ""))
+        good = got[0] == str(status) if status is not None else int(got[0] or 0) in (18, 24)
+        trial.check(good and re.search(text, got[1]), "%s: the host %r" % (name, host), got)
+    wanted = "%d hosts: 2 without differences, 2 with, %d not compared" % (len(WANTED), len(WANTED) - 4)
+    trial.check(summary == wanted, name + ": the summary", summary)
+
+
+def try_lines(trial, ways):
+    os.environ["AIDE_COMPARE_MOST_UNPACKED"] = "100000"
+    words = [tool(trial, "compare-hosts"), "--most", "50000"]
+    try:
+        for way in ways:
+            check_lines(trial, way, trial.run(words + ["--jobs", "4", "--with", way, trial.path(HOSTS)]))
+        parts = [trial.run(words + ["--share", "%d/3" % part, trial.path(HOSTS)]) for part in (1, 2, 3)]
+        lines = [lines_of(done[1])[0] for done in parts]
+        trial.check(sum(len(each) for each in lines) == len(WANTED), "three parts: each host once", lines)
+        trial.check(len({host for each in lines for host in each}) == len(WANTED), "three parts: all hosts", lines)
+    finally:
+        del os.environ["AIDE_COMPARE_MOST_UNPACKED"]
+    got = trial.read(STORE + "/hosts/other/report")
+    trial.check("f+++" in got and ": /a é\n" in got, "the report of a host, with a blank and an é", got)
+    trial.check(trial.read(STORE + "/hosts/other/aide.db") == OLD, "the baseline of a host stays as it was")
+    trial.check(not os.path.exists(trial.path(STORE + "/hosts/x")), "a refused name makes no folder")
+    trial.is_private("the databases and reports of hosts", [STORE + "/hosts"])
+    done = trial.run(["cat", trial.path(STORE + "/states/other")], rights=NOBODY)
+    trial.check(done[0] == 0 and "\nadded=1\nremoved=1\nchanged=1\n" in done[1], "everyone may read the state of a host", done)
+
+
+def try_slow(trial):
+    put_host(trial, "slow", OLD)
+    trial.write("/tmp/slow", "slow\n")
+    done = trial.run([tool(trial, "compare-hosts"), "--time", "1", trial.path("/tmp/slow")])
+    trial.check(done[0] == 18 and "had not sent all of it after 1 seconds" in done[1], "a host that is too slow", done)
+
+
+def try_quiet(trial):
+    trial.write("/tmp/quiet", "same\n")
+    words = [tool(trial, "compare-hosts"), "--quiet", "--jobs", "2"]
+    done = trial.run(words + [trial.path("/tmp/quiet")])
+    trial.check(done == (0, "", ""), "--quiet says nothing if there is nothing", done)
+    trial.write("/tmp/quiet", "same\nother\n")
+    done = trial.run(words + [trial.path("/tmp/quiet")])
+    trial.check(
+        done[0] == 7 and done[1].startswith("other 7 added") and "same" not in done[1], "--quiet names the others", done
+    )
+    for text, status in (("", 18), ("# none\n", 18), (None, 18)):
+        trial.write("/tmp/quiet", text or "")
+        done = trial.run(words + [trial.path("/tmp/quiet" if text is not None else "/tmp/none")])
+        trial.check(done[0] == status and done[2], "a file of hosts that names none is no success", done)
+
+
+def try_first(trial):
+    """A first baseline, then one that came after the report was read, a wrong digest, and the right one."""
+    accept, fetch, compare = (tool(trial, name) for name in ("accept-host", "fetch-host", "compare-host"))
+    put_host(trial, "new-one", OLD, None)
+    trial.check(trial.run([fetch, "new-one"])[0] == 0, "a first database is fetched")
+    done = trial.run([accept, "--first", "new-one"])
+    trial.check(done[0] == 0 and "SHA-256 " in done[1], "a first database is accepted", done)
+    done = trial.run([accept, "--first", "new-one"])
+    trial.check(done[0] == 1 and "already" in done[2], "--first is refused when there is a baseline", done)
+    trial.check(trial.run([compare, "new-one"])[0] == 0, "the first database is the baseline")
+    put_host(trial, "new-one", NEW, None)
+    trial.check([trial.run([each, "new-one"])[0] for each in (fetch, compare)] == [0, 7], "then it differs")
+    put_host(trial, "new-one", LATER, None)
+    trial.check(trial.run([fetch, "new-one"])[0] == 0, "a later database is fetched")
+    done = trial.run([accept, "new-one"])
+    trial.check(done[0] == 1 and done[2], "a database that came after the report is refused", done)
+    done = trial.run([accept, "--sha256", "0" * 64, "new-one"])
+    trial.check(done[0] == 1, "a wrong digest is refused", done)
+    trial.check(trial.read(STORE + "/hosts/new-one/aide.db") == OLD, "a refused database is not the baseline")
+    trial.check(trial.run([compare, "new-one"])[0] == 7, "the later one is compared")
+    trial.check(trial.run([accept, "new-one"])[0] == 0, "the database that was compared is accepted")
+    trial.check(trial.run([compare, "new-one"])[0] == 0, "then there are no differences")
+    trial.check(trial.read(STORE + "/hosts/new-one/aide.db.previous") == OLD, "the former baseline is kept")
+
+
+def try_stale(trial):
+    """A host whose AIDE does not run any more sends the same bytes for ever."""
+    put_host(trial, "stale", OLD)
+    place = trial.path(STORE + "/hosts/stale/aide.db.new")
+    words = [tool(trial, "fetch-host"), "stale"], [tool(trial, "compare-host"), "stale"]
+    trial.check([trial.run(each)[0] for each in words] == [0, 0], "a fresh database")
+    os.utime(place, (time.time() - 51 * 3600,) * 2)
+    got = [trial.run(each) for each in words]
+    trial.check([each[0] for each in got] == [0, 18] and "same database" in got[1][2], "the same bytes for 51 hours", got)
+    trial.check("\nstatus=18\n" in "\n" + trial.read(STORE + "/states/stale"), "the state says so too")
+    put_host(trial, "stale", OLD + "# later\n", None)
+    trial.check([trial.run(each)[0] for each in words] == [0, 0], "other bytes are fresh again")
+
+
+def try_killed(trial):
+    """A fetch that is killed half way leaves the former database, and no copy that the next one does not clear away."""
+    put_host(trial, "same", OLD)
+    folder = trial.path(STORE + "/hosts/same")
+    began = trial.path("/tmp/began")
+    wait = 'head -c 20 "%s/remote/same/aide.db"; : > "%s"; while [ -e "%s" ]; do sleep 0.1; done'
+    trial.stub("ssh", wait % (trial.root, began, began))
+    for number in (signal.SIGTERM, signal.SIGKILL):
+        before = trial.read(STORE + "/hosts/same/aide.db.new")
+        process = trial.start([tool(trial, "fetch-host"), "same"])
+        trial.check(wait_until(lambda: os.path.exists(began)), "a fetch has begun")
+        process.send_signal(number)
+        process.wait()
+        os.remove(began)
+        process.communicate()
+        trial.check(process.returncode != 0, "a killed fetch, signal %d" % number, process.returncode)
+        trial.check(trial.read(STORE + "/hosts/same/aide.db.new") == before, "a killed fetch leaves the former database")
+    put_stub(trial)
+    done = trial.run([tool(trial, "fetch-host"), "same"])
+    left = [name for name in os.listdir(folder) if name.startswith("part.")]
+    trial.check(done[0] == 0 and not left, "the fetch after a killed one clears up", (done, left))
+
+
+def try_twice(trial):
+    """Two runs over the same hosts at once: each has its lines, and the databases are whole."""
+    trial.write("/tmp/twice", "same\nother\nzipped\n")
+    words = [tool(trial, "compare-hosts"), "--jobs", "3", "--with", "xargs", trial.path("/tmp/twice")]
+    runs = [trial.start(words) for _ in range(3)]
+    for run in runs:
+        output = run.communicate()[0].decode()
+        lines = lines_of(output)[0]
+        trial.check(run.returncode == 7 and {host: lines[host][0] for host in lines} == {"same": "0", "other": "7", "zipped": "0"},
+                    "three runs at once", output)
+    trial.check(trial.read(STORE + "/hosts/other/aide.db.new") == NEW, "a database after three runs at once")
+
+
+def try_place(trial):
+    """A store whose name has blanks and letters beyond ASCII; a full disk."""
+    store = trial.path("/tmp/the store é")
+    trial.write("/tmp/one", "other\n")
+    trial.write("/tmp/the store é/hosts/other/aide.db", OLD, 0o600)
+    done = trial.run([tool(trial, "compare-hosts"), "--store", store, trial.path("/tmp/one")])
+    trial.check(done[0] == 7 and "added 1, removed 1, changed 1" in done[1], "a store with a blank and an é", done)
+    trial.write("/remote/other/aide.db.new", NEW + "x" * 3000000)
+
+    def full():
+        import resource
+
+        signal.signal(signal.SIGXFSZ, signal.SIG_IGN)
+        resource.setrlimit(resource.RLIMIT_FSIZE, (1000000, 1000000))
+
+    done = trial.run([tool(trial, "fetch-host"), "--store", store, "other"], limits=full)
+    trial.check(done[0] == 18 and "not written" in done[2], "no room for what a host sends", done)
+    trial.check(trial.read("/tmp/the store é/hosts/other/aide.db.new") == NEW, "the former database is still there")
+    left = [name for name in os.listdir(store + "/hosts/other") if name.startswith("part.")]
+    trial.check(not left, "and nothing else", left)
+
+
+def try_options(trial):
+    """A configuration, and arguments for aide-compare."""
+    put_host(trial, "other", NEW)
+    trial.check(trial.run([tool(trial, "fetch-host"), "other"])[0] == 0, "a host for options")
+    conf = trial.write("/tmp/one line.conf", "report_level=minimal\n")
+    compare = tool(trial, "compare-host")
+    for words in (["other", "--", "-A", "report_level=minimal"], ["--conf", conf, "other"], ["--conf", conf, "--", "other", "--"]):
+        done = trial.run([compare] + words)
+        trial.check(done[0] == 7 and done[1].count("\n") == 1 and not done[2], "compare-host with options", (words, done))
+    done = trial.run([compare, "other", "same"])
+    trial.check(done[0] == 15 and done[2], "compare-host with two hosts", done)
+
+
+def try_words(trial):
+    """Arguments that are wrong end with 15 and a line, and --help says what there is."""
+    for name in ("fetch-host", "compare-host", "accept-host", "compare-hosts"):
+        done = trial.run([tool(trial, name), "--help"])
+        trial.check(done[0] == 0 and done[1].startswith("usage: " + name) and not done[2], name + " --help", done)
+        for words in ([], ["--nope", "x"], ["--store"], ["--", "a", "b"]):
+            done = trial.run([tool(trial, name)] + words)
+            trial.check(done[0] == 15 and done[2].startswith(name + ": ") and not done[1], name + " with wrong words", (words, done))
+    for words in (["--jobs", "0"], ["--jobs", "x"], ["--share", "3/2"], ["--share", "2"], ["--with", "nope"]):
+        done = trial.run([tool(trial, "compare-hosts")] + words + [trial.path("/tmp/one")])
+        trial.check(done[0] == 15, "compare-hosts with wrong numbers", (words, done))
+
+
+def try_hosts(trial, page, with_packages):
+    del page
+    put_hosts(trial)
+    ways = ["xargs"]
+    if with_packages:
+        found = subprocess.run("parallel --version", shell=True, stdout=subprocess.PIPE, stderr=subprocess.DEVNULL)
+        if found.stdout.startswith(b"GNU parallel"):
+            ways.append("parallel")
+        else:
+            print("skipped: GNU parallel is not installed")
+    try_lines(trial, ways)
+    for part in (try_slow, try_quiet, try_first, try_stale, try_killed, try_twice, try_place, try_options, try_words):
+        part(trial)

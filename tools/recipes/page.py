@@ -1,0 +1,38 @@
+"""The blocks of docs/RECIPES.md, each with the mark above it that says how it is tried."""
+import os
+import re
+
+from .trial import HERE
+
+FENCED = re.compile(r"(?:^<!-- ([a-z ]+?): ([\w -]+) -->\n)?^```(\w+)\n(.*?)^```$", re.M | re.S)
+# Run here; compared with what was printed here; run by hand only; not run at all.
+MARKS = ("try", "prints", "by hand", "not tried")
+
+
+class Page:
+    def __init__(self, trial):
+        with open(os.path.join(HERE, "docs", "RECIPES.md"), encoding="utf-8") as file:
+            found = FENCED.findall(file.read())
+        self.trial, self.tried = trial, set()
+        self.blocks = {(mark, name): text for mark, name, _, text in found}
+        trial.check(found and len(self.blocks) == len(found), "RECIPES.md: each block has a mark of its own")
+        for mark, name, _, text in found:
+            trial.check(mark in MARKS, "RECIPES.md: a block without a mark that says how it is tried", text[:60])
+
+    def text(self, name, mark="try"):
+        self.tried.add((mark, name))
+        return self.blocks.get((mark, name), "exit 99 # RECIPES.md has no block %s: %s\n" % (mark, name))
+
+    def run(self, name, **more):
+        """Runs a block as it stands, with its folders below the root."""
+        return self.trial.shell(self.trial.below(self.text(name)), **more)
+
+    def prints(self, name, output):
+        """What a block prints begins as the page says."""
+        good = self.trial.above(output).startswith(self.text(name, "prints").rstrip("\n"))
+        self.trial.check(good, "RECIPES.md: what %s prints" % name, self.trial.above(output))
+
+    def check_all_tried(self, by_hand):
+        marks = ("try", "prints") + (("by hand",) if by_hand else ())
+        left = sorted(key for key in self.blocks if key[0] in marks and key not in self.tried)
+        self.trial.check(not left, "RECIPES.md: blocks that were not tried", left)

@@ -1,0 +1,93 @@
+"""aide-compare-run: the lines with which it explains an error of aide-compare."""
+import gzip
+
+from .place import END, HEAD, NEW
+
+TOOL = 'aide-compare-run'
+
+
+def try_database_hints(place):
+    name = 'hints é\n.db'
+    shown = 'the new database is hints é\\012.db\n'.encode()
+    for label, text, errors in (
+        (
+            'a number',
+            NEW.replace(b'644 5', b'644 5x'),
+            [b'aide: new database:3: bad number in column 4\n', shown, b'line 3: /a 36 100644 5x\n', b'column 4 is size: 5x\n'],
+        ),
+        (
+            'blanks and tabs',
+            NEW.replace(b'644 5', b'644\t \t5x'),
+            [b'line 3: /a 36 100644\\011 \\0115x\n', b'column 4 is size: 5x\n'],
+        ),
+        ('a control byte', NEW.replace(b'644 5', b'644 \x1b[31m\\\x7f'), [b'line 3: /a 36 100644 \\033[31m\\134\\177\n']),
+        ('a long line', NEW.replace(b'644 5', b'644 ' + b'x' * 5000), [b'line 3: /a 36 100644 ' + b'x' * 187 + b'...\n']),
+        (
+            'a long line of letters',
+            NEW.replace(b'644 5', b'644 ' + 'é'.encode() * 900),
+            ['0644 '.encode() + 'é'.encode() * 187 + b'...\n'],
+        ),
+        ('two tables of columns', HEAD + b'@@db_spec name size\n/a x\n' + END, [b'line ']),
+        (
+            'the order',
+            NEW.replace(b'/a ', b'/x '),
+            [b'aide: new database:4: entry out of path order\n', shown, b'line 4: /c', b'aide-compare-sort'],
+        ),
+        ('no end', NEW[:-9], [b'no @@end_db\n', shown, b'ends too early']),
+        ('nothing', b'', [b'no @@begin_db\n', b'it is empty']),
+        ('xz', b'\xfd7zXZ\0' + NEW, [b'compressed by xz']),
+        ('zstd', b'\x28\xb5\x2f\xfd' + NEW, [b'compressed by zstd']),
+        ('bzip2', b'BZh9' + NEW, [b'compressed by bzip2']),
+        ('gzip twice', gzip.compress(gzip.compress(NEW)), [b'compressed twice']),
+        ('a byte order mark', b'\xef\xbb\xbf' + NEW, [b'byte order mark']),
+        ('UTF-16', NEW.decode().encode('utf-16'), [b'UTF-16']),
+        ('another file', b'root:x:0:0\n', [b'no @@begin_db\n', b'line 1: root:x:0:0\n', b'no database of AIDE']),
+    ):
+        place.write(name, text)
+        answer = place.call(TOOL, 'old.db', name)
+        place.expect('a hint on %s' % label, answer, 24, b'', errors)
+        lines = answer.errors.split(b'\n')
+        place.check(
+            'lines of %s' % label,
+            lines[0].startswith(b'aide: ')
+            and lines[-1] == b''
+            and all(line.startswith(b'aide-compare-run: ') for line in lines[1:-1]),
+            answer,
+        )
+
+
+def try_configuration_hints(place):
+    for text, errors in (
+        (
+            '\n report_lvel=minimal',
+            [
+                b'aide: config:2: unknown attribute\n',
+                b'the configuration is odd conf\n',
+                b'line 2:  report_lvel=minimal\n',
+                b'report_lvel is no option',
+            ],
+        ),
+        ('report_level=minmal', [b'aide: config:1: bad value\n', b'a level is minimal, summary']),
+        ('report_ignore_changed_attrs=xyz', [b'line 1: report_ignore_changed_attrs=xyz\n']),
+        ('@@include /etc/x', [b'take the line out']),
+        ('@@x_include /x\n@@odd', [b'aide: config:2: unknown directive\n', b'line 2: @@odd\n', b'AIDE may know it']),
+        ('a\x1b[1m\x80', [b'line 1: a\\033[1m']),
+    ):
+        place.write('odd conf', text)
+        answer = place.call(TOOL, '-c', 'odd conf', 'old.db', 'new.db')
+        place.expect('a hint on %r' % text, answer, 17, b'', errors)
+        if 'lvel' not in text:
+            place.check(
+                'no more than a hint on %r' % text,
+                b'lvel is no option' not in answer.errors and b'xyz is no' not in answer.errors,
+                answer,
+            )
+    for option, name in (('-A', b'after'), ('-B', b'before')):
+        answer = place.call(TOOL, 'old.db', 'new.db', '--', option, '\nreport_level=x')
+        place.expect(
+            'a hint on ' + option,
+            answer,
+            17,
+            b'',
+            [b'aide: ' + name + b':2: bad value\n', b'the text of ' + option.encode(), b'line 2: report_level=x\n'],
+        )

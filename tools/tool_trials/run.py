@@ -1,0 +1,289 @@
+"""aide-compare-run: reports, configurations, arguments and the state file."""
+import gzip
+import os
+import re
+import subprocess
+import time
+
+from .hints import try_configuration_hints, try_database_hints
+from .place import COUNTS, END, HEAD, NEW, OLD, UMASK, sha256
+
+KEYS = ['format', 'status', 'time', 'date', 'added', 'removed', 'changed', 'old_sha256', 'new_sha256', 'old', 'new', 'error']
+TOOL = 'aide-compare-run'
+
+
+def try_run(place):
+    for trial in (
+        try_reports,
+        try_names,
+        try_configurations,
+        try_arguments,
+        try_database_hints,
+        try_configuration_hints,
+        try_state,
+        try_counts,
+        try_state_faults,
+    ):
+        trial(place)
+
+
+def direct(place, *words):
+    """What the program itself answers over the plain databases."""
+    text = 'database_in=file:%s\ndatabase_new=file:%s' % (place.path('old.db'), place.path('new.db'))
+    done = subprocess.run(
+        [place.path('bin/aide-compare'), '-E', '-c', '/dev/null', '-A', '\n'.join(words) + '\n' + text],
+        stdin=subprocess.DEVNULL,
+        stdout=subprocess.PIPE,
+    )
+    return done.returncode, done.stdout
+
+
+def try_reports(place):
+    status, report = direct(place)
+    place.check('the databases differ in every way', status == 7, status)
+    for old in ('old.db', 'old.db.gz'):
+        for new in ('new.db', 'new.db.gz'):
+            want = report.replace(place.path('old.db').encode(), b'/proc/self/cwd' + place.path(old).encode())
+            want = want.replace(place.path('new.db').encode(), b'/proc/self/cwd' + place.path(new).encode())
+            answer = place.call(TOOL, old, new)
+            place.expect('the report of %s and %s' % (old, new), answer, 7, want, b'')
+            place.check('the whole report of %s and %s' % (old, new), answer.output == want, answer)
+    for new, status in (
+        (OLD, 0),
+        (OLD.replace(END, b'/e 36 100644 1\n' + END), 1),
+        (OLD.replace(b'/b 36 40755 4096\n', b''), 2),
+        (OLD.replace(b'644 10', b'644 11'), 4),
+        (b'x', 24),
+    ):
+        place.write('other.db', new)
+        place.expect('the status %d' % status, place.call(TOOL, 'old.db', 'other.db'), status)
+    place.write('members.gz', gzip.compress(NEW[:70]) + gzip.compress(NEW[70:]))
+    place.expect('gzip in two pieces', place.call(TOOL, 'old.db', 'members.gz'), 7, report[:200])
+    place.expect('standard input', place.call(TOOL, '/dev/stdin', 'new.db', text=gzip.compress(OLD)), 7, report[:200])
+    place.write('column.db', NEW.replace(b'perm size', b'perm odd'))
+    place.expect(
+        'a skipped column', place.call(TOOL, 'old.db', 'column.db'), 7, None, b'aide: new database: column 4 skipped\n'
+    )
+    place.write('stubs/down.gz', gzip.compress(OLD))
+    place.expect(
+        'a file beside the missing one is not taken', place.call(TOOL, 'stubs/down', 'new.db'), 18, b'', b'cannot open'
+    )
+    with open('/dev/full', 'wb') as full:
+        place.expect(
+            'a full output', place.call(TOOL, 'old.db', 'new.db', stdout=full), 18, b'', b'aide: cannot write the report'
+        )
+    with open('/dev/full', 'wb') as full:
+        place.expect('full errors', place.call(TOOL, 'old.db', 'other.db', stderr=full), 24, b'')
+    place.expect('--help', place.call(TOOL, '--help'), 0, b'usage: aide-compare-run', b'')
+
+
+def try_names(place):
+    quoted = "it's \"$HOME\" `x` *"
+    for name in ('with blank', 'é', '-dash', quoted, 'end ', 'back\\slash', '@@{X}', 'two\nlines', b'\xff\x01'):
+        name = os.fsdecode(name)
+        place.write('odd/old ' + name, OLD)
+        place.write('odd/' + name, gzip.compress(NEW))
+        answer = place.call(TOOL, 'odd/old ' + name, './odd/' + name, '--state', 'state')
+        place.expect('the name %r' % name, answer, 7, b'Changed entries:         2', b'')
+        printed = ''.join(
+            '\\%03o' % byte if byte < 32 or byte in (92, 127) else chr(byte) for byte in os.fsencode('./odd/' + name)
+        )
+        given = place.state().get('new', '').encode('utf-8', 'surrogateescape').decode('latin-1')
+        place.check('the name %r in the state' % name, given == printed, given)
+    place.expect(
+        'a name with ..',
+        place.call(TOOL, 'odd/../old.db', place.path('bin/../../') + os.path.basename(place.root) + '/new.db'),
+        7,
+        b'Old database: /proc/self/cwd/old.db\n',
+        b'',
+    )
+    report = place.call(TOOL, 'odd/old é', 'new.db').output
+    place.check('a name in the report', ('Old database: /proc/self/cwd%s/odd/old é\n' % place.root).encode() in report, report)
+    place.expect('one file twice', place.call(TOOL, 'old.db', 'old.db'), 0, b'NO differences')
+    place.write('paths.db', HEAD + b'/a%0Ab%20c 36 100644 1\n' + END)
+    place.expect('a newline in a path', place.call(TOOL, 'old.db', 'paths.db'), 3, b': /a\\012b c\n')
+
+
+def try_configurations(place):
+    databases = 'database_in=file:%s\n%s=file:%s\n' % (place.path('old.db.gz'), '%s', place.path('new.db.gz'))
+    debian = '@@x_include_setenv PATH /bin\n  @@x_include /etc/aide/aide.conf.d ^[a-z]+$\nreport_ignore_e2fsattrs=VNIE\n'
+    defined = (
+        '@@define DIR %s\n@@ifdef DIR\ndatabase_in = file:@@{DIR}/old.db\n@@else\ndatabase_in=file:/no\n@@endif\n'
+        '@@ifndef DIR\ndatabase_new=file:/no\n@@else\n @@if not defined X\ndatabase_new=file:@@{DIR}/@@{X}new.db \n@@endif\n@@endif\n'
+        '@@undef DIR\n@@ifdef DIR\ndatabase_new=file:/no\n@@endif\n' % place.root
+    )
+    for label, text, words in (
+        ('database_new', databases % 'database_new', ()),
+        ('database_out', databases % 'database_out', ()),
+        ("Debian's lines", debian + databases % 'database_new', ()),
+        ('database', (databases % 'database_new').replace('_in', ''), ()),
+        ('variables and blocks', defined, ()),
+        ('the same line twice', databases % 'database_new' * 2, ()),
+        (
+            'a variable of -B',
+            'database_in=file:@@{D}/old.db\ndatabase_new=file:@@{D}/new.db',
+            ('--', '-B', '@@define D ' + place.root),
+        ),
+        ('a database of -A', 'database_in=file:/no\ndatabase_new=file:/no', ('--', '-A', databases % 'database_new')),
+        ('a rule and a comment', '# database_in=file:/no\n/etc R\n!/database_in=file:/no\n' + databases % 'database_new', ()),
+    ):
+        place.write('conf', text)
+        place.expect(
+            'a configuration with ' + label, place.call(TOOL, '-c', 'conf', *words), 7, b'Changed entries:         2', b''
+        )
+    for label, text, errors in (
+        ('no database', '', b'conf names no old database'),
+        ('no new one', 'database_in=file:/x', b'conf names no new database'),
+        ('two of a side', databases % 'database_new' + 'database_in=file:/other', b'names the old database twice'),
+        ('one for both', 'database_in=file:/x\ndatabase_out=file:/x', b'one file as the old and as the new database: /x'),
+        ('an output to elsewhere', 'database_in=file:/x\ndatabase_out=stdout', b'no file: stdout'),
+        ('a fault', 'database_in=file:/x\nreport_level=1', b'aide: config:2: bad value\n'),
+    ):
+        place.write('conf', text)
+        place.expect('a configuration with ' + label, place.call(TOOL, '-c', 'conf'), 17, b'', errors)
+    place.write('conf', 'report_level=summary\nreport_ignore_changed_attrs=s')
+    place.expect(
+        'options of a configuration', place.call(TOOL, '-c', 'conf', 'old.db', 'new.db'), 7, b'Changed entries:         1'
+    )
+    place.expect(
+        'a missing configuration', place.call(TOOL, '-c', 'missing'), 18, b'', b'cannot read the configuration missing'
+    )
+    place.expect(
+        'an endless configuration',
+        place.call(TOOL, '-c', '/dev/zero', 'old.db', 'new.db'),
+        17,
+        b'',
+        b'the configuration is longer than 4194304 bytes',
+    )
+
+
+def try_arguments(place):
+    minimal = b'AIDE found differences between the two databases.\n'
+    for words in (
+        ['-A', 'report_level=minimal'],
+        ['-Areport_level=minimal'],
+        ['-A=report_level=minimal'],
+        ['--after', 'report_level=minimal'],
+        ['--after=report_level=minimal'],
+        ['-B', 'report_level=minimal'],
+    ):
+        answer = place.call(TOOL, 'old.db', 'new.db', '--', *words)
+        place.check('the arguments %r' % words, (answer.status, answer.output) == (7, minimal), answer)
+    answer = place.call(TOOL, 'old.db', 'new.db', '--', '-A', 'database_in=file:/no')
+    place.expect('the databases of the command line win', answer, 7, minimal, b'')
+    for words in ([], ['old.db', 'new.db', 'x']):
+        place.expect('the operands %r' % (words or ['old.db']), place.call(TOOL, *(words or ['old.db'])), 15, b'', b'databases')
+    for words in (
+        ['--', '-D'],
+        ['--', '-c', 'x'],
+        ['--', '-A'],
+        ['--', '-A', 'a', '--after=b'],
+        ['--', '-B', 'a', '-Bb'],
+        ['--most'],
+        ['--most', '1k'],
+        ['--most', '010'],
+        ['--state', ''],
+        ['--odd'],
+        ['-A', 'x'],
+        ['--', 'x'],
+    ):
+        place.expect('the arguments %r' % words, place.call(TOOL, 'old.db', 'new.db', *words), 15, b'', b'aide-compare-run: ')
+
+
+def try_state(place):
+    before = int(time.time())
+    place.call(TOOL, 'old.db.gz', './new.db', '--state', 'state')
+    state = place.state()
+    place.check('the keys of a state', list(state) == KEYS and place.read('state').count(b'\n') == len(KEYS), state)
+    want = {
+        'format': '1',
+        'status': '7',
+        **COUNTS,
+        'old_sha256': sha256(OLD),
+        'new_sha256': sha256(NEW),
+        'old': 'old.db.gz',
+        'new': './new.db',
+        'error': '',
+    }
+    place.check('the values of a state', {**state, **want} == state, state)
+    moment = int(state.get('time', '0'))
+    place.check('the time of a state', before <= moment <= time.time(), state)
+    place.check('the date of a state', state.get('date') == time.strftime('%Y-%m-%dT%H:%M:%SZ', time.gmtime(moment)), state)
+    for mask in (0o77, 0o22):
+        place.call(TOOL, 'old.db', 'new.db', '--state', 'masked/by/state', before=UMASK % mask)
+        place.check('the mode of a state', os.stat(place.path('masked/by/state')).st_mode & 0o7777 == 0o644)
+        place.check('the mode of its folder', os.stat(place.path('masked/by')).st_mode & 0o777 == 0o755)
+    place.check('nothing beside a state', os.listdir(place.path('masked/by')) == ['state'], os.listdir(place.path('masked/by')))
+    place.call(TOOL, 'old.db', 'old.db', '--state', 'state')
+    state = place.state()
+    place.check(
+        'a state without a difference', [state[key] for key in KEYS[4:7]] == ['0'] * 3 and state['status'] == '0', state
+    )
+    place.write('bad.db', NEW.replace(b'@@end_db', b'\x01|x'))
+    for words, status, error in (
+        (('old.db', 'bad.db'), '24', 'aide: new database:6: '),
+        (('old.db', 'missing|\n'), '18', 'aide-compare-run: cannot open the new database missing|\\012'),
+        (('-c', '/dev/null'), '17', 'aide-compare-run: /dev/null names no old database'),
+    ):
+        place.call(TOOL, '--state', 'state', *words)
+        state = place.state()
+        place.check(
+            'the state of a status %s' % status,
+            state['status'] == status
+            and state['error'].startswith(error)
+            and list(state) == KEYS
+            and [state[key] for key in KEYS[4:7]] == [''] * 3,
+            state,
+        )
+    before = place.read('state')
+    place.call(TOOL, '--state', 'state', 'old.db')
+    place.check('bad arguments leave the state', place.read('state') == before)
+
+
+def try_counts(place):
+    place.write('quiet', 'report_quiet=yes\nreport_level=minimal\nreport_grouped=no\n')
+    place.write(
+        'fixed',
+        'report_level=minimal\nreport_ignore_changed_attrs=p\n report_url = stdout\nreport_level=summary\nreport_ignore_changed_attrs=s+p\n',
+    )
+    place.write('named', '@@define N report_url\nreport_level=minimal\n@@{N}=stdout\n')
+    for words, changed in (
+        (['-c', 'quiet'], '2'),
+        (['-c', 'fixed'], '2'),
+        (['-c', 'named'], '2'),
+        (['--', '-A', 'report_level=minimal\nreport_url=stdout'], '2'),
+        (['--', '-B', 'report_level=minimal\nreport_url=stdout'], '2'),
+        (['--', '-A', 'report_ignore_changed_attrs=s'], '1'),
+        (['--', '-A', 'report_level=added_removed_entries\nreport_base16=yes'], '2'),
+    ):
+        plain = place.call(TOOL, 'old.db', 'new.db', *words)
+        answer = place.call(TOOL, '--state', 'state', 'old.db', 'new.db', *words)
+        state = place.state()
+        place.check('the counts with %r' % words, [state[key] for key in KEYS[4:7]] == ['1', '1', changed], state)
+        place.check(
+            'the report with %r' % words,
+            (answer.output, answer.errors, answer.status) == (plain.output, plain.errors, plain.status),
+            answer,
+        )
+
+
+def try_state_faults(place):
+    os.makedirs(place.path('folder'), exist_ok=True)
+    place.expect('a state that is a folder', place.call(TOOL, 'old.db', 'new.db', '--state', 'folder'), 15, b'', b'is a folder')
+    place.expect(
+        'a state below a file',
+        place.call(TOOL, 'old.db', 'new.db', '--state', 'old.db/state'),
+        18,
+        b'',
+        b'cannot write the state file',
+    )
+    place.call(TOOL, 'old.db', 'new.db', '--state', 'state')
+    runs = [place.start(TOOL, 'old.db', 'new.db', '--state', 'state') for _ in range(6)]
+    reports = {run.communicate()[0] for run in runs}
+    place.check(
+        'runs at once', len(reports) == 1 and {run.returncode for run in runs} == {7} and list(place.state()) == KEYS, reports
+    )
+    place.check(
+        'nothing is left of runs at once',
+        not place.leftovers() and not [name for name in os.listdir(place.root) if re.match(r'state\.', name)],
+    )

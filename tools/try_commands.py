@@ -1,0 +1,72 @@
+#!/usr/bin/env python3
+"""Tries the commands, configurations and lines that README.md, the manual pages and examples/README.md show.
+
+usage: tools/try_commands.py [--with-rt] PROGRAM
+
+tools/install puts PROGRAM, the built program, and the tools into a folder of this run. There each display is run as it
+stands, over prepared databases and with the folders that it names put below that folder; the status of each command, and
+what the page says of it, are compared. `ssh`, `sendmail`, `logger` and `rt` are small programs of this script.
+displays/rows.py says of each display how it is tried, or why it is not and what tries it instead. A display without a row
+fails, and so does a row without a display. The messages that the pages of the tools list under DIAGNOSTICS are looked for
+in the text of the tools. Prints what fails and, at the end, `N passed, M failed`.
+
+  --with-rt    also what needs the kit's `rt`: README's first command, by `rt try` (one to three minutes), and `rt version`
+"""
+import os
+import sys
+
+from displays.messages import try_messages
+from displays.pages import all_displays
+from displays.place import Place
+from displays.rows import ROWS
+from displays.statuses import try_statuses
+
+
+def rows_of(displays, check):
+    """Each display with its row; what has none, or more than one, fails."""
+    pairs, used = [], set()
+    check(displays, "no display was found in any page")
+    for display in displays:
+        rows = [row for row in ROWS if row.is_of(display)]
+        check(len(rows) == 1, "%s: %d rows of displays/rows.py are about this display" % (display.name(), len(rows)))
+        used.update(rows)
+        pairs += [(display, row) for row in rows[:1]]
+    for row in ROWS:
+        check(row in used, "%s: no display of the page comes after %r; the row is stale" % (row.page, row.key))
+    return pairs
+
+
+def try_one(place, display, row):
+    place.now = display.name() + " "
+    try:
+        row.work(place, display)
+    except OSError as fault:
+        place.check(False, "cannot be looked at:", str(fault))
+    place.now = ""
+
+
+def main():
+    words = sys.argv[1:]
+    if words in (["-h"], ["--help"]):
+        print(__doc__)
+        return 0
+    with_rt = "--with-rt" in words
+    words = [word for word in words if word != "--with-rt"]
+    if len(words) != 1 or not os.access(words[0], os.X_OK):
+        sys.stderr.write("usage: tools/try_commands.py [--with-rt] PROGRAM\nPROGRAM has to be the built program\n")
+        return 2
+    place = Place(words[0], with_rt)
+    try:
+        place.install()
+        for display, row in rows_of(all_displays(), place.check):
+            try_one(place, display, row)
+        try_statuses(place)
+        try_messages(place.check)
+    finally:
+        place.trial.close()
+    print("%d passed, %d failed" % (place.trial.passed, place.trial.failed))
+    return 1 if place.trial.failed else 0
+
+
+if __name__ == "__main__":
+    sys.exit(main())

@@ -1,0 +1,51 @@
+#!/usr/bin/env python3
+"""Tries the tools of contrib/ with the built program: what aide-compare-run and the commands that use it promise.
+
+usage: try_tools.py PROGRAM
+
+Each trial runs in a folder of its own, under every shell of this machine that the tools are for (sh, dash, busybox sh). A
+small program replaces sendmail. If root runs this, it also tries what an unprivileged user may do, and a full disk;
+otherwise the output says that these were not tried. The last line is 'N passed, M failed'.
+"""
+import sys
+import traceback
+
+from tool_trials.accept import try_accept
+from tool_trials.age import try_age
+from tool_trials.faults import try_faults, try_signals
+from tool_trials.mail import try_mail
+from tool_trials.place import Place, shells
+from tool_trials.run import try_run
+from tool_trials.state import try_readers
+from trials import Tally, program_of, side_by_side
+
+TRIALS = [try_run, try_age, try_faults, try_signals, try_accept, try_mail, try_readers]
+
+
+def try_one(given):
+    """One set of trials under one shell, in a place of its own."""
+    program, shell, trial, tally = given
+    place = Place(program, shell, tally)
+    try:
+        trial(place)
+    except Exception:
+        tally.add(' '.join(shell), [traceback.format_exc()])
+    finally:
+        place.remove()
+
+
+def main():
+    if len(sys.argv) != 2 or sys.argv[1] in ('-h', '--help'):
+        print(__doc__)
+        sys.exit(0 if sys.argv[1:] in (['-h'], ['--help']) else 15)
+    program, tally = program_of(sys.argv[1]), Tally()
+    given = [(program, shell, trial, tally) for trial in TRIALS for shell in shells()]
+    for _ in side_by_side(4, try_one, given):
+        pass
+    if not tally.passed:
+        tally.add('try_tools.py', ['found nothing to try'])
+    tally.end()
+
+
+if __name__ == '__main__':
+    main()

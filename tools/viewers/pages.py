@@ -1,0 +1,147 @@
+"""Reads a page of aide-compare-html as a browser would, and finds what is wrong with it."""
+import base64
+import hashlib
+import json
+import re
+from html.parser import HTMLParser
+
+TAGS = set('''html head meta title style body header h1 p dl dt dd div details summary code small main section label
+    input nav h2 ul ol li button span noscript svg rect b i table tr th td script'''.split())
+ATTRIBUTES = set('''lang charset http-equiv content name class id for type placeholder autocomplete spellcheck role
+    aria-label aria-hidden aria-pressed hidden title scope viewbox preserveaspectratio x width height'''.split())
+KINDS = ['added', 'removed', 'changed']
+SIGNS = dict(zip('+\N{MINUS SIGN}~', range(3)))
+ESCAPE = re.compile(r'\\([0-7]{3})')
+DIRECTIONS = re.compile('[\u061c\u200b-\u200f\u2028-\u202e\u2060-\u206f\ufeff\ud800-\udfff\x00-\x09\x0b-\x1f\x7f-\x9f]')
+
+
+def bytes_shown(text):
+    """The bytes that a page shows as a text."""
+    parts = ESCAPE.split(text)
+    return b''.join(bytes([int(part, 8)]) if place % 2 else part.encode() for place, part in enumerate(parts))
+
+
+class Page(HTMLParser):
+    """What a page has: tags, attributes, scripts, the entries of its lists and the counts of its folders."""
+
+    def __init__(self, text):
+        super().__init__()
+        self.tags, self.names, self.scripts, self.styles, self.policy = set(), set(), [], [], None
+        self.entries, self.folders, self.inside, self.texts = [], [], [], ''
+        self.feed(text)
+        self.close()
+
+    def handle_starttag(self, tag, attributes):
+        self.tags.add(tag)
+        self.names.update(name for name, _ in attributes)
+        fields, self.texts = dict(attributes), ''
+        if fields.get('http-equiv') == 'Content-Security-Policy':
+            self.policy = fields['content']
+        if tag == 'script':
+            self.scripts.append([fields.get('type'), ''])
+        if tag == 'b' and fields.get('class') in KINDS:
+            self.entries.append([KINDS.index(fields['class']), None])
+        self.inside.append(tag)
+
+    def handle_endtag(self, tag):
+        while self.inside and self.inside.pop() != tag:
+            pass
+        if tag == 'code' and self.inside[-1:] in (['li'], ['summary']):
+            if self.entries and self.entries[-1][1] is None:
+                self.entries[-1][1] = self.texts
+            elif self.inside[-1] == 'summary' and self.texts.endswith('/'):
+                self.folders.append([bytes_shown(self.texts[:-1]), [0, 0, 0]])
+        if tag == 'span' and self.folders and self.texts[:1] in SIGNS:
+            self.folders[-1][1][SIGNS[self.texts[0]]] = int(self.texts[1:].replace(',', ''))
+
+    def handle_data(self, data):
+        self.texts += data
+        if self.inside[-1:] == ['script']:
+            self.scripts[-1][1] += data
+        if self.inside[-1:] == ['style']:
+            self.styles.append(data)
+
+    def unknown_decl(self, data):
+        self.tags.add('declaration ' + data[:40])
+
+    def handle_comment(self, data):
+        self.tags.add('comment ' + data[:40])
+
+    def handle_pi(self, data):
+        self.tags.add('instruction ' + data[:40])
+
+
+def hashed(text):
+    return "'sha256-%s'" % base64.b64encode(hashlib.sha256(text.encode()).digest()).decode()
+
+
+def wanted_folders(entries):
+    """The folders of entries in the order of paths, each with the counts of what is in and below it, and of itself."""
+    counts = {}
+    for kind, path in entries:
+        pieces = path.split(b'/')
+        for end in range(2, len(pieces)):
+            counts.setdefault(tuple(pieces[1:end]), [0, 0, 0])[kind] += 1
+    for kind, path in entries:
+        own = tuple(path.split(b'/')[1:])
+        if own in counts:
+            counts[own][kind] += 1
+    return [[folder[-1], counts[folder]] for folder in sorted(counts)]
+
+
+def page_faults(text, objects, is_plain):
+    """What is wrong with the page of a report."""
+    page, faults = Page(text), []
+    if page.tags - TAGS or page.names - ATTRIBUTES:
+        faults.append('it has %r' % sorted(page.tags - TAGS | page.names - ATTRIBUTES))
+    entries = [(KINDS.index(fields['kind']), bytes.fromhex(fields['path_hex']) if 'path_hex' in fields
+                else fields['path'].encode()) for fields in objects if fields['record'] == 'entry']
+    policy = "default-src 'none'; base-uri 'none'; form-action 'none'; style-src " + hashed(''.join(page.styles))
+    has_script = bool(entries) and not is_plain
+    if [kind for kind, _ in page.scripts] != (['application/json', None] if has_script else []):
+        return faults + ['it has the scripts %r' % [kind for kind, _ in page.scripts]]
+    if has_script:
+        policy += '; script-src ' + hashed(page.scripts[1][1])
+        if set(page.scripts[0][1]) & set('<>'):
+            faults.append('the entries for the script may end their element')
+        data = json.loads(page.scripts[0][1])
+        if [(entry[0], bytes_shown(entry[2])) for entry in data['entries']] != entries:
+            faults.append('the entries for the script are others')
+        if [len(entry[4]) for entry in data['entries']] != [len(fields.get('attributes', ())) for fields in objects
+                                                            if fields['record'] == 'entry']:
+            faults.append('the attributes for the script are others')
+        spoken = ''.join(str(value) for entry in data['entries'] for row in entry[4] for value in row[1:])
+        if DIRECTIONS.search(spoken + ''.join(entry[2] for entry in data['entries'])):
+            faults.append('a text for the script is not shown as it should be')
+    if page.policy != policy:
+        faults.append('the content policy is %r' % page.policy)
+    if [kind for kind, _ in page.entries] != [kind for kind, _ in entries] or any(
+            not path.endswith(bytes_shown(name)) for (_, path), (_, name) in zip(entries, page.entries)):
+        faults.append('the plain lists have other entries')
+    if page.folders != wanted_folders(entries):
+        faults.append('the folders are %r, and not %r' % (page.folders[:5], wanted_folders(entries)[:5]))
+    if DIRECTIONS.search(text):
+        faults.append('a character is in it that is not seen')
+    return faults
+
+
+def luminance(colour):
+    """How light a colour such as #57606a is, from 0 to 1, as the guidelines for contrast have it."""
+    parts = [int(colour[place:place + 2], 16) / 255 for place in (1, 3, 5)]
+    red, green, blue = (part / 12.92 if part <= 0.03928 else ((part + 0.055) / 1.055) ** 2.4 for part in parts)
+    return 0.2126 * red + 0.7152 * green + 0.0722 * blue
+
+
+def contrast_faults(style, least=4.5):
+    """The texts of a style that are hard to read on what is behind them, in light and in dark."""
+    faults = []
+    for scheme, block in zip(('light', 'dark'), re.findall(r':root {(.*?)}', style, re.DOTALL)):
+        colours = dict(re.findall(r'--([a-z-]+): (#[0-9a-f]{6})', block))
+        backs = [name for name in colours if name in ('paper', 'raised') or name.endswith('-tint')]
+        pairs = [(text, behind) for text in ('ink', 'dim') for behind in backs]
+        pairs += [(kind, behind) for kind in KINDS for behind in ('paper', kind + '-tint')]
+        for text, behind in pairs:
+            lower, upper = sorted(luminance(colours[name]) for name in (text, behind))
+            if (upper + 0.05) / (lower + 0.05) < least:
+                faults.append('%s: %s on %s is %.1f' % (scheme, text, behind, (upper + 0.05) / (lower + 0.05)))
+    return faults if len(re.findall(':root {', style)) == 2 else ['there are not two schemes']
