@@ -36,9 +36,11 @@ class Pair:
         return not self.alone or number % self.alone != (77 if is_new else 78)
 
 
-# An upgrade gives a tenth of the files new times, and a third of these other bytes.
+# A few of each: one entry in 1,000 is changed, and one in 10,000 on either side is alone. An upgrade gives a tenth of the
+# files new times, and a third of these other bytes.
 PAIRS = {
-    '0.1 % changed': Pair(changed=1000, alone=10000, sections=4),
+    '0.1 % changed': Pair(changed=1000),
+    'a few of each': Pair(changed=1000, alone=10000, sections=4),
     '1 % changed': Pair(changed=100),
     '10 % changed': Pair(changed=10),
     '100 % changed': Pair(changed=1),

@@ -15,6 +15,7 @@ constant that no other public function names. Four kinds need no edit; docs/CONT
 Prints each public function that has no edit and needs one, and each edit that changes no line of code. With --list,
 prints every public function with its edits or its kind. The last line is `N passed, M failed`.
 """
+import glob
 import os
 import re
 import sys
@@ -23,7 +24,7 @@ HERE = os.path.dirname(os.path.dirname(os.path.abspath(__file__)))
 CRATES = os.path.join(HERE, "crates")
 # Where fewer are found, the search itself is broken.
 FEWEST_FUNCTIONS = 160
-FEWEST_EDITS = 200
+FEWEST_EDITS = 150
 
 FUNCTION = re.compile(r"^( *)(pub )?(?:pub\([a-z]+\) )?(?:const |unsafe )*fn (\w+)")
 CONSTANT = re.compile(r"^ *(?:pub(?:\([a-z]+\))? )?const (\w+):")
@@ -103,12 +104,18 @@ def items_of(text):
             yield Item(constant.group(1), owner, trait, False, at, at, last + 1, text)
 
 
+def sources_of(folder):
+    """The files of a crate's code, as paths below this folder. Tests in a folder of their own are left out."""
+    files = glob.glob("**/*.rt", root_dir=folder, recursive=True)
+    return sorted(file for file in files if "/" not in file or "tests" not in file)
+
+
 class Crate:
     """The code of a crate, its public functions, and which edits belong to what."""
 
     def __init__(self, name):
         self.name = name
-        self.files = [file for file in sorted(os.listdir(os.path.join(CRATES, name, "src"))) if file.endswith(".rt")]
+        self.files = sources_of(os.path.join(CRATES, name, "src"))
         self.texts = {"src/" + file: read_lines(name, "src", file) for file in self.files}
         self.items = [(file, item) for file, text in self.texts.items() for item in items_of(text)]
         self.exports = set()

@@ -13,8 +13,9 @@ those of a command line that is not understood. There the parser looks for names
 The sessions are the stored cases, the examples at each report level, long arguments, paths and configurations, and random
 ones.
 
-With --in-memory a second program is tried. It runs sessions over files in memory, and makes each call that was refused
-memory once more, so it has to print the same as if nothing was refused.
+With --in-memory a second program is tried, crates/aide_in_memory. It runs sessions over files in memory. Each call that
+is refused memory has to say so, and is made once more. So with one refusal the program has to print what is stored beside
+it; with all later ones refused too it has to end with status 22 behind a front of that.
 
 The library is built by a C compiler of the machine or by that of the toolchain; with neither one trial fails. The last
 line is 'N passed, M failed'.
@@ -27,7 +28,7 @@ import tempfile
 from collections import Counter, namedtuple
 
 import cases
-from definitions.session import BAD_DEVICE, NO_MEMORY, USAGE, Answer, refused
+from definitions.session import NO_MEMORY, USAGE, Answer, refused
 from preloading import built, run_with
 from random_sessions import make_session
 from real_files.examples import LEVELS, folders_of_aide, words_at
@@ -36,8 +37,8 @@ from trials import Tally, difference, program_of, side_by_side, wanted
 
 NOTES = struct.Struct('3l')
 STARVED = refused(b'out of memory', NO_MEMORY)
-NOT_WRITTEN = refused(b'cannot write the report', BAD_DEVICE).errors
-LEAST_IN_MEMORY = 300
+# The calls of a session in memory that take memory, and how many of their growths are refused at least.
+IN_MEMORY = {b'push': 70, b'add': 20, b'read_words': 300, b'point': 10, b'session': 500}
 WAYS = {'only one allocation fails': lambda first: first,
         'one allocation and all later ones fail': lambda first: 2**31 - 1}
 SHOWN = 3
@@ -173,40 +174,45 @@ def try_sessions(refuser, known, jobs, tally):
           % (counts['refused'], len(known), counts['not_felt'], counts['of_others']), flush=True)
 
 
-def without(line, text):
-    """A text less the first place where a line stands."""
-    front, found, back = text.partition(line)
-    return front + back
+def refused_call(refusal):
+    """The name of the call that was refused memory, if the one line on standard error tells it."""
+    told = refusal.answer.errors.partition(b'refused: ')[2]
+    name = told.partition(b'\n')[0]
+    return name if refusal.answer.errors == b'refused: %s\n' % name and name in IN_MEMORY else None
 
 
-def faults_in_memory(refusal, free):
-    """What is not as wanted where a growth of the sessions in memory was refused: each call is made once more.
+def faults_in_memory(alone, onwards, free):
+    """What is not as wanted where a growth of the sessions in memory is refused: only this one, and all later ones too."""
+    faults = [] if refused_call(alone) else ['no call told of it: %r' % alone.answer.errors]
+    faults += [] if alone.own == 1 and not alone.others else ['%d refused, %d of others' % (alone.own, alone.others)]
+    faults += difference(alone.answer, free.answer._replace(errors=alone.answer.errors))
+    if onwards.answer.status != NO_MEMORY or onwards.answer.errors != alone.answer.errors:
+        faults.append('with all later ones: %r' % (onwards.answer,))
+    if not free.answer.output.startswith(onwards.answer.output):
+        faults.append('with all later ones it printed %r' % onwards.answer.output[-200:])
+    return faults
 
-    The call that was refused may have told it; all else is printed as ever. A refused growth of the sink ends its
-    session with 18 first.
-    """
-    told = [STARVED.errors, NOT_WRITTEN]
-    errors = next((without(line, refusal.answer.errors) for line in told
-                   if refusal.answer.errors.count(line) > free.answer.errors.count(line)), refusal.answer.errors)
-    return difference(Answer(refusal.answer.output, errors, refusal.answer.status), free.answer)
 
-
-def try_in_memory(refuser, tally):
+def try_in_memory(refuser, stored, jobs, tally):
     """Refuses each growth of the sessions over files in memory, alone and with all later ones."""
+    with open(stored, 'rb') as file:
+        whole = Answer(file.read(), b'', 0)
     free = refuser.run([])
-    is_free = free.answer.status == 0 and free.calls >= LEAST_IN_MEMORY
-    tally.add('sessions in memory', [] if is_free else ['gave %r' % (free,)])
-    reported = 0
-    for first in range(1, free.calls + 1):
-        refusal = refuser.run([], first, first)
-        reported += refusal.answer.errors != free.answer.errors
-        faults = faults_in_memory(refusal, free)
-        faults += [] if refusal.own + refusal.others == 1 else ['%d refused' % (refusal.own + refusal.others)]
-        tally.add('sessions in memory, growth %d refused' % first, faults)
-        answer = refuser.run([], first, 2**31 - 1).answer
-        is_front = answer.status == NO_MEMORY and free.answer.output.startswith(answer.output)
-        tally.add('sessions in memory, refused from growth %d on' % first, [] if is_front else ['gave %r' % (answer,)])
-    print('%d allocations failed in sessions in memory, %d of them reported by a session' % (free.calls, reported), flush=True)
+    tally.add('sessions in memory', faults_of_whole(free, whole))
+    counts = Counter()
+
+    def both(first):
+        return refuser.run([], first, first), refuser.run([], first, 2**31 - 1)
+
+    growths = range(1, free.calls + 1)
+    for first, (alone, onwards) in zip(growths, side_by_side(jobs, both, growths)):
+        counts[refused_call(alone)] += 1
+        tally.add('sessions in memory, growth %d refused' % first, faults_in_memory(alone, onwards, free))
+    for name, least in IN_MEMORY.items():
+        few = ['%d refused, fewer than %d' % (counts[name], least)] if counts[name] < least else []
+        tally.add('sessions in memory, growths of ' + name.decode(), few)
+    told = ', '.join('%d of %s' % (counts[name], name.decode()) for name in IN_MEMORY)
+    print('%d allocations failed in sessions in memory: %s' % (free.calls, told), flush=True)
 
 
 def try_growths(program, top, given, tally):
@@ -218,7 +224,8 @@ def try_growths(program, top, given, tally):
     print('seed %d' % given.seed, flush=True)
     try_sessions(Refuser(program, library), list(sessions(top, given.seed, given.sessions)), given.jobs, tally)
     if given.in_memory:
-        try_in_memory(Refuser(program_of(given.in_memory), library), tally)
+        stored = os.path.join(os.path.dirname(os.path.dirname(os.path.abspath(given.in_memory))), 'stdout')
+        try_in_memory(Refuser(program_of(given.in_memory), library), stored, given.jobs, tally)
 
 
 def main():

@@ -123,7 +123,7 @@ def met(names):
         public = public_names(crate)
         for place, _, inside in os.walk(os.path.join(TOP, "crates", crate, "src")):
             for file in inside:
-                if file.endswith(".rt") and "tests" not in place and file != "tests.rt":
+                if file.endswith(".rt") and "tests" not in os.path.relpath(place, TOP) and file != "tests.rt":
                     with open(os.path.join(place, file), encoding="utf-8") as opened:
                         text = opened.read()
                     note(WORD.findall(public_contracts(text, public)), imports_of(text))

@@ -18,6 +18,7 @@ import argparse
 import os
 import sys
 
+import signals
 from recipes.clusters import try_clusters
 from recipes.days import try_days
 from recipes.faults import try_faults
@@ -55,6 +56,7 @@ def arguments():
 
 def main():
     asked = arguments()
+    signals.heed()
     trial = Trial(asked.program, asked.shell)
     try:
         trial.install()

@@ -10,6 +10,7 @@ otherwise the output says that these were not tried. The last line is 'N passed,
 import sys
 import traceback
 
+import signals
 from tool_trials.accept import try_accept
 from tool_trials.age import try_age
 from tool_trials.faults import try_faults, try_signals
@@ -38,6 +39,7 @@ def main():
     if len(sys.argv) != 2 or sys.argv[1] in ('-h', '--help'):
         print(__doc__)
         sys.exit(0 if sys.argv[1:] in (['-h'], ['--help']) else 15)
+    signals.heed()
     program, tally = program_of(sys.argv[1]), Tally()
     given = [(program, shell, trial, tally) for trial in TRIALS for shell in shells()]
     for _ in side_by_side(4, try_one, given):

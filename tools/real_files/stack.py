@@ -9,11 +9,11 @@ from trials import run
 from .examples import EXAMPLES, LEVELS, folders_of_aide, words_at
 from .outside import limited
 
-STACK = 80 * 1024
+STACK = 64 * 1024
 
 
 def try_stack(program, tally):
-    """Every stored session, and the examples at each level, with 80 kB of stack, the arguments among them."""
+    """Every stored session, and the examples at each level, with 64 kB of stack, the arguments among them."""
     settings = {'preexec_fn': limited(resource.RLIMIT_STACK, STACK), 'env': {}}
     for path in cases.all_cases():
         case = cases.read(path)

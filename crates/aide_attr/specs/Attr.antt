@@ -7,9 +7,10 @@ use Rattle.aide_attr.specs.declared.attr.Attr.{Attr}
 use Rattle.aide_attr.specs.declared.attr.Attr.TheVariants as attr
 use Rattle.aide_attr.specs.declared.attr.TheConstants.Attr.{ALL}
 use Rattle.aide_attr.specs.declared.form.Form.{Form}
-use Rattle.aide_attr.specs.declared.form.Form.TheVariants.{Kind, Mode, Number, Time, Link, Digest, Opaque}
+use Rattle.aide_attr.specs.declared.form.Form.TheVariants.{Kind, Mode, Number, Time, Link}
+use Rattle.aide_attr.specs.declared.form.Form.TheVariants.{Digest, Opaque}
 
--- A line of the table: the number in the order, from 0; the names in configurations, in details and
+-- A row of the table: the number in the order, from 0; the names in configurations, in details and
 -- of the column; the bit of the column `attr`, if there is one; the letter of the place in a
 -- summary string; and the form in which values are written.
 pub record Row : Type 0 where
@@ -21,7 +22,7 @@ pub record Row : Type 0 where
   pub place : ℕ
   pub form : Form
 
--- a line of the table by its parts
+-- a row by its parts
 unfoldable pub row : ℕ → List ℕ → List ℕ → List ℕ → Option ℕ → List ℕ → Form → Row
 row n name detail_name column bit place form = record {
   number = n;
@@ -33,16 +34,18 @@ row n name detail_name column bit place form = record {
   form = form;
 }
 
--- the line of a digest: the column has the digest's name, and the place is `H`
+-- the row of a digest: the column has the digest's name, and the place is `H`
 abbrev pub digest : ℕ → List ℕ → List ℕ → ℕ → ℕ → Row
-digest n name detail_name least most = row n name detail_name name None (codes "H") (Digest least most)
+digest n name detail_name least most =
+    row n name detail_name name None (codes "H") (Digest least most)
 
 -- the table
 unfoldable pub row_of : Attr → Row
 row_of attr.Ftype = row 0 (codes "ftype") (codes "Type") (codes "perm") None (codes "Y") Kind
 row_of attr.Lname = row 1 (codes "l") (codes "Lname") (codes "lname") (Some 1) (codes "l") Link
 row_of attr.Size = row 2 (codes "s") (codes "Size") (codes "size") (Some 5) (codes "Z") Number
-row_of attr.Bcount = row 3 (codes "b") (codes "Bcount") (codes "bcount") (Some 10) (codes "b") Number
+row_of attr.Bcount =
+    row 3 (codes "b") (codes "Bcount") (codes "bcount") (Some 10) (codes "b") Number
 row_of attr.Perm = row 4 (codes "p") (codes "Perm") (codes "perm") (Some 2) (codes "p") Mode
 row_of attr.Uid = row 5 (codes "u") (codes "UID") (codes "uid") (Some 3) (codes "u") Number
 row_of attr.Gid = row 6 (codes "g") (codes "GID") (codes "gid") (Some 4) (codes "g") Number
@@ -50,7 +53,8 @@ row_of attr.Atime = row 7 (codes "a") (codes "Atime") (codes "atime") (Some 6) (
 row_of attr.Mtime = row 8 (codes "m") (codes "Mtime") (codes "mtime") (Some 8) (codes "m") Time
 row_of attr.Ctime = row 9 (codes "c") (codes "Ctime") (codes "ctime") (Some 7) (codes "c") Time
 row_of attr.Inode = row 10 (codes "i") (codes "Inode") (codes "inode") (Some 9) (codes "i") Number
-row_of attr.Linkcount = row 11 (codes "n") (codes "Linkcount") (codes "lcount") (Some 11) (codes "n") Number
+row_of attr.Linkcount =
+    row 11 (codes "n") (codes "Linkcount") (codes "lcount") (Some 11) (codes "n") Number
 row_of attr.Md5 = digest 12 (codes "md5") (codes "MD5") 16 16
 row_of attr.Sha1 = digest 13 (codes "sha1") (codes "SHA1") 20 20
 row_of attr.Sha256 = digest 14 (codes "sha256") (codes "SHA256") 32 32
@@ -68,11 +72,14 @@ row_of attr.Sha512Of256 = digest 25 (codes "sha512_256") (codes "SHA512/256") 32
 row_of attr.Sha3Of256 = digest 26 (codes "sha3_256") (codes "SHA3-256") 32 32
 row_of attr.Sha3Of512 = digest 27 (codes "sha3_512") (codes "SHA3-512") 64 64
 row_of attr.Acl = row 28 (codes "acl") (codes "ACL") (codes "acl") None (codes "A") Opaque
-row_of attr.Xattrs = row 29 (codes "xattrs") (codes "XAttrs") (codes "xattrs") None (codes "X") Opaque
-row_of attr.Selinux = row 30 (codes "selinux") (codes "SELinux") (codes "selinux") None (codes "S") Opaque
+row_of attr.Xattrs =
+    row 29 (codes "xattrs") (codes "XAttrs") (codes "xattrs") None (codes "X") Opaque
+row_of attr.Selinux =
+    row 30 (codes "selinux") (codes "SELinux") (codes "selinux") None (codes "S") Opaque
 row_of attr.E2fsattrs =
     row 31 (codes "e2fsattrs") (codes "E2FSAttrs") (codes "e2fsattrs") None (codes "E") Opaque
-row_of attr.Caps = row 32 (codes "caps") (codes "Caps") (codes "capabilities") None (codes "C") Opaque
+row_of attr.Caps =
+    row 32 (codes "caps") (codes "Caps") (codes "capabilities") None (codes "C") Opaque
 
 -- the columns of the table, first the number in the order
 abbrev pub number : Attr → ℕ

@@ -1,10 +1,11 @@
 //! The table of attributes. All code that depends on this table is here.
 
-ghost use Rattle.std.specs.Prelude.{◌≡◌, ◌<◌, ◌≤◌, IfSome, None};
+ghost use Rattle.std.specs.Prelude.{◌≡◌, ◌<◌, ◌≤◌, IfSome, None, codes};
 ghost use Rattle.aide_attr.specs.Attr.{number, row_of, name_of, detail_name_of, column_of, bit_of};
 ghost use Rattle.aide_attr.specs.Attr.{place_of, form_of};
 ghost use Rattle.aide_attr.specs.Attr.{most_bytes, longest_digest, most_bits, attr_named};
 ghost use Rattle.aide_attr.specs.Attr.{attr_of_column, holder_of};
+ghost use Rattle.aide_attr.specs.Byte.{letter};
 
 use crate::form::Form;
 
@@ -64,7 +65,7 @@ pub enum Attr {
     Caps,
 }
 
-/// A line of the table.
+/// A row of the table of attributes.
 #[derive(Clone, Copy)]
 struct Row {
     name: &'static [u8],
@@ -75,50 +76,51 @@ struct Row {
     form: Form,
 }
 
-/// Makes a line of the table from its parts.
-fn line(
-    name: &'static [u8],
-    detail_name: &'static [u8],
-    column: &'static [u8],
-    bit: Option<u32>,
-    place: u8,
-    form: Form,
-) -> Row
-    ensures name { result.name.now ≡ name.now }
-    ensures detail_name { result.detail_name.now ≡ detail_name.now }
-    ensures column { result.column.now ≡ column.now }
-    ensures bit { result.bit ≡ bit }
-    ensures place { result.place ≡ place }
-    ensures form { result.form ≡ form }
-{
-    Row {
-        name,
-        detail_name,
-        column,
-        bit,
-        place,
-        form,
+impl Row {
+    /// Makes a row from its parts.
+    fn new(
+        name: &'static [u8],
+        detail_name: &'static [u8],
+        column: &'static [u8],
+        bit: Option<u32>,
+        place: u8,
+        form: Form,
+    ) -> Row
+        ensures name { result.name.now ≡ name.now }
+        ensures detail_name { result.detail_name.now ≡ detail_name.now }
+        ensures column { result.column.now ≡ column.now }
+        ensures bit { result.bit ≡ bit }
+        ensures place { result.place ≡ place }
+        ensures form { result.form ≡ form }
+    {
+        Row {
+            name,
+            detail_name,
+            column,
+            bit,
+            place,
+            form,
+        }
     }
-}
 
-/// Makes the line of a digest of at least `least` and at most `most` bytes. Its column has its
-/// name.
-fn digest(name: &'static [u8], detail_name: &'static [u8], least: u8, most: u8) -> Row
-    ensures name { result.name.now ≡ name.now }
-    ensures detail_name { result.detail_name.now ≡ detail_name.now }
-    ensures column { result.column.now ≡ name.now }
-    ensures bit { result.bit ≡ None }
-    ensures place { result.place ≡ 72 }
-    ensures form { result.form ≡ Form.Digest least most }
-{
-    line(
-        name,
-        detail_name,
-        name,
-        None,
-        b'H',
-        Form::Digest(least, most),
-    )
+    /// Makes the row of a digest of at least `least` and at most `most` bytes. Its column has its name.
+    fn digest(name: &'static [u8], detail_name: &'static [u8], least: u8, most: u8) -> Row
+        ensures name { result.name.now ≡ name.now }
+        ensures detail_name { result.detail_name.now ≡ detail_name.now }
+        ensures column { result.column.now ≡ name.now }
+        ensures bit { result.bit ≡ None }
+        ensures place { result.place ≡ letter (codes "H") }
+        ensures form { result.form ≡ Form.Digest least most }
+    {
+        Row::new(
+            name,
+            detail_name,
+            name,
+            None,
+            b'H',
+            Form::Digest(least, most),
+        )
+    }
 }
 
 impl Attr {
@@ -251,38 +253,45 @@ impl Attr {
         ensures short { most_bytes result.form ≤ longest_digest }
     {
         match self {
-            Attr::Ftype => line(b"ftype", b"Type", b"perm", None, b'Y', Form::Kind),
-            Attr::Lname => line(b"l", b"Lname", b"lname", Some(1), b'l', Form::Link),
-            Attr::Size => line(b"s", b"Size", b"size", Some(5), b'Z', Form::Number),
-            Attr::Bcount => line(b"b", b"Bcount", b"bcount", Some(10), b'b', Form::Number),
-            Attr::Perm => line(b"p", b"Perm", b"perm", Some(2), b'p', Form::Mode),
-            Attr::Uid => line(b"u", b"UID", b"uid", Some(3), b'u', Form::Number),
-            Attr::Gid => line(b"g", b"GID", b"gid", Some(4), b'g', Form::Number),
-            Attr::Atime => line(b"a", b"Atime", b"atime", Some(6), b'a', Form::Time),
-            Attr::Mtime => line(b"m", b"Mtime", b"mtime", Some(8), b'm', Form::Time),
-            Attr::Ctime => line(b"c", b"Ctime", b"ctime", Some(7), b'c', Form::Time),
-            Attr::Inode => line(b"i", b"Inode", b"inode", Some(9), b'i', Form::Number),
-            Attr::Linkcount => line(b"n", b"Linkcount", b"lcount", Some(11), b'n', Form::Number),
-            Attr::Md5 => digest(b"md5", b"MD5", 16, 16),
-            Attr::Sha1 => digest(b"sha1", b"SHA1", 20, 20),
-            Attr::Sha256 => digest(b"sha256", b"SHA256", 32, 32),
-            Attr::Sha512 => digest(b"sha512", b"SHA512", 64, 64),
-            Attr::Rmd160 => digest(b"rmd160", b"RMD160", 20, 20),
-            Attr::Tiger => digest(b"tiger", b"TIGER", 1, 64),
-            Attr::Crc32 => digest(b"crc32", b"CRC32", 1, 64),
-            Attr::Crc32b => digest(b"crc32b", b"CRC32B", 1, 64),
-            Attr::Haval => digest(b"haval", b"HAVAL", 1, 64),
-            Attr::Gost => digest(b"gost", b"GOST", 1, 64),
-            Attr::Whirlpool => digest(b"whirlpool", b"WHIRLPOOL", 64, 64),
-            Attr::Stribog256 => digest(b"stribog256", b"STRIBOG256", 32, 32),
-            Attr::Stribog512 => digest(b"stribog512", b"STRIBOG512", 64, 64),
-            Attr::Sha512Of256 => digest(b"sha512_256", b"SHA512/256", 32, 32),
-            Attr::Sha3Of256 => digest(b"sha3_256", b"SHA3-256", 32, 32),
-            Attr::Sha3Of512 => digest(b"sha3_512", b"SHA3-512", 64, 64),
-            Attr::Acl => line(b"acl", b"ACL", b"acl", None, b'A', Form::Opaque),
-            Attr::Xattrs => line(b"xattrs", b"XAttrs", b"xattrs", None, b'X', Form::Opaque),
-            Attr::Selinux => line(b"selinux", b"SELinux", b"selinux", None, b'S', Form::Opaque),
-            Attr::E2fsattrs => line(
+            Attr::Ftype => Row::new(b"ftype", b"Type", b"perm", None, b'Y', Form::Kind),
+            Attr::Lname => Row::new(b"l", b"Lname", b"lname", Some(1), b'l', Form::Link),
+            Attr::Size => Row::new(b"s", b"Size", b"size", Some(5), b'Z', Form::Number),
+            Attr::Bcount => Row::new(b"b", b"Bcount", b"bcount", Some(10), b'b', Form::Number),
+            Attr::Perm => Row::new(b"p", b"Perm", b"perm", Some(2), b'p', Form::Mode),
+            Attr::Uid => Row::new(b"u", b"UID", b"uid", Some(3), b'u', Form::Number),
+            Attr::Gid => Row::new(b"g", b"GID", b"gid", Some(4), b'g', Form::Number),
+            Attr::Atime => Row::new(b"a", b"Atime", b"atime", Some(6), b'a', Form::Time),
+            Attr::Mtime => Row::new(b"m", b"Mtime", b"mtime", Some(8), b'm', Form::Time),
+            Attr::Ctime => Row::new(b"c", b"Ctime", b"ctime", Some(7), b'c', Form::Time),
+            Attr::Inode => Row::new(b"i", b"Inode", b"inode", Some(9), b'i', Form::Number),
+            Attr::Linkcount => Row::new(
+                b"n",
+                b"Linkcount",
+                b"lcount",
+                Some(11),
+                b'n',
+                Form::Number,
+            ),
+            Attr::Md5 => Row::digest(b"md5", b"MD5", 16, 16),
+            Attr::Sha1 => Row::digest(b"sha1", b"SHA1", 20, 20),
+            Attr::Sha256 => Row::digest(b"sha256", b"SHA256", 32, 32),
+            Attr::Sha512 => Row::digest(b"sha512", b"SHA512", 64, 64),
+            Attr::Rmd160 => Row::digest(b"rmd160", b"RMD160", 20, 20),
+            Attr::Tiger => Row::digest(b"tiger", b"TIGER", 1, 64),
+            Attr::Crc32 => Row::digest(b"crc32", b"CRC32", 1, 64),
+            Attr::Crc32b => Row::digest(b"crc32b", b"CRC32B", 1, 64),
+            Attr::Haval => Row::digest(b"haval", b"HAVAL", 1, 64),
+            Attr::Gost => Row::digest(b"gost", b"GOST", 1, 64),
+            Attr::Whirlpool => Row::digest(b"whirlpool", b"WHIRLPOOL", 64, 64),
+            Attr::Stribog256 => Row::digest(b"stribog256", b"STRIBOG256", 32, 32),
+            Attr::Stribog512 => Row::digest(b"stribog512", b"STRIBOG512", 64, 64),
+            Attr::Sha512Of256 => Row::digest(b"sha512_256", b"SHA512/256", 32, 32),
+            Attr::Sha3Of256 => Row::digest(b"sha3_256", b"SHA3-256", 32, 32),
+            Attr::Sha3Of512 => Row::digest(b"sha3_512", b"SHA3-512", 64, 64),
+            Attr::Acl => Row::new(b"acl", b"ACL", b"acl", None, b'A', Form::Opaque),
+            Attr::Xattrs => Row::new(b"xattrs", b"XAttrs", b"xattrs", None, b'X', Form::Opaque),
+            Attr::Selinux => Row::new(b"selinux", b"SELinux", b"selinux", None, b'S', Form::Opaque),
+            Attr::E2fsattrs => Row::new(
                 b"e2fsattrs",
                 b"E2FSAttrs",
                 b"e2fsattrs",
@@ -290,7 +299,7 @@ impl Attr {
                 b'E',
                 Form::Opaque,
             ),
-            Attr::Caps => line(b"caps", b"Caps", b"capabilities", None, b'C', Form::Opaque),
+            Attr::Caps => Row::new(b"caps", b"Caps", b"capabilities", None, b'C', Form::Opaque),
         }
     }
 }

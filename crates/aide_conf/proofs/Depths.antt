@@ -2,7 +2,6 @@
 use Rattle.std.proofs.Common.{ℕ, ◌≡◌, ◌<◌, suc, zero, true, false, List, [], ◌∷◌, ◌++◌, length, refl, sym, ap, subst}
 use Rattle.std.proofs.Common.{◌∙◌, arith, inl, inr, ◌⊎◌, append_assoc}
 use Rattle.std.proofs.lemmas.List.{length-append, append-nil}
-use Rattle.std.specs.Prelude.{◌↔◌}
 use Rattle.aide_conf.specs.Blocks.{Seen, opens, closes, Inside, IsClosed, IsInnermost, IsOutside, Encloses}
 use Rattle.aide_conf.specs.Blocks.{AreEnclosing, AreFalling, IsOneOf}
 use Rattle.aide_conf.proofs.BlockLemmas.{cut_at, opening, IsClosed-more, Settled, Settled-body}
@@ -12,7 +11,7 @@ Settled-inside w (inl h) = Settled-body false w h
 Settled-inside w (inr h) = Settled-body true w h
 
 -- an opening line that is not closed before another such line is not closed behind it
-still_open : (o : Seen) (rest between : List Seen) → opens o.shape ≡ true → ¬ IsClosed rest → ¬ IsClosed between
+still_open : (o : Seen) (rest between : List Seen) → opens o.role ≡ true → ¬ IsClosed rest → ¬ IsClosed between
     → ¬ IsClosed (rest ++ o ∷ between)
 still_open o rest between t no_rest no_between h = elim (cut_at rest (o ∷ between) h.0 h.2 h.1 h.3) [
   | inl p ↦ no_rest (h.0, h.1, p.0, p.1, h.4, h.5)
@@ -22,8 +21,8 @@ still_open o rest between t no_rest no_between h = elim (cut_at rest (o ∷ betw
     within : (more : List Seen) → h.0 ≡ rest ++ more → o ∷ between ≡ more ++ h.1 ∷ h.2 → ⊥
     within [] e q =
         let same : o ≡ h.1 = cc in
-        let f : closes o.shape ≡ false = (opening o.shape t).1 in
-        let g : closes o.shape ≡ true = rw same h.4 in
+        let f : closes o.role ≡ false = (opening o.role t).1 in
+        let g : closes o.role ≡ true = rw same h.4 in
         cc
     within (x ∷ more) e q =
         let same : x ≡ o = cc in

@@ -12,13 +12,15 @@ use Rattle.aide_conf.specs.declared.fault.ConfFaultKind.TheVariants.{BadDirectiv
 use Rattle.aide_conf.specs.declared.fault.ConfFaultKind.TheVariants.{MissingEndif, TooDeep, BadName, BadValue, BadUrl}
 use Rattle.aide_conf.specs.declared.fault.ConfFaultKind.TheVariants.{BadLine, UnknownAttribute, NoOldDatabase}
 use Rattle.aide_conf.specs.declared.fault.ConfFaultKind.TheVariants.{NoNewDatabase}
-use Rattle.aide_conf.specs.declared.setting.Switch.TheVariants.{Quiet}
-use Rattle.aide_conf.specs.Lines.{Place, is_blank, strip, lines_of, places}
-use Rattle.aide_conf.specs.Reading.{Reading, Nothing, Faulty, SetsLevel, DefinesGroup, DefinesVariable, OpensBlock}
-use Rattle.aide_conf.specs.Reading.{kept_reading, value_reading, is_selection, is_directive, is_omitted, main_setting}
-use Rattle.aide_conf.specs.Reading.{is_accepted, is_older, setting_named, bool_named, is_left_out, path_after, path_of}
-use Rattle.aide_conf.specs.Directive.{reading, item_of, item_by, if_item}
-use Rattle.aide_conf.specs.Marks.{Marked, says, last_given, fault_at, missing, variable}
+use Rattle.aide_conf.specs.declared.option_kind.Switch.TheVariants.{Quiet}
+use Rattle.aide_conf.specs.Cutting.{Place, is_blank, strip, lines_of, places}
+use Rattle.aide_conf.specs.Effect.{Effect, Nothing, Faulty, SetsLevel, DefinesGroup, DefinesVariable, OpensBlock}
+use Rattle.aide_conf.specs.Effect.{kept_effect, value_effect, is_selection, is_directive, is_omitted, main_option}
+use Rattle.aide_conf.specs.Effect.{is_accepted, is_older, option_named, bool_named, is_left_out, path_after, path_of}
+use Rattle.aide_conf.specs.Directive.{line_effect, directive_of, directive_by, condition}
+use Rattle.aide_conf.specs.Marks.{Marked, says, last_given}
+use Rattle.aide_conf.specs.MarkedVariables.{variable}
+use Rattle.aide_conf.specs.PlaceFault.{fault_at, missing}
 use Rattle.aide_conf.specs.Settings.{counted, level_in, switch_in}
 
 -- ---- lines
@@ -37,31 +39,31 @@ stripped = refl
 -- ---- what a line says
 
 -- a used line without variables
-line : List ℕ → Reading
-line bytes = reading true bytes bytes
+line : List ℕ → Effect
+line bytes = line_effect true bytes bytes
 
 level : line (codes "report_level = minimal") ≡ SetsLevel Minimal
-unfolding line reading item_of kept_reading value_reading is_selection is_directive setting_named main_setting strip is_blank level_named
+unfolding line line_effect directive_of kept_effect value_effect is_selection is_directive option_named main_option strip is_blank level_named
 level = refl
 
 group_line : line (codes "my = p+s") ≡ DefinesGroup (codes "my") (codes "p+s")
-unfolding line reading item_of kept_reading is_selection is_directive setting_named main_setting is_accepted is_older strip is_blank is_group_name is_word is_word_byte attr_named row_of row is_empty_name
+unfolding line line_effect directive_of kept_effect is_selection is_directive option_named main_option is_accepted is_older strip is_blank is_group_name is_word is_word_byte attr_named row_of row is_empty_name
 group_line = refl
 
 taken_name : line (codes "p = s") ≡ Faulty BadName
-unfolding line reading item_of kept_reading is_selection is_directive setting_named main_setting is_accepted is_older strip is_blank is_group_name is_word is_word_byte attr_named row_of row is_empty_name
+unfolding line line_effect directive_of kept_effect is_selection is_directive option_named main_option is_accepted is_older strip is_blank is_group_name is_word is_word_byte attr_named row_of row is_empty_name
 taken_name = refl
 
 no_line : line (codes "hello") ≡ Faulty BadLine
-unfolding line reading item_of kept_reading is_selection is_directive strip is_blank
+unfolding line line_effect directive_of kept_effect is_selection is_directive strip is_blank
 no_line = refl
 
 omitted : line (codes "@@include /x") ≡ Faulty LeftOut
-unfolding line reading item_of item_by is_directive is_omitted strip is_blank
+unfolding line line_effect directive_of directive_by is_directive is_omitted strip is_blank
 omitted = refl
 
 unknown_word : line (codes "@@if version A") ≡ Faulty BadDirective
-unfolding line reading item_of item_by if_item is_directive is_omitted strip is_blank
+unfolding line line_effect directive_of directive_by condition is_directive is_omitted strip is_blank
 unknown_word = refl
 
 three_slashes : path_after (codes "///old") ≡ Some (codes "/old")
@@ -73,11 +75,11 @@ unfolding path_after
 four_slashes = refl
 
 two_slashes : line (codes "database_in=file://host/old") ≡ Faulty BadUrl
-unfolding line reading item_of kept_reading value_reading is_selection is_directive setting_named main_setting strip is_blank is_left_out path_of path_after
+unfolding line line_effect directive_of kept_effect value_effect is_selection is_directive option_named main_option strip is_blank is_left_out path_of path_after
 two_slashes = refl
 
 empty_older : line (codes "grouped=") ≡ Faulty BadValue
-unfolding line reading item_of kept_reading is_selection is_directive setting_named main_setting is_accepted is_older strip is_blank
+unfolding line line_effect directive_of kept_effect is_selection is_directive option_named main_option is_accepted is_older strip is_blank
 empty_older = refl
 
 -- ---- settings of places
@@ -89,17 +91,17 @@ at bytes =
 
 -- of three lines the last level before `report_url=stdout` counts
 last_level : last_given level_in (counted (at (codes "report_level=minimal") ∷ at (codes "report_url=stdout") ∷ at (codes "report_level=summary") ∷ [])) ≡ Some Minimal
-unfolding at last_given says reading item_of kept_reading value_reading is_selection is_directive setting_named main_setting strip is_blank level_named
+unfolding at last_given says line_effect directive_of kept_effect value_effect is_selection is_directive option_named main_option strip is_blank level_named
 last_level = refl
 
 last_of_two : last_given (switch_in Quiet) (at (codes "report_quiet=yes") ∷ at (codes "report_quiet=no") ∷ []) ≡ Some false
-unfolding at last_given says reading item_of kept_reading value_reading is_selection is_directive setting_named main_setting strip is_blank bool_named
+unfolding at last_given says line_effect directive_of kept_effect value_effect is_selection is_directive option_named main_option strip is_blank bool_named
 last_of_two = refl
 
 -- ---- faults of places
 
 unknown_attribute : fault_at Check [] (record (at (codes "report_force_attrs=p+nope")) { verdict = Some (Err (UnknownName 2)) }) ≡ Some UnknownAttribute
-unfolding at fault_at says reading item_of kept_reading value_reading is_selection is_directive setting_named main_setting strip is_blank
+unfolding at fault_at says line_effect directive_of kept_effect value_effect is_selection is_directive option_named main_option strip is_blank
 unknown_attribute = refl
 
 end_of_after : Marked
@@ -124,64 +126,64 @@ open_block = refl
 
 -- ---- directives
 
-unused : List ℕ → Reading
-unused bytes = reading false bytes bytes
+unused : List ℕ → Effect
+unused bytes = line_effect false bytes bytes
 
 -- a value is the rest of the line after its name
-defined : reading true (codes "@@define V  a b") (codes "a b") ≡ DefinesVariable (codes "V") (codes "a b")
-unfolding reading item_of item_by is_directive is_omitted strip is_blank is_word is_word_byte
+defined : line_effect true (codes "@@define V  a b") (codes "a b") ≡ DefinesVariable (codes "V") (codes "a b")
+unfolding line_effect directive_of directive_by is_directive is_omitted strip is_blank is_word is_word_byte
 defined = refl
 
 no_variable : line (codes "@@define A=x") ≡ Faulty BadName
-unfolding line reading item_of item_by is_directive is_omitted strip is_blank is_word is_word_byte
+unfolding line line_effect directive_of directive_by is_directive is_omitted strip is_blank is_word is_word_byte
 no_variable = refl
 
 two_names : line (codes "@@ifdef A B") ≡ OpensBlock false
-unfolding line reading item_of item_by is_directive is_omitted strip is_blank is_word is_word_byte
+unfolding line line_effect directive_of directive_by is_directive is_omitted strip is_blank is_word is_word_byte
 two_names = refl
 
 -- in an unused part a name is not judged, a line is not read, and a word that begins with `if` is refused
 unjudged : unused (codes "@@ifdef A B") ≡ OpensBlock true
-unfolding unused reading item_of item_by is_directive is_omitted strip is_blank
+unfolding unused line_effect directive_of directive_by is_directive is_omitted strip is_blank
 unjudged = refl
 
 unread : unused (codes "hello") ≡ Nothing
-unfolding unused reading item_of is_directive
+unfolding unused line_effect directive_of is_directive
 unread = refl
 
 passed_over : unused (codes "@@include /x") ≡ Nothing
-unfolding unused reading item_of item_by is_directive is_omitted strip is_blank
+unfolding unused line_effect directive_of directive_by is_directive is_omitted strip is_blank
 passed_over = refl
 
 if_host : unused (codes "@@ifhost h") ≡ Faulty LeftOut
-unfolding unused reading item_of item_by is_directive is_omitted strip is_blank
+unfolding unused line_effect directive_of directive_by is_directive is_omitted strip is_blank
 if_host = refl
 
 if_other : unused (codes "@@iffoo") ≡ Faulty BadDirective
-unfolding unused reading item_of item_by is_directive is_omitted strip is_blank
+unfolding unused line_effect directive_of directive_by is_directive is_omitted strip is_blank
 if_other = refl
 
 -- ---- faults of blocks
 
 else_outside : fault_at Check [] (at (codes "@@else")) ≡ Some StrayElse
-unfolding at fault_at says reading item_of item_by is_directive is_omitted strip is_blank
+unfolding at fault_at says line_effect directive_of directive_by is_directive is_omitted strip is_blank
 else_outside = refl
 
 second_else : fault_at Check [] (record (at (codes "@@else")) { depth = 1; divided = true }) ≡ Some StrayElse
-unfolding at fault_at says reading item_of item_by is_directive is_omitted strip is_blank
+unfolding at fault_at says line_effect directive_of directive_by is_directive is_omitted strip is_blank
 second_else = refl
 
 endif_outside : fault_at Check [] (at (codes "@@endif now")) ≡ Some StrayEndif
-unfolding at fault_at says reading item_of item_by is_directive is_omitted strip is_blank
+unfolding at fault_at says line_effect directive_of directive_by is_directive is_omitted strip is_blank
 endif_outside = refl
 
 -- too deep comes before a bad name
 thirty_third : fault_at Check [] (record (at (codes "@@ifdef")) { depth = 32 }) ≡ Some TooDeep
-unfolding at fault_at says reading item_of item_by is_directive is_omitted strip is_blank is_word is_word_byte
+unfolding at fault_at says line_effect directive_of directive_by is_directive is_omitted strip is_blank is_word is_word_byte
 thirty_third = refl
 
 thirty_second : fault_at Check [] (record (at (codes "@@ifdef")) { depth = 31 }) ≡ Some BadName
-unfolding at fault_at says reading item_of item_by is_directive is_omitted strip is_blank is_word is_word_byte
+unfolding at fault_at says line_effect directive_of directive_by is_directive is_omitted strip is_blank is_word is_word_byte
 thirty_second = refl
 
 -- ---- variables after some lines
@@ -191,14 +193,14 @@ sets_x = record (at (codes "@@define A @@{B}")) { expanded = codes "x" }
 
 -- the last line that sets it decides
 value_of_two : variable (sets_x ∷ record sets_x { expanded = codes "y" } ∷ []) (codes "A") ≡ Some (codes "y")
-unfolding sets_x at last_given says reading item_of item_by is_directive is_omitted strip is_blank is_word is_word_byte
+unfolding sets_x at last_given says line_effect directive_of directive_by is_directive is_omitted strip is_blank is_word is_word_byte
 value_of_two = refl
 
 -- a line in an unused part sets nothing
 value_of_unused : variable (sets_x ∷ record sets_x { used = false; expanded = codes "y" } ∷ []) (codes "A") ≡ Some (codes "x")
-unfolding sets_x at last_given says reading item_of item_by is_directive is_omitted strip is_blank is_word is_word_byte
+unfolding sets_x at last_given says line_effect directive_of directive_by is_directive is_omitted strip is_blank is_word is_word_byte
 value_of_unused = refl
 
 no_value_left : variable (sets_x ∷ at (codes "@@undef A") ∷ []) (codes "A") ≡ None
-unfolding sets_x at last_given says reading item_of item_by is_directive is_omitted strip is_blank is_word is_word_byte
+unfolding sets_x at last_given says line_effect directive_of directive_by is_directive is_omitted strip is_blank is_word is_word_byte
 no_value_left = refl

@@ -16,20 +16,25 @@ use Rattle.aide_conf.specs.declared.fault.ConfText.TheVariants.{Before, File, Af
 use Rattle.aide_conf.specs.declared.fault.ConfFault.{ConfFault}
 use Rattle.aide_conf.specs.declared.fault.ConfFaultKind.{ConfFaultKind}
 use Rattle.aide_conf.specs.declared.options.Options.{Options}
-use Rattle.aide_conf.specs.declared.setting.Database.TheVariants.{Old, New}
-use Rattle.aide_conf.specs.declared.setting.Switch.{Switch}
-use Rattle.aide_conf.specs.declared.setting.Switch.TheVariants.{Grouped, Summarize, Base16, Quiet}
-use Rattle.aide_conf.specs.declared.setting.AttrList.{AttrList}
-use Rattle.aide_conf.specs.declared.setting.AttrList.TheVariants.{IgnoreAdded, IgnoreRemoved, IgnoreChanged, Force}
+use Rattle.aide_conf.specs.declared.option_kind.Side.TheVariants.{Old, New}
+use Rattle.aide_conf.specs.declared.option_kind.Switch.{Switch}
+use Rattle.aide_conf.specs.declared.option_kind.Switch.TheVariants.{Grouped, Summarize, Base16, Quiet}
+use Rattle.aide_conf.specs.declared.option_kind.AttrList.{AttrList}
+use Rattle.aide_conf.specs.declared.option_kind.AttrList.TheVariants.{IgnoreAdded, IgnoreRemoved, IgnoreChanged, Force}
 use Rattle.aide_conf.specs.declared.blocks.Frame.{Frame}
-use Rattle.aide_conf.specs.Lines.{Place, places}
+use Rattle.aide_conf.specs.Cutting.{Place, places}
 use Rattle.aide_conf.specs.Blocks.{nothing}
 use Rattle.aide_conf.specs.code.Stack.{IsOpen}
-use Rattle.aide_conf.specs.Marks.{Marked, AreSound, IsMarkedWell, IsJudgedWell, fault_at, is_text, last_given, path_set}
-use Rattle.aide_conf.specs.Marks.{seen, seen_in}
+use Rattle.aide_conf.specs.Marks.{Marked, last_given}
+use Rattle.aide_conf.specs.MarkedBlocks.{is_text}
+use Rattle.aide_conf.specs.MarkedGroups.{IsJudgedWell}
+use Rattle.aide_conf.specs.MarkedPaths.{path_set}
+use Rattle.aide_conf.specs.PlaceFault.{fault_at}
+use Rattle.aide_conf.specs.RightMarks.{AreSound, IsMarkedWell}
+use Rattle.aide_conf.specs.MarkedBlocks.{seen, seen_in}
 use Rattle.aide_conf.specs.Settings.{AreOptions, AreSettings, Configured, attrs_in, attrs_of, counted, has_any}
 use Rattle.aide_conf.specs.Settings.{level_in, switch_default, switch_in, switch_of}
-use Rattle.aide_conf.specs.Answer.{ReadsAs}
+use Rattle.aide_conf.specs.ReadResult.{ReadsAs}
 use Rattle.aide_conf.proofs.Cuts.{append_nothing}
 use Rattle.aide_conf.proofs.PlaceTaken.{ends_somehow, goes_on}
 use Rattle.aide_conf.proofs.SetOf.{set_of, has_set_of}

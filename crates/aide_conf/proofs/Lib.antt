@@ -10,15 +10,18 @@ pub mod VariablesLemmas
 pub mod Steps
 pub mod VariableSteps
 pub mod Starts
-pub mod Stands
+pub mod Built
 pub mod Takes
 pub mod PlaceTaken
-pub mod Passes
+pub mod TextTaken
 pub mod Whole
 pub mod Only
 pub mod SetOf
 pub mod Exists
 pub mod Named
+pub mod FaultOrderLemmas
+pub mod FaultOrderPlaces
+mod FaultOrderExamples
 pub mod Laws
 pub mod MacroExamples
 pub mod Examples

@@ -14,29 +14,35 @@ use Rattle.aide_conf.specs.declared.fault.ConfText.TheVariants.{Before, File, Af
 use Rattle.aide_conf.specs.declared.fault.ConfFaultKind.{ConfFaultKind}
 use Rattle.aide_conf.specs.declared.fault.ConfFaultKind.TheVariants.{StrayElse, StrayEndif, MissingEndif, LineTooLong}
 use Rattle.aide_conf.specs.declared.fault.ConfFaultKind.TheVariants.{Memory}
-use Rattle.aide_conf.specs.declared.setting.Database.TheVariants.{Old, New}
-use Rattle.aide_conf.specs.declared.pass.Pass.{Pass}
+use Rattle.aide_conf.specs.declared.option_kind.Side.TheVariants.{Old, New}
+use Rattle.aide_conf.specs.declared.builder.SettingsBuilder.{SettingsBuilder}
 use Rattle.aide_conf.specs.declared.blocks.Frame.{Frame}
+use Rattle.std.specs.Borrow.{Bor}
 use Rattle.aide_conf.specs.declared.directive.Directive.{Directive}
 use Rattle.aide_conf.specs.declared.directive.Directive.TheVariants as code
-use Rattle.aide_conf.specs.Lines.{strip}
-use Rattle.aide_conf.specs.Reading.{Reading, Nothing, Faulty, is_skipped, is_directive, expanded_reading}
-use Rattle.aide_conf.specs.Directive.{Item, Define, Undef, IfDef, IfNotDef, IfOther, Else, EndIf, Omitted, Unknown}
-use Rattle.aide_conf.specs.Directive.{Plain, item_of, directive_item, item_text, item_chooses, item_reading, item_grows}
-use Rattle.aide_conf.specs.Directive.{line_grows, shape_of, reading}
-use Rattle.aide_conf.specs.code.Said.{item}
+use Rattle.aide_conf.specs.Cutting.{strip}
+use Rattle.aide_conf.specs.Effect.{Effect, Nothing, Faulty, is_skipped, is_directive, expanded_effect}
+use Rattle.aide_conf.specs.Directive.{directive_of, read_directive, directive_text, directive_chooses, directive_effect, directive_grows}
+use Rattle.aide_conf.specs.Directive.{line_grows, role_of, line_effect}
+use Rattle.aide_conf.specs.code.Returned.{as_lists}
 use Rattle.aide_conf.specs.Blocks.{Opens, Divides, Closes, Seen, is_single, opens, divides, closes}
 use Rattle.aide_conf.specs.code.Stack.{IsOpen, top_used, top_divided, opened, divided_at, closed_at, frames_after}
 use Rattle.aide_conf.specs.Expansion.{plain}
 use Rattle.aide_conf.specs.code.Replacing.{expansion_after}
-use Rattle.aide_conf.specs.Marks.{Marked, says, stands_after, value, is_defined, seen, seen_in, is_text, Grows}
-use Rattle.aide_conf.specs.Marks.{line_fault, fault_at, end_fault, end_block_fault, path_set, missing, IsMarkedWell}
-use Rattle.aide_conf.specs.Marks.{IsJudgedWell, expression_in}
-use Rattle.aide_conf.specs.code.Pass.{StandsFor, TakesOne, TakesReading, fault_of, place_at, text_at}
+use Rattle.aide_conf.specs.Marks.{Marked, says}
+use Rattle.aide_conf.specs.MarkedBlocks.{seen, seen_in, is_text}
+use Rattle.aide_conf.specs.MarkedGroups.{meaning_after}
+use Rattle.aide_conf.specs.MarkedVariables.{value, is_defined}
+use Rattle.aide_conf.specs.RightMarks.{Grows}
+use Rattle.aide_conf.specs.MarkedPaths.{path_set}
+use Rattle.aide_conf.specs.PlaceFault.{line_fault, fault_at, end_fault, end_block_fault, missing}
+use Rattle.aide_conf.specs.RightMarks.{IsMarkedWell}
+use Rattle.aide_conf.specs.MarkedGroups.{IsJudgedWell, expression_in}
+use Rattle.aide_conf.specs.code.Builder.{IsBuiltFrom, TakesOne, TakesEffect, fault_of, place_at, text_at}
 use Rattle.aide_conf.proofs.StackLemmas.{used_right, depth_right, divided_right, single_next, opens_next, divides_next}
 use Rattle.aide_conf.proofs.StackLemmas.{closes_next}
 use Rattle.aide_conf.proofs.ExpansionLemmas.{is_expansion}
-use Rattle.aide_conf.proofs.Stands.{stands_same}
+use Rattle.aide_conf.proofs.Built.{built_same}
 
 -- ---- lines of one text
 
@@ -64,7 +70,7 @@ abbrev else_fault : Bool → Option ConfFaultKind
 else_fault b = if b then Some StrayElse else None
 
 module _ (here : List Seen) (fs : List Frame) (o : IsOpen here fs) (earlier : List Marked) (defined : List ℕ → Bool) (out : List ℕ) (v : Option (Result AttrSet ExprFault)) where
-  divides_well : (x : Seen) → x.shape ≡ Divides → (gs : List Frame) → IsOpen here gs
+  divides_well : (x : Seen) → x.role ≡ Divides → (gs : List Frame) → IsOpen here gs
       → (if length gs == 0 || top_divided gs then Some StrayElse else None) ≡ None
       → IsOpen (here ++ x ∷ []) (divided_at gs)
   divides_well x e [] h f = let bad : Some StrayElse ≡ None = f in cc
@@ -74,30 +80,30 @@ module _ (here : List Seen) (fs : List Frame) (o : IsOpen here fs) (earlier : Li
       by true k = let bad : Some StrayElse ≡ None = k in cc
       by false k = refl
 
-  closes_well : (x : Seen) → x.shape ≡ Closes → (gs : List Frame) → IsOpen here gs
+  closes_well : (x : Seen) → x.role ≡ Closes → (gs : List Frame) → IsOpen here gs
       → (if length gs == 0 then Some StrayEndif else None) ≡ None → IsOpen (here ++ x ∷ []) (closed_at gs)
   closes_well x e [] h f = let bad : Some StrayEndif ≡ None = f in cc
   closes_well x e (g ∷ gs) h f = closes_next here g gs x h (ap closes e)
 
-  opens_well : (x : Seen) (first : Bool) → x.shape ≡ Opens → x.used ≡ top_used fs → x.first ≡ first
+  opens_well : (x : Seen) (first : Bool) → x.role ≡ Opens → x.used ≡ top_used fs → x.first ≡ first
       → IsOpen (here ++ x ∷ []) (opened (top_used fs) first fs)
   opens_well x first e u f = subst (λ z. IsOpen (here ++ x ∷ []) (opened (top_used fs) z fs)) f
       (subst (λ z. IsOpen (here ++ x ∷ []) (opened z x.first fs)) u (opens_next here fs x o (ap opens e) u))
 
-  pub blocks_after : (i : Item) (x : Seen) → x.shape ≡ shape_of i → x.used ≡ top_used fs
-      → x.first ≡ item_chooses defined i
-      → line_fault earlier (length fs) (top_divided fs) (item_reading (top_used fs) i out) v ≡ None
-      → IsOpen (here ++ x ∷ []) (frames_after (shape_of i) (top_used fs) (item_chooses defined i) fs)
-  blocks_after (Define n t) x e u f h = single_next here fs x o (ap is_single e)
-  blocks_after (Undef n) x e u f h = single_next here fs x o (ap is_single e)
-  blocks_after (IfDef n) x e u f h = opens_well x (defined n) e u f
-  blocks_after (IfNotDef n) x e u f h = opens_well x (not (defined n)) e u f
-  blocks_after IfOther x e u f h = opens_well x false e u f
-  blocks_after Else x e u f h = divides_well x e fs o h
-  blocks_after EndIf x e u f h = closes_well x e fs o h
-  blocks_after (Omitted c) x e u f h = single_next here fs x o (ap is_single e)
-  blocks_after (Unknown c) x e u f h = single_next here fs x o (ap is_single e)
-  blocks_after Plain x e u f h = single_next here fs x o (ap is_single e)
+  pub blocks_after : (i : Option (Directive (List ℕ))) (x : Seen) → x.role ≡ role_of i → x.used ≡ top_used fs
+      → x.first ≡ directive_chooses defined i
+      → line_fault earlier (length fs) (top_divided fs) (directive_effect (top_used fs) i out) v ≡ None
+      → IsOpen (here ++ x ∷ []) (frames_after (role_of i) (top_used fs) (directive_chooses defined i) fs)
+  blocks_after (Some (code.Define n t)) x e u f h = single_next here fs x o (ap is_single e)
+  blocks_after (Some (code.Undef n)) x e u f h = single_next here fs x o (ap is_single e)
+  blocks_after (Some (code.IfDef n)) x e u f h = opens_well x (defined n) e u f
+  blocks_after (Some (code.IfNotDef n)) x e u f h = opens_well x (not (defined n)) e u f
+  blocks_after (Some code.IfOther) x e u f h = opens_well x false e u f
+  blocks_after (Some code.Else) x e u f h = divides_well x e fs o h
+  blocks_after (Some code.EndIf) x e u f h = closes_well x e fs o h
+  blocks_after (Some (code.Omitted c)) x e u f h = single_next here fs x o (ap is_single e)
+  blocks_after (Some (code.Unknown c)) x e u f h = single_next here fs x o (ap is_single e)
+  blocks_after None x e u f h = single_next here fs x o (ap is_single e)
 
 -- ---- one line
 
@@ -112,10 +118,10 @@ not_directive (b ∷ bs) h =
 
 module _ (need : Need) (earlier : List Marked) (text : ConfText) (n : ℕ) (line : List ℕ) (fs : List Frame) (o : IsOpen (seen_in text earlier) fs) where
   abbrev out : List ℕ
-  out = expansion_after (value earlier) 0 (item_text line (item_of line))
+  out = expansion_after (value earlier) 0 (directive_text line (directive_of line))
 
-  abbrev said_here : Reading
-  said_here = reading (top_used fs) line out
+  abbrev effect_here : Effect
+  effect_here = line_effect (top_used fs) line out
 
   abbrev marked : Option (Result AttrSet ExprFault) → Marked
   marked v = record {
@@ -123,29 +129,29 @@ module _ (need : Need) (earlier : List Marked) (text : ConfText) (n : ℕ) (line
     used = top_used fs;
     depth = length fs;
     divided = top_divided fs;
-    first = item_chooses (is_defined earlier) (item_of line);
+    first = directive_chooses (is_defined earlier) (directive_of line);
     expanded = out;
     verdict = v;
   }
 
-  says-marked : (v : Option (Result AttrSet ExprFault)) → says (marked v) ≡ said_here
+  says-marked : (v : Option (Result AttrSet ExprFault)) → says (marked v) ≡ effect_here
   unfolding says
   says-marked v = refl
 
   fault-marked : (v : Option (Result AttrSet ExprFault))
-      → fault_at need earlier (marked v) ≡ line_fault earlier (length fs) (top_divided fs) said_here v
+      → fault_at need earlier (marked v) ≡ line_fault earlier (length fs) (top_divided fs) effect_here v
   unfolding fault_at says
   fault-marked v = refl
 
-  well : (v : Option (Result AttrSet ExprFault)) → IsJudgedWell (stands_after earlier) (expression_in said_here) v
+  well : (v : Option (Result AttrSet ExprFault)) → IsJudgedWell (meaning_after earlier) (expression_in effect_here) v
       → IsMarkedWell earlier (marked v)
   well v j = record {
     is_used = used_right (seen_in text earlier) fs (seen (marked v)) o refl;
     is_enclosed = depth_right (seen_in text earlier) fs o;
     is_divided = divided_right (seen_in text earlier) fs o;
     is_first = refl;
-    is_expanded = is_expansion (value earlier) (item_text line (item_of line));
-    is_judged = subst (λ z. IsJudgedWell (stands_after earlier) (expression_in z) v) (sym (says-marked v)) j;
+    is_expanded = is_expansion (value earlier) (directive_text line (directive_of line));
+    is_judged = subst (λ z. IsJudgedWell (meaning_after earlier) (expression_in z) v) (sym (says-marked v)) j;
   }
 
   growing : line_grows (top_used fs) (length fs) line ≡ true → Grows earlier (place_at text n (Some line))
@@ -158,10 +164,10 @@ module _ (need : Need) (earlier : List Marked) (text : ConfText) (n : ℕ) (line
   }
 
   -- what is taken where the blocks are right afterwards
-  takes_place : {A : Type 0} (gs : List Frame) (q : Pass A) (result : Result (Unit {0}) ConfFaultKind)
-      → ((v : Option (Result AttrSet ExprFault)) → line_fault earlier (length fs) (top_divided fs) said_here v ≡ None → OnOk result (IsOpen (seen_in text earlier ++ seen (marked v) ∷ []) gs))
+  takes_place : {A : Type 0} (gs : List Frame) (q : SettingsBuilder A) (result : Result (Unit {0}) ConfFaultKind)
+      → ((v : Option (Result AttrSet ExprFault)) → line_fault earlier (length fs) (top_divided fs) effect_here v ≡ None → OnOk result (IsOpen (seen_in text earlier ++ seen (marked v) ∷ []) gs))
       → (result ≡ Err Memory → line_grows (top_used fs) (length fs) line ≡ true)
-      → TakesReading {E = Unit {0}} earlier (length fs) (top_divided fs) said_here q result → TakesOne {E = Unit {0}} need earlier (place_at text n (Some line)) q gs result
+      → TakesEffect {E = Unit {0}} earlier (length fs) (top_divided fs) effect_here q result → TakesOne {E = Unit {0}} need earlier (place_at text n (Some line)) q gs result
   takes_place gs q (Ok u) b m t = (
     marked t.0,
     refl,
@@ -173,86 +179,86 @@ module _ (need : Need) (earlier : List Marked) (text : ConfText) (n : ℕ) (line
   takes_place gs q (Err kind) b m (inl t) = inl (marked t.0, refl, well t.0 t.1, fault-marked t.0 ∙ t.2)
   takes_place gs q (Err kind) b m (inr t) = inr (t, growing (m (ap Err t)))
 
-  skipped_item : is_skipped line ≡ true → item_of line ≡ Plain
-  unfolding item_of
-  skipped_item h = ap (λ z. if z then directive_item (drop 2 line) else Plain) (not_directive line h)
+  skipped_directive : is_skipped line ≡ true → directive_of line ≡ None
+  unfolding directive_of
+  skipped_directive h = ap (λ z. if z then Some (read_directive (drop 2 line)) else None) (not_directive line h)
 
-  skipped_says : is_skipped line ≡ true → said_here ≡ Nothing
-  unfolding reading
+  skipped_says : is_skipped line ≡ true → effect_here ≡ Nothing
+  unfolding line_effect
   skipped_says h = rw h refl
 
-  plain_after : item_of line ≡ Plain → (v : Option (Result AttrSet ExprFault))
+  plain_after : directive_of line ≡ None → (v : Option (Result AttrSet ExprFault))
       → IsOpen (seen_in text earlier ++ seen (marked v) ∷ []) fs
-  plain_after e v = single_next (seen_in text earlier) fs (seen (marked v)) o (ap (λ i. is_single (shape_of i)) e)
+  plain_after e v = single_next (seen_in text earlier) fs (seen (marked v)) o (ap (λ i. is_single (role_of i)) e)
 
   -- an empty line or a comment
-  pub skipped_line : {A : Type 0} (q : Pass A) (u : Unit {0}) → is_skipped line ≡ true → TakesReading {E = Unit {0}} earlier (length fs) (top_divided fs) Nothing q (Ok u) → TakesOne {E = Unit {0}} need earlier (place_at text n (Some line)) q fs (Ok u)
-  skipped_line {A} q u h t = takes_place fs q (Ok u) (λ v f. plain_after (skipped_item h) v) (λ e. let bad : Ok u ≡ Err Memory = e in cc)
-      (subst (λ r. TakesReading {E = Unit {0}} earlier (length fs) (top_divided fs) r q (Ok u)) (sym (skipped_says h)) t)
+  pub skipped_line : {A : Type 0} (q : SettingsBuilder A) (u : Unit {0}) → is_skipped line ≡ true → TakesEffect {E = Unit {0}} earlier (length fs) (top_divided fs) Nothing q (Ok u) → TakesOne {E = Unit {0}} need earlier (place_at text n (Some line)) q fs (Ok u)
+  skipped_line {A} q u h t = takes_place fs q (Ok u) (λ v f. plain_after (skipped_directive h) v) (λ e. let bad : Ok u ≡ Err Memory = e in cc)
+      (subst (λ r. TakesEffect {E = Unit {0}} earlier (length fs) (top_divided fs) r q (Ok u)) (sym (skipped_says h)) t)
 
   -- a used line that is too long
-  pub long_line : {A : Type 0} (gs : List Frame) (q : Pass A) → is_skipped line ≡ false → (top_used fs && nat_lt 65536 (length line)) ≡ true → TakesOne {E = Unit {0}} need earlier (place_at text n (Some line)) q gs (Err LineTooLong)
-  unfolding reading
+  pub long_line : {A : Type 0} (gs : List Frame) (q : SettingsBuilder A) → is_skipped line ≡ false → (top_used fs && nat_lt 65536 (length line)) ≡ true → TakesOne {E = Unit {0}} need earlier (place_at text n (Some line)) q gs (Err LineTooLong)
+  unfolding line_effect
   long_line {A} gs q h l =
-      let r : said_here ≡ Faulty LineTooLong = rw (h, l) refl in
-      takes_place gs q (Err LineTooLong) (λ v f. tt) (λ e. let bad : LineTooLong ≡ Memory = cc in cc) (inl (None, subst (λ z. IsJudgedWell (stands_after earlier) (expression_in z) None) (sym r) refl, ap (λ z. line_fault earlier (length fs) (top_divided fs) z None) r))
+      let r : effect_here ≡ Faulty LineTooLong = rw (h, l) refl in
+      takes_place gs q (Err LineTooLong) (λ v f. tt) (λ e. let bad : LineTooLong ≡ Memory = cc in cc) (inl (None, subst (λ z. IsJudgedWell (meaning_after earlier) (expression_in z) None) (sym r) refl, ap (λ z. line_fault earlier (length fs) (top_divided fs) z None) r))
 
   -- any other line
   module _ (h : is_skipped line ≡ false) (l : (top_used fs && nat_lt 65536 (length line)) ≡ false) where
-    says_item : said_here ≡ item_reading (top_used fs) (item_of line) out
-    unfolding reading
-    says_item = rw (h, l) refl
+    says_directive : effect_here ≡ directive_effect (top_used fs) (directive_of line) out
+    unfolding line_effect
+    says_directive = rw (h, l) refl
 
-    grows_item : item_grows (top_used fs) (length fs) (item_of line) ≡ true
+    grows_directive : directive_grows (top_used fs) (length fs) (directive_of line) ≡ true
         → line_grows (top_used fs) (length fs) line ≡ true
     unfolding line_grows
-    grows_item g = rw (h, l, g) refl
+    grows_directive g = rw (h, l, g) refl
 
-    item_after : (gs : List Frame)
-        → gs ≡ frames_after (shape_of (item_of line)) (top_used fs) (item_chooses (is_defined earlier) (item_of line)) fs
-        → (v : Option (Result AttrSet ExprFault)) → line_fault earlier (length fs) (top_divided fs) said_here v ≡ None
+    directive_after : (gs : List Frame)
+        → gs ≡ frames_after (role_of (directive_of line)) (top_used fs) (directive_chooses (is_defined earlier) (directive_of line)) fs
+        → (v : Option (Result AttrSet ExprFault)) → line_fault earlier (length fs) (top_divided fs) effect_here v ≡ None
         → IsOpen (seen_in text earlier ++ seen (marked v) ∷ []) gs
-    item_after gs e v f = subst (IsOpen (seen_in text earlier ++ seen (marked v) ∷ [])) (sym e)
-        (blocks_after (seen_in text earlier) fs o earlier (is_defined earlier) out v (item_of line) (seen (marked v)) refl refl refl
-        (sym (ap (λ r. line_fault earlier (length fs) (top_divided fs) r v) says_item) ∙ f))
+    directive_after gs e v f = subst (IsOpen (seen_in text earlier ++ seen (marked v) ∷ [])) (sym e)
+        (blocks_after (seen_in text earlier) fs o earlier (is_defined earlier) out v (directive_of line) (seen (marked v)) refl refl refl
+        (sym (ap (λ r. line_fault earlier (length fs) (top_divided fs) r v) says_directive) ∙ f))
 
-    item_taken : {A : Type 0} (gs : List Frame) (q : Pass A) (result : Result (Unit {0}) ConfFaultKind)
-        → OnOk result (gs ≡ frames_after (shape_of (item_of line)) (top_used fs) (item_chooses (is_defined earlier) (item_of line)) fs)
-        → (result ≡ Err Memory → item_grows (top_used fs) (length fs) (item_of line) ≡ true)
-        → TakesReading {E = Unit {0}} earlier (length fs) (top_divided fs) (item_reading (top_used fs) (item_of line) out) q result → TakesOne {E = Unit {0}} need earlier (place_at text n (Some line)) q gs result
-    item_taken gs q (Ok u) b m t = takes_place gs q (Ok u) (item_after gs b) (λ e. grows_item (m e)) (subst (λ r. TakesReading {E = Unit {0}} earlier (length fs) (top_divided fs) r q (Ok u)) (sym says_item) t)
-    item_taken gs q (Err kind) b m t = takes_place gs q (Err kind) (λ v f. tt) (λ e. grows_item (m e)) (subst (λ r. TakesReading {E = Unit {0}} earlier (length fs) (top_divided fs) r q (Err kind)) (sym says_item) t)
+    directive_taken : {A : Type 0} (gs : List Frame) (q : SettingsBuilder A) (result : Result (Unit {0}) ConfFaultKind)
+        → OnOk result (gs ≡ frames_after (role_of (directive_of line)) (top_used fs) (directive_chooses (is_defined earlier) (directive_of line)) fs)
+        → (result ≡ Err Memory → directive_grows (top_used fs) (length fs) (directive_of line) ≡ true)
+        → TakesEffect {E = Unit {0}} earlier (length fs) (top_divided fs) (directive_effect (top_used fs) (directive_of line) out) q result → TakesOne {E = Unit {0}} need earlier (place_at text n (Some line)) q gs result
+    directive_taken gs q (Ok u) b m t = takes_place gs q (Ok u) (directive_after gs b) (λ e. grows_directive (m e)) (subst (λ r. TakesEffect {E = Unit {0}} earlier (length fs) (top_divided fs) r q (Ok u)) (sym says_directive) t)
+    directive_taken gs q (Err kind) b m t = takes_place gs q (Err kind) (λ v f. tt) (λ e. grows_directive (m e)) (subst (λ r. TakesEffect {E = Unit {0}} earlier (length fs) (top_divided fs) r q (Err kind)) (sym says_directive) t)
 
     -- a directive
-    pub directive_line : {A : Type 0} (i : Item) (gs : List Frame) (q : Pass A) (result : Result (Unit {0}) ConfFaultKind)
-        → item_of line ≡ i → item_text line i ≡ item_text [] i
-        → OnOk result (gs ≡ frames_after (shape_of i) (top_used fs) (item_chooses (is_defined earlier) i) fs)
-        → (result ≡ Err Memory → item_grows (top_used fs) (length fs) i ≡ true)
-        → TakesReading {E = Unit {0}} earlier (length fs) (top_divided fs) (item_reading (top_used fs) i (expansion_after (value earlier) 0 (item_text [] i))) q result → TakesOne {E = Unit {0}} need earlier (place_at text n (Some line)) q gs result
-    directive_line {A} i gs q result e f b m t = item_taken gs q result
-        (subst (λ z. OnOk result (gs ≡ frames_after (shape_of z) (top_used fs) (item_chooses (is_defined earlier) z) fs)) (sym e) b)
-        (λ w. ap (item_grows (top_used fs) (length fs)) e ∙ m w)
-        (subst (λ z. TakesReading {E = Unit {0}} earlier (length fs) (top_divided fs) (item_reading (top_used fs) z (expansion_after (value earlier) 0 (item_text line z))) q result) (sym e)
-        (subst (λ z. TakesReading {E = Unit {0}} earlier (length fs) (top_divided fs) (item_reading (top_used fs) i (expansion_after (value earlier) 0 z)) q result) (sym f) t))
+    pub directive_line : {A : Type 0} (i : Option (Directive (List ℕ))) (gs : List Frame) (q : SettingsBuilder A) (result : Result (Unit {0}) ConfFaultKind)
+        → directive_of line ≡ i → directive_text line i ≡ directive_text [] i
+        → OnOk result (gs ≡ frames_after (role_of i) (top_used fs) (directive_chooses (is_defined earlier) i) fs)
+        → (result ≡ Err Memory → directive_grows (top_used fs) (length fs) i ≡ true)
+        → TakesEffect {E = Unit {0}} earlier (length fs) (top_divided fs) (directive_effect (top_used fs) i (expansion_after (value earlier) 0 (directive_text [] i))) q result → TakesOne {E = Unit {0}} need earlier (place_at text n (Some line)) q gs result
+    directive_line {A} i gs q result e f b m t = directive_taken gs q result
+        (subst (λ z. OnOk result (gs ≡ frames_after (role_of z) (top_used fs) (directive_chooses (is_defined earlier) z) fs)) (sym e) b)
+        (λ w. ap (directive_grows (top_used fs) (length fs)) e ∙ m w)
+        (subst (λ z. TakesEffect {E = Unit {0}} earlier (length fs) (top_divided fs) (directive_effect (top_used fs) z (expansion_after (value earlier) 0 (directive_text line z))) q result) (sym e)
+        (subst (λ z. TakesEffect {E = Unit {0}} earlier (length fs) (top_divided fs) (directive_effect (top_used fs) i (expansion_after (value earlier) 0 z)) q result) (sym f) t))
 
     -- a line that is no directive
-    pub plain_line : {A : Type 0} (q : Pass A) (result : Result (Unit {0}) ConfFaultKind) → is_directive line ≡ false
+    pub plain_line : {A : Type 0} (q : SettingsBuilder A) (result : Result (Unit {0}) ConfFaultKind) → is_directive line ≡ false
         → (result ≡ Err Memory → top_used fs ≡ true)
-        → TakesReading {E = Unit {0}} earlier (length fs) (top_divided fs) (if top_used fs then expanded_reading (strip (expansion_after (value earlier) 0 line)) else Nothing) q result → TakesOne {E = Unit {0}} need earlier (place_at text n (Some line)) q fs result
-    unfolding item_of
+        → TakesEffect {E = Unit {0}} earlier (length fs) (top_divided fs) (if top_used fs then expanded_effect (strip (expansion_after (value earlier) 0 line)) else Nothing) q result → TakesOne {E = Unit {0}} need earlier (place_at text n (Some line)) q fs result
+    unfolding directive_of
     plain_line q result d m t =
-        let e : item_of line ≡ Plain = ap (λ z. if z then directive_item (drop 2 line) else Plain) d in
-        item_taken fs q result (kept result e) (λ w. ap (item_grows (top_used fs) (length fs)) e ∙ m w)
-        (subst (λ z. TakesReading {E = Unit {0}} earlier (length fs) (top_divided fs) (item_reading (top_used fs) z (expansion_after (value earlier) 0 (item_text line z))) q result) (sym e) t)
+        let e : directive_of line ≡ None = ap (λ z. if z then Some (read_directive (drop 2 line)) else None) d in
+        directive_taken fs q result (kept result e) (λ w. ap (directive_grows (top_used fs) (length fs)) e ∙ m w)
+        (subst (λ z. TakesEffect {E = Unit {0}} earlier (length fs) (top_divided fs) (directive_effect (top_used fs) z (expansion_after (value earlier) 0 (directive_text line z))) q result) (sym e) t)
       where
-        kept : (r : Result (Unit {0}) ConfFaultKind) → item_of line ≡ Plain
-            → OnOk r (fs ≡ frames_after (shape_of (item_of line)) (top_used fs) (item_chooses (is_defined earlier) (item_of line)) fs)
-        kept (Ok u) e = ap (λ z. frames_after (shape_of z) (top_used fs) (item_chooses (is_defined earlier) z) fs) (sym e)
+        kept : (r : Result (Unit {0}) ConfFaultKind) → directive_of line ≡ None
+            → OnOk r (fs ≡ frames_after (role_of (directive_of line)) (top_used fs) (directive_chooses (is_defined earlier) (directive_of line)) fs)
+        kept (Ok u) e = ap (λ z. frames_after (role_of z) (top_used fs) (directive_chooses (is_defined earlier) z) fs) (sym e)
         kept (Err k) e = tt
 
   long_says : is_skipped line ≡ false → (top_used fs && nat_lt 65536 (length line)) ≡ true
-      → said_here ≡ Faulty LineTooLong
-  unfolding reading
+      → effect_here ≡ Faulty LineTooLong
+  unfolding line_effect
   long_says h l = rw (h, l) refl
 
   -- the blocks behind this line, where it has no fault
@@ -266,17 +272,17 @@ module _ (need : Need) (earlier : List Marked) (text : ConfText) (n : ℕ) (line
           let bad : Some LineTooLong ≡ None = sym (ap (λ r. line_fault earlier (length fs) (top_divided fs) r v) (long_says h l)) ∙ sym (fault-marked v) ∙ f in
           absurd (let no : ⊥ = cc in no)
       by_length h false l = (
-        frames_after (shape_of (item_of line)) (top_used fs) (item_chooses (is_defined earlier) (item_of line)) fs,
-        item_after h l _ refl v (sym (fault-marked v) ∙ f),
+        frames_after (role_of (directive_of line)) (top_used fs) (directive_chooses (is_defined earlier) (directive_of line)) fs,
+        directive_after h l _ refl v (sym (fault-marked v) ∙ f),
       )
 
       by_skip : (b : Bool) → is_skipped line ≡ b
           → (gs : List Frame) × IsOpen (seen_in text earlier ++ seen (marked v) ∷ []) gs
-      by_skip true h = (fs, plain_after (skipped_item h) v)
+      by_skip true h = (fs, plain_after (skipped_directive h) v)
       by_skip false h = by_length h (top_used fs && nat_lt 65536 (length line)) refl
 
   -- This line is marked in some way, where its expression is judged in some way.
-  pub goes_on : ((v : Option (Result AttrSet ExprFault)) × IsJudgedWell (stands_after earlier) (expression_in said_here) v)
+  pub goes_on : ((v : Option (Result AttrSet ExprFault)) × IsJudgedWell (meaning_after earlier) (expression_in effect_here) v)
       → (x : Marked) × (x.place ≡ place_at text n (Some line)) × IsMarkedWell earlier x × (fault_at need earlier x ≡ None → (gs : List Frame) × IsOpen (seen_in text (earlier ++ x ∷ [])) gs)
   goes_on j = (
     marked j.0,
@@ -285,14 +291,14 @@ module _ (need : Need) (earlier : List Marked) (text : ConfText) (n : ℕ) (line
     λ f. let b = blocks_behind j.0 f in (b.0, subst (λ z. IsOpen z b.0) (sym (seen_in-more text earlier (marked j.0) refl)) b.1),
   )
 
--- the item of a directive is what stands behind its `@@`
-pub item_is : (line : List ℕ) (i : Item) → is_directive line ≡ true → i ≡ directive_item (drop 2 line)
-    → item_of line ≡ i
-unfolding item_of
-item_is line i d e = ap (λ z. if z then directive_item (drop 2 line) else Plain) d ∙ sym e
+-- a directive is what follows its `@@`
+pub directive_is : (line : List ℕ) (i : Option (Directive (List ℕ))) → is_directive line ≡ true → i ≡ Some (read_directive (drop 2 line))
+    → directive_of line ≡ i
+unfolding directive_of
+directive_is line i d e = ap (λ z. if z then Some (read_directive (drop 2 line)) else None) d ∙ sym e
 
 -- the code's directives are never plain lines
-pub text_of_directive : (line : List ℕ) (d : Directive) → item_text line (item d) ≡ item_text [] (item d)
+pub text_of_directive : (line : List ℕ) (d : Directive (Bor (List ℕ))) → directive_text line (as_lists d) ≡ directive_text [] (as_lists d)
 text_of_directive line (code.Define n v) = refl
 text_of_directive line (code.Undef n) = refl
 text_of_directive line (code.IfDef n) = refl
@@ -309,7 +315,7 @@ is_none-text_at : {A : Type 0} (t : Option (String A)) (q : Option (List ℕ)) �
 is_none-text_at None q h = ap is_none h
 is_none-text_at (Some t) q h = ap is_none h
 
-pub missing_is : {A : Type 0} (earlier : List Marked) (p : Pass A) → StandsFor earlier p
+pub missing_is : {A : Type 0} (earlier : List Marked) (p : SettingsBuilder A) → IsBuiltFrom earlier p
     → missing (is_none p.old_path) (is_none p.new_path) ≡ end_fault Compare After earlier
 missing_is earlier p s =
     ap (λ z. missing z (is_none p.new_path)) (is_none-text_at p.old_path (path_set Old earlier) s.old_path)
@@ -334,7 +340,7 @@ module _ (need : Need) (earlier : List Marked) (text : ConfText) (n : ℕ) (fs :
     is_divided = divided_right (seen_in text earlier) fs o;
     is_first = refl;
     is_expanded = plain [] tt;
-    is_judged = subst (λ z. IsJudgedWell (stands_after earlier) (expression_in z) None) (sym says-end) refl;
+    is_judged = subst (λ z. IsJudgedWell (meaning_after earlier) (expression_in z) None) (sym says-end) refl;
   }
 
   -- this end is marked in some way
@@ -346,7 +352,7 @@ module _ (need : Need) (earlier : List Marked) (text : ConfText) (n : ℕ) (fs :
     λ f. (fs, subst (λ z. IsOpen z fs) (sym (seen_in-more text earlier end_marked refl)) (single_next (seen_in text earlier) fs (seen end_marked) o refl)),
   )
 
-  pub block_open : {A : Type 0} (p : Pass A) → 0 < length fs → TakesOne {E = Unit {0}} need earlier (place_at text n None) p fs (Err MissingEndif)
+  pub block_open : {A : Type 0} (p : SettingsBuilder A) → 0 < length fs → TakesOne {E = Unit {0}} need earlier (place_at text n None) p fs (Err MissingEndif)
   block_open p h =
       let e : (length fs == 0) ≡ false = grind (arith, nat_tests) in
       inl (end_marked, refl, well_end, fault-end ∙ ap (λ z. option_or (if z then None else Some MissingEndif) (end_fault need text earlier)) e)
@@ -357,22 +363,22 @@ module _ (need : Need) (earlier : List Marked) (text : ConfText) (n : ℕ) (fs :
       let e : (length fs == 0) ≡ true = grind (arith, nat_tests) in
       ap (λ z. option_or (if z then None else Some MissingEndif) (end_fault need text earlier)) e
 
-  pub ended : {A : Type 0} (p : Pass A) → StandsFor earlier p → (u : Unit {0}) → length fs ≡ 0 → end_fault need text earlier ≡ None → TakesOne {E = Unit {0}} need earlier (place_at text n None) p fs (Ok u)
+  pub ended : {A : Type 0} (p : SettingsBuilder A) → IsBuiltFrom earlier p → (u : Unit {0}) → length fs ≡ 0 → end_fault need text earlier ≡ None → TakesOne {E = Unit {0}} need earlier (place_at text n None) p fs (Ok u)
   ended p s u h e = (
     end_marked,
     refl,
     well_end,
     fault-end ∙ no_block h ∙ e,
-    stands_same earlier end_marked p s Nothing says-end
+    built_same earlier end_marked p s Nothing says-end
         (record { group = refl; fixing = refl; level = refl; switch = λ t. refl; attrs = λ l v. refl; path = λ d. refl }) (record { value = λ m. refl; name = refl }),
     subst (λ z. IsOpen z fs) (sym (seen_in-more text earlier end_marked refl)) (single_next (seen_in text earlier) fs (seen end_marked) o refl),
   )
 
-  pub end_refused : {A : Type 0} (p : Pass A) (kind : ConfFaultKind) → length fs ≡ 0 → end_fault need text earlier ≡ Some kind → TakesOne {E = Unit {0}} need earlier (place_at text n None) p fs (Err kind)
+  pub end_refused : {A : Type 0} (p : SettingsBuilder A) (kind : ConfFaultKind) → length fs ≡ 0 → end_fault need text earlier ≡ Some kind → TakesOne {E = Unit {0}} need earlier (place_at text n None) p fs (Err kind)
   end_refused p kind h e = inl (end_marked, refl, well_end, fault-end ∙ no_block h ∙ e)
 
   -- the end of the last text, where databases may be missing
-  pub lacking : {A : Type 0} (p : Pass A) → StandsFor earlier p → length fs ≡ 0
+  pub lacking : {A : Type 0} (p : SettingsBuilder A) → IsBuiltFrom earlier p → length fs ≡ 0
       → end_fault need text earlier ≡ end_fault Compare After earlier
       → (result : Result (Unit {0}) ConfFaultKind) → fault_of result ≡ missing (is_none p.old_path) (is_none p.new_path) → TakesOne {E = Unit {0}} need earlier (place_at text n None) p fs result
   lacking p s h e (Ok u) k = ended p s u h (e ∙ sym (missing_is earlier p s) ∙ sym k)

@@ -4,12 +4,14 @@ use Rattle.std.proofs.Common.{inr, ◌⊎◌}
 use Rattle.std.specs.Prelude.{map, if◌then◌else◌}
 use Rattle.aide_conf.specs.declared.task.Need.{Need}
 use Rattle.aide_conf.specs.declared.fault.ConfFault.{ConfFault}
-use Rattle.aide_conf.specs.declared.pass.Pass.{Pass}
+use Rattle.aide_conf.specs.declared.builder.SettingsBuilder.{SettingsBuilder}
 use Rattle.aide_conf.specs.declared.fault.ConfText.{ConfText}
-use Rattle.aide_conf.specs.Lines.{Place, places_from}
-use Rattle.aide_conf.specs.Marks.{Marked, AreSound, is_text, seen, seen_in}
-use Rattle.aide_conf.specs.Answer.{IsRead, IsRefused, IsStarved}
-use Rattle.aide_conf.specs.code.Pass.{StandsFor, Takes, Stops, text_at}
+use Rattle.aide_conf.specs.Cutting.{Place, places_from}
+use Rattle.aide_conf.specs.Marks.{Marked}
+use Rattle.aide_conf.specs.MarkedBlocks.{is_text, seen, seen_in}
+use Rattle.aide_conf.specs.RightMarks.{AreSound}
+use Rattle.aide_conf.specs.ReadResult.{IsRead, IsRefused, IsStarved}
+use Rattle.aide_conf.specs.code.Builder.{IsBuiltFrom, Takes, Stops, text_at}
 use Rattle.aide_conf.proofs.Cuts.{append_nothing}
 
 places_append : (xs ys : List Marked)
@@ -51,15 +53,15 @@ unseen_at text ps xs e h = unseen text xs (subst (Elsewhere text) (sym e) h)
 -- ---- one text after others
 
 -- sound lines of one text after those of others
-pub then_more : {A : Type 0} (need : Need) (ps qs : List Place) (p q : Pass A) → Takes need [] ps p
-    → ((earlier : List Marked) → map (λ (x : Marked). x.place) earlier ≡ ps → StandsFor earlier p → Takes need earlier qs q)
+pub then_more : {A : Type 0} (need : Need) (ps qs : List Place) (p q : SettingsBuilder A) → Takes need [] ps p
+    → ((earlier : List Marked) → map (λ (x : Marked). x.place) earlier ≡ ps → IsBuiltFrom earlier p → Takes need earlier qs q)
     → Takes need [] (ps ++ qs) q
 then_more need ps qs p q t u =
     let v = u t.0 t.1 t.3 in
     (t.0 ++ v.0, places_append t.0 v.0 ∙ ap (λ z. z ++ map (λ (x : Marked). x.place) v.0) t.1 ∙ ap (λ z. ps ++ z) v.1, sound_append need [] t.0 v.0 t.2 v.2, v.3)
 
-pub then_stop : {A : Type 0} (need : Need) (ps qs : List Place) (p : Pass A) (e : ConfFault) → Takes need [] ps p
-    → ((earlier : List Marked) → map (λ (x : Marked). x.place) earlier ≡ ps → StandsFor earlier p → Stops need earlier qs e)
+pub then_stop : {A : Type 0} (need : Need) (ps qs : List Place) (p : SettingsBuilder A) (e : ConfFault) → Takes need [] ps p
+    → ((earlier : List Marked) → map (λ (x : Marked). x.place) earlier ≡ ps → IsBuiltFrom earlier p → Stops need earlier qs e)
     → Stops need [] (ps ++ qs) e
 then_stop need ps qs p e t u =
     let v = u t.0 t.1 t.3 in
@@ -104,6 +106,6 @@ refused need ps e v = elim v.kind [
   | inr k ↦ inr (record { lines = v.lines; at = v.at; rest = v.rest; cut = v.cut; sound = v.sound; grows = k.1; kind = k.0; text = v.text; line = v.line })
 ]
 
-pub taken : {A : Type 0} (need : Need) (ps : List Place) (p : Pass A) → Takes need [] ps p → IsRead need ps (record { options = p.options; old_path = text_at p.old_path; new_path = text_at p.new_path })
+pub taken : {A : Type 0} (need : Need) (ps : List Place) (p : SettingsBuilder A) → Takes need [] ps p → IsRead need ps (record { options = p.options; old_path = text_at p.old_path; new_path = text_at p.new_path })
 taken need ps p t =
     record { lines = t.0; all = t.1; sound = t.2; settings = record { options = t.3.options; old_path = t.3.old_path; new_path = t.3.new_path } }

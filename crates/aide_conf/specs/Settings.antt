@@ -8,14 +8,17 @@ use Rattle.aide_attr.specs.declared.level.Level.{Level}
 use Rattle.aide_attr.specs.declared.level.Level.TheVariants.{ChangedAttributes}
 use Rattle.aide_attr.specs.Set.{has}
 use Rattle.aide_conf.specs.declared.options.Options.{Options}
-use Rattle.aide_conf.specs.declared.setting.Database.TheVariants.{Old, New}
-use Rattle.aide_conf.specs.declared.setting.Switch.{Switch}
-use Rattle.aide_conf.specs.declared.setting.Switch.TheVariants.{Grouped, Summarize, Base16, Quiet}
-use Rattle.aide_conf.specs.declared.setting.AttrList.{AttrList}
-use Rattle.aide_conf.specs.declared.setting.AttrList.TheVariants.{IgnoreAdded, IgnoreRemoved}
-use Rattle.aide_conf.specs.declared.setting.AttrList.TheVariants.{IgnoreChanged, Force}
-use Rattle.aide_conf.specs.Reading.{Reading, SetsLevel, SetsSwitch, SetsAttributes, EndsOptions}
-use Rattle.aide_conf.specs.Marks.{Marked, says, last_given, set_meant, path_set}
+use Rattle.aide_conf.specs.declared.option_kind.Side.TheVariants.{Old, New}
+use Rattle.aide_conf.specs.declared.option_kind.Switch.{Switch}
+use Rattle.aide_conf.specs.declared.option_kind.Switch.TheVariants.{Grouped, Summarize}
+use Rattle.aide_conf.specs.declared.option_kind.Switch.TheVariants.{Base16, Quiet}
+use Rattle.aide_conf.specs.declared.option_kind.AttrList.{AttrList}
+use Rattle.aide_conf.specs.declared.option_kind.AttrList.TheVariants.{IgnoreAdded, IgnoreRemoved}
+use Rattle.aide_conf.specs.declared.option_kind.AttrList.TheVariants.{IgnoreChanged, Force}
+use Rattle.aide_conf.specs.Effect.{Effect, SetsLevel, SetsSwitch, SetsAttributes, EndsOptions}
+use Rattle.aide_conf.specs.Marks.{Marked, says, last_given}
+use Rattle.aide_conf.specs.MarkedGroups.{set_meant}
+use Rattle.aide_conf.specs.MarkedPaths.{path_set}
 
 -- Settings, as contracts see them: the options of the report, and the bytes of both databases'
 -- paths, if these are given.
@@ -25,7 +28,7 @@ pub record Configured : Type 0 where
   pub new_path : Option (List ℕ)
 
 -- after this line no option of the report changes
-abbrev pub fixes_by : Reading → Bool
+abbrev pub fixes_by : Effect → Bool
 fixes_by EndsOptions = true
 fixes_by _ = false
 
@@ -42,7 +45,7 @@ counted (x ∷ xs) = if fixes x then [] else x ∷ counted xs
 -- ---- the level
 
 -- the level that a line sets
-abbrev pub level_by : Reading → Option Level
+abbrev pub level_by : Effect → Option Level
 level_by (SetsLevel l) = Some l
 level_by _ = None
 
@@ -61,7 +64,7 @@ is_switch Quiet Quiet = true
 is_switch _ _ = false
 
 -- the value that a line gives to a switch
-abbrev pub switch_by : Switch → Reading → Option Bool
+abbrev pub switch_by : Switch → Effect → Option Bool
 switch_by s (SetsSwitch t b) = if is_switch s t then Some b else None
 switch_by _ _ = None
 
@@ -94,7 +97,7 @@ is_list Force Force = true
 is_list _ _ = false
 
 -- the set that a line gives to a set of attributes, by the verdict on its expression
-abbrev pub attrs_by : AttrList → Reading → Option (Result AttrSet ExprFault) → Option AttrSet
+abbrev pub attrs_by : AttrList → Effect → Option (Result AttrSet ExprFault) → Option AttrSet
 attrs_by l (SetsAttributes m e) verdict = if is_list l m then set_meant verdict else None
 attrs_by _ _ _ = None
 
@@ -120,8 +123,10 @@ attrs_of o Force = o.ignore.force
 -- its default.
 pub record AreOptions (xs : List Marked) (o : Options) : Type 0 where
   pub level : o.level ≡ unwrap_or (last_given level_in xs) ChangedAttributes
-  pub switches : (s : Switch) → switch_of o s ≡ unwrap_or (last_given (switch_in s) xs) (switch_default s)
-  pub attrs : (l : AttrList) (a : Attr) → has (attrs_of o l) a ≡ has_any (last_given (attrs_in l) xs) a
+  pub switches : (s : Switch)
+      → switch_of o s ≡ unwrap_or (last_given (switch_in s) xs) (switch_default s)
+  pub attrs : (l : AttrList) (a : Attr)
+      → has (attrs_of o l) a ≡ has_any (last_given (attrs_in l) xs) a
 
 -- the settings that places give
 pub record AreSettings (xs : List Marked) (c : Configured) : Type 0 where

@@ -3,6 +3,6 @@ pub mod Variables
 pub mod Replacing
 pub mod Expanded
 pub mod Bounded
-pub mod Said
+pub mod Returned
 pub mod Stack
-pub mod Pass
+pub mod Builder

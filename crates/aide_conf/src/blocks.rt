@@ -7,7 +7,7 @@ ghost use Rattle.aide_conf.specs.code.Stack.{closed_at};
 use std::alloc::{AllocError, Allocator};
 
 /// An open block.
-#[derive(Clone, Copy, Debug)]
+#[derive(Clone, Copy)]
 pub(crate) struct Frame {
     /// Whether its opening line is used.
     pub(crate) used: bool,

@@ -1,45 +1,46 @@
 //! Directives: the text after `@@`.
 
-ghost use Rattle.std.specs.Prelude.{◌≡◌, [], unwrap_or};
-ghost use Rattle.aide_conf.specs.Lines.{is_blank, bytes_before, bytes_after};
-ghost use Rattle.aide_conf.specs.Directive.{item_by, directive_item, if_item, not_item};
-ghost use Rattle.aide_conf.specs.code.Said.{item};
-ghost use Rattle.aide_conf.specs.Reading.{is_omitted};
+ghost use Rattle.std.specs.Prelude.{◌≡◌, [], Some, unwrap_or};
+ghost use Rattle.aide_conf.specs.Cutting.{is_blank, bytes_before, bytes_after};
+ghost use Rattle.aide_conf.specs.Directive.{directive_by, read_directive, condition, negated};
+ghost use Rattle.aide_conf.specs.code.Returned.{as_lists};
+ghost use Rattle.aide_conf.specs.Effect.{is_omitted};
 
-use crate::line::{after_word, strip, word};
+use crate::line::{after_first_word, first_word, strip};
 
-/// What a directive says.
-#[derive(Clone, Copy, Debug)]
-pub(crate) enum Directive<'a> {
+/// A directive, with the bytes of its names and its text: slices here, lists in contracts.
+#[derive(Clone, Copy)]
+pub(crate) enum Directive<Bytes> {
     /// A variable's name, and its value before expansion.
-    Define(&'a [u8], &'a [u8]),
-    Undef(&'a [u8]),
-    IfDef(&'a [u8]),
-    IfNotDef(&'a [u8]),
+    Define(Bytes, Bytes),
+    Undef(Bytes),
+    IfDef(Bytes),
+    IfNotDef(Bytes),
     /// An `@@if` whose condition has a wrong form.
     IfOther,
     Else,
     EndIf,
-    /// A directive that this program leaves out, and whether its word begins with `if`.
+    /// A directive that this program leaves out, and whether its word begins with `if`. If so, it is
+    /// refused in an unused part too.
     Omitted(bool),
     /// Any other directive, and whether its word begins with `if`.
     Unknown(bool),
 }
 
 /// Reads the directive after `@@`.
-pub(crate) fn read_directive(bytes: &[u8]) -> Directive<'_>
-    ensures { item result ≡ directive_item bytes.now }
+pub(crate) fn read_directive(bytes: &[u8]) -> Directive<&[u8]>
+    ensures { as_lists result ≡ Some (read_directive bytes.now) }
 {
-    directive_by(word(bytes), strip(after_word(bytes)))
+    directive_by(first_word(bytes), strip(after_first_word(bytes)))
 }
 
 /// Returns the directive of a word and the rest of its line.
-#[tactic(auto, unfolding(crate::specs::Directive::item_by))]
-fn directive_by<'a>(word_bytes: &'a [u8], rest: &'a [u8]) -> Directive<'a>
-    ensures { item result ≡ item_by word_bytes.now rest.now }
+#[tactic(auto, unfolding(crate::specs::Directive::directive_by))]
+fn directive_by<'a>(word_bytes: &'a [u8], rest: &'a [u8]) -> Directive<&'a [u8]>
+    ensures { as_lists result ≡ Some (directive_by word_bytes.now rest.now) }
 {
     if word_bytes == b"define".as_slice() {
-        Directive::Define(word(rest), strip(after_word(rest)))
+        Directive::Define(first_word(rest), strip(after_first_word(rest)))
     } else if word_bytes == b"undef".as_slice() {
         Directive::Undef(rest)
     } else if word_bytes == b"ifdef".as_slice() {
@@ -60,34 +61,34 @@ fn directive_by<'a>(word_bytes: &'a [u8], rest: &'a [u8]) -> Directive<'a>
 }
 
 /// Returns the directive of an `@@if` with this condition.
-#[tactic(auto, unfolding(crate::specs::Directive::if_item))]
-fn condition(rest: &[u8]) -> Directive<'_>
-    ensures { item result ≡ if_item rest.now }
+#[tactic(auto, unfolding(crate::specs::Directive::condition))]
+fn condition(rest: &[u8]) -> Directive<&[u8]>
+    ensures { as_lists result ≡ Some (condition rest.now) }
 {
-    let first = word(rest);
+    let first = first_word(rest);
     if first == b"defined".as_slice() {
-        Directive::IfDef(strip(after_word(rest)))
+        Directive::IfDef(strip(after_first_word(rest)))
     } else if first == b"not".as_slice() {
-        negated(strip(after_word(rest)))
+        negated(strip(after_first_word(rest)))
     } else {
         Directive::IfOther
     }
 }
 
 /// Returns the directive of an `@@if` with this text after the `not` of its condition.
-#[tactic(auto, unfolding(crate::specs::Directive::not_item))]
-fn negated(rest: &[u8]) -> Directive<'_>
-    ensures { item result ≡ not_item rest.now }
+#[tactic(auto, unfolding(crate::specs::Directive::negated))]
+fn negated(rest: &[u8]) -> Directive<&[u8]>
+    ensures { as_lists result ≡ Some (negated rest.now) }
 {
-    if word(rest) == b"defined".as_slice() {
-        Directive::IfNotDef(strip(after_word(rest)))
+    if first_word(rest) == b"defined".as_slice() {
+        Directive::IfNotDef(strip(after_first_word(rest)))
     } else {
         Directive::IfOther
     }
 }
 
 /// Returns whether a directive with this word is one that this program leaves out.
-#[tactic(auto, unfolding(crate::specs::Reading::is_omitted))]
+#[tactic(auto, unfolding(crate::specs::Effect::is_omitted))]
 fn is_omitted(word: &[u8]) -> bool
     ensures { result ≡ is_omitted word.now }
 {

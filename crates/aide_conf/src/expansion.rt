@@ -9,7 +9,7 @@ ghost use Rattle.aide_conf.specs.code.Expanded.{expanded_by, IsExpandedLine, IsE
 
 use crate::bounded::{Bounded, without_last_blanks};
 use crate::line::is_skipped;
-use aide_attr::Table;
+use aide_attr::NameMap;
 use bstr::ByteSlice;
 use std::alloc::{AllocError, Allocator};
 
@@ -30,7 +30,7 @@ pub(crate) enum Expanded<A: Allocator> {
 }
 
 /// The first name between `@@{` and `}`, and the text before and after it.
-#[derive(Clone, Copy, Debug)]
+#[derive(Clone, Copy)]
 struct Found<'a> {
     before: &'a [u8],
     name: &'a [u8],
@@ -60,7 +60,7 @@ fn next_name(text: &[u8]) -> Option<Found<'_>>
 fn take_value<A: Allocator + Copy>(
     kept: &mut Bounded<A>,
     found: Found<'_>,
-    variables: &Table<Vec<u8, A>, A>,
+    variables: &NameMap<Vec<u8, A>, A>,
 ) -> Result<(), AllocError>
     ensures { OnOk result (HasTaken kept.old (found.entry.before.now
         ++ value_by (values_of variables.now) found.entry.name.now) kept.new) }
@@ -76,7 +76,7 @@ fn take_value<A: Allocator + Copy>(
 fn take_expansion<A: Allocator + Copy>(
     kept: &mut Bounded<A>,
     text: &[u8],
-    variables: &Table<Vec<u8, A>, A>,
+    variables: &NameMap<Vec<u8, A>, A>,
 ) -> Result<(), AllocError>
     ensures { OnOk result (HasTaken kept.old (expanded_by variables.now text.now) kept.new) }
 {
@@ -96,7 +96,7 @@ fn take_expansion<A: Allocator + Copy>(
 pub(crate) fn expand_line<A: Allocator + Copy>(
     alloc: A,
     line: &[u8],
-    variables: &Table<Vec<u8, A>, A>,
+    variables: &NameMap<Vec<u8, A>, A>,
 ) -> Result<Expanded<A>, AllocError>
     ensures { IfOk result (λ e. IsExpandedLine (expanded_by variables.now line.now) e) }
 {
@@ -116,7 +116,7 @@ pub(crate) fn expand_line<A: Allocator + Copy>(
 pub(crate) fn expand_value<A: Allocator + Copy>(
     alloc: A,
     text: &[u8],
-    variables: &Table<Vec<u8, A>, A>,
+    variables: &NameMap<Vec<u8, A>, A>,
 ) -> Result<Option<Vec<u8, A>>, AllocError>
     ensures { IfOk result (λ v. IsExpandedValue (expanded_by variables.now text.now) v) }
 {

@@ -10,47 +10,52 @@ ghost use Rattle.aide_conf.specs.declared.fault.ConfText.{ConfText};
 ghost use Rattle.aide_conf.specs.declared.fault.ConfText.TheVariants.{After};
 ghost use Rattle.aide_conf.specs.declared.fault.ConfFaultKind.TheVariants.{Memory};
 ghost use Rattle.aide_conf.specs.Limits.{deepest};
-ghost use Rattle.aide_conf.specs.Lines.{places_of};
-ghost use Rattle.aide_conf.specs.Reading.{OpensBlock, DividesBlock, ClosesBlock, expanded_reading};
-ghost use Rattle.aide_conf.specs.Lines.{strip};
-ghost use Rattle.aide_conf.specs.Directive.{IfOther, item_chooses, item_grows, item_reading};
-ghost use Rattle.aide_conf.specs.Directive.{item_text};
-ghost use Rattle.aide_conf.specs.Directive.{set_reading, shape_of, unset_reading};
-ghost use Rattle.aide_conf.specs.code.Said.{item};
+ghost use Rattle.aide_conf.specs.Cutting.{places_of};
+ghost use Rattle.aide_conf.specs.Effect.{OpensBlock, DividesBlock, ClosesBlock, expanded_effect};
+ghost use Rattle.aide_conf.specs.Cutting.{strip};
+ghost use Rattle.aide_conf.specs.declared.directive.Directive.TheVariants.{IfOther};
+ghost use Rattle.aide_conf.specs.Directive.{directive_chooses, directive_grows, directive_effect};
+ghost use Rattle.aide_conf.specs.Directive.{directive_text};
+ghost use Rattle.aide_conf.specs.Directive.{set_effect, role_of, unset_effect};
+ghost use Rattle.aide_conf.specs.code.Returned.{as_lists};
 ghost use Rattle.aide_conf.specs.code.Replacing.{expansion_after};
-ghost use Rattle.aide_conf.specs.Marks.{Marked, is_defined, line_fault, missing, seen_in, value};
+ghost use Rattle.aide_conf.specs.Marks.{Marked};
+ghost use Rattle.aide_conf.specs.MarkedBlocks.{seen_in};
+ghost use Rattle.aide_conf.specs.MarkedVariables.{is_defined, value};
+ghost use Rattle.aide_conf.specs.PlaceFault.{line_fault, missing};
 ghost use Rattle.aide_conf.specs.code.Stack.{IsOpen, closed_at, divided_at, frames_after};
 ghost use Rattle.aide_conf.specs.code.Stack.{frames_of, opened, top_divided, top_used};
-ghost use Rattle.aide_conf.specs.code.Pass.{StandsFor, IsAnswered, TakesAll, TakesOne};
-ghost use Rattle.aide_conf.specs.code.Pass.{TakesReading, fault_of, place_at};
+ghost use Rattle.aide_conf.specs.code.Builder.{IsBuiltFrom, IsAnswered, TakesAll, TakesOne};
+ghost use Rattle.aide_conf.specs.code.Builder.{TakesEffect, fault_of, place_at};
 
 use crate::blocks::Blocks;
+use crate::builder::SettingsBuilder;
 use crate::directive::{Directive, read_directive};
+use crate::effect::kept_effect;
 use crate::expansion::{Expanded, LONGEST_LINE, expand_line, expand_value};
 use crate::fault::{ConfFault, ConfFaultKind, ConfText};
 use crate::line::{cut_line, is_directive, is_skipped, strip};
-use crate::pass::Pass;
-use crate::reading::kept_reading;
 use crate::task::Need;
-use aide_attr::{TableFault, is_word};
+use aide_attr::{NameMapFault, is_word};
 use std::alloc::Allocator;
 
 /// The most blocks that may be open.
 const DEEPEST: usize = 32;
 
-impl<A: Allocator + Copy> Pass<A> {
+impl<A: Allocator + Copy> SettingsBuilder<A> {
     /// Takes a line after its expansion. The line is no directive.
     fn take_plain(&mut self, line: &[u8]) -> Result<(), ConfFaultKind>
-        ensures { (earlier : List Marked) (depth : ℕ) (divided : Bool) → StandsFor earlier self.old
-            → TakesReading earlier depth divided (expanded_reading
+        ensures { (earlier : List Marked) (depth : ℕ) (divided : Bool)
+            → IsBuiltFrom earlier self.old
+            → TakesEffect earlier depth divided (expanded_effect
             (strip (expansion_after (value earlier) 0 line.now))) self.new result }
     {
         match expand_line(self.alloc, line, &self.variables) {
             Err(_) => Err(ConfFaultKind::Memory),
             Ok(Expanded::Skipped) => Ok(()),
             Ok(Expanded::TooLong) => Err(ConfFaultKind::LineTooLong),
-            Ok(Expanded::Line(bytes)) => match kept_reading(bytes.as_slice()) {
-                Ok(said) => self.take_said(said),
+            Ok(Expanded::Line(bytes)) => match kept_effect(bytes.as_slice()) {
+                Ok(effect) => self.take_effect(effect),
                 Err(kind) => Err(kind),
             },
         }
@@ -60,9 +65,9 @@ impl<A: Allocator + Copy> Pass<A> {
     fn define_variable(&mut self, name: &[u8], text: &[u8]) -> Result<(), ConfFaultKind>
         ensures memory { result ≡ Err Memory → is_word name.now ≡ true }
         ensures taken { (earlier : List Marked) (depth : ℕ) (divided : Bool)
-            → StandsFor earlier self.old
-            → TakesReading earlier depth divided
-            (set_reading name.now (expansion_after (value earlier) 0 text.now)) self.new result }
+            → IsBuiltFrom earlier self.old
+            → TakesEffect earlier depth divided
+            (set_effect name.now (expansion_after (value earlier) 0 text.now)) self.new result }
     {
         if !is_word(name) {
             return Err(ConfFaultKind::BadName);
@@ -72,8 +77,8 @@ impl<A: Allocator + Copy> Pass<A> {
             Ok(None) => Err(ConfFaultKind::ValueTooLong),
             Ok(Some(value)) => match self.variables.define(name, value) {
                 Ok(()) => Ok(()),
-                Err(TableFault::Full) => Err(ConfFaultKind::TooMany),
-                Err(TableFault::Memory) => Err(ConfFaultKind::Memory),
+                Err(NameMapFault::Full) => Err(ConfFaultKind::TooMany),
+                Err(NameMapFault::Memory) => Err(ConfFaultKind::Memory),
             },
         }
     }
@@ -82,8 +87,8 @@ impl<A: Allocator + Copy> Pass<A> {
     fn drop_variable(&mut self, name: &[u8]) -> Result<(), ConfFaultKind>
         ensures memory { result ≢ Err Memory }
         ensures taken { (earlier : List Marked) (depth : ℕ) (divided : Bool)
-            → StandsFor earlier self.old
-            → TakesReading earlier depth divided (unset_reading name.now) self.new result }
+            → IsBuiltFrom earlier self.old
+            → TakesEffect earlier depth divided (unset_effect name.now) self.new result }
     {
         if !is_word(name) {
             return Err(ConfFaultKind::BadName);
@@ -94,7 +99,7 @@ impl<A: Allocator + Copy> Pass<A> {
 
     /// Returns whether a variable is defined.
     fn is_defined(&self, name: &[u8]) -> bool
-        ensures { (earlier : List Marked) → StandsFor earlier self.now
+        ensures { (earlier : List Marked) → IsBuiltFrom earlier self.now
             → result ≡ is_defined earlier name.now }
     {
         self.variables.look(name).is_some()
@@ -104,21 +109,22 @@ impl<A: Allocator + Copy> Pass<A> {
     fn take_directive(
         &mut self,
         blocks: &mut Blocks<A>,
-        directive: Directive<'_>,
+        directive: Directive<&[u8]>,
     ) -> Result<(), ConfFaultKind>
-        ensures taken { (earlier : List Marked) → StandsFor earlier self.old
-            → TakesReading earlier (length (frames_of blocks.old))
+        ensures taken { (earlier : List Marked) → IsBuiltFrom earlier self.old
+            → TakesEffect earlier (length (frames_of blocks.old))
             (top_divided (frames_of blocks.old))
-            (item_reading (top_used (frames_of blocks.old)) (item directive.entry)
-            (expansion_after (value earlier) 0 (item_text [] (item directive.entry))))
+            (directive_effect (top_used (frames_of blocks.old)) (as_lists directive.entry)
+            (expansion_after (value earlier) 0 (directive_text [] (as_lists directive.entry))))
             self.new result }
         ensures memory { result ≡ Err Memory
-            → item_grows (top_used (frames_of blocks.old)) (length (frames_of blocks.old))
-            (item directive.entry) ≡ true }
-        ensures blocks { (earlier : List Marked) → StandsFor earlier self.old
+            → directive_grows (top_used (frames_of blocks.old)) (length (frames_of blocks.old))
+            (as_lists directive.entry) ≡ true }
+        ensures blocks { (earlier : List Marked) → IsBuiltFrom earlier self.old
             → OnOk result (frames_of blocks.new
-            ≡ frames_after (shape_of (item directive.entry)) (top_used (frames_of blocks.old))
-            (item_chooses (is_defined earlier) (item directive.entry)) (frames_of blocks.old)) }
+            ≡ frames_after (role_of (as_lists directive.entry)) (top_used (frames_of blocks.old))
+            (directive_chooses (is_defined earlier) (as_lists directive.entry))
+            (frames_of blocks.old)) }
     {
         let used = blocks.is_used();
         match directive {
@@ -163,7 +169,7 @@ impl<A: Allocator + Copy> Pass<A> {
     /// Takes a stripped line.
     fn take_line(&mut self, blocks: &mut Blocks<A>, line: &[u8]) -> Result<(), ConfFaultKind>
         ensures { (need : Need) (earlier : List Marked) (text : ConfText) (n : ℕ)
-            → StandsFor earlier self.old
+            → IsBuiltFrom earlier self.old
             → IsOpen (seen_in text earlier) (frames_of blocks.old)
             → TakesOne need earlier (place_at text n (Some line.now)) self.new
             (frames_of blocks.new) result }
@@ -186,7 +192,7 @@ impl<A: Allocator + Copy> Pass<A> {
 
     /// Takes the end of a text.
     fn take_end(&self, blocks: &Blocks<A>, text: ConfText, need: Need) -> Result<(), ConfFaultKind>
-        ensures taken { (earlier : List Marked) (n : ℕ) → StandsFor earlier self.now
+        ensures taken { (earlier : List Marked) (n : ℕ) → IsBuiltFrom earlier self.now
             → IsOpen (seen_in text earlier) (frames_of blocks.now)
             → TakesOne need earlier (place_at text n None) self.now (frames_of blocks.now) result }
         ensures named { need ≡ Compare → text ≡ After
@@ -228,7 +234,7 @@ impl<A: Allocator + Copy> Pass<A> {
         need: Need,
     ) -> Result<(), ConfFault>
         ensures taken { (earlier : List Marked) → seen_in text earlier ≡ []
-            → StandsFor earlier self.old
+            → IsBuiltFrom earlier self.old
             → TakesAll need earlier (places_of text bytes.now) self.new result }
         ensures named { need ≡ Compare → text ≡ After
             → OnOk result (IsSome self.new.old_path × IsSome self.new.new_path) }
@@ -294,7 +300,7 @@ fn open_block<A: Allocator + Copy>(
 fn open_other<A: Allocator + Copy>(blocks: &mut Blocks<A>) -> Result<(), ConfFaultKind>
     ensures answered { IsAnswered (line_fault [] (length (frames_of blocks.old))
         (top_divided (frames_of blocks.old))
-        (item_reading (top_used (frames_of blocks.old)) IfOther []) None) result }
+        (directive_effect (top_used (frames_of blocks.old)) (Some IfOther) []) None) result }
     ensures memory { result ≡ Err Memory
         → (nat_lt (length (frames_of blocks.old)) deepest
         && not (top_used (frames_of blocks.old))) ≡ true }

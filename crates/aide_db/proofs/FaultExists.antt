@@ -57,7 +57,7 @@ whole_uncut : (limits : Limits) (text : List ℕ) → nat_le (length text) limit
 unfolding whole_lines
 whole_uncut limits text e = rw e refl
 
-open_nil : (limit : ℕ) → IsOpen limit []
+pub open_nil : (limit : ℕ) → IsOpen limit []
 open_nil limit = record { no_end = refl; short = All-nil (IsShort limit); part = tt }
 
 at_cut : (limits : Limits) (text : List ℕ) → nat_le (length text) limits.bytes ≡ false

@@ -1,6 +1,7 @@
 mod Examples
 mod DatabaseExamples
 mod ValueExamples
+mod FaultOrderExamples
 pub mod LinesLemmas
 pub mod BlockReaderLemmas
 pub mod BlankLemmas
@@ -28,6 +29,8 @@ pub mod SkippedLemmas
 pub mod TakesLemmas
 pub mod FirstFault
 pub mod FaultLaws
+pub mod FaultOrderLemmas
+pub mod FaultOrderTexts
 pub mod FaultExists
 pub mod Laws
 pub mod ValueLaws
@@ -39,3 +42,4 @@ pub mod ColumnLemmas
 pub mod PlaceLemmas
 pub mod JudgedFields
 pub mod SymbolLemmas
+pub mod KeepingLemmas

@@ -16,7 +16,7 @@ use Rattle.aide_db.specs.Shapes.{shape_of, shape_of_form, has_shape, fault_of_sh
 use Rattle.aide_db.specs.declared.column.Column.{Column}
 use Rattle.aide_db.specs.declared.column.Column.TheVariants.{Name, Bits, Of, Skipped}
 use Rattle.aide_db.specs.Spans.{field_at, fields_at}
-use Rattle.aide_db.specs.declared.spans.Span.{Span}
+use Rattle.aide_db.specs.declared.span.Span.{Span}
 use Rattle.aide_db.specs.declared.shape.Shape.{Shape}
 use Rattle.aide_db.specs.declared.shape.Shape.TheVariants.{Free, Octal, Signed, Unsigned, Seconds, Encoded}
 

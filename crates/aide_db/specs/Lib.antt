@@ -8,6 +8,7 @@ pub mod Lent
 pub mod Base64Tables
 pub mod Entry
 pub mod Database
+pub mod FaultOrder
 pub mod Codes
 pub mod Columns
 pub mod Places
@@ -50,3 +51,4 @@ pub mod Again
 pub mod Count
 pub mod Failures
 pub mod Kept
+pub mod Keeping

@@ -1,5 +1,6 @@
 -- The place of the first column of a kind, and the number in the field of bits.
-use Rattle.std.specs.Prelude.{ℕ, zero, suc, ◌==◌, Bool, true, if◌then◌else◌, Option, Some, None, unwrap_or}
+use Rattle.std.specs.Prelude.{ℕ, zero, suc, ◌==◌, Bool, true, if◌then◌else◌, Option, Some, None}
+use Rattle.std.specs.Prelude.{unwrap_or}
 use Rattle.std.specs.Prelude.{List, [], ◌∷◌, drop, slice_index, ◌≡◌}
 use Rattle.std.specs.Int.{bit_at}
 use Rattle.aide_db.specs.Codes.{code_of}
@@ -21,7 +22,8 @@ place_of test (column ∷ columns) = if test column then 1 else one_behind (plac
 
 -- the places of columns, by their numbers
 abbrev pub ArePlaces : List ℕ → List Column → Type 0
-ArePlaces places columns = (wanted : Column) → slice_index places (code_of wanted) ≡ place_of (is_column wanted) columns
+ArePlaces places columns = (wanted : Column)
+    → slice_index places (code_of wanted) ≡ place_of (is_column wanted) columns
 
 -- the field at a place, or none at the place 0
 abbrev pub field_at_place : ℕ → List (List ℕ) → Option (List ℕ)

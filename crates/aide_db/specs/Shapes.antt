@@ -1,15 +1,18 @@
 -- What the fields of a column have to be.
-use Rattle.std.specs.Prelude.{ℕ, ◌+◌, ◌≤◌, Bool, true, ◌||◌, if◌then◌else◌, Option, Some, None, is_some}
+use Rattle.std.specs.Prelude.{ℕ, ◌+◌, ◌≤◌, Bool, true, ◌||◌, if◌then◌else◌, Option, Some, None}
+use Rattle.std.specs.Prelude.{is_some}
 use Rattle.std.specs.Prelude.{List, [], ◌∷◌}
 use Rattle.aide_attr.specs.Attr.{form_of}
 use Rattle.aide_attr.specs.declared.form.Form.{Form}
-use Rattle.aide_attr.specs.declared.form.Form.TheVariants.{Kind, Mode, Number, Time, Link, Digest, Opaque}
+use Rattle.aide_attr.specs.declared.form.Form.TheVariants.{Kind, Mode, Number, Time, Link, Digest}
+use Rattle.aide_attr.specs.declared.form.Form.TheVariants.{Opaque}
 use Rattle.aide_db.specs.Numbers.{mode_of, number_of, bits_of}
 use Rattle.aide_db.specs.Values.{time_of, digest_of, is_nought}
 use Rattle.aide_db.specs.declared.column.Column.{Column}
 use Rattle.aide_db.specs.declared.column.Column.TheVariants.{Name, Bits, Of, Skipped}
 use Rattle.aide_db.specs.declared.shape.Shape.{Shape}
-use Rattle.aide_db.specs.declared.shape.Shape.TheVariants.{Free, Octal, Signed, Unsigned, Seconds, Encoded}
+use Rattle.aide_db.specs.declared.shape.Shape.TheVariants.{Free, Octal, Signed, Unsigned, Seconds}
+use Rattle.aide_db.specs.declared.shape.Shape.TheVariants.{Encoded}
 use Rattle.aide_db.specs.declared.fault.DbFaultKind.{DbFaultKind}
 use Rattle.aide_db.specs.declared.fault.DbFaultKind.TheVariants.{BadNumber, BadTime, BadDigest}
 

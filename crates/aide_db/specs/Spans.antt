@@ -1,7 +1,7 @@
 -- The spans of the fields of a line.
 use Rattle.std.specs.Prelude.{ℕ, ◌≡◌, true, Option, None, Some, List, [], ◌∷◌, map, take, drop}
 use Rattle.aide_db.specs.Text.{fields, is_filled}
-use Rattle.aide_db.specs.declared.spans.Span.{Span}
+use Rattle.aide_db.specs.declared.span.Span.{Span}
 use Rattle.aide_db.specs.declared.spans.Spans.{Spans}
 
 -- the bytes of a span

@@ -12,7 +12,8 @@ use Rattle.aide_attr.specs.declared.file_type.FileType.TheVariants.{File, Direct
 use Rattle.aide_attr.specs.declared.file_type.FileType.TheVariants.{Link as SymbolicLink, Char}
 use Rattle.aide_attr.specs.declared.file_type.FileType.TheVariants.{Block, Fifo, Socket, Other}
 use Rattle.aide_attr.specs.declared.form.Form.{Form}
-use Rattle.aide_attr.specs.declared.form.Form.TheVariants.{Kind, Mode, Number, Time, Link, Digest, Opaque}
+use Rattle.aide_attr.specs.declared.form.Form.TheVariants.{Kind, Mode, Number, Time, Link, Digest}
+use Rattle.aide_attr.specs.declared.form.Form.TheVariants.{Opaque}
 use Rattle.aide_db.specs.Attributes.{Value, number_value, mode_value, type_value, link_value}
 use Rattle.aide_db.specs.Attributes.{digest_value, opaque_value}
 use Rattle.aide_db.specs.Text.{is_filled}

@@ -39,7 +39,8 @@ fn contrast_of(form: Form, old: &[u8], new: &[u8]) -> Contrast
     requires new { is_field form new.now ≡ true }
     ensures in_old { result.in_old ≡ is_some (value_of form old.now) }
     ensures in_new { result.in_new ≡ is_some (value_of form new.now) }
-    ensures differs { result.differs ≡ is_different (value_of form old.now) (value_of form new.now) }
+    ensures differs { result.differs
+        ≡ is_different (value_of form old.now) (value_of form new.now) }
 {
     let in_old = has_value(form, old);
     if old == new {
@@ -111,8 +112,8 @@ struct Contrasts {
 fn contrasts_between(old: &View<'_>, new: &View<'_>) -> Contrasts
     ensures in_old { (attr : Attr) → has result.in_old attr ≡ is_some ((entry_in old.now).1 attr) }
     ensures in_new { (attr : Attr) → has result.in_new attr ≡ is_some ((entry_in new.now).1 attr) }
-    ensures differs { (attr : Attr) → has result.differs attr ≡ is_different ((entry_in old.now).1 attr)
-        ((entry_in new.now).1 attr) }
+    ensures differs { (attr : Attr) → has result.differs attr
+        ≡ is_different ((entry_in old.now).1 attr) ((entry_in new.now).1 attr) }
 {
     let old_bits = old.bits();
     let new_bits = new.bits();

@@ -7,7 +7,7 @@ ghost use Rattle.aide_db.specs.Text.{is_blank, fields};
 ghost use Rattle.aide_db.specs.Spans.{fields_at};
 
 use crate::blanks::{bits_from, blanks_of_both, lowest_bit, without_lowest};
-use crate::spans::Span;
+use crate::span::Span;
 
 /// Appends a span to the first `count` spans, if these are fewer than 64. Returns the new number of spans.
 pub fn add_span(spanned: &mut [Span; 64], count: usize, span: Span) -> Option<usize>
@@ -21,6 +21,15 @@ pub fn add_span(spanned: &mut [Span; 64], count: usize, span: Span) -> Option<us
     }
     spanned[count] = span;
     Some(count + 1)
+}
+
+/// How far the fields of a line have been found.
+#[derive(Clone, Copy)]
+pub struct Found {
+    /// How many spans there are.
+    pub count: usize,
+    /// Where the next field begins, or the blanks before it.
+    pub begin: usize,
 }
 
 /// Appends the span of the field that ends before the blank at `at`, if it is not empty. Returns the new number of
@@ -87,50 +96,51 @@ fn line_ends(spanned: &mut [Span; 64], count: usize, line: &[u8], from: usize) -
 }
 
 /// Appends the spans of the fields that end among at most 64 bytes. The blanks among these bytes are given as bits.
-/// Returns the new number of spans, and where the next field begins.
+/// Returns how far the fields have been found then.
 #[inline(always)]
 fn runs_among(
     spanned: &mut [Span; 64],
-    count: usize,
+    before: Found,
     line: &[u8],
-    from: usize,
     at: usize,
     end: usize,
     blanks: u64,
-) -> Option<(usize, usize)>
-    requires few { count ≤ 64 }
-    requires order { from ≤ end }
+) -> Option<Found>
+    requires few { before.count ≤ 64 }
+    requires order { before.begin ≤ end }
     requires within { end ≤ length line.now }
     requires near { end ≤ at + 64 }
     requires small { length line.now < 2 ^ 32 }
-    requires plain { (k : ℕ) → from ≤ k → k < at → is_blank (slice_index line.now k) ≡ false }
-    requires each { (k : ℕ) → at + k < end → from ≤ at + k → bit_at blanks k ≡ 0
+    requires plain { (k : ℕ) → before.begin ≤ k → k < at
+        → is_blank (slice_index line.now k) ≡ false }
+    requires each { (k : ℕ) → at + k < end → before.begin ≤ at + k → bit_at blanks k ≡ 0
         → is_blank (slice_index line.now (at + k)) ≡ false }
-    requires marks { (k : ℕ) → bit_at blanks k ≡ 1 → (at + k < end) × (from ≤ at + k)
+    requires marks { (k : ℕ) → bit_at blanks k ≡ 1 → (at + k < end) × (before.begin ≤ at + k)
         × (is_blank (slice_index line.now (at + k)) ≡ true) }
-    requires found { fields_at line.now (take count spanned.old) ++ fields (drop from line.now)
-        ≡ fields line.now }
-    ensures few { IfSome result (λ behind. behind.0 ≤ 64) }
-    ensures order { IfSome result (λ behind. behind.1 ≤ end) }
-    ensures plain { IfSome result (λ behind. (k : ℕ) → behind.1 ≤ k → k < end
+    requires found { fields_at line.now (take before.count spanned.old)
+        ++ fields (drop before.begin line.now) ≡ fields line.now }
+    ensures few { IfSome result (λ found. found.count ≤ 64) }
+    ensures order { IfSome result (λ found. found.begin ≤ end) }
+    ensures plain { IfSome result (λ found. (k : ℕ) → found.begin ≤ k → k < end
         → is_blank (slice_index line.now k) ≡ false) }
-    ensures found { IfSome result (λ behind. fields_at line.now (take behind.0 spanned.new)
-        ++ fields (drop behind.1 line.now) ≡ fields line.now) }
+    ensures found { IfSome result (λ found. fields_at line.now (take found.count spanned.new)
+        ++ fields (drop found.begin line.now) ≡ fields line.now) }
     ensures many { IfNone result (64 < length (fields line.now)) }
 {
-    let mut found = count;
-    let mut begin = from;
+    let mut found = before;
     let mut bits = blanks;
     'bits: while bits != 0 {
         let blank = at + lowest_bit(bits);
-        let Some(more) = run_ends(spanned, found, line, begin, blank) else {
+        let Some(count) = run_ends(spanned, found.count, line, found.begin, blank) else {
             return None;
         };
-        found = more;
-        begin = blank + 1;
+        found = Found {
+            count,
+            begin: blank + 1,
+        };
         bits = without_lowest(bits);
     }
-    Some((found, begin))
+    Some(found)
 }
 
 /// Returns where to look at 64 bytes that include the place `base`: where their first 32 bytes begin, and where their
@@ -165,19 +175,16 @@ pub fn find_runs(spanned: &mut [Span; 64], line: &[u8]) -> Option<usize>
         ≡ fields line.now) }
     ensures many { IfNone result (64 < length (fields line.now)) }
 {
-    let mut count: usize = 0;
-    let mut from: usize = 0;
+    let mut found = Found { count: 0, begin: 0 };
     let mut base: usize = 0;
     'windows: while base < line.len() {
         let (at, later) = window_of(line.len(), base);
         let bits = bits_from(blanks_of_both(line, at, later), base - at);
-        let Some((more, begin)) = runs_among(spanned, count, line, from, at, later + 32, bits)
-        else {
+        let Some(more) = runs_among(spanned, found, line, at, later + 32, bits) else {
             return None;
         };
-        count = more;
-        from = begin;
+        found = more;
         base = later + 32;
     }
-    line_ends(spanned, count, line, from)
+    line_ends(spanned, found.count, line, found.begin)
 }

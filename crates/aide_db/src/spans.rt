@@ -6,13 +6,7 @@ ghost use Rattle.aide_db.specs.Text.{fields};
 
 use crate::fields::{field_len, run_of};
 use crate::runs::{add_span, find_runs};
-
-/// Where a field begins in its line, and how long it is.
-#[derive(Clone, Copy)]
-pub struct Span {
-    pub start: u32,
-    pub len: u32,
-}
+use crate::span::Span;
 
 /// The spans of the fields of a line, at most 64.
 #[derive(Clone, Copy)]
@@ -20,38 +14,6 @@ pub struct Spans {
     spans: [Span; 64],
     count: u8,
     ghost few: { count ≤ 64 },
-}
-
-impl Span {
-    ghost use Rattle.aide_db.specs.Spans.{field_at};
-
-    /// Returns the bytes of this span.
-    pub fn of<'a>(self, line: &'a [u8]) -> &'a [u8]
-        ensures { result.now ≡ field_at line.now self }
-    {
-        let start = self.start as usize;
-        let end = start + self.len as usize;
-        if end <= line.len() {
-            &line[start..end]
-        } else {
-            self.cut(line)
-        }
-    }
-
-    /// Returns the bytes of a span that reaches over the line's end. No span of the line's own fields does that.
-    #[cold]
-    #[inline(never)]
-    fn cut<'a>(self, line: &'a [u8]) -> &'a [u8]
-        requires { length line.now < self.start + self.len }
-        ensures { result.now ≡ field_at line.now self }
-    {
-        let start = self.start as usize;
-        if start < line.len() {
-            &line[start..]
-        } else {
-            &[]
-        }
-    }
 }
 
 /// Copies the first `count` spans.

@@ -1,5 +1,6 @@
 //! Reads what a field means, by its form.
-ghost use Rattle.std.specs.Prelude.{ℕ, true, false, not, ◌&&◌, ◌≡◌, ◌<◌, ◌≤◌, length, is_some, nat_le, Option};
+ghost use Rattle.std.specs.Prelude.{ℕ, true, false, not, ◌&&◌, ◌≡◌, ◌<◌, ◌≤◌, length, is_some};
+ghost use Rattle.std.specs.Prelude.{nat_le, Option};
 ghost use Rattle.std.specs.Str.{bytes_eq};
 ghost use Rattle.percent_encoding.specs.Iter.{decoded_bytes};
 ghost use Rattle.aide_attr.specs.Attr.{most_bytes};
@@ -12,9 +13,9 @@ ghost use Rattle.aide_db.specs.Lent.{IsDigest, lent_link, differs_by, same_numbe
 ghost use Rattle.aide_db.specs.Lent.{same_mode, same_type, same_link_name};
 
 use crate::base64_tables::Base64Tables;
+use crate::decoded::Decoded;
 use crate::number::{is_digit, is_mode, is_number, read_mode, read_number};
 use crate::symbols::are_symbols;
-use crate::view::Decoded;
 use aide_attr::{FileType, Form};
 use percent_encoding::percent_decode;
 
@@ -163,7 +164,7 @@ fn link_text(field: &[u8]) -> &[u8]
 }
 
 /// Reads the name in a symbolic link: none, the empty name, or a text with escapes.
-#[tactic(auto, unfolding(crate::specs::Values::link_of, percent_encoding::specs::Percent::percent_decode))]
+#[tactic(auto, unfolding(crate::specs::Values::link_of))]
 pub fn read_link(field: &[u8]) -> Option<Decoded<'_>>
     ensures { lent_link result ≡ link_of field.now }
 {

@@ -7,16 +7,15 @@ ghost use Rattle.aide_db.specs.Entry.{has_entry};
 ghost use Rattle.aide_db.specs.Spans.{AreSpans};
 
 use crate::base64_tables::Base64Tables;
-use crate::column::{Column, Columns};
+use crate::column::Column;
+use crate::columns::Columns;
+use crate::decoded::Decoded;
 use crate::entry::{bits_of, field_under, is_on, name_of};
 use crate::number::{read_mode, read_number};
 use crate::spans::Spans;
 use crate::value::{has_value, is_nought, read_digest, read_link, read_time, read_type};
 use aide_attr::{Attr, AttrSet, FileType, Form};
-use percent_encoding::{PercentDecode, percent_decode};
-
-/// Hands out the bytes of a text with escapes, one after another.
-pub type Decoded<'a> = PercentDecode<'a>;
+use percent_encoding::percent_decode;
 
 /// Returns the set, with the attribute added if it belongs there.
 pub(crate) fn with_if(set: AttrSet, attr: Attr, belongs: bool) -> AttrSet
@@ -135,7 +134,7 @@ impl<'a> View<'a> {
     }
 
     /// Returns the type of the file, if the entry has it.
-    #[tactic(auto, using(crate::proofs::FieldValues::types_mapped), unfolding(aide_attr::specs::Attr::row_of, aide_attr::specs::Attr::row))]
+    #[tactic(auto, unfolding(aide_attr::specs::Attr::row_of, aide_attr::specs::Attr::row))]
     pub fn kind(&self) -> Option<FileType>
         ensures { result ≡ type_in ((entry_in self.now).1 Attr.Ftype) }
     {

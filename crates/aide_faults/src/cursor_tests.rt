@@ -10,8 +10,10 @@ use std::process::Abort;
 
 mod blocks;
 mod cut;
+mod differences;
 mod endless;
 mod numbers;
+mod room;
 mod rows;
 mod values;
 

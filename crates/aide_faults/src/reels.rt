@@ -1,15 +1,16 @@
-//! Reels that give few bytes at a time, fail at a chosen place, or never end.
-ghost use Rattle.std.specs.Prelude.{◌≡◌, Some, None};
+//! Reels that give few bytes at a time, fail at a chosen place once or for good, or never end.
+ghost use Rattle.std.specs.Prelude.{◌≡◌, Some, None, false, true};
 
 use crate::pace::Pace;
 use aide_db::{DeviceFault, Reel};
 
-/// Gives the bytes of a slice, few at a time. After a chosen number of bytes every read fails.
+/// Gives the bytes of a slice, few at a time. After a chosen number of bytes every read fails, or only the next one.
 #[derive(Drop)]
 pub struct PlannedReel<'a> {
     bytes: &'a [u8],
     pace: Pace,
     sound: u64,
+    once: bool,
     failures: u64,
 }
 
@@ -20,12 +21,32 @@ impl<'a> PlannedReel<'a> {
         ensures bytes { result.bytes.now ≡ bytes.now }
         ensures pace { result.pace ≡ pace }
         ensures sound { result.sound ≡ sound }
+        ensures for_good { result.once ≡ false }
         ensures failures { result.failures ≡ 0 }
     {
         PlannedReel {
             bytes,
             pace,
             sound,
+            once: false,
+            failures: 0,
+        }
+    }
+
+    /// A reel over these bytes, which gives them at this pace. After `sound` of them one read fails. Later reads give
+    /// the other bytes.
+    pub fn failing_once(bytes: &'a [u8], pace: Pace, sound: u64) -> PlannedReel<'a>
+        ensures bytes { result.bytes.now ≡ bytes.now }
+        ensures pace { result.pace ≡ pace }
+        ensures sound { result.sound ≡ sound }
+        ensures once { result.once ≡ true }
+        ensures failures { result.failures ≡ 0 }
+    {
+        PlannedReel {
+            bytes,
+            pace,
+            sound,
+            once: true,
             failures: 0,
         }
     }
@@ -46,6 +67,9 @@ impl<'a> Reel for PlannedReel<'a> {
     fn read(&mut self, buffer: &mut [u8]) -> Result<usize, DeviceFault> {
         if self.sound == 0 {
             self.failures = self.failures.saturating_add(1);
+            if self.once {
+                self.sound = u64::MAX;
+            }
             return Err(DeviceFault);
         }
         let count = self

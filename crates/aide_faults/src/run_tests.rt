@@ -8,14 +8,17 @@ use std::process::Abort;
 
 mod counts;
 mod details;
+mod digests;
 mod growths;
 mod large;
 mod levels;
 mod lists;
 mod pair;
 mod refused;
+mod reported;
 mod room;
 mod rows;
+mod stumbling;
 mod trial;
 mod values;
 mod written;

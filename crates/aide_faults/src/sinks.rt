@@ -1,18 +1,19 @@
-//! Sinks that take few bytes at a time, or fail at a chosen place.
-ghost use Rattle.std.specs.Prelude.{◌≡◌};
+//! Sinks that take few bytes at a time, or fail at a chosen place once or for good.
+ghost use Rattle.std.specs.Prelude.{◌≡◌, false, true};
 ghost use Rattle.aide_report.specs.Failures.{one_more};
 
 use crate::pace::Pace;
 use aide_db::DeviceFault;
 use aide_report::Sink;
 
-/// Passes bytes on to another sink, few at a time. After a chosen number of bytes every write fails.
+/// Passes bytes on to another sink, few at a time. After a chosen number of bytes every write fails, or one call.
 #[derive(Drop)]
 pub struct PlannedSink<W> {
     inner: W,
     pace: Pace,
     sound: u64,
     flushes: bool,
+    once: bool,
     failures: u64,
 }
 
@@ -24,6 +25,7 @@ impl<W> PlannedSink<W> {
         ensures pace { result.pace ≡ pace }
         ensures sound { result.sound ≡ sound }
         ensures flushes { result.flushes ≡ flushes }
+        ensures for_good { result.once ≡ false }
         ensures failures { result.failures ≡ 0 }
     {
         PlannedSink {
@@ -31,6 +33,27 @@ impl<W> PlannedSink<W> {
             pace,
             sound,
             flushes,
+            once: false,
+            failures: 0,
+        }
+    }
+
+    /// A sink that takes bytes at this pace and fails once: at the write after `sound` of them, or at the first flush
+    /// if that comes before. All other calls are passed on. The sink allocates no memory itself.
+    pub fn failing_once(inner: W, pace: Pace, sound: u64) -> PlannedSink<W>
+        ensures inner { result.inner ≡ inner }
+        ensures pace { result.pace ≡ pace }
+        ensures sound { result.sound ≡ sound }
+        ensures flushes { result.flushes ≡ false }
+        ensures once { result.once ≡ true }
+        ensures failures { result.failures ≡ 0 }
+    {
+        PlannedSink {
+            inner,
+            pace,
+            sound,
+            flushes: false,
+            once: true,
             failures: 0,
         }
     }
@@ -49,12 +72,16 @@ impl<W> PlannedSink<W> {
         self.failures
     }
 
-    /// Counts a failure.
+    /// Counts a failure, and lets later calls succeed if there is to be only one.
     fn fail(&mut self) -> DeviceFault
         ensures failures { self.new.failures ≡ one_more self.old.failures }
         ensures inner { self.new.inner ≡ self.old.inner }
     {
         self.failures = self.failures.saturating_add(1);
+        if self.once {
+            self.sound = u64::MAX;
+            self.flushes = true;
+        }
         DeviceFault
     }
 }

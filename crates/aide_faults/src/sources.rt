@@ -24,6 +24,8 @@ pub struct Broken {
     pub opening: u64,
     /// How many bytes the reel gives before it fails.
     pub sound: u64,
+    /// Whether only one read fails. Otherwise all later ones fail too.
+    pub once: bool,
 }
 
 /// How the database of one side is given.
@@ -63,11 +65,15 @@ impl<'a> SidePlan<'a> {
             Some(change) if change.opening <= opening => change.bytes,
             _ => self.bytes,
         };
-        let sound = match self.broken {
-            Some(broken) if broken.opening == opening => broken.sound,
-            _ => u64::MAX,
-        };
-        PlannedReel::new(bytes, pace, sound)
+        match self.broken {
+            Some(broken) if broken.opening == opening && broken.once => {
+                PlannedReel::failing_once(bytes, pace, broken.sound)
+            }
+            Some(broken) if broken.opening == opening => {
+                PlannedReel::new(bytes, pace, broken.sound)
+            }
+            _ => PlannedReel::new(bytes, pace, u64::MAX),
+        }
     }
 }
 

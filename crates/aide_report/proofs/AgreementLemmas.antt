@@ -9,7 +9,7 @@ use Rattle.aide_attr.specs.declared.level.Level.TheVariants.{DatabaseAttributes,
 use Rattle.aide_conf.specs.declared.options.Options.{Options}
 use Rattle.aide_report.specs.Agreement.{BeginsWith, beginning_of, goes_on}
 use Rattle.aide_report.specs.Report.{Origin, databases_of, databases_text, is_silent}
-use Rattle.aide_text.specs.Overview.{overview_of, when, is_different}
+use Rattle.aide_text.specs.Overview.{overview_of, when, databases_differ}
 use Rattle.aide_report.specs.Sections.{asked_sections, list_sections}
 use Rattle.aide_attr.specs.Level.{rank, reaches}
 use Rattle.aide_text.specs.Sheet.{Sheet, Wrote, WritesFirst, WritesSome}
@@ -58,20 +58,20 @@ first_then {text} {last} {a} {b} {c} {d} wants_more none p q r = record {
 }
 
 first_by : (options : Options) (total added removed changed : ℕ) (wants_more silent : Bool) (a b : Sheet)
-    → is_silent options (is_different added removed changed) ≡ silent
+    → is_silent options (databases_differ added removed changed) ≡ silent
     → WritesFirst (if silent then [] else overview_of options.level total added removed changed) (not silent && reaches options.level DatabaseAttributes) a b
     → WritesFirst (beginning_of options total added removed changed) (goes_on options added removed changed) a b
 first_by options total added removed changed wants_more silent a b is p =
     subst (λ x. WritesFirst (if x then [] else overview_of options.level total added removed changed) (not x && reaches options.level DatabaseAttributes) a b) (sym is) p
 
 pub first_silent : (options : Options) (total added removed changed : ℕ) (a : Sheet)
-    → is_silent options (is_different added removed changed) ≡ true
+    → is_silent options (databases_differ added removed changed) ≡ true
     → WritesFirst (beginning_of options total added removed changed) (goes_on options added removed changed) a a
 first_silent options total added removed changed a is =
     first_by options total added removed changed false true a a is (first_nothing false a)
 
 pub first_full : (options : Options) (total added removed changed : ℕ) (a b : Sheet)
-    → is_silent options (is_different added removed changed) ≡ false
+    → is_silent options (databases_differ added removed changed) ≡ false
     → WritesFirst (overview_of options.level total added removed changed) (reaches options.level DatabaseAttributes) a b
     → WritesFirst (beginning_of options total added removed changed) (goes_on options added removed changed) a b
 first_full options total added removed changed a b is p =

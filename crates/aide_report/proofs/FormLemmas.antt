@@ -12,7 +12,7 @@ use Rattle.aide_attr.specs.declared.form.Form.TheVariants.{Kind, Link}
 use Rattle.aide_attr.proofs.AttrLemmas.{at_number, number_small}
 use Rattle.aide_attr.proofs.DifferenceLemmas.{attr_is}
 use Rattle.aide_db.specs.Attributes.{Attributes, type_in, link_in}
-use Rattle.aide_text.specs.Values.{option_text, type_text, link_text, text_at, value_in}
+use Rattle.aide_text.specs.ValueText.{option_text, type_text, link_text, text_at, value_in}
 
 and_left : (a b : Bool) → (a && b) ≡ true → a ≡ true
 and_left true b h = refl

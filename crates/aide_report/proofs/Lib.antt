@@ -6,6 +6,7 @@ pub mod SectionLaws
 pub mod ReportLemmas
 pub mod MergeLemmas
 pub mod Laws
+pub mod RunLaws
 pub mod Steps
 pub mod StandingLemmas
 pub mod DifferenceLemmas

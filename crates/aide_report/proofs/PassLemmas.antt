@@ -161,6 +161,11 @@ passes_err {a = a} {b = b} {sink = sink} {next = next} {fault = fault} f p = rec
 
 -- ---- a merge, between its opening and its closing
 
+-- both sides were opened, and a merge has begun to read them
+pub passes_begun : {T U : Type 0} {limits : Limits} {a b : Seen} {d e : DeskView} {sink : Type 0} {answer : T} {begun : U}
+    → Passes limits 1 a b d d sink (Ok answer) → KeepsDesk limits a.bytes_of d e → Passes limits 1 a b d e sink (Ok begun)
+passes_begun p desk = record { sources = p.sources; desk = desk; opens = p.opens; opens_some = p.opens_some; fault = tt }
+
 desk_merged : {R : Type 0} {r : Reels R} {limits : Limits} {bytes_of : Side → Option (List ℕ)} {m n : Merge R} {d e f : DeskView}
     → KeepsDesk limits bytes_of d e → IsOpened r limits bytes_of m e → KeepsMerge r m n e f → KeepsDesk limits bytes_of d f
 desk_merged p opened keeps = record {

@@ -7,7 +7,7 @@ use Rattle.aide_conf.specs.declared.options.Options.{Options}
 use Rattle.aide_db.specs.declared.side.Side.{Side}
 use Rattle.aide_report.specs.Openings.{OpensExactly}
 use Rattle.aide_report.specs.Report.{is_silent, section_count}
-use Rattle.aide_text.specs.Overview.{overview_of, is_different}
+use Rattle.aide_text.specs.Overview.{overview_of, databases_differ}
 use Rattle.aide_attr.specs.Level.{reaches}
 use Rattle.aide_text.specs.declared.counts.Counts.{Counts}
 use Rattle.aide_report.specs.declared.outcome.Outcome.{Outcome}
@@ -15,13 +15,13 @@ use Rattle.aide_report.specs.declared.outcome.Outcome.{Outcome}
 -- the head and the summary; a silent report has neither
 abbrev pub beginning_of : Options → (total added removed changed : ℕ) → List ℕ
 beginning_of options total added removed changed =
-    if is_silent options (is_different added removed changed) then []
+    if is_silent options (databases_differ added removed changed) then []
     else overview_of options.level total added removed changed
 
 -- whether anything follows this beginning: only if the report is not silent, and its level reaches the databases
 abbrev pub goes_on : Options → (added removed changed : ℕ) → Bool
 goes_on options added removed changed =
-    not (is_silent options (is_different added removed changed))
+    not (is_silent options (databases_differ added removed changed))
     && reaches options.level DatabaseAttributes
 
 -- the beginning of a report with these counts

@@ -17,8 +17,8 @@ use Rattle.aide_attr.specs.declared.summary_string.Alone.TheVariants.{Added, Rem
 use Rattle.aide_conf.specs.declared.options.Options.{Options}
 use Rattle.aide_db.specs.Attributes.{Attributes, sides_between, type_in}
 use Rattle.aide_report.specs.Compare.{Change, Found}
-use Rattle.aide_text.specs.Text.{empty_line, path_line, side_by_side}
-use Rattle.aide_text.specs.Values.{side_text}
+use Rattle.aide_text.specs.Layout.{empty_line, path_line, side_by_side}
+use Rattle.aide_text.specs.ValueText.{side_text}
 
 -- what the old and the new database have at one path
 abbrev pub Pair : Type 0
@@ -38,15 +38,16 @@ letters_of ignore (Some old, None) = alone_letters (type_in (old Ftype)) Removed
 letters_of ignore (Some old, Some new) = summary_letters (sides_between old new) ignore
 
 -- the word in place of the summary string
-abbrev pub word_of : Pair → List ℕ
-word_of (None, None) = []
-word_of (None, Some new) = codes "added"
-word_of (Some old, None) = codes "removed"
-word_of (Some old, Some new) = codes "changed"
+abbrev pub change_word : Pair → List ℕ
+change_word (None, None) = []
+change_word (None, Some new) = codes "added"
+change_word (Some old, None) = codes "removed"
+change_word (Some old, Some new) = codes "changed"
 
 -- what precedes the path in a line: the summary string, or a word
 abbrev pub label_of : Options → Pair → List ℕ
-label_of options pair = if options.summarize then letters_of options.ignore pair else word_of pair
+label_of options pair =
+    if options.summarize then letters_of options.ignore pair else change_word pair
 
 -- the line of a change
 abbrev pub list_line : Options → PathChange → List ℕ

@@ -2,8 +2,8 @@ pub use Rattle.aide_text.specs.Failures
 pub use Rattle.aide_text.specs.SinkViews
 pub use Rattle.aide_text.specs.Printed
 pub use Rattle.aide_text.specs.Sent
-pub use Rattle.aide_text.specs.Text
-pub use Rattle.aide_text.specs.Values
+pub use Rattle.aide_text.specs.Layout
+pub use Rattle.aide_text.specs.ValueText
 pub use Rattle.aide_text.specs.Sheet
 pub use Rattle.aide_text.specs.PenSheet
 pub use Rattle.aide_text.specs.Overview

@@ -1,5 +1,5 @@
 -- What the first readings find: each database is opened and read whole.
-use Rattle.std.specs.Prelude.{ℕ, ◌≡◌, ◌≤◌, true, false, Option, Some, List}
+use Rattle.std.specs.Prelude.{ℕ, ◌≡◌, ◌≤◌, true, false, Option, Some, IfSome, List}
 use Rattle.aide_conf.specs.declared.options.Options.{Options}
 use Rattle.aide_db.specs.Answer.{Stands}
 use Rattle.aide_db.specs.CursorView.{CursorView}
@@ -34,23 +34,33 @@ use Rattle.aide_report.specs.declared.run_fault.RunFault.TheVariants.{Open}
 
 -- ---- one side
 
--- A cursor on a side that was just opened.
-pub record IsOpenedAt {R : Type 0} (r : Reels R) (limits : Limits) (a : Seen) (side : Side)
-    (c : CursorView R) (desk : DeskView) : Type 0 where
-  -- the side is not missing
-  pub refuses : a.is_missing side ≡ false
+-- the reel gives the text of a side, if it is known
+abbrev pub GivesSide : {R : Type 0} → (R → Option (List ℕ)) → (Side → Option (List ℕ)) → Side → R
+    → Type 0
+GivesSide to_come bytes_of side reel = IfSome (bytes_of side) (λ text. to_come reel ≡ Some text)
+
+-- A cursor that begins to read a side.
+pub record IsStarted {R : Type 0} (r : Reels R) (limits : Limits)
+    (bytes_of : Side → Option (List ℕ)) (side : Side) (c : CursorView R)
+    (desk : DeskView) : Type 0 where
   pub of_side : c.side ≡ side
   pub limits_of : c.limits ≡ limits
   pub unfailed : IsUnfailed c.stage
   -- the cursor reads the text that the side gives
-  pub stands : (text : List ℕ) → a.bytes_of side ≡ Some text → Stands r.to_come c desk text
+  pub stands : (text : List ℕ) → bytes_of side ≡ Some text → Stands r.to_come c desk text
   -- every entry of the text is still to come
   pub rest : (text : List ℕ) → rest_of c text ≡ entries_of text
   -- it takes no longer lines than the text has
-  pub within : (longest : ℕ) → OpensWithin a.bytes_of limits side longest
+  pub within : (longest : ℕ) → OpensWithin bytes_of limits side longest
       → TakesWithin r.to_come c desk longest
 
--- What the opening of a side leaves of the desk.
+-- Both reels give the texts of their sides, if these are known.
+pub record GivesBoth {R : Type 0} (to_come : R → Option (List ℕ))
+    (bytes_of : Side → Option (List ℕ)) (old_reel new_reel : R) : Type 0 where
+  pub of_old : GivesSide to_come bytes_of Old old_reel
+  pub of_new : GivesSide to_come bytes_of New new_reel
+
+-- What the beginning of a side leaves of the desk.
 pub record ClearsSide (side : Side) (d e : DeskView) : Type 0 where
   -- what is kept in memory of the other side stays
   pub other : IsKept (other_side side) d e

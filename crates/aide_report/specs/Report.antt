@@ -11,9 +11,9 @@ use Rattle.aide_report.specs.Entries.{PathChange, is_shown_entry}
 use Rattle.aide_report.specs.Sections.{sections_of, section_text}
 use Rattle.aide_text.specs.Overview.{differs, overview_by, when}
 use Rattle.aide_attr.specs.Level.{reaches}
-use Rattle.aide_text.specs.Text.{alone, path_line}
+use Rattle.aide_text.specs.Layout.{alone, path_line}
 use Rattle.aide_text.specs.Titles.{titled}
-use Rattle.aide_text.specs.Values.{digest_text}
+use Rattle.aide_text.specs.ValueText.{digest_text}
 use Rattle.aide_db.specs.Map.{Database}
 use Rattle.aide_text.specs.declared.counts.Counts.{Counts}
 use Rattle.aide_report.specs.declared.outcome.Outcome.{Outcome}

@@ -7,7 +7,7 @@ use Rattle.aide_conf.specs.declared.options.Options.{Options}
 use Rattle.aide_report.specs.Changed.{differ_by}
 use Rattle.aide_report.specs.Changes.{is_added, is_removed, is_common, is_changed}
 use Rattle.aide_report.specs.Entries.{PathChange, list_line, entry_details, shows_any}
-use Rattle.aide_text.specs.Overview.{is_different}
+use Rattle.aide_text.specs.Overview.{databases_differ}
 use Rattle.aide_attr.specs.Level.{reaches}
 use Rattle.aide_text.specs.Titles.{section_head}
 use Rattle.aide_text.specs.declared.counts.Counts.{Counts}
@@ -34,7 +34,7 @@ abbrev pub has_entry : Counts → Section → Bool
 has_entry counts AddedEntries = not (counts.added == 0)
 has_entry counts RemovedEntries = not (counts.removed == 0)
 has_entry counts ChangedEntries = not (counts.changed == 0)
-has_entry counts AllEntries = is_different counts.added counts.removed counts.changed
+has_entry counts AllEntries = databases_differ counts.added counts.removed counts.changed
 has_entry counts Details = not (counts.shown == 0)
 
 -- each section that is asked for and has an entry

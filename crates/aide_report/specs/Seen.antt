@@ -1,5 +1,5 @@
 -- What contracts say of the sources at one moment, and what each call over them keeps.
-use Rattle.std.specs.Prelude.{ℕ, ◌≡◌, ◌≤◌, ◌^◌, Bool, true, false, Option, None, List}
+use Rattle.std.specs.Prelude.{ℕ, ◌≡◌, ◌≤◌, ◌^◌, Bool, Option, List}
 use Rattle.aide_db.specs.Count.{one_more}
 use Rattle.aide_db.specs.Side.{other_side}
 use Rattle.aide_db.specs.declared.limits.Limits.{Limits}
@@ -57,10 +57,3 @@ pub record KeepsSources (a b : Seen) : Type 0 where
 pub record OpensOnce (a b : Seen) (side : Side) : Type 0 where
   pub opens : b.openings side ≡ one_more (a.openings side)
   pub others : b.openings (other_side side) ≡ a.openings (other_side side)
-
--- The opening of a side was refused.
-pub record IsRefusedAt (a b : Seen) (side : Side) : Type 0 where
-  -- reliable sources refuse only a side that has no bytes
-  pub gives_none : a.is_reliable ≡ true → a.bytes_of side ≡ None
-  -- the opening is not known to have succeeded
-  pub refused : b.was_given side ≡ false

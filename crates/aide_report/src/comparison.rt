@@ -1,14 +1,14 @@
 //! A whole run.
 ghost use Rattle.std.specs.Io.KnownBytes.{Appends};
 ghost use Rattle.std.specs.Prelude.{◌≡◌, ◌≤◌, ◌+◌, ◌*◌, ◌^◌, [], ℕ, List, Option, Some, Result, Ok};
-ghost use Rattle.std.specs.Prelude.{Err, IfOk, IfErr, OnOk, OnErr, true, max};
+ghost use Rattle.std.specs.Prelude.{Err, IfOk, IfErr, OnOk, true, max};
 ghost use Rattle.aide_db.specs.Database.{IsSound};
 ghost use Rattle.aide_db.specs.Longest.{longest_line};
 ghost use Rattle.aide_db.specs.declared.fault.DbFault.{DbFault};
 ghost use Rattle.aide_report.specs.Agreement.{IsOfOutcome, OpensByOutcome};
 ghost use Rattle.aide_report.specs.Asked.{Asked, asked};
 ghost use Rattle.aide_report.specs.Bound.{three_lines};
-ghost use Rattle.aide_report.specs.Missing.{EndsOver, HasAnswerOver, IsHindered, IsOfReliable};
+ghost use Rattle.aide_report.specs.Missing.{EndsOver, IsHindered, IsOfReliable};
 ghost use Rattle.aide_report.specs.Missing.{RunsOver, StopsFor, TellsSide};
 ghost use Rattle.aide_report.specs.Openings.{OpensExactly, OpensAtMost, OpensFirst, IsRefusedThere};
 ghost use Rattle.aide_report.specs.Openings.{IsNotGiven};
@@ -16,8 +16,7 @@ ghost use Rattle.aide_report.specs.Readings.{ClearsDesk, IsFindingFault, IsFound
 ghost use Rattle.aide_report.specs.Room.{IsNotOfMemory};
 ghost use Rattle.aide_report.specs.RunFaults.{IsRight, HasSentNothing, CountsWrites};
 ghost use Rattle.aide_report.specs.RunFaults.{HasWrittenIfAny};
-ghost use Rattle.aide_report.specs.Runs.{Report, Runs, openings_over, HasAnswer, IsRunFault};
-ghost use Rattle.aide_report.specs.Runs.{EndsWell, EndsEarly, HasCause};
+ghost use Rattle.aide_report.specs.Runs.{Report, Runs, openings_over, HasCause};
 ghost use Rattle.aide_report.specs.Seen.{AreLimits, KeepsSources, seen};
 ghost use Rattle.aide_text.specs.Failures.{CountsFlush, Rose};
 
@@ -111,31 +110,9 @@ pub fn run<S: Sources, W: Sink, A: Allocator + Copy>(
     requires line { 14 ≤ limits.line }
     requires bytes { limits.bytes ≤ 2 ^ 60 }
 
-    // Two texts have a right answer. So has what is at both sides, where a side may also not be there.
-    ensures answered { (old new : List ℕ) → HasAnswer limits (asked task.now) old new }
-    ensures answered_over { (old new : Option (List ℕ))
-        → HasAnswerOver limits (asked task.now) old new }
-
-    // After `Ok` both texts are sound, the right report has gone out and no other byte, and its outcome is returned.
-    ensures sound { OnOk result ((side : Side) (text : List ℕ)
-        → S.bytes_of sources.old side ≡ Some text → IsSound limits text) }
-    ensures ok { IfOk result (λ outcome. (old new : List ℕ)
-        → S.bytes_of sources.old Side.Old ≡ Some old → S.bytes_of sources.old Side.New ≡ Some new
-        → (r : Result Report DbFault) → Runs limits (asked task.now) old new r
-        → EndsWell r outcome (W.delivered out.old) (W.delivered out.new)) }
-
-    // After a fault the beginning of the right report has gone out, and nothing if a text is not sound.
-    ensures part { OnErr result ((old new : List ℕ) → S.bytes_of sources.old Side.Old ≡ Some old
-        → S.bytes_of sources.old Side.New ≡ Some new
-        → (r : Result Report DbFault) → Runs limits (asked task.now) old new r
-        → EndsEarly r (W.delivered out.old) (W.delivered out.new)) }
-    ensures nothing { (side : Side) (text : List ℕ) → S.bytes_of sources.old side ≡ Some text
-        → (IsSound limits text → ⊥)
-        → Appends (W.delivered out.old) (W.delivered out.new) [] }
-    ensures written { IfErr result (HasWrittenIfAny (W.delivered out.old) (W.delivered out.new)) }
-
-    // If it is told what is at each side, a text or nothing: the run ends with the right answer, unless an
-    // allocation, a side that is there, or the sink has failed. Over reliable sources no such side fails.
+    // If it is told what is at each side, a text or nothing: the run ends with the right answer, and sends its report,
+    // unless an allocation, a side that is there, or the sink has failed. Then the beginning of the report has gone
+    // out. Over reliable sources no such side fails.
     ensures over { (old new : Option (List ℕ))
         → TellsSide (S.bytes_of sources.old Side.Old) (S.is_missing sources.old Side.Old) old
         → TellsSide (S.bytes_of sources.old Side.New) (S.is_missing sources.old Side.New) new
@@ -145,6 +122,15 @@ pub fn run<S: Sources, W: Sink, A: Allocator + Copy>(
         result (W.delivered out.old) (W.delivered out.new) }
     ensures reliable { S.is_reliable sources.old ≡ true
         → IfErr result (IsOfReliable (S.bytes_of sources.old)) }
+
+    // After `Ok` both texts are sound. If a text is not sound, nothing goes out. A failed write is returned with the
+    // number of bytes that went out.
+    ensures sound { OnOk result ((side : Side) (text : List ℕ)
+        → S.bytes_of sources.old side ≡ Some text → IsSound limits text) }
+    ensures nothing { (side : Side) (text : List ℕ) → S.bytes_of sources.old side ≡ Some text
+        → (IsSound limits text → ⊥)
+        → Appends (W.delivered out.old) (W.delivered out.new) [] }
+    ensures written { IfErr result (HasWrittenIfAny (W.delivered out.old) (W.delivered out.new)) }
 
     // For any sources, also those that tell no bytes: the report begins with the head and the summary of the very
     // outcome that is returned, and is only these if nothing more is asked for. It is flushed once, after its last
@@ -167,12 +153,10 @@ pub fn run<S: Sources, W: Sink, A: Allocator + Copy>(
         → (r : Result Report DbFault) → Runs limits (asked task.now) old new r → r ≡ Err first)
         (λ side. (text : List ℕ) → S.bytes_of sources.old side ≡ Some text → ⊥)) }
     ensures right { IfErr result (IsRight limits (S.bytes_of sources.old)) }
-    ensures first { IfErr result (IsRunFault limits (asked task.now) (S.bytes_of sources.old)) }
     ensures refused { IfErr result (IsRefusedThere
         (S.openings sources.old) (S.openings sources.new)) }
     ensures not_given { IfErr result (IsNotGiven (S.was_given sources.new)) }
     ensures sources_never_fall { S.failures sources.old ≤ S.failures sources.new }
-    ensures sink_never_falls { W.failures out.old ≤ W.failures out.new }
     ensures sink_fails { CountsWrites (W.failures out.old) (W.failures out.new) result }
 
     // Each side is opened once to be read whole, once to count, and once for each section of entries.

@@ -15,7 +15,8 @@ ghost use Rattle.aide_text.specs.ReadyRest.{ready_rest};
 ghost use Rattle.aide_text.specs.Sheet.{Wrote};
 ghost use Rattle.aide_text.specs.SliceRest.{slice_rest};
 ghost use Rattle.aide_text.specs.TextRest.{text_rest};
-ghost use Rattle.aide_text.specs.Values.{text_at, side_text, option_text, link_text, digest_text};
+ghost use Rattle.aide_text.specs.ValueText.{text_at, side_text, option_text, link_text};
+ghost use Rattle.aide_text.specs.ValueText.{digest_text};
 
 use crate::change::{Change, path_of};
 use crate::difference::told_of;
@@ -163,7 +164,7 @@ fn put_attributes<W: Sink>(
 }
 
 /// The word that a title has for a type.
-fn type_word(kind: Option<FileType>) -> &'static [u8]
+fn title_word(kind: Option<FileType>) -> &'static [u8]
     ensures { result.now ≡ title_word kind }
 {
     match kind {
@@ -184,11 +185,11 @@ fn title(change: Change<'_>) -> &'static [u8]
     ensures { result.now ≡ title_of (change_of change.entry).1 }
 {
     match change {
-        Change::Added(new) => type_word(new.kind()),
-        Change::Removed(old) => type_word(old.kind()),
+        Change::Added(new) => title_word(new.kind()),
+        Change::Removed(old) => title_word(old.kind()),
         Change::Common(old, new) => match new.kind() {
-            None => type_word(old.kind()),
-            Some(kind) => type_word(Some(kind)),
+            None => title_word(old.kind()),
+            Some(kind) => title_word(Some(kind)),
         },
     }
 }

@@ -11,14 +11,14 @@ use crate::merge::Merge;
 use aide_db::{Cursor, Reel, Side};
 
 /// The SHA-256 of each database, as it was first read.
-#[derive(Clone, Copy, Debug, PartialEq, Eq)]
+#[derive(Clone, Copy)]
 pub(crate) struct Digests {
     pub(crate) of_old: [u8; 32],
     pub(crate) of_new: [u8; 32],
 }
 
 /// What the reading of a whole database found.
-#[derive(Clone, Copy, Debug, PartialEq, Eq)]
+#[derive(Clone, Copy)]
 pub(crate) struct WholeReading {
     pub(crate) skipped: u64,
     pub(crate) digest: [u8; 32],

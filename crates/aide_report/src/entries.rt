@@ -1,7 +1,7 @@
 //! The entries of a section, in one pass over both databases.
 ghost use Rattle.std.specs.Prelude.{◌≡◌, ℕ, List, IfErr, OnOk, false};
 ghost use Rattle.aide_report.specs.ChangeView.{change_of};
-ghost use Rattle.aide_report.specs.Entries.{list_line, label_of, letters_of, word_of};
+ghost use Rattle.aide_report.specs.Entries.{list_line, label_of, letters_of, change_word};
 ghost use Rattle.aide_report.specs.MergeCalls.{IsStopOf, KeepsMerge};
 ghost use Rattle.aide_report.specs.Merging.{remaining, IsReady, IsEnded, StandsAt};
 ghost use Rattle.aide_report.specs.PassFaults.{Writes};
@@ -20,7 +20,7 @@ use aide_text::{Pen, Section, Sink, put, put_path_end};
 use std::alloc::Allocator;
 
 /// Why a pass was broken off.
-#[derive(Clone, Copy, Debug, PartialEq, Eq)]
+#[derive(Clone, Copy)]
 pub(crate) enum PassFault {
     Database(DbFault),
     Write,
@@ -28,7 +28,7 @@ pub(crate) enum PassFault {
 
 /// The word that a list has for a change.
 fn change_word(change: Change<'_>) -> &'static [u8]
-    ensures { result.now ≡ word_of (change_of change.entry).1 }
+    ensures { result.now ≡ change_word (change_of change.entry).1 }
 {
     match change {
         Change::Added(_) => b"added",

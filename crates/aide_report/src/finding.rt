@@ -7,7 +7,7 @@ use crate::outcome::Outcome;
 use aide_text::Counts;
 
 /// What the readings and the counting pass have found.
-#[derive(Clone, Copy, Debug, PartialEq, Eq)]
+#[derive(Clone, Copy)]
 pub(crate) struct Finding {
     pub(crate) counts: Counts,
     pub(crate) digests: Digests,

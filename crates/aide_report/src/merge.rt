@@ -1,21 +1,24 @@
 //! Two databases read in lock step: one path after another, in path order.
-ghost use Rattle.std.specs.Prelude.{◌≡◌, IfOk, IfErr};
+ghost use Rattle.std.specs.Prelude.{◌≡◌, ℕ, IfOk, IfErr, List, Option};
 ghost use Rattle.aide_db.specs.Desk.{desk_entry, Shows};
 ghost use Rattle.aide_db.specs.Kept.{IsKept};
 ghost use Rattle.aide_db.specs.Side.{other_side};
-ghost use Rattle.aide_report.specs.MergeCalls.{IsAdvanced, IsCursorFault, IsMergeFault, IsStep};
-ghost use Rattle.aide_report.specs.MergeCalls.{KeepsCursor, KeepsMerge};
+ghost use Rattle.aide_report.specs.MergeCalls.{IsAdvanced, IsCursorFault, IsMergeFault, IsOpened};
+ghost use Rattle.aide_report.specs.MergeCalls.{IsStep, KeepsCursor, KeepsMerge};
 ghost use Rattle.aide_report.specs.Merging.{IsReady};
 ghost use Rattle.aide_report.specs.NextEntry.{next_entry};
+ghost use Rattle.aide_report.specs.Passes.{KeepsDesk};
+ghost use Rattle.aide_report.specs.Readings.{ClearsSide, GivesBoth, GivesSide, IsStarted};
+ghost use Rattle.aide_report.specs.Seen.{AreLimits};
 ghost use Rattle.aide_report.specs.Standing.{IsUnfailed};
 ghost use Rattle.aide_report.specs.Turn.{turn_of, old_after, new_after};
 
-use aide_db::{Cursor, DbFault, Desk, Reel, Side, Step, View, cmp_names};
+use aide_db::{Cursor, DbFault, Desk, Limits, Reel, Side, Step, View, cmp_names};
 use std::alloc::Allocator;
 use std::cmp::Ordering;
 
 /// How far a side has come: its next entry has to be read, is on the desk and not passed on yet, or there is none.
-#[derive(Clone, Copy, Debug, PartialEq, Eq)]
+#[derive(Clone, Copy)]
 pub(crate) enum NextEntry {
     Due,
     Here,
@@ -23,7 +26,7 @@ pub(crate) enum NextEntry {
 }
 
 /// Which side has the path that comes next.
-#[derive(Clone, Copy, Debug, PartialEq, Eq)]
+#[derive(Clone, Copy)]
 pub(crate) enum Turn {
     Added,
     Removed,
@@ -39,19 +42,40 @@ pub(crate) struct Merge<R: Reel> {
     new_next: NextEntry,
 }
 
+/// Begins to read a side from its reel.
+pub(crate) fn start_cursor<R: Reel, A: Allocator + Copy>(
+    side: Side,
+    reel: R,
+    limits: Limits,
+    desk: &mut Desk<A>,
+) -> Cursor<R>
+    requires { AreLimits limits }
+    ensures started { (bytes_of : Side → Option (List ℕ)) → GivesSide R.to_come bytes_of side reel
+        → IsStarted R.Reel limits bytes_of side result desk.new }
+    ensures desk { ClearsSide side desk.old desk.new }
+{
+    Cursor::start(side, reel, limits, desk)
+}
+
 impl<R: Reel> Merge<R> {
-    /// A merge that has read nothing yet.
-    pub(crate) fn start(old_cursor: Cursor<R>, new_cursor: Cursor<R>) -> Merge<R>
-        ensures { result ≡ record {
-          old_cursor = old_cursor;
-          new_cursor = new_cursor;
-          old_next = NextEntry.Due;
-          new_next = NextEntry.Due;
-        } }
+    /// Begins to read both sides from their reels.
+    #[inline(never)]
+    pub(crate) fn start<A: Allocator + Copy>(
+        old_reel: R,
+        new_reel: R,
+        limits: Limits,
+        desk: &mut Desk<A>,
+    ) -> Merge<R>
+        requires { AreLimits limits }
+        ensures opened { (bytes_of : Side → Option (List ℕ))
+            → GivesBoth R.to_come bytes_of old_reel new_reel
+            → IsOpened R.Reel limits bytes_of result desk.new }
+        ensures desk { (bytes_of : Side → Option (List ℕ))
+            → KeepsDesk limits bytes_of desk.old desk.new }
     {
         Merge {
-            old_cursor,
-            new_cursor,
+            old_cursor: start_cursor(Side::Old, old_reel, limits, desk),
+            new_cursor: start_cursor(Side::New, new_reel, limits, desk),
             old_next: NextEntry::Due,
             new_next: NextEntry::Due,
         }

@@ -1,10 +1,10 @@
 //! Readings of databases: each whole, or both in lock step.
 ghost use Rattle.std.specs.Prelude.{◌≡◌, ◌<◌, [], false, true, ℕ, List, Some, IfOk, IfErr, OnOk};
-ghost use Rattle.std.specs.Prelude.{OnErr};
 ghost use Rattle.aide_db.specs.Answer.{Stands};
 ghost use Rattle.aide_db.specs.Count.{one_more};
 ghost use Rattle.aide_db.specs.Database.{IsSound};
 ghost use Rattle.aide_db.specs.Desk.{list_of};
+ghost use Rattle.aide_db.specs.DeskView.{DeskView};
 ghost use Rattle.aide_db.specs.Giving.{columns_of_text};
 ghost use Rattle.aide_db.specs.Map.{entries_of};
 ghost use Rattle.aide_db.specs.Path.{path_cmp};
@@ -14,23 +14,21 @@ ghost use Rattle.aide_report.specs.Bound.{Fits, OpensWithin};
 ghost use Rattle.aide_report.specs.Counts.{Completes};
 ghost use Rattle.aide_report.specs.Digests.{AreDigests};
 ghost use Rattle.aide_report.specs.LaterFault.{later_of};
-ghost use Rattle.aide_report.specs.MergeCalls.{IsCursorFault, IsOpened, KeepsCursor};
+ghost use Rattle.aide_report.specs.MergeCalls.{IsCursorFault, KeepsCursor};
 ghost use Rattle.aide_report.specs.Merged.{merged};
 ghost use Rattle.aide_report.specs.Merging.{reels_failed};
 ghost use Rattle.aide_report.specs.PassFaults.{pass_fault_of};
 ghost use Rattle.aide_report.specs.Passes.{KeepsPen, Passes, WritesOver, on_sheet};
-ghost use Rattle.aide_report.specs.Readings.{ClearsSide, IsOpenedAt, IsReadingFault};
-ghost use Rattle.aide_report.specs.Readings.{IsWholeReading};
-ghost use Rattle.aide_report.specs.Room.{IsNotOfMemory};
+ghost use Rattle.aide_report.specs.Readings.{GivesBoth, IsReadingFault, IsWholeReading};
 ghost use Rattle.aide_report.specs.Sections.{entries_text};
-ghost use Rattle.aide_report.specs.Seen.{AreLimits, IsRefusedAt, KeepsSources, OpensOnce, seen};
+ghost use Rattle.aide_report.specs.Seen.{AreLimits, KeepsSources, OpensOnce, seen};
 ghost use Rattle.aide_report.specs.Standing.{IsUnfailed};
-ghost use Rattle.aide_text.specs.Failures.{CountsFault, Rose};
+ghost use Rattle.aide_text.specs.Failures.{Rose};
 
 use crate::count::count;
 use crate::digests::{Digests, WholeReading, changed_side, digest_of};
 use crate::entries::{PassFault, put_entries};
-use crate::merge::Merge;
+use crate::merge::{Merge, start_cursor};
 use crate::plan::Plan;
 use crate::run_fault::RunFault;
 use aide_conf::Options;
@@ -52,58 +50,26 @@ pub(crate) fn clear<A: Allocator + Copy>(limits: Limits, desk: &mut Desk<A>)
     let _ = Cursor::start(Side::New, nothing, limits, desk).into_reel();
 }
 
-/// Opens a side, and begins to read it.
-fn open_cursor<S: Sources, A: Allocator + Copy>(
-    sources: &mut S,
-    side: Side,
-    limits: Limits,
-    desk: &mut Desk<A>,
-) -> Result<Cursor<S::R>, OpenFault>
-    requires { AreLimits limits }
-    ensures sources { KeepsSources (seen S.Sources sources.old) (seen S.Sources sources.new) }
-    ensures opens { OpensOnce (seen S.Sources sources.old) (seen S.Sources sources.new) side }
-    ensures fault { CountsFault (S.failures sources.old) (S.failures sources.new) result }
-    ensures opened { IfOk result (λ cursor. IsOpenedAt S.R.Reel
-        limits (seen S.Sources sources.old) side cursor desk.new) }
-    ensures refused { OnErr result (IsRefusedAt
-        (seen S.Sources sources.old) (seen S.Sources sources.new) side) }
-    ensures desk { ClearsSide side desk.old desk.new }
-{
-    match sources.open(side) {
-        Ok(reel) => Ok(Cursor::start(side, reel, limits, desk)),
-        Err(fault) => Err(fault),
-    }
-}
-
-/// Opens both sides, old then new.
-fn open_both<S: Sources, A: Allocator + Copy>(
-    sources: &mut S,
-    limits: Limits,
-    desk: &mut Desk<A>,
-) -> Result<Merge<S::R>, RunFault>
-    requires { AreLimits limits }
-    ensures passes { Passes limits 1 (seen S.Sources sources.old) (seen S.Sources sources.new)
-        desk.old desk.new ⊥ result }
-    ensures opened { IfOk result (λ merge.
-        IsOpened S.R.Reel limits (S.bytes_of sources.old) merge desk.new) }
+/// Opens both sides, old then new. If the new one is refused, the old one is closed.
+fn open_both<S: Sources>(sources: &mut S) -> Result<(S::R, S::R), RunFault>
+    ensures passes { (limits : Limits) (desk : DeskView) → Passes limits 1
+        (seen S.Sources sources.old) (seen S.Sources sources.new) desk desk ⊥ result }
+    ensures gives { IfOk result (λ reels.
+        GivesBoth S.R.to_come (S.bytes_of sources.old) reels.0 reels.1) }
     ensures old_opened { S.openings sources.new Side.Old
         ≡ one_more (S.openings sources.old Side.Old) }
-    ensures memory { IfErr result IsNotOfMemory }
-    ensures fits { (old_line new_line before : ℕ) → Fits old_line new_line before desk.old
-        → Fits old_line new_line before desk.new }
 {
-    let old_cursor = match open_cursor(sources, Side::Old, limits, desk) {
-        Ok(cursor) => cursor,
+    let old_reel = match sources.open(Side::Old) {
+        Ok(reel) => reel,
         Err(OpenFault) => return Err(RunFault::Open(Side::Old)),
     };
-    let new_cursor = match open_cursor(sources, Side::New, limits, desk) {
-        Ok(cursor) => cursor,
+    match sources.open(Side::New) {
+        Ok(new_reel) => Ok((old_reel, new_reel)),
         Err(OpenFault) => {
-            sources.close(old_cursor.into_reel());
-            return Err(RunFault::Open(Side::New));
+            sources.close(old_reel);
+            Err(RunFault::Open(Side::New))
         }
-    };
-    Ok(Merge::start(old_cursor, new_cursor))
+    }
 }
 
 /// Closes both reels, the old one first.
@@ -180,10 +146,11 @@ pub(crate) fn read_whole<S: Sources, A: Allocator + Copy>(
         → OpensWithin (S.bytes_of sources.old) limits side (by_side old_line new_line side)
         → Fits old_line new_line before desk.old → Fits old_line new_line before desk.new }
 {
-    let mut cursor = match open_cursor(sources, side, limits, desk) {
-        Ok(cursor) => cursor,
+    let reel = match sources.open(side) {
+        Ok(reel) => reel,
         Err(OpenFault) => return Err(RunFault::Open(side)),
     };
+    let mut cursor = start_cursor(side, reel, limits, desk);
     match read_to_end(&mut cursor, desk) {
         Ok(()) => {
             let reading = WholeReading {
@@ -217,7 +184,8 @@ pub(crate) fn count_pass<S: Sources, A: Allocator + Copy>(
         → S.bytes_of sources.old Side.Old ≡ Some old → S.bytes_of sources.old Side.New ≡ Some new
         → Completes options.now counts [] (merged path_cmp (entries_of old) (entries_of new))) }
 {
-    let mut merge = open_both(sources, limits, desk)?;
+    let (old_reel, new_reel) = open_both(sources)?;
+    let mut merge = Merge::start(old_reel, new_reel, limits, desk);
     match count(&mut merge, desk, options) {
         Ok(counts) => {
             let changed = changed_side(&merge, digests);
@@ -259,7 +227,8 @@ pub(crate) fn entries_pass<S: Sources, W: Sink, A: Allocator + Copy>(
     ensures old_opened { S.openings sources.new Side.Old
         ≡ one_more (S.openings sources.old Side.Old) }
 {
-    let mut merge = open_both(sources, plan.limits, desk)?;
+    let (old_reel, new_reel) = open_both(sources)?;
+    let mut merge = Merge::start(old_reel, new_reel, plan.limits, desk);
     match put_entries(&mut merge, desk, out, pen, &plan.task.options, section) {
         Ok(()) => {
             let changed = changed_side(&merge, &plan.finding.digests);

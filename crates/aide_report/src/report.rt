@@ -28,7 +28,7 @@ use std::alloc::Allocator;
 fn is_silent(options: &Options, counts: &Counts) -> bool
     ensures { result ≡ is_silent options.now (differs counts.now) }
 {
-    options.quiet && !counts.is_different()
+    options.quiet && !counts.databases_differ()
 }
 
 /// Writes all parts of the report.

@@ -53,7 +53,7 @@ fn has_entry(counts: &Counts, section: Section) -> bool
         Section::AddedEntries => counts.added != 0,
         Section::RemovedEntries => counts.removed != 0,
         Section::ChangedEntries => counts.changed != 0,
-        Section::AllEntries => counts.is_different(),
+        Section::AllEntries => counts.databases_differ(),
         Section::Details => counts.shown != 0,
     }
 }

@@ -3,6 +3,7 @@ mod devices;
 mod faults;
 mod files;
 mod missing;
+mod pages;
 mod reports;
 mod session;
 mod words;

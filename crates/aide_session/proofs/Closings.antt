@@ -5,8 +5,8 @@ use Rattle.std.specs.Prelude.{Result, ⊤}
 use Rattle.std.specs.Io.KnownBytes.{Keeps}
 use Rattle.std.proofs.Math.Path.{subst}
 use Rattle.aide_conf.specs.declared.task.Need.{Need}
-use Rattle.aide_conf.specs.Answer.{IsRefused, IsStarved, ReadsAs}
-use Rattle.aide_conf.specs.Lines.{places}
+use Rattle.aide_conf.specs.ReadResult.{IsRefused, IsStarved, ReadsAs}
+use Rattle.aide_conf.specs.Cutting.{places}
 use Rattle.aide_conf.specs.Settings.{Configured}
 use Rattle.aide_conf.specs.declared.fault.ConfFault.{ConfFault}
 use Rattle.aide_conf.specs.declared.fault.ConfFaultKind.TheVariants.{Memory}

@@ -3,7 +3,7 @@ use Rattle.std.proofs.Common.{◌≡◌, ℕ, List, [], Option, Some, None, refl
 use Rattle.std.proofs.Common.{inr}
 use Rattle.std.specs.Prelude.{Result, IsSome}
 use Rattle.std.proofs.Math.Path.{subst}
-use Rattle.aide_conf.specs.Answer.{ReadsAs}
+use Rattle.aide_conf.specs.ReadResult.{ReadsAs}
 use Rattle.aide_conf.specs.Settings.{Configured}
 use Rattle.aide_conf.specs.declared.fault.ConfFault.{ConfFault}
 use Rattle.aide_conf.specs.declared.options.Options.{Options}
@@ -17,7 +17,7 @@ use Rattle.aide_session.specs.Answer.{Answer, Named, Compares, IsCompared, IsFil
 use Rattle.aide_session.specs.Answer.{IsSizedAnswer, IsWordsAnswer, answer_of_run, asked_by, checked, limits, need_of}
 use Rattle.aide_session.specs.Answer.{refused}
 use Rattle.aide_session.specs.Closing.{AsksToCompare}
-use Rattle.aide_session.specs.Existence.{HasAnswer, TellsNamed}
+use Rattle.aide_session.specs.Existence.{HasSessionAnswer, TellsNamed}
 use Rattle.aide_session.specs.Files.{Files, is_too_large}
 use Rattle.aide_session.specs.Job.{JobText, job_of}
 use Rattle.aide_session.specs.Lines.{usage_line, too_large_line, unread_line, conf_line, open_line, database_line}
@@ -119,7 +119,7 @@ module _ (files : Files) (words : List (List ℕ)) (tells : TellsNamed files wor
   of_file (Some text) known = of_size text known (is_too_large text) refl
 
 of_words : (files : Files) (words : List (List ℕ)) → TellsNamed files words → (job : Option JobText)
-    → job_of words ≡ job → HasAnswer files words
+    → job_of words ≡ job → HasSessionAnswer files words
 of_words files words tells None is =
     (only_config [], refused usage_line 15, subst (λ (o : Option JobText). IsWordsAnswer files o (only_config []) (refused usage_line 15)) (sym is) refl)
 of_words files words tells (Some job) is =
@@ -128,5 +128,5 @@ of_words files words tells (Some job) is =
     (answer.0, answer.1, subst (λ (o : Option JobText). IsWordsAnswer files o answer.0 answer.1) (sym is) answer.2)
 
 -- words have an answer where it is told what stands at the paths that are named
-pub answered : (files : Files) (words : List (List ℕ)) → TellsNamed files words → HasAnswer files words
+pub answered : (files : Files) (words : List (List ℕ)) → TellsNamed files words → HasSessionAnswer files words
 answered files words tells = of_words files words tells (job_of words) refl

@@ -3,7 +3,7 @@
 use Rattle.std.specs.Prelude.{◌≡◌, ◌⊎◌, ℕ, ◌^◌, Bool, true, false, List, [], Ok, Err, Result}
 use Rattle.std.specs.Prelude.{Option, Some, None}
 use Rattle.aide_conf.specs.Settings.{Configured}
-use Rattle.aide_conf.specs.Answer.{ReadsAs}
+use Rattle.aide_conf.specs.ReadResult.{ReadsAs}
 use Rattle.aide_conf.specs.declared.fault.ConfFault.{ConfFault}
 use Rattle.aide_conf.specs.declared.options.Options.{Options}
 use Rattle.aide_conf.specs.declared.task.Need.{Need}
@@ -34,7 +34,11 @@ pub record Named : Type 0 where
 
 -- what a comparison is asked for, by its options and the two paths
 abbrev pub asked_by : Options → Named → Asked
-asked_by options named = record { options = options; old_path = named.old_path; new_path = named.new_path }
+asked_by options named = record {
+  options = options;
+  old_path = named.old_path;
+  new_path = named.new_path;
+}
 
 -- no output, only lines on standard error, and a status
 abbrev pub refused : List ℕ → ℕ → Answer
@@ -65,7 +69,8 @@ abbrev pub IsCompared : Options → Named → Option (List ℕ) → Option (List
 IsCompared options named None new a = a ≡ refused (open_line Old named.old_path) 18
 IsCompared options named (Some old) None a =
     (IsSound limits old × (a ≡ refused (open_line New named.new_path) 18))
-    ⊎ ((fault : DbFault) × IsFirstFaultOf limits Old old fault × (a ≡ refused (database_line fault) 24))
+    ⊎ ((fault : DbFault) × IsFirstFaultOf limits Old old fault
+    × (a ≡ refused (database_line fault) 24))
 IsCompared options named (Some old) (Some new) a =
     (run : Result Report DbFault) × Runs limits (asked_by options named) old new run
     × (a ≡ answer_of_run run)
@@ -107,7 +112,8 @@ IsSizedAnswer files job false text named a = IsTextAnswer files job text named a
 -- the answer, by what is at the configuration's path
 abbrev pub IsFileAnswer : Files → JobText → Option (List ℕ) → Named → Answer → Type 0
 IsFileAnswer files job None named a = a ≡ refused (unread_line job.config) 18
-IsFileAnswer files job (Some text) named a = IsSizedAnswer files job (is_too_large text) text named a
+IsFileAnswer files job (Some text) named a =
+    IsSizedAnswer files job (is_too_large text) text named a
 
 -- the answer to a job if it is known what is at its configuration's path
 pub record IsJobAnswer (files : Files) (job : JobText) (named : Named) (a : Answer) : Type 0 where

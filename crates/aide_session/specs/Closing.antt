@@ -4,7 +4,7 @@ use Rattle.std.specs.Prelude.{◌≡◌, ℕ, Bool, true, false, List, [], Ok, E
 use Rattle.std.specs.Prelude.{None, ⊤}
 use Rattle.std.specs.Io.KnownBytes.{Appends}
 use Rattle.aide_conf.specs.Settings.{Configured}
-use Rattle.aide_conf.specs.Answer.{ReadsAs}
+use Rattle.aide_conf.specs.ReadResult.{ReadsAs}
 use Rattle.aide_conf.specs.declared.fault.ConfFault.{ConfFault}
 use Rattle.aide_conf.specs.declared.options.Options.{Options}
 use Rattle.aide_db.specs.Database.{IsSound}
@@ -13,7 +13,8 @@ use Rattle.aide_db.specs.declared.fault.DbFaultKind.TheVariants.{Read}
 use Rattle.aide_db.specs.declared.side.Side.{Side}
 use Rattle.aide_db.specs.declared.side.Side.TheVariants.{Old, New}
 use Rattle.aide_report.specs.FaultStatus.{fault_status}
-use Rattle.aide_report.specs.Openings.{IsNotGiven, IsRefusedThere, OpensAtMost, OpensExactly, OpensFirst}
+use Rattle.aide_report.specs.Openings.{IsNotGiven, IsRefusedThere, OpensAtMost, OpensExactly}
+use Rattle.aide_report.specs.Openings.{OpensFirst}
 use Rattle.aide_report.specs.Standing.{IsFaultOf}
 use Rattle.aide_report.specs.Room.{IsNotMemory}
 use Rattle.aide_report.specs.Failures.{one_more}
@@ -23,7 +24,8 @@ use Rattle.aide_report.specs.RunFaults.{HasSentNothing}
 use Rattle.aide_report.specs.Runs.{openings_over}
 use Rattle.aide_report.specs.declared.outcome.Outcome.{Outcome}
 use Rattle.aide_report.specs.declared.run_fault.RunFault.{RunFault}
-use Rattle.aide_report.specs.declared.run_fault.RunFault.TheVariants.{Open, Database, Changed, Write}
+use Rattle.aide_report.specs.declared.run_fault.RunFault.TheVariants.{Open, Database, Changed}
+use Rattle.aide_report.specs.declared.run_fault.RunFault.TheVariants.{Write}
 use Rattle.aide_session.specs.Answer.{Named, asked_by, limits, need_of}
 use Rattle.aide_session.specs.Ends.{Sinks, Puts}
 use Rattle.aide_session.specs.Files.{Files, IsLarge, is_too_large}
@@ -75,8 +77,8 @@ pub record Course : Type 0 where
   pub is_flushed : Bool
 
 -- the course of a session, by what the devices tell
-abbrev pub course_between : {S W : Type 0} → (S → Side → ℕ) → (S → Side → Bool) → (W → ℕ) → (W → Bool) → S → S
-    → W → W → Course
+abbrev pub course_between : {S W : Type 0} → (S → Side → ℕ) → (S → Side → Bool) → (W → ℕ)
+    → (W → Bool) → S → S → W → W → Course
 course_between openings was_given flushes is_flushed site_old site_new out_old out_new = record {
   opened_before = openings site_old;
   opened_after = openings site_new;
@@ -93,13 +95,15 @@ course_between openings was_given flushes is_flushed site_old site_new out_old o
 -- it could not open a side, that side was the last one opened. Every other closing sends nothing
 -- and opens no side.
 abbrev pub ClosingOutput : Closing → Course → Option (List ℕ) → Option (List ℕ) → Type 0
-ClosingOutput (good_run options outcome) course before after = IsOfOutcome options outcome before after
+ClosingOutput (good_run options outcome) course before after =
+    IsOfOutcome options outcome before after
     × (course.is_flushed ≡ true) × (course.flushes_after ≡ one_more course.flushes_before)
 ClosingOutput (bad_run fault) course before after =
     HasSentNothing (course.opened_before Old) (course.opened_after Old) before after fault
     × IsRefusedThere course.opened_before course.opened_after fault
     × (course.flushes_after ≡ course.flushes_before)
-ClosingOutput _ course before after = Appends before after [] × (course.opened_after ≡ course.opened_before)
+ClosingOutput _ course before after = Appends before after []
+    × (course.opened_after ≡ course.opened_before)
     × (course.flushes_after ≡ course.flushes_before)
 
 -- the arguments ask for a job, and its configuration is the one that is named
@@ -130,7 +134,8 @@ pub record AsksToCompare (files : Files) (words : List (List ℕ)) (named : Name
 
 -- the database of a side is known to be this text
 abbrev pub HasText : Files → Named → Side → List ℕ → Type 0
-HasText files named side text = files (by_side named.old_path named.new_path side) ≡ Some (Some text)
+HasText files named side text =
+    files (by_side named.old_path named.new_path side) ≡ Some (Some text)
 
 -- The cause of each fault of a run. If a side was not opened, or a read failed, the site has
 -- counted a failure. If a write failed, the output has counted one. A fault of a database is never
@@ -164,7 +169,8 @@ ClosingCause files words named good_config site out = (s : Configured)
 ClosingCause files words named (bad_run fault) site out = AsksToCompare files words named
     × RunCause files named fault site out
 ClosingCause files words named (good_run options outcome) site out =
-    ((asks : AsksToCompare files words named) × (asks.settings.options ≡ options)) × AreBothSound files named
+    ((asks : AsksToCompare files words named) × (asks.settings.options ≡ options))
+    × AreBothSound files named
 
 -- How often the sides were opened. In a good run each side is opened to be read whole, to count,
 -- and once for each section of entries. The outcome gives this number, and so do both texts if they
@@ -174,8 +180,10 @@ abbrev pub ClosingOpens : Files → Named → Closing → Course → Type 0
 ClosingOpens files named (good_run options outcome) course =
     OpensByOutcome options outcome course.opened_before course.opened_after
     × ((old new : List ℕ) → HasText files named Old old → HasText files named New new
-    → OpensExactly course.opened_before course.opened_after (openings_over (asked_by options named) old new))
-ClosingOpens files named (bad_run fault) course = OpensFirst course.opened_before course.opened_after fault
+    → OpensExactly course.opened_before course.opened_after
+    (openings_over (asked_by options named) old new))
+ClosingOpens files named (bad_run fault) course =
+    OpensFirst course.opened_before course.opened_after fault
     × IsNotGiven course.given_after fault
 ClosingOpens files named _ course = ⊤
 

@@ -78,7 +78,8 @@ pub record Starved (a : Answer) (status : ℕ) (sinks : Sinks) : Type 0 where
 
 -- The session ends with a failure of the site or of the output, after the first bytes of the
 -- answer's output (none, some or all).
-pub record Broken (a : Answer) (named : Named) (status : ℕ) (sinks : Sinks) (site out : Type 0) : Type 0 where
+pub record Broken (a : Answer) (named : Named) (status : ℕ) (sinks : Sinks)
+    (site out : Type 0) : Type 0 where
   pub status_is : status ≡ 18
   pub output : SendsPart a.output sinks.out_old sinks.out_new
   pub failure : Failure

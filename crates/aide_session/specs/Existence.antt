@@ -16,5 +16,5 @@ pub record TellsNamed (files : Files) (words : List (List ℕ)) : Type 0 where
       → (file : Option (List ℕ)) × (files (by_side named.old_path named.new_path side) ≡ Some file)
 
 -- the arguments have an answer over these files
-abbrev pub HasAnswer : Files → List (List ℕ) → Type 0
-HasAnswer files words = (named : Named) × (a : Answer) × IsAnswer files words named a
+abbrev pub HasSessionAnswer : Files → List (List ℕ) → Type 0
+HasSessionAnswer files words = (named : Named) × (a : Answer) × IsAnswer files words named a

@@ -14,7 +14,8 @@ most_held = 3 * limits.line
 -- The peak is no higher than before, or no higher than three lines: the longest line of each text,
 -- and another line that is no longer than the longer of these.
 abbrev pub IsPeakOf : (old new : List ℕ) → (before after : ℕ) → Type 0
-IsPeakOf old new before after = after ≤ max before (three_lines (longest_line limits old) (longest_line limits new))
+IsPeakOf old new before after =
+    after ≤ max before (three_lines (longest_line limits old) (longest_line limits new))
 
 -- the same for the databases at the paths that are named, if the texts of both are known
 abbrev pub HoldsWithin : Files → Named → (before after : ℕ) → Type 0

@@ -64,11 +64,17 @@ job_of_rows rows = option_and_then (job_for rows) (first_of (codes "config") row
 -- the job of the arguments, if there is one
 abbrev pub job_of : List Text → Option JobText
 job_of words =
-    if is_empty (fault_of aide_command words) then job_of_rows (matches_of aide_command words) else None
+    if is_empty (fault_of aide_command words)
+    then job_of_rows (matches_of aide_command words) else None
 
 -- the texts of a job
 abbrev pub text_of_job : Job → JobText
-text_of_job j = record { compare = j.compare; config = j.config; before = j.before; after = j.after }
+text_of_job j = record {
+  compare = j.compare;
+  config = j.config;
+  before = j.before;
+  after = j.after;
+}
 
 -- the number of a reason to refuse arguments, from 1
 abbrev pub number_of_refusal : WordsFault → ℕ

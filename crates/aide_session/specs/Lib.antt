@@ -3,6 +3,7 @@ pub mod Put
 pub mod Lines
 pub mod Files
 pub mod Sites
+pub mod Config
 pub mod Answer
 pub mod Ends
 pub mod Closing

@@ -6,7 +6,8 @@ use Rattle.std.specs.List.{flat_map}
 use Rattle.aide_report.specs.Printed.{printed}
 use Rattle.aide_report.specs.declared.outcome.Outcome.{Outcome}
 use Rattle.aide_report.specs.declared.run_fault.RunFault.{RunFault}
-use Rattle.aide_report.specs.declared.run_fault.RunFault.TheVariants.{Open, Database, Changed, Write}
+use Rattle.aide_report.specs.declared.run_fault.RunFault.TheVariants.{Open, Database, Changed}
+use Rattle.aide_report.specs.declared.run_fault.RunFault.TheVariants.{Write}
 use Rattle.aide_db.specs.Side.{by_side}
 use Rattle.aide_db.specs.declared.side.Side.{Side}
 use Rattle.aide_db.specs.declared.side.Side.TheVariants.{Old, New}
@@ -91,7 +92,8 @@ database_word = codes " database:"
 
 -- `SIDE database:LINE: `
 unfoldable pub database_place : DbFault → List ℕ
-database_place fault = side_word fault.side ++ (database_word ++ (decimal fault.line ++ colon_blank))
+database_place fault =
+    side_word fault.side ++ (database_word ++ (decimal fault.line ++ colon_blank))
 
 -- `aide: SIDE database:LINE: WORDS`
 unfoldable pub database_line : DbFault → List ℕ
@@ -110,7 +112,8 @@ database_blank = codes " database "
 
 -- the database of a side at a path was not opened
 unfoldable pub open_line : Side → List ℕ → List ℕ
-open_line side path = open_start ++ (side_word side ++ (database_blank ++ (printed path ++ end_of_line)))
+open_line side path =
+    open_start ++ (side_word side ++ (database_blank ++ (printed path ++ end_of_line)))
 
 -- the words before the side that changed
 unfoldable pub changed_start : List ℕ
@@ -139,7 +142,8 @@ skipped_line side column = program_word
 
 -- the line for the column at a place, if the set of skipped columns has this column
 unfoldable pub place_line : Side → ℕ → ℕ → List ℕ
-place_line side columns place = if bit_at columns place == 1 then skipped_line side (place + 1) else []
+place_line side columns place =
+    if bit_at columns place == 1 then skipped_line side (place + 1) else []
 
 -- the numbers below n, in ascending order
 unfoldable pub below : ℕ → List ℕ

@@ -1,8 +1,7 @@
 //! Reading the whole configuration file.
-ghost use Rattle.std.specs.Prelude.{◌≡◌, ◌≤◌, ℕ, List, Option, Some, None, IfOk, IsErrOf, true};
-ghost use Rattle.std.specs.Prelude.{false};
-ghost use Rattle.aide_db.specs.Count.{one_more};
+ghost use Rattle.std.specs.Prelude.{◌≡◌, ℕ, List, Option, Some, None, IfOk, IsErrOf, true, false};
 ghost use Rattle.aide_report.specs.Failures.{Rose};
+ghost use Rattle.aide_session.specs.Config.{OpensOneFile};
 ghost use Rattle.aide_session.specs.Files.{IsLarge, is_too_large};
 
 use crate::site::Site;
@@ -10,7 +9,7 @@ use aide_db::{DeviceFault, OpenFault, Reel};
 use std::alloc::Global;
 
 /// Why a configuration was not read.
-#[derive(Clone, Copy, Debug, PartialEq, Eq)]
+#[derive(Clone, Copy)]
 pub(crate) enum ConfigFault {
     TooLarge,
     Unread,
@@ -63,11 +62,7 @@ pub(crate) fn read_config<S: Site>(
         → Rose (S.failures site.old) (S.failures site.new) }
     ensures gone { S.is_reliable site.old ≡ true → IsErrOf result ConfigFault.Unread
         → S.file_at site.old path.now ≡ Some None }
-    ensures files { S.file_at site.new ≡ S.file_at site.old }
-    ensures reliable { S.is_reliable site.new ≡ S.is_reliable site.old }
-    ensures openings { S.openings site.new ≡ S.openings site.old }
-    ensures lookups { S.lookups site.new ≤ one_more (S.lookups site.old) }
-    ensures never_falls { S.failures site.old ≤ S.failures site.new }
+    ensures opens { OpensOneFile S.Sources site.old site.new }
 {
     let mut reel = match site.config(path) {
         Ok(reel) => reel,

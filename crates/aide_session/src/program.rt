@@ -1,13 +1,13 @@
 //! The whole program over any site.
-ghost use Rattle.std.specs.Prelude.{◌≡◌, ◌≤◌, ◌⊎◌, ℕ, List, Option, Some, None, Ok, Err};
-ghost use Rattle.std.specs.Prelude.{Result, true, false, max};
+ghost use Rattle.std.specs.Prelude.{◌≡◌, ◌≤◌, ◌⊎◌, ℕ, List, Option, Some, Ok, Err, true, false};
+ghost use Rattle.std.specs.Prelude.{max};
 ghost use Rattle.aide_db.specs.Count.{one_more};
 ghost use Rattle.aide_report.specs.Failures.{Rose};
 ghost use Rattle.aide_session.specs.Answer.{Answer, Named, IsAnswer, IsJobAnswer, IsTextAnswer};
 ghost use Rattle.aide_session.specs.Answer.{need_of};
 ghost use Rattle.aide_session.specs.Closing.{Closes, course_between};
 ghost use Rattle.aide_session.specs.Ends.{Ends, HasFailed, Whole, Starved, sinks_between};
-ghost use Rattle.aide_session.specs.Existence.{HasAnswer, TellsNamed};
+ghost use Rattle.aide_session.specs.Existence.{HasSessionAnswer, TellsNamed};
 ghost use Rattle.aide_session.specs.Files.{is_too_large};
 ghost use Rattle.aide_session.specs.Held.{HoldsWithin, most_held};
 ghost use Rattle.aide_session.specs.Job.{job_of, text_of_job};
@@ -33,26 +33,34 @@ fn need(compare: bool) -> Need
     if compare { Need::Compare } else { Need::Check }
 }
 
-/// Runs the session of a job whose configuration has this text.
-fn after_reading<S: Site, W: Sink, E: Sink>(
+/// A job, and the text of its configuration.
+#[derive(Clone, Copy)]
+struct PreparedJob<'a> {
+    job: &'a Job,
+    text: &'a [u8],
+}
+
+/// Runs the session of a job whose configuration has been read.
+fn run_prepared<S: Site, W: Sink, E: Sink>(
     alloc: Global,
-    job: &Job,
-    text: &[u8],
+    prepared: &PreparedJob<'_>,
     desk: &mut Desk<Global>,
     site: &mut S,
     out: &mut W,
     err: &mut E,
 ) -> u8
     ensures ends { (named : Named) (a : Answer)
-        → IsTextAnswer (S.file_at site.old) (text_of_job job.now) text.now named a
+        → IsTextAnswer (S.file_at site.old) (text_of_job prepared.now.job.now)
+        prepared.now.text.now named a
         → Ends a named result
         (sinks_between W.delivered E.delivered E.failures out.old out.new err.old err.new)
         (HasFailed (S.is_reliable site.old) (S.failures site.old) (S.failures site.new))
         (Rose (W.failures out.old) (W.failures out.new)) }
-    ensures closes { (words : List (List ℕ)) → job_of words ≡ Some (text_of_job job.now)
-        → is_too_large text.now ≡ false
-        → ((file : Option (List ℕ)) → S.file_at site.old job.now.config ≡ Some file
-        → file ≡ Some text.now)
+    ensures closes { (words : List (List ℕ))
+        → job_of words ≡ Some (text_of_job prepared.now.job.now)
+        → is_too_large prepared.now.text.now ≡ false
+        → ((file : Option (List ℕ)) → S.file_at site.old prepared.now.job.now.config ≡ Some file
+        → file ≡ Some prepared.now.text.now)
         → Closes (S.file_at site.old) words result
         (sinks_between W.delivered E.delivered E.failures out.old out.new err.old err.new)
         (course_between S.openings S.was_given W.flushes W.is_flushed
@@ -64,12 +72,14 @@ fn after_reading<S: Site, W: Sink, E: Sink>(
     ensures peak { desk.old.peak ≤ desk.new.peak }
     ensures below { desk.new.peak ≤ max desk.old.peak most_held }
     ensures bound { (named : Named) (a : Answer)
-        → IsTextAnswer (S.file_at site.old) (text_of_job job.now) text.now named a
+        → IsTextAnswer (S.file_at site.old) (text_of_job prepared.now.job.now)
+        prepared.now.text.now named a
         → HoldsWithin (S.file_at site.old) named desk.old.peak desk.new.peak }
 {
+    let job = prepared.job;
     let before = job.before.as_str().as_bytes();
     let after = job.after.as_str().as_bytes();
-    match Settings::read(alloc, before, text, after, need(job.compare)) {
+    match Settings::read(alloc, before, prepared.text, after, need(job.compare)) {
         Ok(settings) => {
             if job.compare {
                 compare(alloc, &settings, desk, site, out, err)
@@ -121,7 +131,10 @@ fn run_job<S: Site, W: Sink, E: Sink>(
 {
     let path = job.config.as_str();
     match read_config(alloc, site, path) {
-        Ok(text) => after_reading(alloc, job, text.as_slice(), desk, site, out, err),
+        Ok(text) => {
+            let text = text.as_slice();
+            run_prepared(alloc, &PreparedJob { job, text }, desk, site, out, err)
+        }
         Err(ConfigFault::TooLarge) => {
             put_too_large_line(err);
             17
@@ -230,7 +243,7 @@ pub fn session_on<S: Site, W: Sink, E: Sink>(
         → E.is_flushed err.new ≡ true }
     // If the site tells what is at the paths of the named files, there is an answer.
     ensures answered { TellsNamed (S.file_at site.old) words.now
-        → HasAnswer (S.file_at site.old) words.now }
+        → HasSessionAnswer (S.file_at site.old) words.now }
     // Over any site: the lines, the status and the output are those of one closing, whose cause
     // holds.
     ensures closes { Closes (S.file_at site.old) words.now result
@@ -298,7 +311,7 @@ pub fn session<S: Site, W: Sink, E: Sink>(
         → E.is_flushed err.new ≡ true }
     // If the site tells what is at the paths of the named files, there is an answer.
     ensures answered { TellsNamed (S.file_at site.old) words.now
-        → HasAnswer (S.file_at site.old) words.now }
+        → HasSessionAnswer (S.file_at site.old) words.now }
     // Over any site: the lines, the status and the output are those of one closing, whose cause
     // holds.
     ensures closes { Closes (S.file_at site.old) words.now result

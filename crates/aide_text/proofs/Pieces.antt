@@ -4,8 +4,8 @@ use Rattle.std.proofs.Common.{ap, ◌∙◌, arith, length-drop, true, false, Bo
 use Rattle.std.specs.Prelude.{slice_set, not, ◌==◌}
 use Rattle.std.proofs.lemmas.List.{append-nil, take-append-drop, take_more_set, take_all, drop_all, length-take}
 use Rattle.std.proofs.Math.Seq.{take-append_seam, drop-append_seam}
-use Rattle.aide_text.specs.Text.{piece_count, pair_line, pair_lines, next_line, has_lines, margin, heading, line_count}
-use Rattle.aide_text.specs.Text.{side_by_side, single_line, single_lines, next_single, has_bytes, alone}
+use Rattle.aide_text.specs.Layout.{piece_count, pair_line, pair_lines, next_line, has_lines, margin, heading, line_count}
+use Rattle.aide_text.specs.Layout.{side_by_side, single_line, single_lines, alone}
 
 -- one more byte of the text stands in the buffer
 pub one_byte : (bytes before after text : List ℕ) (len c : ℕ) → len < length bytes → take len bytes ++ before ≡ text
@@ -118,6 +118,14 @@ single_first name a = ap (λ n. single_lines (heading name) n a) count
   where
     count : max 1 (piece_count a) ≡ suc (piece_count (drop 32 a))
     count = omega (arith, length-drop 32 a)
+
+-- whether the text has a byte
+abbrev pub has_bytes : List ℕ → Bool
+has_bytes a = not (length a == 0)
+
+-- the next line below the first one, if the text has more bytes
+unfoldable pub next_single : List ℕ → List ℕ
+next_single a = if has_bytes a then single_line margin (take 32 a) else []
 
 pub single_next : (a : List ℕ) → later_single a ≡ next_single a ++ later_single (drop 32 a)
 unfolding next_single

@@ -2,8 +2,8 @@ pub mod Failures
 pub mod SinkViews
 pub mod Printed
 pub mod Sent
-pub mod Text
-pub mod Values
+pub mod Layout
+pub mod ValueText
 pub mod Feed
 pub mod PieceText
 pub mod ReadyRest

@@ -1,18 +1,20 @@
 -- The beginning of a report: whether the databases differ, and the numbers of entries.
-use Rattle.std.specs.Prelude.{ℕ, ◌==◌, ◌||◌, not, Bool, if◌then◌else◌, List, [], ◌++◌, decimal, codes}
+use Rattle.std.specs.Prelude.{ℕ, ◌==◌, ◌||◌, not, Bool, if◌then◌else◌, List, [], ◌++◌, decimal}
+use Rattle.std.specs.Prelude.{codes}
 use Rattle.aide_attr.specs.declared.level.Level.{Level}
 use Rattle.aide_attr.specs.declared.level.Level.TheVariants.{Summary}
 use Rattle.aide_attr.specs.Level.{reaches}
-use Rattle.aide_text.specs.Text.{ended}
+use Rattle.aide_text.specs.Layout.{ended}
 use Rattle.aide_text.specs.declared.counts.Counts.{Counts}
 
 -- whether one of the numbers of added, removed and changed entries is not 0
-abbrev pub is_different : (added removed changed : ℕ) → Bool
-is_different added removed changed = not (added == 0) || (not (removed == 0) || not (changed == 0))
+abbrev pub databases_differ : (added removed changed : ℕ) → Bool
+databases_differ added removed changed =
+    not (added == 0) || (not (removed == 0) || not (changed == 0))
 
 -- whether these counts have an added, removed or changed entry
 abbrev pub differs : Counts → Bool
-differs counts = is_different counts.added counts.removed counts.changed
+differs counts = databases_differ counts.added counts.removed counts.changed
 
 -- a part of the report, if it is wanted, and otherwise the empty text
 abbrev pub when : Bool → List ℕ → List ℕ
@@ -52,7 +54,7 @@ summary_of total added removed changed = summary_title
 -- the head, and the summary if the level is at least `Summary`
 unfoldable pub overview_of : Level → (total added removed changed : ℕ) → List ℕ
 overview_of level total added removed changed =
-    head_of (is_different added removed changed)
+    head_of (databases_differ added removed changed)
     ++ when (reaches level Summary) (summary_of total added removed changed)
 
 -- the head and the summary, with the numbers of these counts

@@ -1,6 +1,6 @@
 -- The titles of the parts of a report.
 use Rattle.std.specs.Prelude.{ℕ, List, [], ◌∷◌, ◌++◌, codes}
-use Rattle.aide_text.specs.Text.{ended}
+use Rattle.aide_text.specs.Layout.{ended}
 use Rattle.aide_text.specs.declared.section.Section.{Section}
 use Rattle.aide_text.specs.declared.section.Section.TheVariants.{AddedEntries, RemovedEntries}
 use Rattle.aide_text.specs.declared.section.Section.TheVariants.{ChangedEntries, AllEntries}

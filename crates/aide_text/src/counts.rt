@@ -32,7 +32,7 @@ impl Counts {
     }
 
     /// Returns whether an entry was added, removed or changed.
-    pub fn is_different(&self) -> bool
+    pub fn databases_differ(&self) -> bool
         ensures { result ≡ differs self.now }
     {
         self.added != 0 || self.removed != 0 || self.changed != 0

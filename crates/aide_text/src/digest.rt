@@ -2,8 +2,8 @@
 ghost use Rattle.std.specs.Prelude.{◌≡◌, codes};
 ghost use Rattle.aide_text.specs.PenSheet.{sheet};
 ghost use Rattle.aide_text.specs.Sheet.{Wrote};
-ghost use Rattle.aide_text.specs.Text.{alone};
-ghost use Rattle.aide_text.specs.Values.{digest_text};
+ghost use Rattle.aide_text.specs.Layout.{alone};
+ghost use Rattle.aide_text.specs.ValueText.{digest_text};
 
 use crate::lines::put_alone;
 use crate::pen::Pen;
@@ -11,7 +11,7 @@ use crate::sink::Sink;
 use base64::engine::general_purpose::STANDARD;
 
 /// Writes the SHA-256 (FIPS 180-4) of a database, in base 16 or in base 64 (RFC 4648 section 4).
-#[tactic(auto, unfolding(crate::specs::Values::digest_text))]
+#[tactic(auto, unfolding(crate::specs::ValueText::digest_text))]
 pub fn put_digest<W: Sink>(out: &mut W, pen: &mut Pen, base16: bool, digest: &[u8; 32])
     ensures { Wrote (alone (codes "SHA256") (digest_text base16 digest.now))
         (sheet W.delivered W.failures W.flushes out.old pen.old)
@@ -19,6 +19,7 @@ pub fn put_digest<W: Sink>(out: &mut W, pen: &mut Pen, base16: bool, digest: &[u
 {
     if base16 {
         let mut text = [0; 64];
+        // The text has two bytes for each byte of the digest, so this cannot fail.
         let _ = hex::encode_to_slice(digest, &mut text);
         put_alone(out, pen, b"SHA256", &text);
     } else {

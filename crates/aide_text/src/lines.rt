@@ -2,14 +2,14 @@
 ghost use Rattle.std.specs.Prelude.{◌≡◌, ◌≤◌, replicate, take, drop, if◌then◌else◌, []};
 ghost use Rattle.aide_text.specs.PenSheet.{sheet};
 ghost use Rattle.aide_text.specs.Sheet.{Wrote};
-ghost use Rattle.aide_text.specs.Text.{padded, margin, indent, colon_blank, heading};
-ghost use Rattle.aide_text.specs.Text.{single_line, alone};
-ghost use Rattle.aide_text.specs.Text.{bar, left_part, pair_body, pair_line};
-ghost use Rattle.aide_text.specs.Text.{next_line, has_lines, side_by_side};
+ghost use Rattle.aide_text.specs.Layout.{padded, margin, indent, heading};
+ghost use Rattle.aide_text.specs.Layout.{single_line, alone};
+ghost use Rattle.aide_text.specs.Layout.{bar, left_part, pair_body, pair_line};
+ghost use Rattle.aide_text.specs.Layout.{next_line, has_lines, side_by_side};
 ghost use Rattle.aide_text.specs.PieceText.{piece_text};
 
 use crate::feed::Feed;
-use crate::pen::{Pen, put, put_ended};
+use crate::pen::{Pen, put, put_colon_blank, put_ended};
 use crate::piece::Piece;
 use crate::sink::Sink;
 
@@ -33,7 +33,7 @@ fn put_padded<W: Sink>(out: &mut W, pen: &mut Pen, width: usize, text: &[u8])
     put(out, pen, blanks(width.saturating_sub(text.len())));
 }
 
-#[tactic(auto, unfolding(crate::specs::Text::margin))]
+#[tactic(auto, unfolding(crate::specs::Layout::margin))]
 fn put_margin<W: Sink>(out: &mut W, pen: &mut Pen)
     ensures { Wrote margin (sheet W.delivered W.failures W.flushes out.old pen.old)
         (sheet W.delivered W.failures W.flushes out.new pen.new) }
@@ -41,20 +41,12 @@ fn put_margin<W: Sink>(out: &mut W, pen: &mut Pen)
     put(out, pen, b"              ");
 }
 
-#[tactic(auto, unfolding(crate::specs::Text::indent))]
+#[tactic(auto, unfolding(crate::specs::Layout::indent))]
 fn put_indent<W: Sink>(out: &mut W, pen: &mut Pen)
     ensures { Wrote indent (sheet W.delivered W.failures W.flushes out.old pen.old)
         (sheet W.delivered W.failures W.flushes out.new pen.new) }
 {
     put(out, pen, b"  ");
-}
-
-#[tactic(auto, unfolding(crate::specs::Text::colon_blank))]
-fn put_separator<W: Sink>(out: &mut W, pen: &mut Pen)
-    ensures { Wrote colon_blank (sheet W.delivered W.failures W.flushes out.old pen.old)
-        (sheet W.delivered W.failures W.flushes out.new pen.new) }
-{
-    put(out, pen, b": ");
 }
 
 /// Writes the head of a line: a name, aligned to the left in ten columns.
@@ -64,7 +56,7 @@ fn put_heading<W: Sink>(out: &mut W, pen: &mut Pen, name: &[u8])
 {
     put_indent(out, pen);
     put_padded(out, pen, 10, name);
-    put_separator(out, pen);
+    put_colon_blank(out, pen);
 }
 
 /// Returns the first 32 bytes, or all if there are fewer.
@@ -113,7 +105,7 @@ pub(crate) fn put_alone<W: Sink>(out: &mut W, pen: &mut Pen, name: &[u8], text: 
     }
 }
 
-#[tactic(auto, unfolding(crate::specs::Text::bar))]
+#[tactic(auto, unfolding(crate::specs::Layout::bar))]
 fn put_bar<W: Sink>(out: &mut W, pen: &mut Pen)
     ensures { Wrote bar (sheet W.delivered W.failures W.flushes out.old pen.old)
         (sheet W.delivered W.failures W.flushes out.new pen.new) }

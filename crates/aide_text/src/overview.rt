@@ -98,6 +98,6 @@ pub fn put_overview<W: Sink>(out: &mut W, pen: &mut Pen, level: Level, counts: &
         (sheet W.delivered W.failures W.flushes out.old pen.old)
         (sheet W.delivered W.failures W.flushes out.new pen.new) }
 {
-    put_head(out, pen, counts.is_different());
+    put_head(out, pen, counts.databases_differ());
     put_wanted_summary(out, pen, level, counts);
 }

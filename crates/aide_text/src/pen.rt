@@ -1,6 +1,6 @@
 //! Writes a report piece by piece.
 ghost use Rattle.std.specs.Prelude.{◌≡◌, ◌++◌, ◌∷◌, [], false, decimal};
-ghost use Rattle.aide_text.specs.Text.{empty_line, colon_blank, ended};
+ghost use Rattle.aide_text.specs.Layout.{empty_line, colon_blank, ended};
 ghost use Rattle.aide_text.specs.PenSheet.{sheet};
 ghost use Rattle.aide_text.specs.Printed.{printed};
 ghost use Rattle.aide_text.specs.Sheet.{Wrote};
@@ -74,7 +74,7 @@ pub(crate) fn put_number<W: Sink>(out: &mut W, pen: &mut Pen, number: u64)
 }
 
 /// Writes the end of a line.
-#[tactic(auto, unfolding(crate::specs::Text::empty_line))]
+#[tactic(auto, unfolding(crate::specs::Layout::empty_line))]
 pub fn put_newline<W: Sink>(out: &mut W, pen: &mut Pen)
     ensures { Wrote empty_line (sheet W.delivered W.failures W.flushes out.old pen.old)
         (sheet W.delivered W.failures W.flushes out.new pen.new) }
@@ -91,8 +91,9 @@ pub(crate) fn put_ended<W: Sink>(out: &mut W, pen: &mut Pen, bytes: &[u8])
     put_newline(out, pen);
 }
 
-#[tactic(auto, unfolding(crate::specs::Text::colon_blank))]
-fn put_colon<W: Sink>(out: &mut W, pen: &mut Pen)
+/// Writes a colon and a blank.
+#[tactic(auto, unfolding(crate::specs::Layout::colon_blank))]
+pub(crate) fn put_colon_blank<W: Sink>(out: &mut W, pen: &mut Pen)
     ensures { Wrote colon_blank (sheet W.delivered W.failures W.flushes out.old pen.old)
         (sheet W.delivered W.failures W.flushes out.new pen.new) }
 {
@@ -105,7 +106,7 @@ pub fn put_path_end<W: Sink, B: Feed>(out: &mut W, pen: &mut Pen, path: B)
         (sheet W.delivered W.failures W.flushes out.old pen.old)
         (sheet W.delivered W.failures W.flushes out.new pen.new) }
 {
-    put_colon(out, pen);
+    put_colon_blank(out, pen);
     put_path(out, pen, path);
     put_newline(out, pen);
 }

@@ -2,7 +2,7 @@
 ghost use Rattle.std.specs.Prelude.{◌≡◌, ◌++◌};
 ghost use Rattle.aide_text.specs.PenSheet.{sheet};
 ghost use Rattle.aide_text.specs.Sheet.{Wrote};
-ghost use Rattle.aide_text.specs.Text.{path_line};
+ghost use Rattle.aide_text.specs.Layout.{path_line};
 ghost use Rattle.aide_text.specs.Titles.{rule_before, rule_after, titled, title_of, gap_of};
 ghost use Rattle.aide_text.specs.Titles.{section_head};
 

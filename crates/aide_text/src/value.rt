@@ -1,12 +1,15 @@
 //! The text of an attribute's value.
 
+ghost use Rattle.hex.specs.Hex.{encode_lower};
+ghost use Rattle.base64.specs.Engines.{standard};
+ghost use Rattle.base64.specs.GeneralPurpose.{encode_of};
 ghost use Rattle.std.specs.Prelude.{◌≡◌, ◌<◌, ◌≤◌, ◌++◌, ◌∷◌, [], ◌-◌, ℕ, ℤ, List, length, take};
 ghost use Rattle.std.specs.Prelude.{drop, nat_abs};
 ghost use Rattle.std.specs.Fmt.{signed_decimal};
 ghost use Rattle.aide_text.specs.ReadyRest.{ready_rest};
 ghost use Rattle.aide_text.specs.TextRest.{text_rest};
-ghost use Rattle.aide_text.specs.Values.{type_text, mode_text, digest_text, option_text};
-ghost use Rattle.aide_text.specs.Values.{octal_text};
+ghost use Rattle.aide_text.specs.ValueText.{type_text, mode_text, digest_text, option_text};
+ghost use Rattle.aide_text.specs.ValueText.{octal_text};
 
 use crate::feed::{Feed, Printed};
 use crate::ready::Ready;
@@ -37,7 +40,8 @@ impl<S: Feed, L: Feed, F: Feed> Feed for ValueText<S, L, F> {
     }
 }
 
-fn word(kind: FileType) -> &'static [u8]
+/// The text for a type of file.
+fn type_text(kind: FileType) -> &'static [u8]
     ensures value { result.now ≡ type_text kind }
     ensures short { length result.now ≤ 16 }
 {
@@ -59,7 +63,7 @@ pub fn kind_text(kind: Option<FileType>) -> Ready
 {
     match kind {
         None => Ready::of(b""),
-        Some(kind) => Ready::of(word(kind)),
+        Some(kind) => Ready::of(type_text(kind)),
     }
 }
 
@@ -105,20 +109,19 @@ pub fn number_of(number: Option<i128>) -> Ready
     }
 }
 
+/// Returns at most 64 bytes in base 16.
 fn hex_of(bytes: &[u8]) -> Ready
     requires { length bytes.now ≤ 64 }
     ensures { ready_rest result ≡ encode_lower bytes.now }
 {
     let mut text = [0; 128];
     let text = &mut text[..2 * bytes.len()];
+    // The text has two bytes for each of these, so this cannot fail.
     let _ = hex::encode_to_slice(bytes, text);
     Ready::of(text)
 }
 
-ghost use Rattle.hex.specs.Hex.{encode_lower};
-ghost use Rattle.base64.specs.Engines.{standard};
-ghost use Rattle.base64.specs.GeneralPurpose.{encode_of};
-
+/// Returns at most 64 bytes in base 64.
 fn base64_of(bytes: &[u8]) -> Ready
     requires { length bytes.now ≤ 64 }
     ensures { ready_rest result ≡ encode_of standard bytes.now }
@@ -132,7 +135,7 @@ fn base64_of(bytes: &[u8]) -> Ready
 
 /// Returns a digest of at most 64 bytes as a text, in base 16 (lowercase) if `base16` is set. Otherwise the text is
 /// in base 64 (RFC 4648 section 4).
-#[tactic(auto, unfolding(crate::specs::Values::digest_text))]
+#[tactic(auto, unfolding(crate::specs::ValueText::digest_text))]
 pub fn digest_of(base16: bool, bytes: &[u8]) -> Ready
     requires { length bytes.now ≤ 64 }
     ensures { ready_rest result ≡ digest_text base16 bytes.now }

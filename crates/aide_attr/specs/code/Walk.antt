@@ -37,7 +37,8 @@ step AfterName s b = after_step s b
 
 -- the term that begins with this byte, if one does
 abbrev pub begun : Stage → Bool → ℕ → List ℕ → List Term
-begun BeforeName s b bs = cond (is_name_byte b) (record { adds = s; name = b ∷ name_run bs } ∷ []) []
+begun BeforeName s b bs =
+    cond (is_name_byte b) (record { adds = s; name = b ∷ name_run bs } ∷ []) []
 begun _ s b bs = []
 
 -- the attributes after a term
@@ -49,7 +50,8 @@ apply false (Some set) acc a = acc a && not (set a)
 -- the attributes after these terms, if all their names are known
 abbrev pub taken : Lookup → (Attr → Bool) → List Term → Option (Attr → Bool)
 taken look acc [] = Some acc
-taken look acc (t ∷ ts) = option_and_then (λ set. taken look (apply t.adds (Some set) acc) ts) (look t.name)
+taken look acc (t ∷ ts) =
+    option_and_then (λ set. taken look (apply t.adds (Some set) acc) ts) (look t.name)
 
 -- the answer at the end of the text
 abbrev pub finish : Stage → (Attr → Bool) → ℕ → Result (Attr → Bool) ExprFault
@@ -65,7 +67,9 @@ after_byte (Some q) None i next = Err (UnknownName i)
 after_byte (Some q) (Some acc) i next = next q acc
 
 -- the answer to the bytes from a stage on, by the attributes so far
-unfoldable pub walk : Lookup → (Attr → Bool) → Stage → Bool → ℕ → List ℕ → Result (Attr → Bool) ExprFault
+unfoldable pub walk : Lookup → (Attr → Bool) → Stage → Bool → ℕ → List ℕ
+    → Result (Attr → Bool) ExprFault
 walk look acc p s i [] = finish p acc i
 walk look acc p s i (b ∷ bs) =
-    after_byte (step p s b) (taken look acc (begun p s b bs)) i (λ q known. walk look known q.0 q.1 (i + 1) bs)
+    after_byte (step p s b) (taken look acc (begun p s b bs)) i
+    (λ q known. walk look known q.0 q.1 (i + 1) bs)

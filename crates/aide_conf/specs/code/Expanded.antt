@@ -3,9 +3,9 @@ use Rattle.std.specs.Prelude.{ℕ, ◌≡◌, ◌<◌, ◌≤◌, true, false, n
 use Rattle.std.specs.Prelude.{length, Vec}
 use Rattle.aide_conf.specs.declared.expansion.Expanded.{Expanded}
 use Rattle.aide_conf.specs.declared.expansion.Expanded.TheVariants.{Skipped, TooLong, Line}
-use Rattle.aide_attr.specs.Table.{Names}
-use Rattle.aide_conf.specs.Lines.{strip}
-use Rattle.aide_conf.specs.Reading.{is_skipped}
+use Rattle.aide_attr.specs.NameMap.{Names}
+use Rattle.aide_conf.specs.Cutting.{strip}
+use Rattle.aide_conf.specs.Effect.{is_skipped}
 use Rattle.aide_conf.specs.code.Replacing.{expansion_after}
 use Rattle.aide_conf.specs.code.Variables.{values_of, value_by}
 use Rattle.aide_conf.specs.Limits.{longest_line, longest_value}

@@ -2,8 +2,8 @@
 -- expansion is. It is proved that the program agrees with that definition.
 use Rattle.std.specs.Prelude.{ℕ, zero, suc, ◌≡◌, ◌+◌, List, [], ◌∷◌, ◌++◌, codes, length, drop}
 use Rattle.std.specs.Prelude.{Option, Some, None, if◌then◌else◌}
-use Rattle.aide_conf.specs.Lines.{bytes_before, bytes_after}
-use Rattle.aide_conf.specs.Reading.{begins}
+use Rattle.aide_conf.specs.Cutting.{bytes_before, bytes_after}
+use Rattle.aide_conf.specs.Effect.{begins}
 use Rattle.aide_conf.specs.Expansion.{is_brace, NoneOpens, NoBrace, IsExpansion}
 
 -- the expansion of the text after a name, or the text itself if no `}` comes

@@ -2,7 +2,7 @@
 use Rattle.std.specs.Prelude.{◌≡◌, Bool, true, false, not, ◌&&◌, List, [], ◌∷◌, ◌++◌, reverse}
 use Rattle.aide_conf.specs.declared.blocks.Frame.{Frame}
 use Rattle.aide_conf.specs.declared.blocks.Blocks.{Blocks}
-use Rattle.aide_conf.specs.Blocks.{Shape, Opens, Divides, Closes, Single, Seen, opens, divides}
+use Rattle.aide_conf.specs.Blocks.{BlockRole, Opens, Divides, Closes, Single, Seen, opens, divides}
 use Rattle.aide_conf.specs.Blocks.{Balanced, IsUsedRight}
 
 -- exactly one of the two is true
@@ -43,7 +43,7 @@ abbrev pub frames_of : {A : Type 0} → Blocks A → List Frame
 frames_of b = reverse b.frames.items
 
 -- the open blocks after another line
-abbrev pub frames_after : Shape → Bool → Bool → List Frame → List Frame
+abbrev pub frames_after : BlockRole → Bool → Bool → List Frame → List Frame
 frames_after Opens used first fs = opened used first fs
 frames_after Divides used first fs = divided_at fs
 frames_after Closes used first fs = closed_at fs
@@ -57,12 +57,12 @@ abbrev pub Body : Bool → List Seen → Type 0
 Body false w = Balanced w
 Body true w =
     (ys : List Seen) × (d : Seen) × (zs : List Seen) × (w ≡ ys ++ d ∷ zs) × Balanced ys
-    × (divides d.shape ≡ true) × Balanced zs
+    × (divides d.role ≡ true) × Balanced zs
 
 -- the lines of a text so far, with their open blocks, the innermost first
 abbrev pub IsOpen : List Seen → List Frame → Type 0
 IsOpen here [] = Balanced here
 IsOpen here (f ∷ fs) =
     (outer : List Seen) × (o : Seen) × (w : List Seen) × (here ≡ outer ++ o ∷ w)
-    × (opens o.shape ≡ true) × Body f.second w
+    × (opens o.role ≡ true) × Body f.second w
     × (o.used ≡ f.used) × (o.first ≡ f.first) × IsUsedRight outer o × IsOpen outer fs

@@ -1,7 +1,7 @@
 -- Variables as a finite map from names to values.
 use Rattle.std.specs.Prelude.{ℕ, List, [], unwrap_or, Vec}
 use Rattle.std.specs.FinMap.{get}
-use Rattle.aide_attr.specs.Table.{Names, seen}
+use Rattle.aide_attr.specs.NameMap.{Names, seen}
 
 -- a map from names to values
 abbrev pub Values : Type 0

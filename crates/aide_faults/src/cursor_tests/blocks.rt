@@ -2,7 +2,7 @@
 ghost use Rattle.std.specs.Prelude.{◌≡◌, Some};
 
 use super::{LIMITS, Wanted, assert_read, read_whole};
-use aide_db::{DbFaultKind as Kind, Desk, DeviceFault, Limits, Reel};
+use aide_db::{Cursor, DbFaultKind as Kind, Desk, DeviceFault, Limits, ReadReel, Reel, Side, Step};
 use std::alloc::{AllocError, Global};
 use std::test::Fail;
 
@@ -113,6 +113,7 @@ fn database_of(alloc: Global, bytes: usize) -> Result<Vec<u8>, AllocError> {
 fn reads_of_a_whole_database(rt: HostRuntime) -> Result<(), Fail> {
     let text = database_of(rt.alloc(), 10_000)?;
     let mut desk = Desk::new(rt.alloc());
+    let mut tried = 0usize;
     for row in &READS {
         let limits = Limits {
             line: 65_536,
@@ -131,9 +132,39 @@ fn reads_of_a_whole_database(rt: HostRuntime) -> Result<(), Fail> {
                 "limit {}",
                 row.limit
             );
+            tried = tried.saturating_add(1);
         }
     }
+    assert!(rt; tried == 6);
     Ok(())
+}
+
+/// The SHA-256 of a database of 10,000 bytes, as `sha256sum` gives it.
+const DIGEST: [u8; 32] = [
+    0x41, 0x65, 0x0d, 0x3d, 0x9d, 0x7f, 0x1c, 0x5b, 0xdf, 0x4b, 0x30, 0x85, 0xed, 0x36, 0x21, 0x41,
+    0x71, 0x9b, 0xcf, 0xd7, 0x80, 0xab, 0x21, 0x9e, 0xa5, 0x84, 0xfd, 0x39, 0x00, 0xb6, 0x72, 0x1f,
+];
+
+#[test]
+fn digest_of_a_whole_database(rt: HostRuntime) -> Result<(), Fail> {
+    let text = database_of(rt.alloc(), 10_000)?;
+    let mut desk = Desk::new(rt.alloc());
+    let mut cursor = Cursor::start(Side::New, text.as_slice(), LIMITS, &mut desk);
+    assert!(rt; cursor.next(&mut desk) == Ok(Step::Record) && cursor.digest().is_none());
+    assert!(rt; cursor.next(&mut desk) == Ok(Step::End));
+    assert!(rt; cursor.digest() == Some(DIGEST));
+    cursor.into_reel();
+    Ok(())
+}
+
+#[test]
+fn reads_of_a_reader(rt: HostRuntime) {
+    let text: &[u8] = b"abc";
+    let mut reel = ReadReel::new(text);
+    let mut buffer = [0u8; 2];
+    assert!(rt; reel.read(&mut buffer) == Ok(2));
+    assert!(rt; reel.failures() == 0);
+    assert!(rt; reel.into_reader() == b"c".as_slice());
 }
 
 #[test]

@@ -1,7 +1,7 @@
 //! A database that is cut, or whose reel fails, after each of its bytes.
 use super::{LIMITS, Wanted, assert_read, read_whole, refuse_each};
-use crate::PlannedReel;
 use crate::pace::PACES;
+use crate::{Pace, PlannedReel};
 use aide_db::{DbFault, DbFaultKind as Kind, Desk, Side};
 use std::alloc::Allocator;
 use std::process::Abort;
@@ -173,7 +173,16 @@ const PLACES: [Place; 5] = [
     },
 ];
 
-/// Reads, at each pace, from a reel that fails after this number of bytes.
+/// A reel that fails after this number of bytes.
+fn reel_of(pace: Pace, sound: u64, once: bool) -> PlannedReel<'static> {
+    if once {
+        PlannedReel::failing_once(SOUND, pace, sound)
+    } else {
+        PlannedReel::new(SOUND, pace, sound)
+    }
+}
+
+/// Reads, at each pace, from reels that fail after this number of bytes: for good, and once. The answer is the same.
 fn assert_fails<A: Allocator + Copy>(
     rt: &impl Abort,
     desk: &mut Desk<A>,
@@ -186,13 +195,15 @@ fn assert_fails<A: Allocator + Copy>(
         kind: Kind::Read,
     });
     for pace in &PACES {
-        let reel = PlannedReel::new(SOUND, *pace, sound);
-        let (entries, answer, reel) = read_whole(rt, reel, LIMITS, desk);
-        assert!(rt;
-            entries == place.entries && answer == wanted,
-            "{pace:?}, after {sound}: {answer:?}"
-        );
-        assert!(rt; reel.failures() == 1);
+        for once in [false, true] {
+            let reel = reel_of(*pace, sound, once);
+            let (entries, answer, reel) = read_whole(rt, reel, LIMITS, desk);
+            assert!(rt;
+                entries == place.entries && answer == wanted,
+                "{pace:?}, after {sound}: {answer:?}"
+            );
+            assert!(rt; reel.failures() == 1);
+        }
     }
 }
 

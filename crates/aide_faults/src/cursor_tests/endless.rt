@@ -142,6 +142,7 @@ const LIMITED: [Limited; 8] = [
 #[test]
 fn limits_of_a_line_and_of_a_text(rt: HostRuntime) {
     let mut desk = Desk::new(rt.alloc());
+    let mut tried = 0usize;
     let text = b"@@begin_db\n@@db_spec name size\n/a 1\n@@end_db\n";
     for row in &LIMITED {
         let limits = Limits {
@@ -155,6 +156,8 @@ fn limits_of_a_line_and_of_a_text(rt: HostRuntime) {
         };
         if limits.line >= 14 && limits.bytes < 1000 {
             assert_read(&rt, &mut desk, text, limits, wanted);
+            tried = tried.saturating_add(1);
         }
     }
+    assert!(rt; tried == 8);
 }

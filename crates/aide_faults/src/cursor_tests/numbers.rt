@@ -12,7 +12,7 @@ struct Number {
     value: i128,
 }
 
-const NUMBERS: [Number; 20] = [
+const NUMBERS: [Number; 21] = [
     Number {
         column: b"perm",
         attr: Attr::Perm,
@@ -133,19 +133,28 @@ const NUMBERS: [Number; 20] = [
         field: b"MTcwMDAwMDAwMA==",
         value: 1_700_000_000,
     },
+    Number {
+        column: b"mtime",
+        attr: Attr::Mtime,
+        field: b"MDAxMA==",
+        value: 10,
+    },
 ];
 
 #[test]
 fn numbers_and_times(rt: HostRuntime) -> Result<(), Fail> {
     let mut desk = Desk::new(rt.alloc());
+    let mut tried = 0usize;
     for row in &NUMBERS {
         let answer = first(rt.alloc(), &mut desk, row.column, row.field)?;
         assert!(rt; answer == Ok(Step::Record), "{:?}: {answer:?}", row.field);
         if let Some(view) = desk.view(Side::Old) {
             assert!(rt; view.attrs().has(row.attr) && view.number(row.attr) == Some(row.value));
             assert!(rt; view.field(row.attr).is_none() && view.link().is_none());
+            tried = tried.saturating_add(1);
         }
     }
+    assert!(rt; tried == 21);
     Ok(())
 }
 
@@ -162,7 +171,7 @@ const TIME: Kind = Kind::BadTime { column: 2 };
 
 const DIGEST: Kind = Kind::BadDigest { column: 2 };
 
-const REFUSED: [Refused; 26] = [
+const REFUSED: [Refused; 28] = [
     Refused {
         column: b"perm",
         field: b"40000000000",
@@ -291,6 +300,16 @@ const REFUSED: [Refused; 26] = [
     Refused {
         column: b"stribog256",
         field: b"AAAA",
+        kind: DIGEST,
+    },
+    Refused {
+        column: b"sha512",
+        field: b"AA==",
+        kind: DIGEST,
+    },
+    Refused {
+        column: b"stribog512",
+        field: b"47DEQpj8HBSa+/TImW+5JCeuQeRkm5NMpJWZG3hSuFU=",
         kind: DIGEST,
     },
 ];

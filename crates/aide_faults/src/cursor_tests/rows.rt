@@ -142,7 +142,7 @@ const FORM: [Row; 21] = [
     },
 ];
 
-const ENTRIES: [Row; 22] = [
+const ENTRIES: [Row; 23] = [
     Row {
         text: b"@@begin_db\n@@db_spec name size\n/a\n",
         entries: 0,
@@ -175,6 +175,12 @@ const ENTRIES: [Row; 22] = [
     },
     Row {
         text: b"@@begin_db\n@@db_spec name size\n%2 1\n",
+        entries: 0,
+        line: 3,
+        fault: Some(Kind::BadName),
+    },
+    Row {
+        text: b"@@begin_db\n@@db_spec name size\n%61 1\n",
         entries: 0,
         line: 3,
         fault: Some(Kind::BadName),
@@ -301,27 +307,56 @@ fn forms_of_an_entry(rt: HostRuntime) {
     assert_rows(&rt, rt.alloc(), &ENTRIES);
 }
 
-#[test]
-fn a_line_over_its_limit(rt: HostRuntime) {
-    let limits = Limits {
-        line: 30,
-        bytes: 1_048_576,
-    };
-    let mut desk = Desk::new(rt.alloc());
-    let fits = Wanted {
+/// A text under a limit on its lines, and what a cursor returns for it.
+struct Limited {
+    most: u32,
+    text: &'static [u8],
+    entries: u64,
+    line: u64,
+    fault: Option<Kind>,
+}
+
+const LIMITED: [Limited; 3] = [
+    Limited {
+        most: 30,
+        text: b"@@begin_db\n@@db_spec name size\n/aaaaaaaaaaaaaaaaaaaaaaaaaaa 1\n@@end_db\n",
         entries: 1,
         line: 0,
         fault: None,
-    };
-    let over = Wanted {
+    },
+    Limited {
+        most: 30,
+        text: b"@@begin_db\n@@db_spec name size\n/aaaaaaaaaaaaaaaaaaaaaaaaaaaa 1\n@@end_db\n",
         entries: 0,
         line: 3,
         fault: Some(Kind::LineTooLong),
-    };
-    let text = b"@@begin_db\n@@db_spec name size\n/aaaaaaaaaaaaaaaaaaaaaaaaaaa 1\n@@end_db\n";
-    assert_read(&rt, &mut desk, text, limits, fits);
-    let text = b"@@begin_db\n@@db_spec name size\n/aaaaaaaaaaaaaaaaaaaaaaaaaaaa 1\n@@end_db\n";
-    assert_read(&rt, &mut desk, text, limits, over);
+    },
+    Limited {
+        most: 14,
+        text: b"@@begin_db\n@@db_spec name\n/a\n@@end_db and more than 14 bytes\n",
+        entries: 1,
+        line: 4,
+        fault: Some(Kind::LineTooLong),
+    },
+];
+
+#[test]
+fn lines_about_their_limit(rt: HostRuntime) {
+    let mut desk = Desk::new(rt.alloc());
+    for row in &LIMITED {
+        let limits = Limits {
+            line: row.most,
+            bytes: 1_048_576,
+        };
+        let wanted = Wanted {
+            entries: row.entries,
+            line: row.line,
+            fault: row.fault,
+        };
+        if limits.line >= 14 {
+            assert_read(&rt, &mut desk, row.text, limits, wanted);
+        }
+    }
 }
 
 #[test]

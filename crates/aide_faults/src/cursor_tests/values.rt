@@ -6,7 +6,7 @@ use std::alloc::{AllocError, Global};
 use std::test::Fail;
 
 /// A database of one entry with a path and one other field.
-fn database(alloc: Global, column: &[u8], field: &[u8]) -> Result<Vec<u8>, AllocError> {
+pub(super) fn database(alloc: Global, column: &[u8], field: &[u8]) -> Result<Vec<u8>, AllocError> {
     let mut text = Vec::from_slice(alloc, b"@@begin_db\n@@db_spec name ")?;
     text.extend_from_slice(column)?;
     text.extend_from_slice(b"\n/a ")?;
@@ -92,6 +92,7 @@ const TYPES: [Type; 10] = [
 #[test]
 fn types(rt: HostRuntime) -> Result<(), Fail> {
     let mut desk = Desk::new(rt.alloc());
+    let mut tried = 0usize;
     for row in &TYPES {
         let answer = first(rt.alloc(), &mut desk, b"perm", row.field)?;
         assert!(rt; answer == Ok(Step::Record), "{answer:?}");
@@ -99,8 +100,10 @@ fn types(rt: HostRuntime) -> Result<(), Fail> {
             assert!(rt;
                 view.kind() == row.kind && view.attrs().has(Attr::Ftype) == row.kind.is_some()
             );
+            tried = tried.saturating_add(1);
         }
     }
+    assert!(rt; tried == 10);
     Ok(())
 }
 
@@ -180,7 +183,7 @@ struct Digest {
     last: u8,
 }
 
-const DIGESTS: [Digest; 6] = [
+const DIGESTS: [Digest; 10] = [
     Digest {
         column: b"md5",
         attr: Attr::Md5,
@@ -229,6 +232,38 @@ const DIGESTS: [Digest; 6] = [
         first: 0,
         last: 1,
     },
+    Digest {
+        column: b"sha1",
+        attr: Attr::Sha1,
+        field: b"2jmj7l5rSw0yVb/vlWAYkK/YBwk=",
+        length: 20,
+        first: 0xda,
+        last: 0x09,
+    },
+    Digest {
+        column: b"sha512",
+        attr: Attr::Sha512,
+        field: b"z4PhNX7vuL3xVChQ1m2AB9Yg5AULVxXcg/SpIdNs6c5H0NE8XYXysP+DGNKHfuwvY7kxvUdBeoGlODJ6+SfaPg==",
+        length: 64,
+        first: 0xcf,
+        last: 0x3e,
+    },
+    Digest {
+        column: b"sha3_512",
+        attr: Attr::Sha3Of512,
+        field: b"pp9zzKI6msXItWfcGFp1bpfJghZP4lhZ4NHcwUdcgKYVshI68fX5TBHj6UAsOsVY9QAZnZW20+MBdYWGKB3NJg==",
+        length: 64,
+        first: 0xa6,
+        last: 0x26,
+    },
+    Digest {
+        column: b"stribog256",
+        attr: Attr::Stribog256,
+        field: b"47DEQpj8HBSa+/TImW+5JCeuQeRkm5NMpJWZG3hSuFU=",
+        length: 32,
+        first: 0xe3,
+        last: 0x55,
+    },
 ];
 
 #[test]
@@ -244,6 +279,12 @@ fn digests(rt: HostRuntime) -> Result<(), Fail> {
         assert!(rt; length == Some(row.length), "{:?}", row.field);
         let last = row.length.saturating_sub(1);
         assert!(rt; buffer.first() == Some(&row.first) && buffer.get(last) == Some(&row.last));
+        let answer = first(rt.alloc(), &mut desk, row.column, b"0")?;
+        assert!(rt; answer == Ok(Step::Record), "{answer:?}");
+        let none = desk
+            .view(Side::Old)
+            .and_then(|view| view.digest(row.attr, &mut buffer));
+        assert!(rt; none.is_none(), "{:?}", row.column);
     }
     Ok(())
 }
@@ -285,8 +326,9 @@ const NAMES: [Text; 6] = [
 fn names(rt: HostRuntime) -> Result<(), Fail> {
     let mut desk = Desk::new(rt.alloc());
     for row in &NAMES {
-        let mut text = Vec::from_slice(rt.alloc(), b"@@begin_db\n@@db_spec name\n")?;
+        let mut text = Vec::from_slice(rt.alloc(), b"@@begin_db\n@@db_spec name acl\n")?;
         text.extend_from_slice(row.field)?;
+        text.extend_from_slice(b" POSIX,0")?;
         let mut cursor = Cursor::start(Side::Old, text.as_slice(), LIMITS, &mut desk);
         assert!(rt; cursor.next(&mut desk) == Ok(Step::Record));
         cursor.into_reel();
@@ -297,6 +339,7 @@ fn names(rt: HostRuntime) -> Result<(), Fail> {
                 "{:?}",
                 row.field
             );
+            assert!(rt; view.field(Attr::Acl) == Some(b"POSIX,0".as_slice()));
         }
     }
     Ok(())

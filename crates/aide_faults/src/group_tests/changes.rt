@@ -24,8 +24,8 @@ struct Change {
     summary: &'static [u8],
 }
 
-/// A file that shrank.
-const SHRUNK: Change = Change {
+/// A file that grew.
+const GROWN: Change = Change {
     old: b"ftype s p",
     new: b"ftype s p",
     changed: b"s",
@@ -72,13 +72,13 @@ const FURTHER_DIGEST: Change = Change {
 };
 
 const CHANGES: [Change; 15] = [
-    SHRUNK,
+    GROWN,
     Change {
         ignore_changed: b"s",
         reported: b"",
         shown: b"",
         summary: b"f : .             ",
-        ..SHRUNK
+        ..GROWN
     },
     Change {
         ignore_changed: b"s",
@@ -86,7 +86,7 @@ const CHANGES: [Change; 15] = [
         reported: b"",
         shown: b"",
         summary: b"f : .             ",
-        ..SHRUNK
+        ..GROWN
     },
     Change {
         changed: b"s p",
@@ -95,7 +95,7 @@ const CHANGES: [Change; 15] = [
         reported: b"p",
         shown: b"s p",
         summary: b"f : p             ",
-        ..SHRUNK
+        ..GROWN
     },
     Change {
         changed: b"s p",
@@ -105,7 +105,7 @@ const CHANGES: [Change; 15] = [
         reported: b"p",
         shown: b"",
         summary: b"f : p             ",
-        ..SHRUNK
+        ..GROWN
     },
     Change {
         size: Ordering::Less,
@@ -113,7 +113,7 @@ const CHANGES: [Change; 15] = [
         force: b"u ftype",
         shown: b"ftype s",
         summary: b"f < .             ",
-        ..SHRUNK
+        ..GROWN
     },
     Change {
         old: b"ftype s p u",
@@ -125,13 +125,13 @@ const CHANGES: [Change; 15] = [
         reported: b"u",
         shown: b"u",
         summary: b"! = .u            ",
-        ..SHRUNK
+        ..GROWN
     },
     Change {
         changed: b"s md5",
         ignore_added: b"s p",
         ignore_removed: b"s p",
-        ..SHRUNK
+        ..GROWN
     },
     OTHER_DIGEST,
     Change {

@@ -4,15 +4,15 @@ use std::cmp::Ordering;
 use std::process::Abort;
 use std::test::Fail;
 
-/// A line of the table: the names, the bit (64 if there is none), and how the column writes the value. Also the letter
-/// that a summary string has if only this attribute is changed.
+/// A line of the table: the names, the bit (64 if there is none), and how the column writes the value. Also the whole
+/// summary string of an entry without a type in which only this attribute is changed.
 struct Line {
     name: &'static [u8],
     detail_name: &'static [u8],
     column: &'static [u8],
     bit: u32,
     form: Form,
-    letter: u8,
+    summary: &'static [u8],
 }
 
 const LINES: [Line; 33] = [
@@ -22,7 +22,7 @@ const LINES: [Line; 33] = [
         column: b"perm",
         bit: 64,
         form: Form::Kind,
-        letter: b'!',
+        summary: b"!                 ",
     },
     Line {
         name: b"l",
@@ -30,7 +30,7 @@ const LINES: [Line; 33] = [
         column: b"lname",
         bit: 1,
         form: Form::Link,
-        letter: b'l',
+        summary: b"?l                ",
     },
     Line {
         name: b"s",
@@ -38,7 +38,7 @@ const LINES: [Line; 33] = [
         column: b"size",
         bit: 5,
         form: Form::Number,
-        letter: b'>',
+        summary: b"? >               ",
     },
     Line {
         name: b"b",
@@ -46,7 +46,7 @@ const LINES: [Line; 33] = [
         column: b"bcount",
         bit: 10,
         form: Form::Number,
-        letter: b'b',
+        summary: b"?  b              ",
     },
     Line {
         name: b"p",
@@ -54,7 +54,7 @@ const LINES: [Line; 33] = [
         column: b"perm",
         bit: 2,
         form: Form::Mode,
-        letter: b'p',
+        summary: b"?   p             ",
     },
     Line {
         name: b"u",
@@ -62,7 +62,7 @@ const LINES: [Line; 33] = [
         column: b"uid",
         bit: 3,
         form: Form::Number,
-        letter: b'u',
+        summary: b"?    u            ",
     },
     Line {
         name: b"g",
@@ -70,7 +70,7 @@ const LINES: [Line; 33] = [
         column: b"gid",
         bit: 4,
         form: Form::Number,
-        letter: b'g',
+        summary: b"?     g           ",
     },
     Line {
         name: b"a",
@@ -78,7 +78,7 @@ const LINES: [Line; 33] = [
         column: b"atime",
         bit: 6,
         form: Form::Time,
-        letter: b'a',
+        summary: b"?      a          ",
     },
     Line {
         name: b"m",
@@ -86,7 +86,7 @@ const LINES: [Line; 33] = [
         column: b"mtime",
         bit: 8,
         form: Form::Time,
-        letter: b'm',
+        summary: b"?       m         ",
     },
     Line {
         name: b"c",
@@ -94,7 +94,7 @@ const LINES: [Line; 33] = [
         column: b"ctime",
         bit: 7,
         form: Form::Time,
-        letter: b'c',
+        summary: b"?        c        ",
     },
     Line {
         name: b"i",
@@ -102,7 +102,7 @@ const LINES: [Line; 33] = [
         column: b"inode",
         bit: 9,
         form: Form::Number,
-        letter: b'i',
+        summary: b"?         i       ",
     },
     Line {
         name: b"n",
@@ -110,7 +110,7 @@ const LINES: [Line; 33] = [
         column: b"lcount",
         bit: 11,
         form: Form::Number,
-        letter: b'n',
+        summary: b"?          n      ",
     },
     Line {
         name: b"md5",
@@ -118,7 +118,7 @@ const LINES: [Line; 33] = [
         column: b"md5",
         bit: 64,
         form: Form::Digest(16, 16),
-        letter: b'H',
+        summary: b"?           H     ",
     },
     Line {
         name: b"sha1",
@@ -126,7 +126,7 @@ const LINES: [Line; 33] = [
         column: b"sha1",
         bit: 64,
         form: Form::Digest(20, 20),
-        letter: b'H',
+        summary: b"?           H     ",
     },
     Line {
         name: b"sha256",
@@ -134,7 +134,7 @@ const LINES: [Line; 33] = [
         column: b"sha256",
         bit: 64,
         form: Form::Digest(32, 32),
-        letter: b'H',
+        summary: b"?           H     ",
     },
     Line {
         name: b"sha512",
@@ -142,7 +142,7 @@ const LINES: [Line; 33] = [
         column: b"sha512",
         bit: 64,
         form: Form::Digest(64, 64),
-        letter: b'H',
+        summary: b"?           H     ",
     },
     Line {
         name: b"rmd160",
@@ -150,7 +150,7 @@ const LINES: [Line; 33] = [
         column: b"rmd160",
         bit: 64,
         form: Form::Digest(20, 20),
-        letter: b'H',
+        summary: b"?           H     ",
     },
     Line {
         name: b"tiger",
@@ -158,7 +158,7 @@ const LINES: [Line; 33] = [
         column: b"tiger",
         bit: 64,
         form: Form::Digest(1, 64),
-        letter: b'H',
+        summary: b"?           H     ",
     },
     Line {
         name: b"crc32",
@@ -166,7 +166,7 @@ const LINES: [Line; 33] = [
         column: b"crc32",
         bit: 64,
         form: Form::Digest(1, 64),
-        letter: b'H',
+        summary: b"?           H     ",
     },
     Line {
         name: b"crc32b",
@@ -174,7 +174,7 @@ const LINES: [Line; 33] = [
         column: b"crc32b",
         bit: 64,
         form: Form::Digest(1, 64),
-        letter: b'H',
+        summary: b"?           H     ",
     },
     Line {
         name: b"haval",
@@ -182,7 +182,7 @@ const LINES: [Line; 33] = [
         column: b"haval",
         bit: 64,
         form: Form::Digest(1, 64),
-        letter: b'H',
+        summary: b"?           H     ",
     },
     Line {
         name: b"gost",
@@ -190,7 +190,7 @@ const LINES: [Line; 33] = [
         column: b"gost",
         bit: 64,
         form: Form::Digest(1, 64),
-        letter: b'H',
+        summary: b"?           H     ",
     },
     Line {
         name: b"whirlpool",
@@ -198,7 +198,7 @@ const LINES: [Line; 33] = [
         column: b"whirlpool",
         bit: 64,
         form: Form::Digest(64, 64),
-        letter: b'H',
+        summary: b"?           H     ",
     },
     Line {
         name: b"stribog256",
@@ -206,7 +206,7 @@ const LINES: [Line; 33] = [
         column: b"stribog256",
         bit: 64,
         form: Form::Digest(32, 32),
-        letter: b'H',
+        summary: b"?           H     ",
     },
     Line {
         name: b"stribog512",
@@ -214,7 +214,7 @@ const LINES: [Line; 33] = [
         column: b"stribog512",
         bit: 64,
         form: Form::Digest(64, 64),
-        letter: b'H',
+        summary: b"?           H     ",
     },
     Line {
         name: b"sha512_256",
@@ -222,7 +222,7 @@ const LINES: [Line; 33] = [
         column: b"sha512_256",
         bit: 64,
         form: Form::Digest(32, 32),
-        letter: b'H',
+        summary: b"?           H     ",
     },
     Line {
         name: b"sha3_256",
@@ -230,7 +230,7 @@ const LINES: [Line; 33] = [
         column: b"sha3_256",
         bit: 64,
         form: Form::Digest(32, 32),
-        letter: b'H',
+        summary: b"?           H     ",
     },
     Line {
         name: b"sha3_512",
@@ -238,7 +238,7 @@ const LINES: [Line; 33] = [
         column: b"sha3_512",
         bit: 64,
         form: Form::Digest(64, 64),
-        letter: b'H',
+        summary: b"?           H     ",
     },
     Line {
         name: b"acl",
@@ -246,7 +246,7 @@ const LINES: [Line; 33] = [
         column: b"acl",
         bit: 64,
         form: Form::Opaque,
-        letter: b'A',
+        summary: b"?            A    ",
     },
     Line {
         name: b"xattrs",
@@ -254,7 +254,7 @@ const LINES: [Line; 33] = [
         column: b"xattrs",
         bit: 64,
         form: Form::Opaque,
-        letter: b'X',
+        summary: b"?             X   ",
     },
     Line {
         name: b"selinux",
@@ -262,7 +262,7 @@ const LINES: [Line; 33] = [
         column: b"selinux",
         bit: 64,
         form: Form::Opaque,
-        letter: b'S',
+        summary: b"?              S  ",
     },
     Line {
         name: b"e2fsattrs",
@@ -270,7 +270,7 @@ const LINES: [Line; 33] = [
         column: b"e2fsattrs",
         bit: 64,
         form: Form::Opaque,
-        letter: b'E',
+        summary: b"?               E ",
     },
     Line {
         name: b"caps",
@@ -278,7 +278,7 @@ const LINES: [Line; 33] = [
         column: b"capabilities",
         bit: 64,
         form: Form::Opaque,
-        letter: b'C',
+        summary: b"?                C",
     },
 ];
 
@@ -310,7 +310,7 @@ fn check_line(rt: &impl Abort, line: &Line) {
     };
     assert!(rt; attr.name() == line.name && attr.detail_name() == line.detail_name);
     assert!(rt; attr.column() == line.column && attr.bit().unwrap_or(64) == line.bit);
-    assert!(rt; attr.form() == line.form && summary_of(attr).contains(&line.letter));
+    assert!(rt; attr.form() == line.form && summary_of(attr).as_slice() == line.summary);
     assert!(rt; Attr::of_column(line.column) == Some(attr.holder()));
     assert!(rt; is_word(line.name) && !is_group_name(line.name));
 }

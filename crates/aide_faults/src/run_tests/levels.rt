@@ -2,7 +2,7 @@
 use super::refused::{break_readings, cut_and_damage, refuse_openings};
 use super::rows::assert_written;
 use super::trial::Trial;
-use super::written::cut_report;
+use super::written::{cut_once, cut_report};
 use super::{options_of, pair};
 use std::alloc::Global;
 use std::process::Abort;
@@ -14,8 +14,10 @@ enum Attempt {
     Paces,
     Openings,
     Readings,
+    ReadingsOnce,
     Changes,
     Writes,
+    WritesOnce,
 }
 
 /// Tries one thing at each level.
@@ -32,9 +34,11 @@ fn assert_levels(rt: &impl Abort, alloc: Global, attempt: Attempt) -> Result<(),
         match attempt {
             Attempt::Paces => assert_written(rt, alloc, &trial),
             Attempt::Openings => refuse_openings(rt, alloc, &trial),
-            Attempt::Readings => break_readings(rt, alloc, &trial),
+            Attempt::Readings => break_readings(rt, alloc, &trial, false),
+            Attempt::ReadingsOnce => break_readings(rt, alloc, &trial, true),
             Attempt::Changes => cut_and_damage(rt, alloc, &trial)?,
             Attempt::Writes => cut_report(rt, alloc, &trial),
+            Attempt::WritesOnce => cut_once(rt, alloc, &trial),
         }
     }
     Ok(())
@@ -56,6 +60,11 @@ fn each_reading_at_each_byte(rt: HostRuntime) -> Result<(), Fail> {
 }
 
 #[test]
+fn each_reading_broken_once(rt: HostRuntime) -> Result<(), Fail> {
+    assert_levels(&rt, rt.alloc(), Attempt::ReadingsOnce)
+}
+
+#[test]
 fn each_byte_cut_or_damaged(rt: HostRuntime) -> Result<(), Fail> {
     assert_levels(&rt, rt.alloc(), Attempt::Changes)
 }
@@ -63,4 +72,9 @@ fn each_byte_cut_or_damaged(rt: HostRuntime) -> Result<(), Fail> {
 #[test]
 fn each_byte_of_the_report(rt: HostRuntime) -> Result<(), Fail> {
     assert_levels(&rt, rt.alloc(), Attempt::Writes)
+}
+
+#[test]
+fn each_write_broken_once(rt: HostRuntime) -> Result<(), Fail> {
+    assert_levels(&rt, rt.alloc(), Attempt::WritesOnce)
 }

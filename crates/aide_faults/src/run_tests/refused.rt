@@ -154,13 +154,21 @@ pub(super) fn refuse_openings(rt: &impl Abort, alloc: Global, trial: &Trial<'_>)
 }
 
 /// Lets the reel of one opening fail, at each byte and at the end.
-fn break_opening(rt: &impl Abort, alloc: Global, trial: &Trial<'_>, side: Side, opening: u64) {
+fn break_opening(
+    rt: &impl Abort,
+    alloc: Global,
+    trial: &Trial<'_>,
+    side: Side,
+    opening: u64,
+    once: bool,
+) {
     let text = trial.text(side);
     for sound in 0..text.len().saturating_add(1) {
         let plan = SidePlan {
             broken: Some(Broken {
                 opening,
                 sound: sound as u64,
+                once,
             }),
             ..SidePlan::plain(text)
         };
@@ -170,11 +178,11 @@ fn break_opening(rt: &impl Abort, alloc: Global, trial: &Trial<'_>, side: Side, 
     }
 }
 
-/// Lets the reel of each opening of either side fail, at each byte and at the end.
-pub(super) fn break_readings(rt: &impl Abort, alloc: Global, trial: &Trial<'_>) {
+/// Lets the reel of each opening of either side fail, at each byte and at the end. It fails once, or for good.
+pub(super) fn break_readings(rt: &impl Abort, alloc: Global, trial: &Trial<'_>, once: bool) {
     for side in &SIDES {
         for opening in 1..trial.openings.saturating_add(1) {
-            break_opening(rt, alloc, trial, *side, opening);
+            break_opening(rt, alloc, trial, *side, opening, once);
         }
     }
 }
@@ -248,7 +256,7 @@ const OTHERS: [Other; 6] = [
 ];
 
 /// The two databases of all tests, at the default level.
-fn whole_trial(rt: &impl Abort, alloc: Global) -> Trial<'static> {
+pub(super) fn whole_trial(rt: &impl Abort, alloc: Global) -> Trial<'static> {
     Trial {
         options: options_of(rt, alloc, b""),
         old: OLD,
@@ -276,7 +284,13 @@ fn each_opening_refused(rt: HostRuntime) {
 
 #[test]
 fn each_reading_broken_at_each_byte(rt: HostRuntime) {
-    break_readings(&rt, rt.alloc(), &whole_trial(&rt, rt.alloc()));
+    break_readings(&rt, rt.alloc(), &whole_trial(&rt, rt.alloc()), false);
+}
+
+/// No read is tried again: that one would succeed.
+#[test]
+fn each_reading_broken_once(rt: HostRuntime) {
+    break_readings(&rt, rt.alloc(), &whole_trial(&rt, rt.alloc()), true);
 }
 
 #[test]
@@ -297,6 +311,7 @@ fn break_both(rt: &impl Abort, alloc: Global, trial: &Trial<'_>, opening: u64, s
     let broken = Some(Broken {
         opening,
         sound: sound as u64,
+        once: false,
     });
     let fault = database(Side::Old, line_at(OLD, sound), Kind::Read);
     let wrong = Wrong {

@@ -1,54 +1,78 @@
-//! Sinks that fail at each byte or at a flush, or that have little room.
+//! Sinks that fail at each byte or at a flush, once or for good, or that have little room.
+use super::refused::whole_trial;
+use super::reported::Titles;
 use super::trial::Trial;
 use super::{NEW, OLD, REPORT, options_of, run_over};
 use crate::pace::PACES;
 use crate::{Pace, PlannedSink, PlannedSources, SidePlan};
-use aide_db::Desk;
+use aide_db::{Desk, Side};
 use aide_report::{MemorySink, RunFault, WriteSink};
 use arrayvec::ArrayVec;
 use std::alloc::Global;
 use std::process::Abort;
 
-/// Writes the report to a sink that takes bytes at a pace, takes at most `room` bytes in all, and fails to flush.
-/// Exactly the bytes that the sink could take have gone out.
-fn assert_cut(rt: &impl Abort, alloc: Global, trial: &Trial<'_>, pace: Pace, room: usize) {
+/// Writes the report to a sink that fails after these first bytes of the report, or at the flush behind them. Exactly
+/// these bytes have gone out, the sink has failed once, and the sides were opened this often.
+fn assert_cut(
+    rt: &impl Abort,
+    alloc: Global,
+    trial: &Trial<'_>,
+    front: &[u8],
+    openings: u64,
+    mut out: PlannedSink<MemorySink<Global>>,
+) {
     let mut desk = Desk::new(alloc);
     let (old, new) = (SidePlan::plain(trial.old), SidePlan::plain(trial.new));
     let mut sources = PlannedSources::new(old, new, Pace::new(4096));
-    let inner = MemorySink::new(alloc);
-    let mut out = PlannedSink::new(inner, pace, room as u64, false);
     let answer = run_over(trial.options, &mut desk, &mut sources, &mut out);
     let wanted = RunFault::Write {
-        written: room as u64,
+        written: front.len() as u64,
     };
-    assert!(rt;
-        answer == Err(wanted),
-        "{pace:?}: {answer:?} after {room} bytes"
-    );
+    assert!(rt; answer == Err(wanted), "{answer:?}, not {wanted:?}");
     assert!(rt; wanted.status() == 18 && out.failures() == 1);
-    let (front, _) = trial.report.split_at(room.min(trial.report.len()));
     assert!(rt; out.inner().bytes() == front);
+    let given = (sources.openings(Side::Old), sources.openings(Side::New));
+    assert!(rt;
+        given == (openings, openings),
+        "{given:?} after {} bytes",
+        front.len()
+    );
 }
 
-/// Cuts the report at each byte, and after the last byte by a flush that fails.
+/// Cuts the report at each byte, and after the last byte by a flush that fails. The sink takes bytes at each pace, and
+/// fails for good.
 pub(super) fn cut_report(rt: &impl Abort, alloc: Global, trial: &Trial<'_>) {
-    for pace in &PACES {
-        for room in 0..trial.report.len().saturating_add(1) {
-            assert_cut(rt, alloc, trial, *pace, room);
+    let titles = Titles::of(trial.report);
+    for room in 0..trial.report.len().saturating_add(1) {
+        let (front, _) = trial.report.split_at(room.min(trial.report.len()));
+        let openings = titles.openings_at(room);
+        for pace in &PACES {
+            let inner = MemorySink::new(alloc);
+            let out = PlannedSink::new(inner, *pace, room as u64, false);
+            assert_cut(rt, alloc, trial, front, openings, out);
         }
+    }
+}
+
+/// Cuts the report at each byte and at its flush by one failure. Nothing is tried again: that would succeed.
+pub(super) fn cut_once(rt: &impl Abort, alloc: Global, trial: &Trial<'_>) {
+    let titles = Titles::of(trial.report);
+    for room in 0..trial.report.len().saturating_add(1) {
+        let (front, _) = trial.report.split_at(room.min(trial.report.len()));
+        let openings = titles.openings_at(room);
+        let out = PlannedSink::failing_once(MemorySink::new(alloc), Pace::new(7), room as u64);
+        assert_cut(rt, alloc, trial, front, openings, out);
     }
 }
 
 #[test]
 fn a_sink_that_fails_at_each_byte(rt: HostRuntime) {
-    let trial = Trial {
-        options: options_of(&rt, rt.alloc(), b""),
-        old: OLD,
-        new: NEW,
-        report: REPORT,
-        openings: 6,
-    };
-    cut_report(&rt, rt.alloc(), &trial);
+    cut_report(&rt, rt.alloc(), &whole_trial(&rt, rt.alloc()));
+}
+
+#[test]
+fn a_sink_that_fails_once(rt: HostRuntime) {
+    cut_once(&rt, rt.alloc(), &whole_trial(&rt, rt.alloc()));
 }
 
 #[test]
@@ -61,6 +85,7 @@ fn a_quiet_run_is_flushed_too(rt: HostRuntime) {
         openings: 2,
     };
     cut_report(&rt, rt.alloc(), &trial);
+    cut_once(&rt, rt.alloc(), &trial);
 }
 
 #[test]

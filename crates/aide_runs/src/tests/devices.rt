@@ -1,8 +1,8 @@
-//! Sessions whose standard output or standard error fails, and a `PagedSink` over a sink that fails.
+//! Sessions whose standard output or standard error fails, once or for good.
 use super::session::{CONF, site_of, words_of};
 use aide_faults::{Pace, PlannedSink, Refusing};
-use aide_report::{MemorySink, Sink};
-use aide_session::{Memory, PagedSink, session};
+use aide_report::MemorySink;
+use aide_session::{Memory, session};
 use std::alloc::Global;
 use std::process::Abort;
 use std::test::Fail;
@@ -26,12 +26,16 @@ fn report(rt: &impl Abort, alloc: Global) -> Result<MemorySink<Global>, Memory> 
     Ok(out)
 }
 
-/// Checks the same comparison when standard output fails after `sound` bytes.
-fn assert_stops(rt: &impl Abort, alloc: Global, whole: &[u8], sound: usize) -> Result<(), Memory> {
+/// Checks the same comparison with a standard output that fails after `sound` bytes.
+fn assert_stops(
+    rt: &impl Abort,
+    alloc: Global,
+    whole: &[u8],
+    sound: usize,
+    mut out: PlannedSink<MemorySink<Global>>,
+) -> Result<(), Memory> {
     let mut site = site_of(alloc, CONF, OLD, NEW)?;
     let words = words_of(alloc, "aide -E -c /conf")?;
-    let inner = MemorySink::new(alloc);
-    let mut out = PlannedSink::new(inner, Pace::new(7), sound as u64, true);
     let mut err = MemorySink::new(alloc);
     let status = session(alloc, &words, &mut site, &mut out, &mut err);
     assert!(rt; status == 18, "status {status} at {sound}");
@@ -47,7 +51,23 @@ fn stops_at_each_byte(rt: HostRuntime) -> Result<(), Fail> {
     let sink = report(&rt, alloc)?;
     let whole = sink.bytes();
     for sound in 0..whole.len() {
-        assert_stops(&rt, alloc, whole, sound)?;
+        let inner = MemorySink::new(alloc);
+        let out = PlannedSink::new(inner, Pace::new(7), sound as u64, true);
+        assert_stops(&rt, alloc, whole, sound, out)?;
+    }
+    Ok(())
+}
+
+/// One write fails, or the flush. Nothing is tried again: that would succeed.
+#[test]
+fn stops_at_one_failure(rt: HostRuntime) -> Result<(), Fail> {
+    let alloc = rt.alloc();
+    let sink = report(&rt, alloc)?;
+    let whole = sink.bytes();
+    for sound in 0..whole.len().saturating_add(1) {
+        let inner = MemorySink::new(alloc);
+        let out = PlannedSink::failing_once(inner, Pace::new(7), sound as u64);
+        assert_stops(&rt, alloc, whole, sound, out)?;
     }
     Ok(())
 }
@@ -132,20 +152,5 @@ fn goes_on_without_standard_error(rt: HostRuntime) -> Result<(), Fail> {
         assert!(rt; status == row.status, "status {status} of {}", row.line);
         assert!(rt; out.bytes() == row.output, "output of {}", row.line);
     }
-    Ok(())
-}
-
-#[test]
-fn gathers_pieces(rt: HostRuntime) -> Result<(), Fail> {
-    let alloc = rt.alloc();
-    let inner = PlannedSink::new(MemorySink::new(alloc), Pace::new(4096), 40_000, true);
-    let mut page = PagedSink::new(alloc, inner)?;
-    let piece = [b'x'; 1000];
-    for _ in 0..40 {
-        aide_report::emit(&mut page, &piece).unwrap_or(());
-    }
-    assert!(rt; page.flush().is_ok());
-    assert!(rt; aide_report::emit(&mut page, &piece).is_ok());
-    assert!(rt; page.flush().is_err());
     Ok(())
 }

@@ -1,6 +1,6 @@
 use Rattle.std.proofs.Common.{sym, ◌∙◌}
 use Rattle.std.proofs.lemmas.List.{take_rest}
-use Rattle.aide_conf.specs.Lines.{is_no_blank}
+use Rattle.aide_conf.specs.Cutting.{is_no_blank}
 use Rattle.aide_conf.proofs.Cuts.{first_parts, none_parts, not_in_blanks}
 use Rattle.aide_conf.proofs.bounded.after_blanks.Goals as goal
 

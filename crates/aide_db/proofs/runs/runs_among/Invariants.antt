@@ -7,16 +7,16 @@ use Rattle.aide_db.proofs.runs.runs_among.Given as goal
 -- the bits that are left stand for the blanks from the place on where a run begins
 abbrev pub invariant-bits : goal.invariant-bits
 invariant-bits l = record {
-  found : fields_at l.line (take l.found l.spanned) ++ fields (drop l.begin l.line) ≡ fields l.line;
-  order : l.begin ≤ l.end;
+  found : fields_at l.line (take l.found.count l.spanned) ++ fields (drop l.found.begin l.line) ≡ fields l.line;
+  order : l.found.begin ≤ l.end;
   within : l.end ≤ length l.line;
   near : l.end ≤ l.at + 64;
-  plain : (k : ℕ) → l.begin ≤ k → k < l.at → is_blank (get_or l.line k 0) ≡ false;
-  each : (k : ℕ) → l.at + k < l.end → l.begin ≤ l.at + k → bit_at l.bits k ≡ 0 → is_blank (get_or l.line (l.at + k) 0) ≡ false;
+  plain : (k : ℕ) → l.found.begin ≤ k → k < l.at → is_blank (get_or l.line k 0) ≡ false;
+  each : (k : ℕ) → l.at + k < l.end → l.found.begin ≤ l.at + k → bit_at l.bits k ≡ 0 → is_blank (get_or l.line (l.at + k) 0) ≡ false;
   marks : (k : ℕ) → bit_at l.bits k ≡ 1
-      → (l.at + k < l.end) × (l.begin ≤ l.at + k) × (is_blank (get_or l.line (l.at + k) 0) ≡ true);
+      → (l.at + k < l.end) × (l.found.begin ≤ l.at + k) × (is_blank (get_or l.line (l.at + k) 0) ≡ true);
   small : length l.line < 2 ^ 32;
-  few : l.found ≤ 64;
+  few : l.found.count ≤ 64;
 }
 
 abbrev pub decreases-bits : goal.decreases-bits

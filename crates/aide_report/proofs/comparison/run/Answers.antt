@@ -7,13 +7,12 @@ use Rattle.aide_report.specs.Report.{section_count}
 use Rattle.aide_report.specs.RunFaults.{IsLater}
 use Rattle.aide_report.proofs.BoundLemmas.{fits_limit, fits_within}
 use Rattle.aide_report.proofs.FaultLemmas.{has_cause, right_later, answer_later, first_later, rose_later}
-use Rattle.aide_report.proofs.FirstFaults.{Runs-exists}
-use Rattle.aide_report.proofs.MissingLemmas.{RunsOver-exists, front_over, hindered_by, later_over, nothing_front}
+use Rattle.aide_report.proofs.MissingLemmas.{front_over, hindered_by, later_over, nothing_front}
 use Rattle.aide_report.proofs.MissingLemmas.{stops_by, stops_hindered, whole_over}
 use Rattle.aide_report.proofs.OpeningLemmas.{refused_later, unsent_nothing, unsent_begun}
 use Rattle.aide_report.proofs.ReadingLemmas.{clears_then}
 use Rattle.aide_report.proofs.ReportLemmas.{caused_as, counts_nothing}
-use Rattle.aide_report.proofs.RunLemmas.{ends_well, ends_early, nothing_early, sections_are}
+use Rattle.aide_report.proofs.RunLemmas.{ends_well, ends_early, sections_are}
 use Rattle.aide_report.proofs.SectionsLemmas.{opens_more, opens_then, sections_few}
 use Rattle.aide_report.proofs.comparison.run.Goals as goal
 
@@ -27,14 +26,6 @@ returns-in-Err-clause-cause g c =
     let sink = Rose (g.W.Sink.failures c.args.out.now) (g.W.Sink.failures c.args.out.now) in
     has_cause c.args.limits (asked c.args.task.now) (g.S.Sources.bytes_of c.args.sources.now) sources sink
     c.in-Err.fault (caused_as sources ⊥ sink c.in-Err.fault (λ none. absurd none) c.in-Err.ensures.fault.caused) (c.in-Err.ensures.fault.first (asked c.args.task.now)) c.in-Err.ensures.fault.right
-
-pub returns-in-Ok-write_report-clause-ok : goal.returns-in-Ok-write_report-clause-ok
-returns-in-Ok-write_report-clause-ok g c old new told_old told_new r runs =
-    let same = c.compare.ensures.sources.same in
-    rw c.outcome.ensures (ends_well c.args.limits c.args.task.now c.in-Ok.finding old new (g.W.Sink.delivered c.args.out.now) (g.W.Sink.delivered c.write_report.new.out)
-    (c.in-Ok.ensures.found.sound Old old told_old) (c.in-Ok.ensures.found.sound New new told_new) (c.in-Ok.ensures.found.of_texts old new told_old told_new)
-    (record { of_old = c.in-Ok.ensures.found.digests Old old told_old; of_new = c.in-Ok.ensures.found.digests New new told_new })
-    (c.in-Ok-write_report.ensures.sends old new (ap (λ bytes. bytes Old) same ∙ told_old) (ap (λ bytes. bytes New) same ∙ told_new)) r runs)
 
 pub returns-in-Ok-write_report-clause-nothing : goal.returns-in-Ok-write_report-clause-nothing
 returns-in-Ok-write_report-clause-nothing g c side text told unsound =
@@ -55,14 +46,6 @@ pub returns-in-Ok-write_report-clause-opens_some : goal.returns-in-Ok-write_repo
 returns-in-Ok-write_report-clause-opens_some g c =
     let few = sections_few c.args.task.now.options c.in-Ok.finding.counts in
     opens_then _ _ _ 2 (section_count c.args.task.now.options c.in-Ok.finding.counts) _ (omega (arith, few)) c.in-Ok.ensures.opens c.in-Ok-write_report.ensures.passes.opens_some
-
-pub returns-in-Err-write_report-clause-part : goal.returns-in-Err-write_report-clause-part
-returns-in-Err-write_report-clause-part g c old new told_old told_new r runs =
-    let same = c.compare.ensures.sources.same in
-    ends_early c.args.limits c.args.task.now c.in-Ok.finding old new (g.W.Sink.delivered c.args.out.now) (g.W.Sink.delivered c.write_report.new.out)
-    (c.in-Ok.ensures.found.sound Old old told_old) (c.in-Ok.ensures.found.sound New new told_new) (c.in-Ok.ensures.found.of_texts old new told_old told_new)
-    (record { of_old = c.in-Ok.ensures.found.digests Old old told_old; of_new = c.in-Ok.ensures.found.digests New new told_new })
-    (c.in-Err-write_report.ensures.sends old new (ap (λ bytes. bytes Old) same ∙ told_old) (ap (λ bytes. bytes New) same ∙ told_new)) r runs
 
 pub returns-in-Err-write_report-clause-nothing : goal.returns-in-Err-write_report-clause-nothing
 returns-in-Err-write_report-clause-nothing g c side text told unsound =
@@ -141,9 +124,6 @@ returns-in-Err-write_report-clause-bound g c =
     fits_within (g.S.Sources.bytes_of c.args.sources.now) c.args.limits c.args.desk.now c.write_report.new.desk
     (clears_then c.compare.ensures.sources.same c.compare.ensures.desk c.write_report.ensures.passes.desk).fits
 
-pub returns-in-Err-clause-part : goal.returns-in-Err-clause-part
-returns-in-Err-clause-part g c old new told_old told_new r runs = nothing_early r (g.W.Sink.delivered c.args.out.now)
-
 pub returns-in-Err-clause-unsent : goal.returns-in-Err-clause-unsent
 returns-in-Err-clause-unsent g c =
     unsent_nothing (g.S.Sources.openings c.args.sources.now Old) (g.S.Sources.openings c.compare.new.sources Old) (g.W.Sink.delivered c.args.out.now) c.in-Err.fault
@@ -158,39 +138,8 @@ returns-in-Err-write_report-clause-refused g c =
     refused_later (g.S.Sources.openings c.args.sources.now) (g.S.Sources.openings c.compare.new.sources) (g.S.Sources.openings c.write_report.new.sources) 2
     c.in-Err-write_report.fault c.in-Ok.ensures.opens c.in-Err-write_report.ensures.passes.fault.refused
 
-pub returns-in-Err-write_report-clause-first : goal.returns-in-Err-write_report-clause-first
-returns-in-Err-write_report-clause-first g c =
-    answer_later c.args.limits (asked c.args.task.now) (g.S.Sources.bytes_of c.args.sources.now) (g.S.Sources.bytes_of c.compare.new.sources)
-    c.in-Err-write_report.fault c.in-Err-write_report.ensures.passes.fault.later
-
-pub returns-in-Err-clause-first : goal.returns-in-Err-clause-first
-returns-in-Err-clause-first g c = c.in-Err.ensures.fault.first (asked c.args.task.now)
-
 pub returns-in-Ok-write_report-clause-consistent : goal.returns-in-Ok-write_report-clause-consistent
 returns-in-Ok-write_report-clause-consistent g c = rw c.outcome.ensures c.in-Ok-write_report.ensures.first
-
-pub returns-in-Err-clause-answered : goal.returns-in-Err-clause-answered
-returns-in-Err-clause-answered g c old new = Runs-exists c.args.limits (asked c.args.task.now) old new c.requires.line
-
-pub returns-in-Ok-write_report-clause-answered : goal.returns-in-Ok-write_report-clause-answered
-returns-in-Ok-write_report-clause-answered g c old new =
-    Runs-exists c.args.limits (asked c.args.task.now) old new c.requires.line
-
-pub returns-in-Err-write_report-clause-answered : goal.returns-in-Err-write_report-clause-answered
-returns-in-Err-write_report-clause-answered g c old new =
-    Runs-exists c.args.limits (asked c.args.task.now) old new c.requires.line
-
-pub returns-in-Err-clause-answered_over : goal.returns-in-Err-clause-answered_over
-returns-in-Err-clause-answered_over g c old new =
-    RunsOver-exists c.args.limits (asked c.args.task.now) old new c.requires.line
-
-pub returns-in-Ok-write_report-clause-answered_over : goal.returns-in-Ok-write_report-clause-answered_over
-returns-in-Ok-write_report-clause-answered_over g c old new =
-    RunsOver-exists c.args.limits (asked c.args.task.now) old new c.requires.line
-
-pub returns-in-Err-write_report-clause-answered_over : goal.returns-in-Err-write_report-clause-answered_over
-returns-in-Err-write_report-clause-answered_over g c old new =
-    RunsOver-exists c.args.limits (asked c.args.task.now) old new c.requires.line
 
 pub returns-in-Err-clause-over : goal.returns-in-Err-clause-over
 returns-in-Err-clause-over g c = λ old new told_old told_new r runs.
@@ -205,7 +154,12 @@ pub returns-in-Ok-write_report-clause-over : goal.returns-in-Ok-write_report-cla
 returns-in-Ok-write_report-clause-over g c = λ old new told_old told_new r runs.
     whole_over c.args.limits (asked c.args.task.now) (g.S.Sources.bytes_of c.args.sources.now) (g.S.Sources.is_missing c.args.sources.now) old new c.outcome.result
     (g.W.Sink.delivered c.args.out.now) (g.W.Sink.delivered c.write_report.new.out) told_old told_new c.in-Ok.ensures.found.there
-    (returns-in-Ok-write_report-clause-ok g c) r runs
+    (λ old new told_old told_new r runs.
+    let same = c.compare.ensures.sources.same in
+    rw c.outcome.ensures (ends_well c.args.limits c.args.task.now c.in-Ok.finding old new (g.W.Sink.delivered c.args.out.now) (g.W.Sink.delivered c.write_report.new.out)
+    (c.in-Ok.ensures.found.sound Old old told_old) (c.in-Ok.ensures.found.sound New new told_new) (c.in-Ok.ensures.found.of_texts old new told_old told_new)
+    (record { of_old = c.in-Ok.ensures.found.digests Old old told_old; of_new = c.in-Ok.ensures.found.digests New new told_new })
+    (c.in-Ok-write_report.ensures.sends old new (ap (λ bytes. bytes Old) same ∙ told_old) (ap (λ bytes. bytes New) same ∙ told_new)) r runs)) r runs
 
 pub returns-in-Err-write_report-clause-over : goal.returns-in-Err-write_report-clause-over
 returns-in-Err-write_report-clause-over g c = λ old new told_old told_new r runs.
@@ -221,7 +175,13 @@ returns-in-Err-write_report-clause-over g c = λ old new told_old told_new r run
           (rose_later (Rose (g.S.Sources.failures c.compare.new.sources) after) (Rose before after) sink fault
           (λ rose below. let later = rose below in omega (arith, later, c.in-Ok.ensures.sources.never_falls)) c.in-Err-write_report.ensures.passes.fault.caused)),
       front_over c.args.limits (asked c.args.task.now) bytes_of is_missing old new (g.W.Sink.delivered c.args.out.now) (g.W.Sink.delivered c.write_report.new.out)
-          told_old told_new c.in-Ok.ensures.found.there (returns-in-Err-write_report-clause-part g c) r runs,
+          told_old told_new c.in-Ok.ensures.found.there
+          (λ old new told_old told_new r runs.
+          let same = c.compare.ensures.sources.same in
+          ends_early c.args.limits c.args.task.now c.in-Ok.finding old new (g.W.Sink.delivered c.args.out.now) (g.W.Sink.delivered c.write_report.new.out)
+          (c.in-Ok.ensures.found.sound Old old told_old) (c.in-Ok.ensures.found.sound New new told_new) (c.in-Ok.ensures.found.of_texts old new told_old told_new)
+          (record { of_old = c.in-Ok.ensures.found.digests Old old told_old; of_new = c.in-Ok.ensures.found.digests New new told_new })
+          (c.in-Err-write_report.ensures.sends old new (ap (λ bytes. bytes Old) same ∙ told_old) (ap (λ bytes. bytes New) same ∙ told_new)) r runs) r runs,
     )
 
 pub returns-in-Err-clause-sink_fails : goal.returns-in-Err-clause-sink_fails

@@ -5,7 +5,7 @@ use Rattle.aide_attr.specs.Set.{has}
 use Rattle.aide_report.specs.ChangeView.{change_of}
 use Rattle.aide_report.specs.Entries.{entry_details, shows_at, shows_any}
 use Rattle.aide_text.specs.PenSheet.{sheet}
-use Rattle.aide_text.specs.Text.{path_line}
+use Rattle.aide_text.specs.Layout.{path_line}
 use Rattle.aide_text.specs.declared.section.Section.TheVariants.{Details}
 use Rattle.aide_report.proofs.EntriesLemmas.{shown_as, text_of_one, text_of_none}
 use Rattle.aide_report.proofs.ShownLemmas.{any_in}

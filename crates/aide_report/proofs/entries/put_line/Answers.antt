@@ -1,5 +1,5 @@
 use Rattle.std.proofs.Common.{ap, ◌++◌}
-use Rattle.aide_text.specs.Text.{path_line, colon_blank, ended}
+use Rattle.aide_text.specs.Layout.{path_line, colon_blank, ended}
 use Rattle.aide_text.specs.Printed.{printed}
 use Rattle.aide_text.proofs.Sheets.{wrote_more, wrote_as}
 use Rattle.aide_report.proofs.entries.put_line.Goals as goal

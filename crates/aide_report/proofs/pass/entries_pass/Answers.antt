@@ -11,50 +11,62 @@ use Rattle.aide_report.specs.Sections.{entries_text}
 use Rattle.aide_text.specs.Failures.{Rose}
 use Rattle.aide_text.specs.Sheet.{Wrote, WritesPart}
 use Rattle.aide_text.proofs.Sheets.{part_whole, part_nothing, some_nothing}
-use Rattle.aide_report.proofs.PassLemmas.{pass_changed, pass_done, pass_stopped, passes_err, stop_written, unwritten}
+use Rattle.aide_report.proofs.PassLemmas.{pass_changed, pass_done, pass_stopped, passes_begun, passes_err, stop_written, unwritten}
 use Rattle.aide_report.proofs.pass.entries_pass.Goals as goal
 
-pub returns-in_err-merge-clause-passes : goal.returns-in_err-merge-clause-passes
-returns-in_err-merge-clause-passes g c =
-    let p = err_from_is_err_and c.from_residual.result c.from_residual.ensures.1 in rw (p.1, p.2) (passes_err (λ none. absurd none) c.in_err-merge.ensures.passes)
+pub returns-in_err-old_reel-clause-passes : goal.returns-in_err-old_reel-clause-passes
+returns-in_err-old_reel-clause-passes g c =
+    let p = err_from_is_err_and c.from_residual.result c.from_residual.ensures.1 in rw (p.1, p.2) (passes_err (λ none. absurd none) (c.in_err-old_reel.ensures.passes c.args.plan.now.limits c.args.desk.now))
 
-pub returns-in_err-merge-clause-writes : goal.returns-in_err-merge-clause-writes
-returns-in_err-merge-clause-writes g c old new told_old told_new =
+pub returns-in_err-old_reel-clause-writes : goal.returns-in_err-old_reel-clause-writes
+returns-in_err-old_reel-clause-writes g c old new told_old told_new =
     let p = err_from_is_err_and c.from_residual.result c.from_residual.ensures.1 in rw p.1 (part_nothing (entries_text c.args.plan.now.task.now.options c.args.section (merged path_cmp (entries_of old) (entries_of new))) (on_sheet g.W.Sink c.args.out.now c.args.pen.now))
 
 pub returns-in-None-clause-passes : goal.returns-in-None-clause-passes
 returns-in-None-clause-passes g c =
-    pass_done c.in_ok-merge.ensures.passes c.in_ok-merge.ensures.opened c.put_entries.ensures.keeps c.close_both.ensures.keeps c.close_both.ensures.openings
+    let bytes_of = g.S.Sources.bytes_of c.args.sources.now in
+    let begun = passes_begun (c.in_ok-old_reel.ensures.passes c.args.plan.now.limits c.args.desk.now) (c.start-merge.ensures.desk bytes_of) in
+    let opened = c.start-merge.ensures.opened bytes_of c.in_ok-old_reel.ensures.gives in
+    pass_done begun opened c.put_entries.ensures.keeps c.close_both.ensures.keeps c.close_both.ensures.openings
 
 pub returns-in-None-clause-writes : goal.returns-in-None-clause-writes
 returns-in-None-clause-writes g c old new told_old told_new =
-    let opened = c.in_ok-merge.ensures.opened in
+    let bytes_of = g.S.Sources.bytes_of c.args.sources.now in
+    let opened = c.start-merge.ensures.opened bytes_of c.in_ok-old_reel.ensures.gives in
     subst (λ all. Wrote (entries_text c.args.plan.now.task.now.options c.args.section all) (on_sheet g.W.Sink c.args.out.now c.args.pen.now) (on_sheet g.W.Sink c.put_entries.new.out c.put_entries.new.pen)) (opened.rest old new)
     (c.in-Ok.ensures.writes old new (opened.stands Old old told_old) (opened.stands New new told_new))
 
 pub returns-in-Some-clause-passes : goal.returns-in-Some-clause-passes
 returns-in-Some-clause-passes g c =
+    let bytes_of = g.S.Sources.bytes_of c.args.sources.now in
+    let begun = passes_begun (c.in_ok-old_reel.ensures.passes c.args.plan.now.limits c.args.desk.now) (c.start-merge.ensures.desk bytes_of) in
+    let opened = c.start-merge.ensures.opened bytes_of c.in_ok-old_reel.ensures.gives in
     let cursor = cursor_at c.put_entries.new.merge c.in-Some.side in
-    pass_changed c.in_ok-merge.ensures.passes c.in_ok-merge.ensures.opened c.put_entries.ensures.keeps c.close_both.ensures.keeps c.close_both.ensures.openings
+    pass_changed begun opened c.put_entries.ensures.keeps c.close_both.ensures.keeps c.close_both.ensures.openings
     (λ text told sound. c.in-Some.ensures.changed (list_of cursor.side c.put_entries.new.desk) (columns_of_side cursor.side c.put_entries.new.desk) text
-    (c.put_entries.ensures.keeps.stands c.in-Some.side text (c.in_ok-merge.ensures.opened.stands c.in-Some.side text told))
+    (c.put_entries.ensures.keeps.stands c.in-Some.side text (opened.stands c.in-Some.side text told))
     (c.requires.digests c.in-Some.side text told))
 
 pub returns-in-Some-clause-writes : goal.returns-in-Some-clause-writes
 returns-in-Some-clause-writes g c old new told_old told_new =
-    let opened = c.in_ok-merge.ensures.opened in
+    let bytes_of = g.S.Sources.bytes_of c.args.sources.now in
+    let opened = c.start-merge.ensures.opened bytes_of c.in_ok-old_reel.ensures.gives in
     part_whole (subst (λ all. Wrote (entries_text c.args.plan.now.task.now.options c.args.section all) (on_sheet g.W.Sink c.args.out.now c.args.pen.now) (on_sheet g.W.Sink c.put_entries.new.out c.put_entries.new.pen)) (opened.rest old new)
     (c.in-Ok.ensures.writes old new (opened.stands Old old told_old) (opened.stands New new told_new)))
 
 pub returns-in-Err-clause-passes : goal.returns-in-Err-clause-passes
 returns-in-Err-clause-passes g c =
+    let bytes_of = g.S.Sources.bytes_of c.args.sources.now in
+    let begun = passes_begun (c.in_ok-old_reel.ensures.passes c.args.plan.now.limits c.args.desk.now) (c.start-merge.ensures.desk bytes_of) in
+    let opened = c.start-merge.ensures.opened bytes_of c.in_ok-old_reel.ensures.gives in
     let closed = c.close_both-in-Err.ensures in
-    rw c.pass_fault.ensures (pass_stopped c.in-Err.fault c.put_entries.new.pen.sent c.put_entries.new.pen c.in_ok-merge.ensures.passes c.in_ok-merge.ensures.opened c.put_entries.ensures.keeps
+    rw c.pass_fault.ensures (pass_stopped c.in-Err.fault c.put_entries.new.pen.sent c.put_entries.new.pen begun opened c.put_entries.ensures.keeps
     closed.keeps closed.openings closed.rose closed.unfailed c.in-Err.ensures.fault)
 
 pub returns-in-Err-clause-writes : goal.returns-in-Err-clause-writes
 returns-in-Err-clause-writes g c old new told_old told_new =
-    let opened = c.in_ok-merge.ensures.opened in
+    let bytes_of = g.S.Sources.bytes_of c.args.sources.now in
+    let opened = c.start-merge.ensures.opened bytes_of c.in_ok-old_reel.ensures.gives in
     subst (λ all. WritesPart (entries_text c.args.plan.now.task.now.options c.args.section all) (on_sheet g.W.Sink c.args.out.now c.args.pen.now) (on_sheet g.W.Sink c.put_entries.new.out c.put_entries.new.pen)) (opened.rest old new)
     (c.in-Err.ensures.writes old new (opened.stands Old old told_old) (opened.stands New new told_new))
 
@@ -62,16 +74,19 @@ pub returns-in-Err-clause-pen : goal.returns-in-Err-clause-pen
 returns-in-Err-clause-pen g c = record {
   some = c.put_entries.ensures.some;
   writes_on = tt;
-  written = rw c.pass_fault.ensures (stop_written g.S.R.Reel c.in_ok-merge.merge c.put_entries.new.merge c.open_both.new.desk c.put_entries.new.pen c.in-Err.fault c.in-Err.ensures.fault);
+  written = rw c.pass_fault.ensures (stop_written g.S.R.Reel c.start-merge.result c.put_entries.new.merge c.start-merge.new.desk c.put_entries.new.pen c.in-Err.fault c.in-Err.ensures.fault);
 }
 
 pub put_entries-requires-clause-ready : goal.put_entries-requires-clause-ready
-put_entries-requires-clause-ready g c = c.in_ok-merge.ensures.opened.ready
+put_entries-requires-clause-ready g c =
+    let bytes_of = g.S.Sources.bytes_of c.args.sources.now in
+    let opened = c.start-merge.ensures.opened bytes_of c.in_ok-old_reel.ensures.gives in
+    opened.ready
 
-pub returns-in_err-merge-clause-pen : goal.returns-in_err-merge-clause-pen
-returns-in_err-merge-clause-pen g c =
+pub returns-in_err-old_reel-clause-pen : goal.returns-in_err-old_reel-clause-pen
+returns-in_err-old_reel-clause-pen g c =
     let p = err_from_is_err_and c.from_residual.result c.from_residual.ensures.1 in rw (p.1, p.2) (record {
       some = some_nothing (on_sheet g.W.Sink c.args.out.now c.args.pen.now);
       writes_on = tt;
-      written = unwritten (Rose (g.S.Sources.failures c.args.sources.now) (g.S.Sources.failures c.open_both.new.sources)) c.args.pen.now c.in_err-merge.field-0.0 c.requires.writes_on c.in_err-merge.ensures.passes.fault.caused;
+      written = unwritten (Rose (g.S.Sources.failures c.args.sources.now) (g.S.Sources.failures c.open_both.new.sources)) c.args.pen.now c.in_err-old_reel.field-0.0 c.requires.writes_on (c.in_err-old_reel.ensures.passes c.args.plan.now.limits c.args.desk.now).fault.caused;
     })

@@ -18,23 +18,23 @@ returns-in-Ok-clause-ends g c = λ named a is.
     let files = g.S.Sources.file_at c.args.site.now in
     let known = subst (λ (path : List ℕ). files path ≡ Some is.file) (sym c.as_str-path.ensures) is.known in
     let of_text = text_is files job is.file c.in-Ok.text.items named a (c.in-Ok.ensures.ok is.file known) is.then_is in
-    let of_slice = subst (λ (text : List ℕ). IsTextAnswer files job text named a) (sym c.as_slice.ensures.value) of_text in
+    let of_slice = subst (λ (text : List ℕ). IsTextAnswer files job text named a) (sym c.as_slice-text.ensures.value) of_text in
     ends_by a named _ _ _ _ _
-    (failed_later (g.S.Sources.is_reliable c.args.site.now) (g.S.Sources.is_reliable c.read_config.new.site) _ _ _ c.read_config.ensures.reliable c.read_config.ensures.never_falls)
-    (c.after_reading.ensures.ends named a (subst (λ (f : Files). IsTextAnswer f job c.as_slice.result.now named a) (sym c.read_config.ensures.files) of_slice))
+    (failed_later (g.S.Sources.is_reliable c.args.site.now) (g.S.Sources.is_reliable c.read_config.new.site) _ _ _ c.read_config.ensures.opens.reliable c.read_config.ensures.opens.never_falls)
+    (c.run_prepared.ensures.ends named a (subst (λ (f : Files). IsTextAnswer f job c.as_slice-text.result.now named a) (sym c.read_config.ensures.opens.files) of_slice))
 
 pub returns-in-Ok-clause-closes : goal.returns-in-Ok-clause-closes
 returns-in-Ok-clause-closes g c = λ words is.
     let files = g.S.Sources.file_at c.args.site.now in
     let later = g.S.Sources.file_at c.read_config.new.site in
-    let same = sym c.as_slice.ensures.value in
+    let same = sym c.as_slice-text.ensures.value in
     let small = subst (λ (text : List ℕ). is_too_large text ≡ false) same c.in-Ok.ensures.small in
-    closes_later files later words _ _ _ _ _ _ _ _ c.read_config.ensures.files
-    (same_course g.S.Sources.openings g.S.Sources.was_given g.W.Sink.flushes g.W.Sink.is_flushed c.args.site.now c.read_config.new.site c.after_reading.new.site c.args.out.now c.after_reading.new.out c.read_config.ensures.openings)
-    c.read_config.ensures.never_falls
-    (c.after_reading.ensures.closes words is small
+    closes_later files later words _ _ _ _ _ _ _ _ c.read_config.ensures.opens.files
+    (same_course g.S.Sources.openings g.S.Sources.was_given g.W.Sink.flushes g.W.Sink.is_flushed c.args.site.now c.read_config.new.site c.run_prepared.new.site c.args.out.now c.run_prepared.new.out c.read_config.ensures.opens.openings)
+    c.read_config.ensures.opens.never_falls
+    (c.run_prepared.ensures.closes words is small
     (λ file known.
-    let before = subst (λ (f : Files). f c.args.job.now.config ≡ Some file) c.read_config.ensures.files known in
+    let before = subst (λ (f : Files). f c.args.job.now.config ≡ Some file) c.read_config.ensures.opens.files known in
     let at_path = subst (λ (path : List ℕ). files path ≡ Some file) (sym c.as_str-path.ensures) before in
     (c.in-Ok.ensures.ok file at_path).0 ∙ ap (λ (text : List ℕ). Some text) same))
 
@@ -52,7 +52,7 @@ returns-in-Err-TooLarge-clause-closes g c = λ words is.
     let files = g.S.Sources.file_at c.args.site.now in
     closes_large files words job _ _ _ _ _ _ _ _ is
     (λ file known. c.read_config.ensures.large (c.in-Err-TooLarge.is ∙ ap Err c.in-Err-TooLarge.field-0-is) file
-    (subst (λ (path : List ℕ). files path ≡ Some file) (sym c.as_str-path.ensures) known)) c.put_too_large_line.ensures c.read_config.ensures.openings refl
+    (subst (λ (path : List ℕ). files path ≡ Some file) (sym c.as_str-path.ensures) known)) c.put_too_large_line.ensures c.read_config.ensures.opens.openings refl
 
 pub returns-in-Err-Unread-clause-ends : goal.returns-in-Err-Unread-clause-ends
 returns-in-Err-Unread-clause-ends g c = λ named a is.
@@ -70,13 +70,13 @@ returns-in-Err-Unread-clause-ends g c = λ named a is.
 pub returns-in-Err-Unread-clause-closes : goal.returns-in-Err-Unread-clause-closes
 returns-in-Err-Unread-clause-closes g c = λ words is.
     let cause = c.read_config.ensures.unread (c.in-Err-Unread.is ∙ ap Err c.in-Err-Unread.field-0-is) in
-    closes_unread _ words (text_of_job c.args.job.now) _ _ _ _ _ _ _ _ is cause (put_as _ _ (ap unread_line c.as_str-path.ensures) c.put_unread_line.ensures) c.read_config.ensures.openings refl
+    closes_unread _ words (text_of_job c.args.job.now) _ _ _ _ _ _ _ _ is cause (put_as _ _ (ap unread_line c.as_str-path.ensures) c.put_unread_line.ensures) c.read_config.ensures.opens.openings refl
 
 pub returns-in-Err-Memory-clause-ends : goal.returns-in-Err-Memory-clause-ends
 returns-in-Err-Memory-clause-ends g c = λ named a is. ends_starved a named _ _ _ _ _ _ _ c.put_memory_line.ensures
 
 pub returns-in-Err-Memory-clause-closes : goal.returns-in-Err-Memory-clause-closes
-returns-in-Err-Memory-clause-closes g c = λ words is. closes_starved _ words _ _ _ _ _ _ _ _ c.put_memory_line.ensures c.read_config.ensures.openings refl
+returns-in-Err-Memory-clause-closes g c = λ words is. closes_starved _ words _ _ _ _ _ _ _ _ c.put_memory_line.ensures c.read_config.ensures.opens.openings refl
 
 pub returns-in-Ok-clause-bound : goal.returns-in-Ok-clause-bound
 returns-in-Ok-clause-bound g c = λ named a is.
@@ -84,9 +84,9 @@ returns-in-Ok-clause-bound g c = λ named a is.
     let files = g.S.Sources.file_at c.args.site.now in
     let known = subst (λ (path : List ℕ). files path ≡ Some is.file) (sym c.as_str-path.ensures) is.known in
     let of_text = text_is files job is.file c.in-Ok.text.items named a (c.in-Ok.ensures.ok is.file known) is.then_is in
-    let of_slice = subst (λ (text : List ℕ). IsTextAnswer files job text named a) (sym c.as_slice.ensures.value) of_text in
-    held_over files _ named _ _ c.read_config.ensures.files
-    (c.after_reading.ensures.bound named a (subst (λ (f : Files). IsTextAnswer f job c.as_slice.result.now named a) (sym c.read_config.ensures.files) of_slice))
+    let of_slice = subst (λ (text : List ℕ). IsTextAnswer files job text named a) (sym c.as_slice-text.ensures.value) of_text in
+    held_over files _ named _ _ c.read_config.ensures.opens.files
+    (c.run_prepared.ensures.bound named a (subst (λ (f : Files). IsTextAnswer f job c.as_slice-text.result.now named a) (sym c.read_config.ensures.opens.files) of_slice))
 
 pub returns-in-Err-TooLarge-clause-bound : goal.returns-in-Err-TooLarge-clause-bound
 returns-in-Err-TooLarge-clause-bound g c = λ named a is. same_held (g.S.Sources.file_at c.args.site.now) named c.args.desk.now.peak

@@ -1,6 +1,6 @@
 use Rattle.std.proofs.Common.{ap, sym, arith}
 use Rattle.aide_text.specs.PenSheet.{sheet}
-use Rattle.aide_text.specs.Text.{alone}
+use Rattle.aide_text.specs.Layout.{alone}
 use Rattle.aide_text.proofs.Pieces.{later_single, single_first, single_some, single_none, no_length, single_shorter}
 use Rattle.aide_text.proofs.Sheets.{writing_start, writing_more, writing_as, writing_done}
 use Rattle.aide_text.proofs.lines.put_alone.Goals as goal

@@ -2,7 +2,7 @@
 use Rattle.std.proofs.Common.{length}
 use Rattle.aide_text.specs.PenSheet.{sheet}
 use Rattle.aide_text.specs.Sheet.{Writing}
-use Rattle.aide_text.specs.Text.{alone}
+use Rattle.aide_text.specs.Layout.{alone}
 use Rattle.aide_text.proofs.Pieces.{later_single}
 use Rattle.aide_text.proofs.lines.put_alone.Given as goal
 

@@ -1,5 +1,5 @@
 use Rattle.std.proofs.Common.{ap}
-use Rattle.aide_text.specs.Text.{ended, single_line}
+use Rattle.aide_text.specs.Layout.{ended, single_line}
 use Rattle.aide_text.proofs.Sheets.{wrote_more, wrote_as}
 use Rattle.aide_text.proofs.lines.put_first.Goals as goal
 

@@ -1,4 +1,4 @@
-use Rattle.aide_text.specs.Text.{left_part}
+use Rattle.aide_text.specs.Layout.{left_part}
 use Rattle.aide_text.proofs.Sheets.{wrote_more}
 use Rattle.aide_text.proofs.lines.put_left.Goals as goal
 

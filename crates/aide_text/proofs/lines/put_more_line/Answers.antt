@@ -1,4 +1,4 @@
-use Rattle.aide_text.specs.Text.{pair_line}
+use Rattle.aide_text.specs.Layout.{pair_line}
 use Rattle.aide_text.proofs.Sheets.{wrote_more}
 use Rattle.aide_text.proofs.lines.put_more_line.Goals as goal
 

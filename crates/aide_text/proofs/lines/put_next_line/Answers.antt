@@ -1,5 +1,5 @@
 use Rattle.std.proofs.Common.{List, ℕ, ◌∙◌, if◌then◌else◌, []}
-use Rattle.aide_text.specs.Text.{has_lines, pair_line, margin}
+use Rattle.aide_text.specs.Layout.{has_lines, pair_line, margin}
 use Rattle.aide_text.proofs.Pieces.{has_pieces, next_by}
 use Rattle.aide_text.proofs.Sheets.{wrote_as}
 use Rattle.aide_text.proofs.lines.put_next_line.Goals as goal

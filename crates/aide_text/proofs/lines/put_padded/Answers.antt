@@ -1,6 +1,6 @@
 use Rattle.std.proofs.Common.{◌∙◌, ap}
 use Rattle.std.specs.Prelude.{replicate}
-use Rattle.aide_text.specs.Text.{padded}
+use Rattle.aide_text.specs.Layout.{padded}
 use Rattle.aide_text.proofs.Sheets.{wrote_more, wrote_as}
 use Rattle.aide_text.proofs.lines.put_padded.Goals as goal
 

@@ -1,6 +1,6 @@
 use Rattle.std.proofs.Common.{arith, ◌≡◌, true, false, List, ℕ, sym}
 use Rattle.aide_text.specs.PenSheet.{sheet}
-use Rattle.aide_text.specs.Text.{side_by_side, has_lines}
+use Rattle.aide_text.specs.Layout.{side_by_side, has_lines}
 use Rattle.aide_text.proofs.Pieces.{later_lines, first_line, next_and_later, lines_ended, lines_fall}
 use Rattle.aide_text.proofs.Sheets.{writing_start, writing_more, writing_as, writing_done}
 use Rattle.aide_text.proofs.lines.put_side_by_side.Goals as goal

@@ -2,7 +2,7 @@
 use Rattle.std.proofs.Common.{◌+◌, length}
 use Rattle.aide_text.specs.PenSheet.{sheet}
 use Rattle.aide_text.specs.Sheet.{Writing}
-use Rattle.aide_text.specs.Text.{side_by_side}
+use Rattle.aide_text.specs.Layout.{side_by_side}
 use Rattle.aide_text.proofs.Pieces.{later_lines}
 use Rattle.aide_text.proofs.lines.put_side_by_side.Given as goal
 

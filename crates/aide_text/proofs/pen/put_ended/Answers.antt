@@ -1,4 +1,4 @@
-use Rattle.aide_text.specs.Text.{empty_line, ended}
+use Rattle.aide_text.specs.Layout.{empty_line, ended}
 use Rattle.aide_text.proofs.Sheets.{wrote_more}
 use Rattle.aide_text.proofs.pen.put_ended.Goals as goal
 

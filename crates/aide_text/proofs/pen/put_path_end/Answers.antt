@@ -1,7 +1,7 @@
-use Rattle.aide_text.specs.Text.{empty_line, ended}
+use Rattle.aide_text.specs.Layout.{empty_line, ended}
 use Rattle.aide_text.proofs.Sheets.{wrote_more}
 use Rattle.aide_text.proofs.pen.put_path_end.Goals as goal
 
 pub returns : goal.returns
 unfolding empty_line ended
-returns g c = wrote_more c.put_colon.ensures (wrote_more c.put_path.ensures c.put_newline.ensures)
+returns g c = wrote_more c.put_colon_blank.ensures (wrote_more c.put_path.ensures c.put_newline.ensures)

@@ -1,4 +1,4 @@
-use Rattle.aide_text.specs.Text.{path_line}
+use Rattle.aide_text.specs.Layout.{path_line}
 use Rattle.aide_text.proofs.Sheets.{wrote_more}
 use Rattle.aide_text.proofs.titles.put_path_line.Goals as goal
 

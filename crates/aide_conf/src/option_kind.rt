@@ -1,0 +1,134 @@
+//! The options of a configuration, by their names.
+
+ghost use Rattle.std.specs.Prelude.{◌≡◌};
+ghost use Rattle.aide_conf.specs.Effect.{main_option, is_accepted, is_older, option_named};
+
+/// One of the two databases.
+#[derive(Clone, Copy)]
+pub(crate) enum Side {
+    Old,
+    New,
+}
+
+/// A report option that is on or off.
+#[derive(Clone, Copy)]
+pub(crate) enum Switch {
+    Grouped,
+    Summarize,
+    Base16,
+    Quiet,
+}
+
+/// A report option that is a set of attributes.
+#[derive(Clone, Copy)]
+pub(crate) enum AttrList {
+    IgnoreAdded,
+    IgnoreRemoved,
+    IgnoreChanged,
+    Force,
+}
+
+/// The kind of an option: which value it has, and what it is for.
+#[derive(Clone, Copy)]
+pub(crate) enum OptionKind {
+    Url(Side),
+    Level,
+    Flag(Switch),
+    Attributes(AttrList),
+    ReportUrl,
+    ReportFormat,
+    /// An option of AIDE that has no effect here.
+    Accepted,
+    /// A name that AIDE no longer has.
+    Older,
+}
+
+/// Returns the option of a name, if the option has a form or an effect.
+#[tactic(auto, unfolding(crate::specs::Effect::main_option))]
+fn main_option(name: &[u8]) -> Option<OptionKind>
+    ensures { result ≡ main_option name.now }
+{
+    if name == b"database_in".as_slice() || name == b"database".as_slice() {
+        Some(OptionKind::Url(Side::Old))
+    } else if name == b"database_new".as_slice() {
+        Some(OptionKind::Url(Side::New))
+    } else if name == b"report_level".as_slice() {
+        Some(OptionKind::Level)
+    } else if name == b"report_grouped".as_slice() {
+        Some(OptionKind::Flag(Switch::Grouped))
+    } else if name == b"report_summarize_changes".as_slice() {
+        Some(OptionKind::Flag(Switch::Summarize))
+    } else if name == b"report_base16".as_slice() {
+        Some(OptionKind::Flag(Switch::Base16))
+    } else if name == b"report_quiet".as_slice() {
+        Some(OptionKind::Flag(Switch::Quiet))
+    } else if name == b"report_ignore_added_attrs".as_slice() {
+        Some(OptionKind::Attributes(AttrList::IgnoreAdded))
+    } else if name == b"report_ignore_removed_attrs".as_slice() {
+        Some(OptionKind::Attributes(AttrList::IgnoreRemoved))
+    } else if name == b"report_ignore_changed_attrs".as_slice() {
+        Some(OptionKind::Attributes(AttrList::IgnoreChanged))
+    } else if name == b"report_force_attrs".as_slice() {
+        Some(OptionKind::Attributes(AttrList::Force))
+    } else if name == b"report_url".as_slice() {
+        Some(OptionKind::ReportUrl)
+    } else if name == b"report_format".as_slice() {
+        Some(OptionKind::ReportFormat)
+    } else {
+        None
+    }
+}
+
+/// Returns whether this is the name of an option of AIDE that has no effect here.
+#[tactic(auto, unfolding(crate::specs::Effect::is_accepted))]
+fn is_accepted(name: &[u8]) -> bool
+    ensures { result ≡ is_accepted name.now }
+{
+    name == b"database_out".as_slice()
+        || name == b"database_gzip".as_slice()
+        || name == b"gzip_dbout".as_slice()
+        || name == b"database_attrs".as_slice()
+        || name == b"database_add_metadata".as_slice()
+        || name == b"log_level".as_slice()
+        || name == b"verbose".as_slice()
+        || name == b"config_version".as_slice()
+        || name == b"config_check_warn_unrestricted_rules".as_slice()
+        || name == b"root_prefix".as_slice()
+        || name == b"num_workers".as_slice()
+        || name == b"acl_no_symlink_follow".as_slice()
+        || name == b"warn_dead_symlinks".as_slice()
+        || name == b"report_append".as_slice()
+        || name == b"report_detailed_init".as_slice()
+        || name == b"report_ignore_e2fsattrs".as_slice()
+        || name == b"syslog_format".as_slice()
+}
+
+/// Returns whether this is the name of an option that AIDE no longer has.
+#[tactic(auto, unfolding(crate::specs::Effect::is_older))]
+fn is_older(name: &[u8]) -> bool
+    ensures { result ≡ is_older name.now }
+{
+    name == b"ignore_list".as_slice()
+        || name == b"report_attributes".as_slice()
+        || name == b"grouped".as_slice()
+        || name == b"summarize_changes".as_slice()
+}
+
+/// Returns the option of a name. Any other name is that of a group.
+#[tactic(auto, unfolding(crate::specs::Effect::option_named))]
+pub(crate) fn option_named(name: &[u8]) -> Option<OptionKind>
+    ensures { result ≡ option_named name.now }
+{
+    match main_option(name) {
+        Some(kind) => Some(kind),
+        None => {
+            if is_accepted(name) {
+                Some(OptionKind::Accepted)
+            } else if is_older(name) {
+                Some(OptionKind::Older)
+            } else {
+                None
+            }
+        }
+    }
+}

@@ -1,0 +1,152 @@
+-- The first fault of a text is the first in the order that its line has.
+use Rattle.std.proofs.Common.{◌≡◌, ℕ, ◌+◌, List, [], ◌∷◌, ◌++◌, refl, sym, ap, ◌∙◌, subst, true, false, cond, Bool}
+use Rattle.std.proofs.Common.{Some, None, append_assoc, append-nil, inl, inr}
+use Rattle.std.specs.Prelude.{find, All, ◌⊎◌, ◌↔◌}
+use Rattle.std.specs.List.{list_any}
+use Rattle.std.proofs.lemmas.Bool.{or_parts}
+use Rattle.std.proofs.lemmas.List.Elements.{All-nil, All-cons, All-head, All-tail}
+use Rattle.aide_db.specs.Lines.{is_end}
+use Rattle.aide_db.specs.Database.{fault_of, IsFront, IsFirstFault, IsAtLine, IsAtCut, IsAtEnd}
+use Rattle.aide_db.specs.FaultOrder.{fault_order, has_fault, HasNoneOf, IsFirstOfLine, HasFaultyLine}
+use Rattle.aide_db.specs.Parts.{IsOpen}
+use Rattle.aide_db.specs.declared.limits.Limits.{Limits}
+use Rattle.aide_db.specs.declared.fault.DbFaultKind.{DbFaultKind}
+use Rattle.aide_db.proofs.Front.{open_more, bad_line}
+use Rattle.aide_db.proofs.FirstFault.{front_less}
+use Rattle.aide_db.proofs.FaultExists.{open_nil}
+use Rattle.aide_db.proofs.FaultOrderLemmas.{first_of_open, none_after_end, has_after_end}
+
+-- ---- the first that passes a test
+
+-- an element that passes, and none before it does
+record IsFirst {X : Type 0} (p : X → Bool) (xs : List X) (x : X) : Type 0 where
+  earlier : List X
+  later : List X
+  order : xs ≡ earlier ++ x ∷ later
+  has : p x ≡ true
+  first : All (λ y. p y ≡ false) earlier
+
+found_first : {X : Type 0} (p : X → Bool) (xs : List X) (x : X) → find p xs ≡ Some x → IsFirst p xs x
+found_first p [] x e = cc
+found_first p (y ∷ ys) x e =
+    elim (p y) as (λ b. p y ≡ b → cond b (Some y) (find p ys) ≡ Some x → IsFirst p (y ∷ ys) x) [
+      | true ↦ λ h f.
+          let same : y ≡ x = cc in
+          record { earlier = []; later = ys; order = ap (λ z. z ∷ ys) same; has = ap p (sym same) ∙ h; first = All-nil _ }
+      | false ↦ λ h f.
+          let rest = found_first p ys x f in
+          record { earlier = y ∷ rest.earlier; later = rest.later; order = ap (λ zs. y ∷ zs) rest.order; has = rest.has; first = All-cons (λ z. p z ≡ false) y rest.earlier h rest.first }
+    ] refl e
+
+first_found : {X : Type 0} (p : X → Bool) (xs zs : List X) (x : X) → p x ≡ true → All (λ y. p y ≡ false) xs
+    → find p (xs ++ x ∷ zs) ≡ Some x
+first_found p [] zs x has first = rw has refl
+first_found p (y ∷ ys) zs x has first =
+    rw (All-head (λ z. p z ≡ false) y ys first, first_found p ys zs x has (All-tail (λ z. p z ≡ false) y ys first)) refl
+
+none_passes : {X : Type 0} (p : X → Bool) (xs : List X) → find p xs ≡ None → All (λ y. p y ≡ false) xs
+none_passes p [] e = All-nil _
+none_passes p (y ∷ ys) e =
+    elim (p y) as (λ b. p y ≡ b → cond b (Some y) (find p ys) ≡ None → All (λ z. p z ≡ false) (y ∷ ys)) [
+      | true ↦ λ h f. cc
+      | false ↦ λ h f. All-cons (λ z. p z ≡ false) y ys h (none_passes p ys f)
+    ] refl e
+
+passes_none : {X : Type 0} (p : X → Bool) (xs : List X) → All (λ y. p y ≡ false) xs → find p xs ≡ None
+passes_none p [] h = refl
+passes_none p (y ∷ ys) h =
+    rw (All-head (λ z. p z ≡ false) y ys h, passes_none p ys (All-tail (λ z. p z ≡ false) y ys h)) refl
+
+-- ---- the first lines of a database
+
+open_along : (limit : ℕ) (done rest : List (List ℕ)) → IsFront limit (done ++ rest) → list_any is_end rest ≡ false
+    → IsOpen limit done → IsOpen limit (done ++ rest)
+open_along limit done [] front none o = subst (IsOpen limit) (sym (append-nil done)) o
+open_along limit done (l ∷ rest) front none o =
+    let parts = or_parts (is_end l) (list_any is_end rest) none in
+    elim (fault_of limit done l) as (λ f. fault_of limit done l ≡ f → IsOpen limit (done ++ l ∷ rest)) [
+      | Some kind ↦ λ e. absurd (bad_line limit done l kind o e (front_less limit done rest (done ++ l ∷ rest) l refl front))
+      | None ↦ λ e.
+          let same : (done ++ l ∷ []) ++ rest ≡ done ++ l ∷ rest = append_assoc done (l ∷ []) rest in
+          subst (IsOpen limit) same
+          (open_along limit (done ++ l ∷ []) rest (subst (IsFront limit) (sym same) front) parts.1 (open_more limit done l o e parts.0))
+    ] refl
+
+front_open : (limit : ℕ) (before : List (List ℕ)) → IsFront limit before → list_any is_end before ≡ false
+    → IsOpen limit before
+front_open limit before front none = open_along limit [] before front none (open_nil limit)
+
+-- the fault of a line after the first lines of a database
+first_of_front : (limit : ℕ) (before : List (List ℕ)) (l : List ℕ) → IsFront limit before
+    → fault_of limit before l ≡ find (has_fault limit before l) fault_order
+first_of_front limit before l front =
+    elim (list_any is_end before) as (λ b. list_any is_end before ≡ b → fault_of limit before l ≡ find (has_fault limit before l) fault_order) [
+      | true ↦ λ e. none_after_end limit before l e
+      | false ↦ λ e. first_of_open limit before l (front_open limit before front e)
+    ] refl
+
+pub fault_is_first : (limit : ℕ) (before : List (List ℕ)) (line : List ℕ) (kind : DbFaultKind) → IsFront limit before
+    → (fault_of limit before line ≡ Some kind) ↔ IsFirstOfLine limit before line kind
+fault_is_first limit before line kind front = (
+  λ e.
+      let f = found_first (has_fault limit before line) fault_order kind (sym (first_of_front limit before line front) ∙ e) in
+      record { earlier = f.earlier; later = f.later; order = f.order; has = f.has; first = f.first },
+  λ f.
+      first_of_front limit before line front
+      ∙ (ap (find (has_fault limit before line)) f.order ∙ first_found (has_fault limit before line) f.earlier f.later kind f.has f.first),
+)
+
+pub no_fault_holds : (limit : ℕ) (before : List (List ℕ)) (line : List ℕ) → IsFront limit before
+    → (fault_of limit before line ≡ None) ↔ HasNoneOf limit before line fault_order
+no_fault_holds limit before line front = (
+  λ e. none_passes (has_fault limit before line) fault_order (sym (first_of_front limit before line front) ∙ e),
+  λ none. first_of_front limit before line front ∙ passes_none (has_fault limit before line) fault_order none,
+)
+
+-- ---- the faulty line of a text
+
+at_line : (limits : Limits) (text : List ℕ) (number : ℕ) (kind : DbFaultKind) → IsAtLine limits text number kind
+    → HasFaultyLine limits text number kind
+at_line limits text number kind a =
+    record {
+      before = a.before;
+      line = a.line;
+      after = a.after;
+      parts = a.parts;
+      number_is = a.number_is;
+      good = a.good;
+      fault = (fault_is_first limits.line a.before a.line kind a.good).0 a.kind_is;
+    }
+
+-- a line after an end line has no fault, so none that is first
+no_fault_after_end : (limit : ℕ) (before : List (List ℕ)) (line : List ℕ) (kind : DbFaultKind)
+    → IsFirstOfLine limit before line kind → list_any is_end before ≡ false
+no_fault_after_end limit before line kind f =
+    elim (list_any is_end before) as (λ b. list_any is_end before ≡ b → b ≡ false) [
+      | true ↦ λ e. let never : true ≡ false = sym f.has ∙ has_after_end limit before line e kind in cc
+      | false ↦ λ e. refl
+    ] refl
+
+faulty_line : (limits : Limits) (text : List ℕ) (number : ℕ) (kind : DbFaultKind) → HasFaultyLine limits text number kind
+    → IsAtLine limits text number kind
+faulty_line limits text number kind h =
+    let is_kind = (fault_is_first limits.line h.before h.line kind h.good).1 h.fault in
+    let o = front_open limits.line h.before h.good (no_fault_after_end limits.line h.before h.line kind h.fault) in
+    record {
+      before = h.before;
+      line = h.line;
+      after = h.after;
+      parts = h.parts;
+      number_is = h.number_is;
+      good = h.good;
+      bad = bad_line limits.line h.before h.line kind o is_kind;
+      kind_is = is_kind;
+    }
+
+pub faulty_lines : (limits : Limits) (text : List ℕ) (number : ℕ) (kind : DbFaultKind)
+    → IsFirstFault limits text number kind
+    ↔ (HasFaultyLine limits text number kind ⊎ IsAtCut limits text number kind ⊎ IsAtEnd limits text number kind)
+faulty_lines limits text number kind = (
+  λ f. elim f [ inl a ↦ inl (at_line limits text number kind a) | inr more ↦ inr more ],
+  λ f. elim f [ inl h ↦ inl (faulty_line limits text number kind h) | inr more ↦ inr more ],
+)

@@ -1,0 +1,153 @@
+//! The calls of a session that take memory. Each is made once more if memory is refused.
+use aide_db::{Side, Sources};
+use aide_report::WriteSink;
+use aide_session::{Job, Memory, MemorySite, Site, Words, WordsFault, read_words, session};
+use arrayvec::ArrayVec;
+use std::alloc::Global;
+
+/// The line of a session that ends because memory has run out.
+const STARVED: &[u8] = b"aide: out of memory\n";
+
+/// Says which call was refused memory.
+fn tell(rt: &HostRuntime, call: &str) {
+    let _ = eprintln!(rt; "refused: {call}");
+}
+
+/// Adds an argument.
+pub(crate) fn push(rt: &HostRuntime, words: &mut Words, word: &str) -> Result<(), Memory> {
+    let before = words.as_slice().len();
+    match words.push(word) {
+        Ok(()) => Ok(()),
+        Err(Memory) => {
+            tell(rt, "push");
+            if words.as_slice().len() != before {
+                let _ = println!(rt; "push: a refused argument was added");
+            }
+            words.push(word)
+        }
+    }
+}
+
+/// Adds a file.
+pub(crate) fn add<'a>(
+    rt: &HostRuntime,
+    site: &mut MemorySite<'a>,
+    path: &'a str,
+    bytes: &'a [u8],
+) -> Result<(), Memory> {
+    match site.add(path, bytes) {
+        Ok(()) => Ok(()),
+        Err(Memory) => {
+            tell(rt, "add");
+            if let Ok(reel) = site.config(path) {
+                let _ = println!(rt; "add: a refused file of {} bytes was added", reel.len());
+            }
+            site.add(path, bytes)
+        }
+    }
+}
+
+/// Prints what a command line asks for.
+fn print_job(rt: &HostRuntime, job: &Job) {
+    let kind = if job.compare { "compare" } else { "check" };
+    let (config, before, after) = (job.config.as_str(), job.before.as_str(), job.after.as_str());
+    let _ = println!(rt; "job: {kind} {config} [{before}] [{after}]");
+}
+
+/// Reads a command line, and prints the answer.
+pub(crate) fn job_of(rt: &HostRuntime, words: &Words) -> Result<(), Memory> {
+    let answer = match read_words(rt.alloc(), words) {
+        Err(WordsFault::Memory) => {
+            tell(rt, "read_words");
+            read_words(rt.alloc(), words)
+        }
+        answer => answer,
+    };
+    match answer {
+        Ok(job) => print_job(rt, &job),
+        Err(WordsFault::Usage) => {
+            let _ = println!(rt; "job: usage");
+        }
+        Err(WordsFault::Memory) => return Err(Memory),
+    }
+    Ok(())
+}
+
+/// Prints how many bytes a side gives.
+fn print_side(rt: &HostRuntime, site: &mut MemorySite<'_>, side: Side) {
+    match site.open(side) {
+        Ok(reel) => {
+            let _ = println!(rt; "side: {} bytes", reel.len());
+            site.close(reel);
+        }
+        Err(_) => {
+            let _ = println!(rt; "side: none");
+        }
+    }
+}
+
+/// Points a side, which has no path yet, at a path. Prints what the side then gives.
+pub(crate) fn point(
+    rt: &HostRuntime,
+    site: &mut MemorySite<'_>,
+    side: Side,
+    path: &str,
+) -> Result<(), Memory> {
+    if let Err(Memory) = site.point(rt.alloc(), side, path) {
+        tell(rt, "point");
+        if let Ok(reel) = site.open(side) {
+            let _ = println!(rt; "point: a refused path was taken");
+            site.close(reel);
+        }
+        site.point(rt.alloc(), side, path)?;
+    }
+    print_side(rt, site, side);
+    Ok(())
+}
+
+/// What a session does.
+#[derive(Drop)]
+struct Ended {
+    status: u8,
+    output: ArrayVec<u8, 4096>,
+    errors: ArrayVec<u8, 4096>,
+}
+
+impl Ended {
+    /// Whether memory ran out, and the session ended with its line, its status and no output.
+    fn is_starved(&self) -> bool {
+        self.status == 22 && self.output.is_empty() && self.errors.as_slice() == STARVED
+    }
+}
+
+/// Runs a session whose output and error lines take no memory.
+fn end_of(alloc: Global, words: &Words, site: &mut MemorySite<'_>) -> Ended {
+    let mut out = WriteSink::new(ArrayVec::<u8, 4096>::new());
+    let mut err = WriteSink::new(ArrayVec::<u8, 4096>::new());
+    let status = session(alloc, words, site, &mut out, &mut err);
+    Ended {
+        status,
+        output: out.into_inner(),
+        errors: err.into_inner(),
+    }
+}
+
+/// Runs a session, and prints its answer.
+pub(crate) fn run(
+    rt: &HostRuntime,
+    words: &Words,
+    site: &mut MemorySite<'_>,
+) -> Result<(), Memory> {
+    let mut ended = end_of(rt.alloc(), words, site);
+    if ended.is_starved() {
+        tell(rt, "session");
+        ended = end_of(rt.alloc(), words, site);
+        if ended.is_starved() {
+            return Err(Memory);
+        }
+    }
+    let _ = rt.stdout().write_all(ended.output.as_slice());
+    let _ = rt.stdout().write_all(ended.errors.as_slice());
+    let _ = println!(rt; "status {}", ended.status);
+    Ok(())
+}

@@ -1,0 +1,129 @@
+//! Command lines, configurations and databases.
+
+/// A session: its arguments before the last one, which are separated by blanks, its last argument, and its files.
+pub(crate) struct Row {
+    pub(crate) name: &'static str,
+    pub(crate) words: &'static str,
+    pub(crate) last: &'static str,
+    pub(crate) conf: &'static [u8],
+    pub(crate) old: &'static [u8],
+    pub(crate) new: &'static [u8],
+}
+
+const CONF: &[u8] = b"database_in=file:/old\ndatabase_new=file:/new\n";
+
+const OLD: &[u8] =
+    b"@@begin_db\n@@db_spec name attr perm size\n/b 36 40755 4096\n/c 36 100644 10\n@@end_db\n";
+
+const NEW: &[u8] =
+    b"@@begin_db\n@@db_spec name attr perm size\n/a 36 100644 5\n/c 36 100600 7\n@@end_db\n";
+
+/// A line without effect, longer than a block in which a configuration is read.
+const LONG: &[u8] = &[b'#'; 20_000];
+
+const DEFINITIONS: &[u8] = b"@@define DIR file:
+@@define OLD_DATABASE @@{DIR}/old
+@@define NEW_DATABASE @@{DIR}/new
+@@ifdef DIR
+Base = p+s
+Mine = Base+u+g
+Yours = Mine-u
+Theirs = Yours+sha256
+Ours = Theirs-Mine
+@@define FORCED Theirs
+@@else
+nonsense
+@@endif
+database_in=@@{OLD_DATABASE}
+database_new=@@{NEW_DATABASE}
+report_force_attrs=@@{FORCED}
+report_ignore_added_attrs=Ours
+@@undef FORCED
+";
+
+const SKIPPING: &[u8] = b"@@begin_db\n@@db_spec name foo perm bar\n/a 1 100644 2\n@@end_db\n";
+
+const UNORDERED: &[u8] = b"@@begin_db\n@@db_spec name size\n/b 1\n/a 1\n@@end_db\n";
+
+pub(crate) const ROWS: [Row; 10] = [
+    Row {
+        name: "a report of all parts",
+        words: "aide -E -c",
+        last: "/conf",
+        conf: CONF,
+        old: OLD,
+        new: NEW,
+    },
+    Row {
+        name: "definitions, compared",
+        words: "aide --compare --config /conf --before first=p --after",
+        last: "report_level=added_removed_entries",
+        conf: DEFINITIONS,
+        old: OLD,
+        new: NEW,
+    },
+    Row {
+        name: "definitions, compared in one list",
+        words: "aide -E -c /conf -A",
+        last: "report_grouped=no\nreport_level=list_entries\nlast = Mine+Yours",
+        conf: DEFINITIONS,
+        old: OLD,
+        new: NEW,
+    },
+    Row {
+        name: "definitions, checked",
+        words: "aide -D -c /conf -B",
+        last: "@@define FIRST p\nfirst = @@{FIRST}",
+        conf: DEFINITIONS,
+        old: b"",
+        new: b"",
+    },
+    Row {
+        name: "a long configuration",
+        words: "aide -E -c /conf -A",
+        last: "database_in=file:/old\ndatabase_new=file:/old\nreport_level=minimal",
+        conf: LONG,
+        old: OLD,
+        new: NEW,
+    },
+    Row {
+        name: "columns that are skipped",
+        words: "aide -E -c /conf -A",
+        last: "report_level=summary",
+        conf: CONF,
+        old: SKIPPING,
+        new: SKIPPING,
+    },
+    Row {
+        name: "a database out of path order",
+        words: "aide -E -c",
+        last: "/conf",
+        conf: CONF,
+        old: OLD,
+        new: UNORDERED,
+    },
+    Row {
+        name: "a database that is not there",
+        words: "aide -E -c /conf -A",
+        last: "database_in=file:/none",
+        conf: CONF,
+        old: OLD,
+        new: NEW,
+    },
+    Row {
+        name: "a configuration with a fault",
+        words: "aide -E -c /conf -A",
+        last: "group = nothing",
+        conf: CONF,
+        old: OLD,
+        new: NEW,
+    },
+    Row {
+        name: "a command line with a fault",
+        words: "aide -E -D -c",
+        last: "/conf",
+        conf: CONF,
+        old: OLD,
+        new: NEW,
+    },
+];

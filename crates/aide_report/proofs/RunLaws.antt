@@ -1,0 +1,75 @@
+-- What the contract of `run` says of two texts, drawn from its clause `over`. Each law has that clause as a premise.
+use Rattle.std.specs.Prelude.{◌≡◌, ◌≤◌, ℕ, List, Option, Some, Result, Ok, Err, false}
+use Rattle.std.proofs.Common.{◌+◌, inl, inr, refl, arith}
+use Rattle.aide_db.specs.Failures.{is_outside}
+use Rattle.aide_db.specs.declared.fault.DbFault.{DbFault}
+use Rattle.aide_db.specs.declared.fault.DbFaultKind.{DbFaultKind}
+use Rattle.aide_db.specs.declared.fault.DbFaultKind.TheVariants.{Read, Memory}
+use Rattle.aide_db.specs.declared.limits.Limits.{Limits}
+use Rattle.aide_report.specs.Asked.{Asked}
+use Rattle.aide_report.specs.Missing.{RunsOver, IsHindered, EndsOver}
+use Rattle.aide_report.specs.RunFaults.{CountsWrites}
+use Rattle.aide_report.specs.Runs.{Report, Runs, Causes, HasAnswer, EndsWell, EndsEarly}
+use Rattle.aide_report.specs.declared.outcome.Outcome.{Outcome}
+use Rattle.aide_report.specs.declared.run_fault.RunFault.{RunFault}
+use Rattle.aide_report.specs.declared.run_fault.RunFault.TheVariants.{Open, Database, Changed, Write}
+use Rattle.aide_report.proofs.FirstFaults.{Runs-exists}
+
+-- the run over two texts ends as the clause `over` says
+abbrev pub EndsOverTexts : Limits → Asked → (old new : List ℕ) → (sources sink : Type 0) → Result Outcome RunFault
+    → (before after : Option (List ℕ)) → Type 0
+EndsOverTexts limits wish old new sources sink result before after =
+    (r : Result Report RunFault) → RunsOver limits wish (Some old) (Some new) r
+    → EndsOver r (IsHindered (Some old) (Some new) sources sink) result before after
+
+-- Two texts have a right answer.
+pub two_texts_have_an_answer : (limits : Limits) (wish : Asked) (old new : List ℕ) → 14 ≤ limits.line
+    → HasAnswer limits wish old new
+two_texts_have_an_answer = Runs-exists
+
+-- After `Ok` exactly the report of the right answer has gone out, and its outcome is returned.
+pub texts_end_well : (limits : Limits) (wish : Asked) (old new : List ℕ) (sources sink : Type 0) (outcome : Outcome)
+    (before after : Option (List ℕ)) → EndsOverTexts limits wish old new sources sink (Ok outcome) before after
+    → (r : Result Report DbFault) → Runs limits wish old new r → EndsWell r outcome before after
+texts_end_well limits wish old new sources sink outcome before after over (Ok report) runs =
+    over (Ok report) (Ok report, runs, refl)
+texts_end_well limits wish old new sources sink outcome before after over (Err fault) runs =
+    over (Err (Database fault)) (Err fault, runs, refl)
+
+-- After a fault the beginning of this report has gone out, and nothing if the answer is a fault of a text.
+pub texts_end_early : (limits : Limits) (wish : Asked) (old new : List ℕ) (sources sink : Type 0) (fault : RunFault)
+    (before after : Option (List ℕ)) → EndsOverTexts limits wish old new sources sink (Err fault) before after
+    → (r : Result Report DbFault) → Runs limits wish old new r → EndsEarly r before after
+texts_end_early limits wish old new sources sink fault before after over (Ok report) runs =
+    (over (Ok report) (Ok report, runs, refl)).1
+texts_end_early limits wish old new sources sink fault before after over (Err right) runs =
+    (over (Err (Database right)) (Err right, runs, refl)).1
+
+-- a fault of a text does not hinder the run
+inside_is_no_hindrance : (kind : DbFaultKind) (sources : Type 0) → is_outside kind ≡ false → Causes kind sources ⊥ → ⊥
+inside_is_no_hindrance Memory sources inside hinders = cc
+inside_is_no_hindrance Read sources inside hinders = cc
+inside_is_no_hindrance kind sources inside hinders = hinders
+
+-- A fault of a text, which no device and no want of memory explains, is the right answer.
+pub a_fault_of_a_text_is_the_answer : (limits : Limits) (wish : Asked) (old new : List ℕ) (sources sink : Type 0)
+    (fault : DbFault) (before after : Option (List ℕ))
+    → EndsOverTexts limits wish old new sources sink (Err (Database fault)) before after
+    → is_outside fault.kind ≡ false
+    → (r : Result Report DbFault) → Runs limits wish old new r → r ≡ Err fault
+a_fault_of_a_text_is_the_answer limits wish old new sources sink fault before after over inside (Ok report) runs =
+    absurd (inside_is_no_hindrance fault.kind sources inside (over (Ok report) (Ok report, runs, refl)).0.1)
+a_fault_of_a_text_is_the_answer limits wish old new sources sink fault before after over inside (Err right) runs =
+    elim (over (Err (Database right)) (Err right, runs, refl)).0 [
+      | inl same ↦ cc same
+      | inr hinders ↦ absurd (inside_is_no_hindrance fault.kind sources inside hinders.1)
+    ]
+
+-- What a sink has counted does not fall in a run.
+pub a_sink_never_falls : {T : Type 0} (before after : ℕ) (result : Result T RunFault) → CountsWrites before after result
+    → before ≤ after
+a_sink_never_falls before after (Ok answer) same = omega (arith, same)
+a_sink_never_falls before after (Err (Write written)) counts = omega (arith, counts)
+a_sink_never_falls before after (Err (Open side)) same = omega (arith, same)
+a_sink_never_falls before after (Err (Database fault)) same = omega (arith, same)
+a_sink_never_falls before after (Err (Changed side)) same = omega (arith, same)
