@@ -1,13 +1,12 @@
 -- What a pen has written, piece by piece.
 use Rattle.std.proofs.Common.{◌≡◌, ◌∙◌, ℕ, ◌+◌, ◌<◌, ◌≤◌, Bool, true, false, List, [], ◌∷◌, ◌++◌, length, take, drop}
-use Rattle.std.proofs.Common.{get_or, refl, sym, ap, subst, append_assoc, length-append, arith}
-use Rattle.std.proofs.lemmas.List.{append-nil, take-append-drop, length-take-le, take_more}
-use Rattle.std.proofs.lemmas.Grind.{flat_map-append}
+use Rattle.std.proofs.Common.{refl, sym, ap, subst, append_assoc, length-append, arith}
+use Rattle.std.proofs.Math.Seq.{take-append_seam}
+use Rattle.std.proofs.lemmas.List.{append-nil, take-append-drop, length-take-le}
 use Rattle.std.specs.Io.KnownBytes.{Appends}
 use Rattle.aide_db.specs.Count.{sum_of}
-use Rattle.aide_text.specs.Printed.{printed, printed_byte}
 use Rattle.aide_text.specs.Failures.{one_more}
-use Rattle.aide_text.specs.Sent.{SendsPart}
+use Rattle.aide_text.specs.Sent.{SendsPart, IsCut}
 use Rattle.aide_text.specs.Sheet.{Sheet, Adds, WroteBy, Wrote, Writing, WritesPart, WritesSome}
 use Rattle.aide_text.proofs.Sending.{Appends-Appends, Appends-nothing}
 
@@ -28,6 +27,7 @@ more_by x y a b c false true true p q = record {
   front = p.front;
   rest = p.rest ++ y;
   whole = ap (λ l. l ++ y) p.whole ∙ append_assoc p.front p.rest y;
+  fewer = omega (arith, p.fewer, length-append x y);
   adds = subst (λ s. Adds p.front a s) (sym q.1) p.adds;
   failures = ap (λ s. s.failures) q.1 ∙ p.failures;
 }
@@ -36,6 +36,7 @@ more_by x y a b c false false true p q = record {
   front = x ++ q.front;
   rest = q.rest;
   whole = ap (λ l. x ++ l) q.whole ∙ sym (append_assoc x q.front q.rest);
+  fewer = omega (arith, q.fewer, length-append x q.front, length-append x y);
   adds = adds_more x q.front a b c p.0 q.adds;
   failures = q.failures ∙ ap one_more p.1;
 }
@@ -60,15 +61,17 @@ by_flags text a b f h is_f is_h unflushed p = record {
 }
 
 -- the sink has failed within the text
-pub wrote_cut : (text : List ℕ) (a b : Sheet) (n : ℕ) → a.failed ≡ false → b.failed ≡ true → n ≤ length text
+pub wrote_cut : (text : List ℕ) (a b : Sheet) (n : ℕ) → a.failed ≡ false → b.failed ≡ true → n < length text
     → Appends a.bytes b.bytes (take n text) → b.failures ≡ one_more a.failures → b.sent ≡ sum_of a.sent n
     → b.flushes ≡ a.flushes → Wrote text a b
 wrote_cut text a b n fresh broken short bytes failures count unflushed =
+    let so_many = length-take-le n text (omega (arith, short)) in
     by_flags text a b false true fresh broken unflushed (record {
       front = take n text;
       rest = drop n text;
       whole = sym (take-append-drop n text);
-      adds = record { bytes = bytes; count = count ∙ ap (sum_of a.sent) (sym (length-take-le n text short)) };
+      fewer = omega (arith, short, so_many);
+      adds = record { bytes = bytes; count = count ∙ ap (sum_of a.sent) (sym so_many) };
       failures = failures;
     })
 
@@ -78,11 +81,6 @@ wrote_nothing a = by_flags [] a a a.failed a.failed refl refl refl (nothing_by a
 
 pub wrote_as : {x y : List ℕ} {a b : Sheet} → x ≡ y → Wrote x a b → Wrote y a b
 wrote_as {x} {y} {a} {b} e p = subst (λ l. Wrote l a b) e p
-
-pub printed_more : (bytes : List ℕ) (i : ℕ) → i < length bytes
-    → printed (take i bytes) ++ printed_byte (get_or bytes i 0) ≡ printed (take (i + 1) bytes)
-printed_more bytes i h =
-    sym (ap printed (take_more bytes i 0 h) ∙ flat_map-append printed_byte (take i bytes) (get_or bytes i 0 ∷ []) ∙ ap (λ l. printed (take i bytes) ++ l) (append-nil (printed_byte (get_or bytes i 0))))
 
 -- ---- a text that is being written
 
@@ -178,6 +176,23 @@ whole_by text a b false false fresh on p = p.0.bytes
 pub wrote_whole : {text : List ℕ} {a b : Sheet} → a.failed ≡ false → b.failed ≡ false → Wrote text a b
     → Appends a.bytes b.bytes text
 wrote_whole {text} {a} {b} fresh on p = whole_by text a b a.failed b.failed fresh on p.as_flags
+
+cut_by : (text : List ℕ) (a b : Sheet) (f h : Bool) → f ≡ false → h ≡ true → a.sent ≡ 0 → WroteBy f h text a b
+    → IsCut text a.bytes b.bytes b.sent × (b.failures ≡ one_more a.failures)
+cut_by text a b true h fresh broken none p = absurd (true_false fresh)
+cut_by text a b false true fresh broken none p =
+    (record {
+      sent = length p.front;
+      fewer = p.fewer;
+      bytes = subst (λ l. Appends a.bytes b.bytes l) (sym (ap (take (length p.front)) p.whole ∙ take-append_seam p.front p.rest)) p.adds.bytes;
+      count = omega (arith, none, p.adds.count);
+    }, p.failures)
+cut_by text a b false false fresh broken none p = absurd (true_false (sym broken))
+
+-- A fresh pen that has failed counts the bytes that went out, and they are not all.
+pub wrote_to_cut : {text : List ℕ} {a b : Sheet} → a.failed ≡ false → b.failed ≡ true → a.sent ≡ 0 → Wrote text a b
+    → IsCut text a.bytes b.bytes b.sent × (b.failures ≡ one_more a.failures)
+wrote_to_cut {text} {a} {b} fresh broken none p = cut_by text a b a.failed b.failed fresh broken none p.as_flags
 
 part_by : (text : List ℕ) (a b : Sheet) (f h : Bool) → f ≡ false → WroteBy f h text a b → SendsPart text a.bytes b.bytes
 part_by text a b true h fresh p = absurd (true_false fresh)

@@ -1,5 +1,5 @@
 -- What a pen has written to a sink.
-use Rattle.std.specs.Prelude.{◌≡◌, ℕ, Bool, true, false, Option, List, [], ◌++◌, length}
+use Rattle.std.specs.Prelude.{◌≡◌, ◌<◌, ℕ, Bool, true, false, Option, List, [], ◌++◌, length}
 use Rattle.std.specs.Io.KnownBytes.{Appends}
 use Rattle.aide_db.specs.Count.{sum_of}
 use Rattle.aide_text.specs.Failures.{one_more}
@@ -18,11 +18,12 @@ pub record Adds (text : List ℕ) (a b : Sheet) : Type 0 where
   pub bytes : Appends a.bytes b.bytes text
   pub count : b.sent ≡ sum_of a.sent (length text)
 
--- a front of the text has gone out, and then the sink has failed
+-- a front of the text has gone out, not all of it, and then the sink has failed
 pub record Breaks (text : List ℕ) (a b : Sheet) : Type 0 where
   pub front : List ℕ
   pub rest : List ℕ
   pub whole : text ≡ front ++ rest
+  pub fewer : length front < length text
   pub adds : Adds front a b
   pub failures : b.failures ≡ one_more a.failures
 

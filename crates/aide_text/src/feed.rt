@@ -3,9 +3,7 @@
 ghost use Rattle.std.specs.Prelude.{◌≡◌, ◌<◌, ◌≤◌, ◌++◌, ◌∷◌, [], ◌-◌, ℕ, List, length, take, drop};
 ghost use Rattle.std.specs.Prelude.{Some, None};
 ghost use Rattle.aide_text.specs.Feed.{HandsOut};
-ghost use Rattle.aide_text.specs.Printed.{printed};
-
-use crate::emitting::{needs_escape, octal_escape};
+ghost use Rattle.aide_text.specs.Printed.{printed, is_escaped, octal_escape};
 
 /// Hands out the bytes of a text one after another.
 pub trait Feed: Drop {
@@ -15,6 +13,18 @@ pub trait Feed: Drop {
     /// Hands out the next byte, or `None` if no byte is left.
     fn next_byte(&mut self) -> Option<u8>
         ensures { HandsOut result (rest self.old) (rest self.new) };
+}
+
+fn needs_escape(c: u8) -> bool
+    ensures { result ≡ is_escaped c }
+{
+    c < 32 || c == 127 || c == b'\\'
+}
+
+fn octal_escape(c: u8) -> [u8; 4]
+    ensures { result ≡ octal_escape c }
+{
+    [b'\\', b'0' + c / 64, b'0' + c / 8 % 8, b'0' + c % 8]
 }
 
 /// Hands out the bytes of another feed as a path is printed.

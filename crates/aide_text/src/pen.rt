@@ -1,14 +1,18 @@
 //! Writes a report piece by piece.
-ghost use Rattle.std.specs.Prelude.{◌≡◌, ◌++◌, ◌∷◌, [], false, decimal};
+ghost use Rattle.std.specs.Prelude.{◌≡◌, ◌++◌, ◌∷◌, [], false, decimal, OnOk, IfErr};
+ghost use Rattle.std.specs.Io.KnownBytes.{Appends};
+ghost use Rattle.aide_text.specs.Failures.{CountsFault};
 ghost use Rattle.aide_text.specs.Layout.{empty_line, colon_blank, ended};
 ghost use Rattle.aide_text.specs.PenSheet.{sheet};
 ghost use Rattle.aide_text.specs.Printed.{printed};
+ghost use Rattle.aide_text.specs.Sent.{IsCut};
 ghost use Rattle.aide_text.specs.Sheet.{Wrote};
 
 use crate::emitting::emit;
 use crate::feed::{Feed, Printed};
 use crate::piece::Piece;
 use crate::sink::Sink;
+use crate::slices::SliceFeed;
 use itoa::Buffer;
 
 /// Counts the bytes of a report that have gone out. Once the sink has failed, the pen writes nothing more.
@@ -62,6 +66,21 @@ fn put_path<W: Sink, B: Feed>(out: &mut W, pen: &mut Pen, path: B)
         }
         put(out, pen, piece.bytes());
     }
+}
+
+/// Writes these bytes as a path is printed: a control byte or a backslash becomes a backslash and three octal digits.
+/// If the sink fails, the error is how many printed bytes went out, or `u64::MAX` if there were more.
+pub fn emit_path<W: Sink>(out: &mut W, bytes: &[u8]) -> Result<(), u64>
+    ensures ok { OnOk result (Appends (W.delivered out.old) (W.delivered out.new)
+        (printed bytes.now)) }
+    ensures cut { IfErr result (IsCut (printed bytes.now)
+        (W.delivered out.old) (W.delivered out.new)) }
+    ensures fault { CountsFault (W.failures out.old) (W.failures out.new) result }
+    ensures flushes { W.flushes out.new ≡ W.flushes out.old }
+{
+    let mut pen = Pen::new();
+    put_path(out, &mut pen, SliceFeed::of(bytes));
+    if pen.failed { Err(pen.sent) } else { Ok(()) }
 }
 
 /// Writes a number in decimal.

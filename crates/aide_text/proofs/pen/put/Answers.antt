@@ -7,4 +7,4 @@ pub returns-in-Err : goal.returns-in-Err
 returns-in-Err g c =
     wrote_cut c.args.bytes.now (sheet g.W.Sink.delivered g.W.Sink.failures g.W.Sink.flushes c.args.out.now c.args.pen.now)
     (sheet g.W.Sink.delivered g.W.Sink.failures g.W.Sink.flushes c.emit.new.out record { sent = c.saturating_add-pen-in-Err.result; failed = true })
-    c.in-Err.n c.if-pen.false refl (omega (arith, c.in-Err.ensures.fewer)) c.in-Err.ensures.cut c.in-Err.ensures.fault (omega (arith, c.saturating_add-pen-in-Err.ensures)) c.emit.ensures.flushes
+    c.in-Err.n c.if-pen.false refl c.in-Err.ensures.fewer c.in-Err.ensures.cut c.in-Err.ensures.fault (omega (arith, c.saturating_add-pen-in-Err.ensures)) c.emit.ensures.flushes
