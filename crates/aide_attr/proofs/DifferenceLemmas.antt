@@ -34,13 +34,13 @@ none_any p (x ∷ xs) (suc k) d h l = none_any p xs k d (second (p x) (list_any 
     second true b h = cc
 
 -- a list whose elements are those of another under a function
-pub filled : (f : ℕ → ℕ) (places letters : List ℕ) → length letters ≡ length places
-    → ((k : ℕ) → k < length places → get_or letters k 0 ≡ f (get_or places k 0)) → letters ≡ map f places
+pub filled : (f : ℕ → ℕ) (slots letters : List ℕ) → length letters ≡ length slots
+    → ((k : ℕ) → k < length slots → get_or letters k 0 ≡ f (get_or slots k 0)) → letters ≡ map f slots
 filled f [] [] e h = refl
 filled f [] (l ∷ letters) e h = absurd (omega arith)
-filled f (p ∷ places) [] e h = absurd (omega arith)
-filled f (p ∷ places) (l ∷ letters) e h =
-    rw (h 0 (omega arith), filled f places letters (omega arith) (λ k below. h (suc k) (omega arith))) refl
+filled f (p ∷ slots) [] e h = absurd (omega arith)
+filled f (p ∷ slots) (l ∷ letters) e h =
+    rw (h 0 (omega arith), filled f slots letters (omega arith) (λ k below. h (suc k) (omega arith))) refl
 
 -- attributes with one number are one
 pub attr_is : (a b : Attr) → is_attr a b ≡ true → a ≡ b

@@ -41,7 +41,7 @@ unfolding level_named
 level_of_its_name level.Minimal = refl
 level_of_its_name _ = refl
 
--- the list of all levels has each one, at its place in the order; the second line stands for every further level
+-- the list of all levels has each one, at its index in the order; the second line stands for every further level
 pub level_at_its_rank : (l other : Level) → get_or all_levels (rank l) other ≡ l
 level_at_its_rank level.Minimal other = refl
 level_at_its_rank _ other = refl

@@ -16,7 +16,7 @@ use Rattle.aide_attr.specs.code.Walk.{Spot, name_run, after_step, step, begun, a
 use Rattle.aide_attr.proofs.WalkSteps.{stage_is, At, NoName, whole_run, onward}
 use Rattle.aide_attr.proofs.WalkLemmas.{bool_cases, run_all, front_runs, runs_front, step_named}
 
--- ---- places
+-- ---- indices
 
 after_not_within : (s : Bool) (b : ℕ) (q : Spot) → after_step s b ≡ Some q → q.0 ≡ InName → ⊥
 after_not_within s b q e w = elim (bool_cases (is_blank b)) [
@@ -71,7 +71,7 @@ run_front p s xs ys q e = by_run (run_all p s xs) refl (sym (run_more p s xs ys)
     by_run None k m = cc
     by_run (Some r) k m = (r, k)
 
--- a place that wants a name is behind no name byte
+-- a index that wants a name is behind no name byte
 ends_wanting : (p : Stage) (s : Bool) (xs : List ℕ) (q : Spot) → run_all p s xs ≡ Some q → q.0 ≡ BeforeName
     → ends_named xs ≡ false
 unfolding run_all
@@ -165,7 +165,7 @@ known_before look acc p s i (b ∷ bs) (x ∷ d) name rest e w n k o r c u =
 
 -- ---- what the walk passed before its fault
 
--- the bytes that the walk passed, with the place after them, and the bytes from the fault on
+-- the bytes that the walk passed, with the index after them, and the bytes from the fault on
 pub record Passed (p : Stage) (s : Bool) (i : ℕ) (bs : List ℕ) (k : ℕ) : Type 0 where
   pub done : List ℕ
   pub left : List ℕ
@@ -182,14 +182,14 @@ Stops look (UnknownName k) p s [] = ⊥
 Stops look (UnknownName k) p s (b ∷ bs) =
     (q : Spot) × (step p s b ≡ Some q) × (p ≡ BeforeName) × (is_name_byte b ≡ true) × (look (b ∷ name_run bs) ≡ None)
 
-abbrev pub fault_place : ExprFault → ℕ
-fault_place (UnknownName k) = k
-fault_place (BadExpression k) = k
+abbrev pub fault_index : ExprFault → ℕ
+fault_index (UnknownName k) = k
+fault_index (BadExpression k) = k
 
 abbrev pub Stopped : Lookup → Stage → Bool → ℕ → List ℕ → ExprFault → Type 0
-Stopped look p s i bs e = (w : Passed p s i bs (fault_place e)) × Stops look e w.stage.0 w.stage.1 w.left
+Stopped look p s i bs e = (w : Passed p s i bs (fault_index e)) × Stops look e w.stage.0 w.stage.1 w.left
 
-here : (look : Lookup) (p : Stage) (s : Bool) (i : ℕ) (bs : List ℕ) (e : ExprFault) → fault_place e ≡ i
+here : (look : Lookup) (p : Stage) (s : Bool) (i : ℕ) (bs : List ℕ) (e : ExprFault) → fault_index e ≡ i
     → Stops look e p s bs
     → Stopped look p s i bs e
 unfolding run_all
@@ -357,11 +357,11 @@ is_fault look text e h = by_kind e h (stopped look (λ _. false) BeforeName true
         (let g : k ≡ 0 + length u.0 = omega (arith, u.4) in subst (Reaches (walk look (λ _. false) BeforeName true 0 text)) g c) u.9
 
     none_before : (e : ExprFault) → walk look (λ _. false) BeforeName true 0 text ≡ Err e
-        → Passed BeforeName true 0 text (fault_place e)
-        → NoneBefore look text (fault_place e)
-    none_before e h w j l = (no_break (fault_place e) w j l, no_unknown j (rw h (reaches e l)) j refl)
+        → Passed BeforeName true 0 text (fault_index e)
+        → NoneBefore look text (fault_index e)
+    none_before e h w j l = (no_break (fault_index e) w j l, no_unknown j (rw h (reaches e l)) j refl)
       where
-        reaches : (e : ExprFault) → j < fault_place e → Reaches (Err e) j
+        reaches : (e : ExprFault) → j < fault_index e → Reaches (Err e) j
         reaches (UnknownName k) l = l
         reaches (BadExpression k) l = l
 

@@ -11,7 +11,7 @@ use Rattle.aide_attr.specs.declared.form.Form.TheVariants.{Kind, Mode, Number, T
 use Rattle.aide_attr.specs.declared.form.Form.TheVariants.{Digest, Opaque}
 
 -- A row of the table: the number in the order, from 0; the names in configurations, in details and
--- of the column; the bit of the column `attr`, if there is one; the letter of the place in a
+-- of the column; the bit of the column `attr`, if there is one; the letter of the slot in a
 -- summary string; and the form in which values are written.
 pub record Row : Type 0 where
   pub number : ℕ
@@ -19,22 +19,22 @@ pub record Row : Type 0 where
   pub detail_name : List ℕ
   pub column : List ℕ
   pub bit : Option ℕ
-  pub place : ℕ
+  pub slot : ℕ
   pub form : Form
 
 -- a row by its parts
 unfoldable pub row : ℕ → List ℕ → List ℕ → List ℕ → Option ℕ → List ℕ → Form → Row
-row n name detail_name column bit place form = record {
+row n name detail_name column bit slot form = record {
   number = n;
   name = name;
   detail_name = detail_name;
   column = column;
   bit = bit;
-  place = letter place;
+  slot = letter slot;
   form = form;
 }
 
--- the row of a digest: the column has the digest's name, and the place is `H`
+-- the row of a digest: the column has the digest's name, and the slot is `H`
 abbrev pub digest : ℕ → List ℕ → List ℕ → ℕ → ℕ → Row
 digest n name detail_name least most =
     row n name detail_name name None (codes "H") (Digest least most)
@@ -101,9 +101,9 @@ column_of a = (row_of a).column
 abbrev pub bit_of : Attr → Option ℕ
 bit_of a = (row_of a).bit
 
--- the letter of the attribute's place in a summary string
-abbrev pub place_of : Attr → ℕ
-place_of a = (row_of a).place
+-- the letter of the attribute's slot in a summary string
+abbrev pub slot_of : Attr → ℕ
+slot_of a = (row_of a).slot
 
 -- how the attribute's column writes the value
 abbrev pub form_of : Attr → Form
@@ -134,11 +134,11 @@ all_attrs = ALL
 unfoldable pub count : ℕ
 count = length all_attrs
 
--- the attributes that share a place of the summary string, by the letter of this place
+-- the attributes that share a slot of the summary string, by the letter of this slot
 abbrev pub attrs_at : ℕ → List Attr
-attrs_at place = filter (λ a. place_of a == place) all_attrs
+attrs_at slot = filter (λ a. slot_of a == slot) all_attrs
 
--- the digests, which share the place `H`
+-- the digests, which share the slot `H`
 abbrev pub digests : List Attr
 digests = attrs_at (letter (codes "H"))
 

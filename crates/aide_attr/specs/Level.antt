@@ -19,7 +19,7 @@ level_name level.AddedRemovedEntries = codes "added_removed_entries"
 unfoldable pub level_named : List ℕ → Option Level
 level_named n = find (λ l. pointwise nat_eq (level_name l) n) ALL
 
--- the place of a level in the order, from 0
+-- the index of a level in the order, from 0
 abbrev pub rank : Level → ℕ
 rank level.Minimal = 0
 rank level.Summary = 1

@@ -20,9 +20,9 @@ most_names = 1024
 abbrev pub IsFull : {X : Type 0} → Names X → List ℕ → Type 0
 IsFull values name = (get values name ≡ None) × (most_names ≤ len values)
 
--- the name already has a value, or there is room for another name
-abbrev pub HasRoom : {X : Type 0} → Names X → List ℕ → Type 0
-HasRoom values name = IsSome (get values name) ⊎ (len values < most_names)
+-- the name already has a value, or there is space for another name
+abbrev pub HasSpace : {X : Type 0} → Names X → List ℕ → Type 0
+HasSpace values name = IsSome (get values name) ⊎ (len values < most_names)
 
 -- the same names, each with the result of `f` for its value
 abbrev pub seen : {X Y : Type 0} → (X → Y) → Names X → Names Y

@@ -2,7 +2,7 @@
 
 ghost use Rattle.std.specs.Prelude.{◌≡◌, ◌<◌, ◌≤◌, IfSome, None, codes};
 ghost use Rattle.aide_attr.specs.Attr.{number, row_of, name_of, detail_name_of, column_of, bit_of};
-ghost use Rattle.aide_attr.specs.Attr.{place_of, form_of};
+ghost use Rattle.aide_attr.specs.Attr.{slot_of, form_of};
 ghost use Rattle.aide_attr.specs.Attr.{most_bytes, longest_digest, most_bits, attr_named};
 ghost use Rattle.aide_attr.specs.Attr.{attr_of_column, holder_of};
 ghost use Rattle.aide_attr.specs.Byte.{letter};
@@ -72,7 +72,7 @@ struct Row {
     detail_name: &'static [u8],
     column: &'static [u8],
     bit: Option<u32>,
-    place: u8,
+    slot: u8,
     form: Form,
 }
 
@@ -83,14 +83,14 @@ impl Row {
         detail_name: &'static [u8],
         column: &'static [u8],
         bit: Option<u32>,
-        place: u8,
+        slot: u8,
         form: Form,
     ) -> Row
         ensures name { result.name.now ≡ name.now }
         ensures detail_name { result.detail_name.now ≡ detail_name.now }
         ensures column { result.column.now ≡ column.now }
         ensures bit { result.bit ≡ bit }
-        ensures place { result.place ≡ place }
+        ensures slot { result.slot ≡ slot }
         ensures form { result.form ≡ form }
     {
         Row {
@@ -98,7 +98,7 @@ impl Row {
             detail_name,
             column,
             bit,
-            place,
+            slot,
             form,
         }
     }
@@ -109,7 +109,7 @@ impl Row {
         ensures detail_name { result.detail_name.now ≡ detail_name.now }
         ensures column { result.column.now ≡ name.now }
         ensures bit { result.bit ≡ None }
-        ensures place { result.place ≡ letter (codes "H") }
+        ensures slot { result.slot ≡ letter (codes "H") }
         ensures form { result.form ≡ Form.Digest least most }
     {
         Row::new(
@@ -191,11 +191,11 @@ impl Attr {
         self.row().bit
     }
 
-    /// Returns the letter of the attribute's place in a summary string.
-    pub(crate) fn place(self) -> u8
-        ensures { result ≡ place_of self }
+    /// Returns the letter of the attribute's slot in a summary string.
+    pub(crate) fn slot(self) -> u8
+        ensures { result ≡ slot_of self }
     {
-        self.row().place
+        self.row().slot
     }
 
     /// Returns how the column writes the value. No digest has more than 64 bytes.
@@ -225,7 +225,7 @@ impl Attr {
         Attr::ALL.iter().copied().find(|a| a.column() == name)
     }
 
-    /// Returns the place in the order, from 0.
+    /// Returns the index in the order, from 0.
     #[tactic(auto, unfolding(crate::specs::Attr::row_of, crate::specs::Attr::row))]
     pub fn number(self) -> u32
         ensures { result ≡ number self }
@@ -248,7 +248,7 @@ impl Attr {
         ensures column { result.column.now ≡ column_of self }
         ensures bit { result.bit ≡ bit_of self }
         ensures small { IfSome result.bit (λ k. k < most_bits) }
-        ensures place { result.place ≡ place_of self }
+        ensures slot { result.slot ≡ slot_of self }
         ensures form { result.form ≡ form_of self }
         ensures short { most_bytes result.form ≤ longest_digest }
     {

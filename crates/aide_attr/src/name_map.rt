@@ -2,7 +2,7 @@
 
 ghost use Rattle.std.specs.Prelude.{◌≡◌, IfErr, OnOk, OnErr, IsTrue, IsFalse, option_map};
 ghost use Rattle.std.specs.FinMap as map;
-ghost use Rattle.aide_attr.specs.NameMap.{HasRoom, IsFull};
+ghost use Rattle.aide_attr.specs.NameMap.{HasSpace, IsFull};
 
 use std::alloc::{AllocError, AllocFailed, Allocator};
 use std::collections::BTreeMap;
@@ -72,7 +72,7 @@ impl<V: Drop, A: Allocator + Copy> NameMap<V, A> {
     /// Sets this name to this value, in place of an earlier value. If the call refuses, the map
     /// is as before.
     pub fn define(&mut self, name: &[u8], value: V) -> Result<(), NameMapFault>
-        ensures room { OnOk result (HasRoom self.old name.now) }
+        ensures space { OnOk result (HasSpace self.old name.now) }
         ensures ok { OnOk result (self.new ≡ map.insert self.old name.now value) }
         ensures err { IfErr result (λ e. IsNameMapFault self.old name.now e) }
         ensures unchanged { OnErr result (self.new ≡ self.old) }
@@ -87,7 +87,7 @@ impl<V: Drop, A: Allocator + Copy> NameMap<V, A> {
     /// Returns whether the name is new and the map already has as many names as it can have.
     fn is_full(&self, name: &[u8]) -> bool
         ensures yes { IsTrue result → IsFull self.now name.now }
-        ensures no { IsFalse result → HasRoom self.now name.now }
+        ensures no { IsFalse result → HasSpace self.now name.now }
     {
         if self.look(name).is_some() {
             return false;

@@ -34,13 +34,13 @@ use Rattle.aide_conf.specs.MarkedVariables.{value}
 use Rattle.aide_conf.specs.PlaceFault.{line_fault, verdict_fault}
 use Rattle.aide_conf.specs.MarkedGroups.{IsJudgedWell, expression_in}
 use Rattle.aide_conf.specs.code.Variables.{values_of}
-use Rattle.aide_attr.specs.NameMap.{HasRoom, IsFull}
+use Rattle.aide_attr.specs.NameMap.{HasSpace, IsFull}
 use Rattle.aide_conf.specs.code.Builder.{IsBuiltFrom, TakesEffect, IsAnswered, unless_fixed, with_level, with_switch}
 use Rattle.aide_conf.specs.code.Builder.{with_attrs, NamesPath, HasNewGroup, IsMisjudged, HasNoRoom}
 use Rattle.aide_conf.proofs.Steps.{options_tell, options_turn, options_list}
 use Rattle.aide_conf.proofs.Built.{SetsOnlyVariables, SetsNone, built_same, built_set, built_unset, built_option}
 use Rattle.aide_conf.proofs.Built.{built_fixed, built_named, built_defined, few, many, looks}
-use Rattle.aide_conf.proofs.VariableSteps.{room_left, no_room}
+use Rattle.aide_conf.proofs.VariableSteps.{space_left, no_space}
 
 module _ {A : Type 0} (E : Type 0) (earlier : List Marked) (depth : ℕ) (divided : Bool) (p : SettingsBuilder A) (s : IsBuiltFrom earlier p) where
   abbrev Taken : Effect → SettingsBuilder A → Result E ConfFaultKind → Type 0
@@ -124,7 +124,7 @@ module _ {A : Type 0} (E : Type 0) (earlier : List Marked) (depth : ℕ) (divide
   defines u name expression set q m h = (
     Some (Ok set),
     meant expression set m,
-    ap (λ z. if z then Some TooMany else None) (few earlier (names_of p.groups) s.groups name h.room),
+    ap (λ z. if z then Some TooMany else None) (few earlier (names_of p.groups) s.groups name h.space),
     λ x e w. built_defined earlier x p s name expression set q e (ap set_meant w) h,
   )
 
@@ -154,23 +154,23 @@ module _ {A : Type 0} (E : Type 0) (earlier : List Marked) (depth : ℕ) (divide
       subst (λ r. Taken r q (Err ValueTooLong)) (sym (set_well name value e true f)) (faulty ValueTooLong q)
 
   pub sets : (u : E) (name value : List ℕ) (q : SettingsBuilder A) → is_word name ≡ true → length value ≤ 4096
-      → HasRoom (values_of p.variables) name
+      → HasSpace (values_of p.variables) name
       → values_of q.variables ≡ insert (values_of p.variables) name value → q ≡ record p { variables = q.variables } → Taken (set_effect name value) q (Ok u)
-  sets u name value q e l room t k =
+  sets u name value q e l space t k =
       let f : nat_lt 4096 (length value) ≡ false = grind (arith, nat_tests) in
       subst (λ r. Taken r q (Ok u)) (sym (set_well name value e false f)) (
         None,
         refl,
-        ap (λ z. if z then Some TooMany else None) (room_left earlier (values_of p.variables) s.variables name room),
+        ap (λ z. if z then Some TooMany else None) (space_left earlier (values_of p.variables) s.variables name space),
         λ x h w. built_set earlier x p s name value q h t k,
       )
 
-  pub no_room_to_set : (name value : List ℕ) (q : SettingsBuilder A) → is_word name ≡ true → length value ≤ 4096
+  pub no_space_to_set : (name value : List ℕ) (q : SettingsBuilder A) → is_word name ≡ true → length value ≤ 4096
       → IsFull (values_of p.variables) name → Taken (set_effect name value) q (Err TooMany)
-  no_room_to_set name value q e l full =
+  no_space_to_set name value q e l full =
       let f : nat_lt 4096 (length value) ≡ false = grind (arith, nat_tests) in
       subst (λ r. Taken r q (Err TooMany)) (sym (set_well name value e false f))
-      (inl (None, refl, ap (λ z. if z then Some TooMany else None) (no_room earlier (values_of p.variables) s.variables name full)))
+      (inl (None, refl, ap (λ z. if z then Some TooMany else None) (no_space earlier (values_of p.variables) s.variables name full)))
 
   pub unsets : (u : E) (name : List ℕ) (q : SettingsBuilder A) → is_word name ≡ true → values_of q.variables ≡ remove (values_of p.variables) name → q ≡ record p { variables = q.variables } → Taken (unset_effect name) q (Ok u)
   unsets u name q e t k = subst (λ r. Taken r q (Ok u)) (sym (ap (λ z. if z then DropsVariable name else Faulty BadName) e)) (None, refl, refl, λ x h w. built_unset earlier x p s name q h t k)

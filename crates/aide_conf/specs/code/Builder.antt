@@ -125,7 +125,7 @@ NamesPath New path p q = (text_at q.new_path ≡ Some path) × (q ≡ record p {
 -- a group has this set, and everything else is as before
 pub record HasNewGroup {A : Type 0} (name : List ℕ) (set : AttrSet) (p q : SettingsBuilder A)
     : Type 0 where
-  pub room : IsSome (finmap.get (names_of p.groups) name)
+  pub space : IsSome (finmap.get (names_of p.groups) name)
       ⊎ (finmap.len (names_of p.groups) < most_groups)
   pub table : names_of q.groups ≡ finmap.insert (names_of p.groups) name set
   pub others : q ≡ record p { groups = q.groups }

@@ -1,6 +1,6 @@
 use Rattle.aide_attr.specs.Attr.{attrs_at}
 use Rattle.aide_attr.proofs.DifferenceLemmas.{meets}
-use Rattle.aide_attr.proofs.summary_string.SummaryPlace.meets.Goals as goal
+use Rattle.aide_attr.proofs.summary_string.SummarySlot.meets.Goals as goal
 
 pub returns : goal.returns
 returns c =
