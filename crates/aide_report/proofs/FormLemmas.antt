@@ -12,7 +12,7 @@ use Rattle.aide_attr.specs.declared.form.Form.TheVariants.{Kind, Link}
 use Rattle.aide_attr.proofs.AttrLemmas.{at_number, number_small}
 use Rattle.aide_attr.proofs.DifferenceLemmas.{attr_is}
 use Rattle.aide_db.specs.Attributes.{Attributes, type_in, link_in}
-use Rattle.aide_text.specs.ValueText.{option_text, type_text, link_text, text_at, value_in}
+use Rattle.aide_text.specs.ValueText.{option_text, type_text, printed_link, text_at, value_in}
 
 and_left : (a b : Bool) → (a && b) ≡ true → a ≡ true
 and_left true b h = refl
@@ -62,6 +62,6 @@ kind_at base16 a attributes e =
     ap (λ x. option_text type_text (type_in (attributes x))) (sym (kind_alone a e)) ∙ ap (λ form. value_in base16 form (attributes a)) (sym e)
 
 pub link_at : (base16 : Bool) (a : Attr) (attributes : Attributes) → form_of a ≡ Link
-    → option_text link_text (link_in (attributes Lname)) ≡ text_at base16 a (attributes a)
+    → option_text printed_link (link_in (attributes Lname)) ≡ text_at base16 a (attributes a)
 link_at base16 a attributes e =
-    ap (λ x. option_text link_text (link_in (attributes x))) (sym (link_alone a e)) ∙ ap (λ form. value_in base16 form (attributes a)) (sym e)
+    ap (λ x. option_text printed_link (link_in (attributes x))) (sym (link_alone a e)) ∙ ap (λ form. value_in base16 form (attributes a)) (sym e)

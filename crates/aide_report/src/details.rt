@@ -15,11 +15,11 @@ ghost use Rattle.aide_text.specs.ReadyRest.{ready_rest};
 ghost use Rattle.aide_text.specs.Sheet.{Wrote};
 ghost use Rattle.aide_text.specs.SliceRest.{slice_rest};
 ghost use Rattle.aide_text.specs.TextRest.{text_rest};
-ghost use Rattle.aide_text.specs.ValueText.{text_at, side_text, option_text, link_text};
+ghost use Rattle.aide_text.specs.ValueText.{text_at, side_text, option_text, printed_link};
 ghost use Rattle.aide_text.specs.ValueText.{digest_text};
 
 use crate::change::{Change, path_of};
-use crate::difference::told_of;
+use crate::difference::said_of;
 use aide_attr::{Attr, AttrSet, FileType, Form};
 use aide_conf::Options;
 use aide_db::View;
@@ -30,7 +30,7 @@ use aide_text::{
 
 fn link_value<'a>(view: &View<'a>) -> ValueText<Ready, DecodedFeed<'a>, SliceFeed<'a>>
     ensures { text_rest ready_rest decoded_rest slice_rest result
-        ≡ option_text link_text (link_in ((entry_in view.now).1 AnyAttr.Lname)) }
+        ≡ option_text printed_link (link_in ((entry_in view.now).1 AnyAttr.Lname)) }
 {
     match view.link() {
         None => ValueText::Short(Ready::of(b"")),
@@ -205,7 +205,7 @@ pub(crate) fn put_details<W: Sink>(
         (sheet W.delivered W.failures W.flushes out.old pen.old)
         (sheet W.delivered W.failures W.flushes out.new pen.new) }
 {
-    let (shown, _) = told_of(change, options);
+    let (shown, _) = said_of(change, options);
     if !shown.is_empty() {
         put_newline(out, pen);
         put_path_line(out, pen, title(change), path_of(change));

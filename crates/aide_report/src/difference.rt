@@ -1,4 +1,4 @@
-//! How two entries of one path differ, and what a report tells of that.
+//! How two entries of one path differ, and what a report says of that.
 ghost use Rattle.std.specs.Prelude.{◌≡◌, ◌&&◌, is_some, IfSome};
 ghost use Rattle.aide_attr.specs.Difference.{is_shown};
 ghost use Rattle.aide_attr.specs.Set.{has};
@@ -39,8 +39,8 @@ fn alone_in(view: &View<'_>, level: Level) -> AttrSet
     }
 }
 
-/// What a report tells of two entries of one path: the attributes that their details show, and whether they differ.
-fn told_between(old: &View<'_>, new: &View<'_>, options: &Options) -> (AttrSet, bool)
+/// What a report says of two entries of one path: the attributes that their details show, and whether they differ.
+fn said_between(old: &View<'_>, new: &View<'_>, options: &Options) -> (AttrSet, bool)
     ensures shown { (attr : Attr) → has result.0 attr
         ≡ is_shown (sides_between (entry_in old.now).1 (entry_in new.now).1)
         options.now.ignore options.now.level attr }
@@ -53,8 +53,8 @@ fn told_between(old: &View<'_>, new: &View<'_>, options: &Options) -> (AttrSet, 
     (shown, !reported.is_empty())
 }
 
-/// What a report tells of a change: the attributes that its details show, and whether it is a changed entry.
-pub(crate) fn told_of(change: Change<'_>, options: &Options) -> (AttrSet, bool)
+/// What a report says of a change: the attributes that its details show, and whether it is a changed entry.
+pub(crate) fn said_of(change: Change<'_>, options: &Options) -> (AttrSet, bool)
     ensures shown { (attr : Attr)
         → has result.0 attr ≡ shows_at options.now (change_of change.entry).1 attr }
     ensures changed { result.1 ≡ is_changed (differ_by options.now.ignore)
@@ -63,7 +63,7 @@ pub(crate) fn told_of(change: Change<'_>, options: &Options) -> (AttrSet, bool)
     match change {
         Change::Added(new) => (alone_in(&new, options.level), false),
         Change::Removed(old) => (alone_in(&old, options.level), false),
-        Change::Common(old, new) => told_between(&old, &new, options),
+        Change::Common(old, new) => said_between(&old, &new, options),
     }
 }
 
@@ -73,7 +73,7 @@ pub(crate) fn counts_as(change: Change<'_>, options: &Options) -> (bool, bool)
     ensures changed { result.1 ≡ is_changed (differ_by options.now.ignore)
         (change_of change.entry) }
 {
-    let (shown, changed) = told_of(change, options);
+    let (shown, changed) = said_of(change, options);
     (!shown.is_empty(), changed)
 }
 

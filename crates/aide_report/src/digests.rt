@@ -27,8 +27,8 @@ pub(crate) struct WholeReading {
 /// The SHA-256 of all bytes that a cursor has read, at its end.
 pub(crate) fn digest_of<R: Reel>(cursor: &Cursor<R>) -> [u8; 32]
     requires { cursor.now.stage ≡ AtEnd }
-    ensures { (list : List ℕ) (held : List Column) (text : List ℕ)
-        → StandsFor R.to_come cursor.now list held text → result ≡ sha256 text }
+    ensures { (list : List ℕ) (under : List Column) (text : List ℕ)
+        → StandsFor R.to_come cursor.now list under text → result ≡ sha256 text }
 {
     match cursor.digest() {
         Some(digest) => digest,
@@ -39,11 +39,12 @@ pub(crate) fn digest_of<R: Reel>(cursor: &Cursor<R>) -> [u8; 32]
 /// The first side, the old one before the new one, whose digest at the end of a pass is not the one that it had before.
 pub(crate) fn changed_side<R: Reel>(merge: &Merge<R>, digests: &Digests) -> Option<Side>
     requires { IsEnded merge.now }
-    ensures changed { IfSome result (λ side. (list : List ℕ) (held : List Column) (text : List ℕ)
-        → StandsFor R.to_come (cursor_at merge.now side) list held text
+    ensures changed { IfSome result (λ side. (list : List ℕ) (under : List Column) (text : List ℕ)
+        → StandsFor R.to_come (cursor_at merge.now side) list under text
         → digest_on digests.now side ≡ sha256 text → ⊥) }
-    ensures same { IfNone result ((side : Side) (list : List ℕ) (held : List Column) (text : List ℕ)
-        → StandsFor R.to_come (cursor_at merge.now side) list held text
+    ensures same { IfNone result ((side : Side) (list : List ℕ) (under : List Column)
+        (text : List ℕ)
+        → StandsFor R.to_come (cursor_at merge.now side) list under text
         → digest_on digests.now side ≡ sha256 text) }
 {
     if digest_of(&merge.old_cursor) != digests.of_old {

@@ -23,7 +23,7 @@ pub Appends-nothing : (a : Option (List ℕ)) → Appends a a []
 Appends-nothing None = tt
 Appends-nothing (Some x) = sym (append-nil x)
 
--- the bytes up to one place, and those from there to a further one
+-- the bytes up to one index, and those from there to a later one
 pub Appends-take : (a b c : Option (List ℕ)) (bytes rest : List ℕ) (at count : ℕ) → rest ≡ drop at bytes
     → Appends a b (take at bytes) → Appends b c (take count rest) → Appends a c (take (at + count) bytes)
 Appends-take a b c bytes rest at count from first then =

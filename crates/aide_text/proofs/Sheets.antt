@@ -1,12 +1,11 @@
 -- What a pen has written, piece by piece.
 use Rattle.std.proofs.Common.{◌≡◌, ◌∙◌, ℕ, ◌+◌, ◌<◌, ◌≤◌, Bool, true, false, List, [], ◌∷◌, ◌++◌, length, take, drop}
 use Rattle.std.proofs.Common.{refl, sym, ap, subst, append_assoc, length-append, arith}
-use Rattle.std.proofs.Math.Seq.{take-append_seam}
 use Rattle.std.proofs.lemmas.List.{append-nil, take-append-drop, length-take-le}
 use Rattle.std.specs.Io.KnownBytes.{Appends}
 use Rattle.aide_db.specs.Count.{sum_of}
 use Rattle.aide_text.specs.Failures.{one_more}
-use Rattle.aide_text.specs.Sent.{SendsPart, IsCut}
+use Rattle.aide_text.specs.Sent.{SendsPart}
 use Rattle.aide_text.specs.Sheet.{Sheet, Adds, WroteBy, Wrote, Writing, WritesPart, WritesSome}
 use Rattle.aide_text.proofs.Sending.{Appends-Appends, Appends-nothing}
 
@@ -176,23 +175,6 @@ whole_by text a b false false fresh on p = p.0.bytes
 pub wrote_whole : {text : List ℕ} {a b : Sheet} → a.failed ≡ false → b.failed ≡ false → Wrote text a b
     → Appends a.bytes b.bytes text
 wrote_whole {text} {a} {b} fresh on p = whole_by text a b a.failed b.failed fresh on p.as_flags
-
-cut_by : (text : List ℕ) (a b : Sheet) (f h : Bool) → f ≡ false → h ≡ true → a.sent ≡ 0 → WroteBy f h text a b
-    → IsCut text a.bytes b.bytes b.sent × (b.failures ≡ one_more a.failures)
-cut_by text a b true h fresh broken none p = absurd (true_false fresh)
-cut_by text a b false true fresh broken none p =
-    (record {
-      sent = length p.front;
-      fewer = p.fewer;
-      bytes = subst (λ l. Appends a.bytes b.bytes l) (sym (ap (take (length p.front)) p.whole ∙ take-append_seam p.front p.rest)) p.adds.bytes;
-      count = omega (arith, none, p.adds.count);
-    }, p.failures)
-cut_by text a b false false fresh broken none p = absurd (true_false (sym broken))
-
--- A fresh pen that has failed counts the bytes that went out, and they are not all.
-pub wrote_to_cut : {text : List ℕ} {a b : Sheet} → a.failed ≡ false → b.failed ≡ true → a.sent ≡ 0 → Wrote text a b
-    → IsCut text a.bytes b.bytes b.sent × (b.failures ≡ one_more a.failures)
-wrote_to_cut {text} {a} {b} fresh broken none p = cut_by text a b a.failed b.failed fresh broken none p.as_flags
 
 part_by : (text : List ℕ) (a b : Sheet) (f h : Bool) → f ≡ false → WroteBy f h text a b → SendsPart text a.bytes b.bytes
 part_by text a b true h fresh p = absurd (true_false fresh)

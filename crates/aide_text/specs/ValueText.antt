@@ -38,9 +38,9 @@ abbrev pub mode_text : ℤ → List ℕ
 mode_text n = octal_text (nat_abs n)
 
 -- how a link name is written, or the empty text if there is none
-abbrev pub link_text : Option (List ℕ) → List ℕ
-link_text None = []
-link_text (Some name) = printed name
+abbrev pub printed_link : Option (List ℕ) → List ℕ
+printed_link None = []
+printed_link (Some name) = printed name
 
 -- how a digest is written, in base 16 or base 64
 unfoldable pub digest_text : Bool → List ℕ → List ℕ
@@ -54,7 +54,7 @@ option_text text (Some x) = text x
 -- the text of a value of this form
 abbrev pub value_in : Bool → Form → Option Value → List ℕ
 value_in base16 Kind value = option_text type_text (type_in value)
-value_in base16 Link value = option_text link_text (link_in value)
+value_in base16 Link value = option_text printed_link (link_in value)
 value_in base16 Mode value = option_text mode_text (number_in value)
 value_in base16 Number value = option_text signed_decimal (number_in value)
 value_in base16 Time value = option_text signed_decimal (number_in value)

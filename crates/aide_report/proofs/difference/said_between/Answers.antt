@@ -3,7 +3,7 @@ use Rattle.aide_attr.specs.Difference.{is_shown, sides_of}
 use Rattle.aide_db.specs.View.{entry_in}
 use Rattle.aide_report.proofs.DifferenceLemmas.{differ_from}
 use Rattle.aide_report.proofs.ShownLemmas.{same_sides}
-use Rattle.aide_report.proofs.difference.told_between.Goals as goal
+use Rattle.aide_report.proofs.difference.said_between.Goals as goal
 
 pub returns-clause-shown : goal.returns-clause-shown
 returns-clause-shown c =
