@@ -5,7 +5,7 @@ use Rattle.std.proofs.KnownBytes.{append_known-moved}
 use Rattle.std.proofs.lemmas.List.{drop-drop, take-append-drop}
 use Rattle.std.specs.Io.KnownBytes.{Appends, Keeps, append_known}
 
--- what was passed on and what is left are what the page held
+-- what was passed on and what is left are what the page waiting
 whole_again : (items : List ℕ) (passed count : ℕ)
     → drop passed items ≡ take count (drop passed items) ++ drop (passed + count) items
 whole_again items passed count = sym (take-append-drop count (drop passed items))
@@ -17,4 +17,4 @@ pub passed_on : (a b : Option (List ℕ)) (items rest : List ℕ) (passed count 
     → Keeps (append_known a (drop passed items)) (append_known b (drop (passed + count) items))
 passed_on a b items rest passed count is went =
     append_known-moved a b (take count (drop passed items)) (drop (passed + count) items) (drop passed items)
-    (subst (λ (held : List ℕ). Appends a b (take count held)) is went) (whole_again items passed count)
+    (subst (λ (waiting : List ℕ). Appends a b (take count waiting)) is went) (whole_again items passed count)

@@ -8,7 +8,7 @@ use Rattle.std.specs.List.{flat_map}
 use Rattle.std.proofs.KnownBytes.{Appends-kept}
 use Rattle.std.specs.Io.KnownBytes.{Appends, Keeps}
 use Rattle.aide_db.specs.declared.side.Side.{Side}
-use Rattle.aide_session.specs.Lines.{below, place_line}
+use Rattle.aide_session.specs.Lines.{below, line_if_skipped}
 use Rattle.aide_session.specs.Put.{Put}
 
 pub appends_more : (a b c : Option (List ℕ)) (xs ys : List ℕ) → Appends a b xs → Appends b c ys → Appends a c (xs ++ ys)
@@ -49,26 +49,26 @@ unfolding below
 below_more n = let e : n + 1 ≡ suc n = omega arith in ap below e
 
 lines_more : (side : Side) (columns n : ℕ)
-    → flat_map (place_line side columns) (below (n + 1)) ≡ flat_map (place_line side columns) (below n) ++ place_line side columns n
+    → flat_map (line_if_skipped side columns) (below (n + 1)) ≡ flat_map (line_if_skipped side columns) (below n) ++ line_if_skipped side columns n
 lines_more side columns n =
-    ap (λ (l : List ℕ). flat_map (place_line side columns) l) (below_more n)
-    ∙ flat_map-append (place_line side columns) (below n) (n ∷ [])
-    ∙ ap (λ (l : List ℕ). flat_map (place_line side columns) (below n) ++ l) (append-nil (place_line side columns n))
+    ap (λ (l : List ℕ). flat_map (line_if_skipped side columns) l) (below_more n)
+    ∙ flat_map-append (line_if_skipped side columns) (below n) (n ∷ [])
+    ∙ ap (λ (l : List ℕ). flat_map (line_if_skipped side columns) (below n) ++ l) (append-nil (line_if_skipped side columns n))
 
--- the lines of the places so far, and the next one
-pub put_place : (side : Side) (columns place : ℕ) (a b c : Option (List ℕ)) (m n k : ℕ)
-    → Put (flat_map (place_line side columns) (below place)) a b m n → Put (place_line side columns place) b c n k
-    → Put (flat_map (place_line side columns) (below (place + 1))) a c m k
-put_place side columns place a b c m n k p q =
-    subst (λ (l : List ℕ). Put l a c m k) (sym (lines_more side columns place)) (put_more p q)
+-- the lines of the columns so far, and the next one
+pub put_next_column : (side : Side) (columns index : ℕ) (a b c : Option (List ℕ)) (m n k : ℕ)
+    → Put (flat_map (line_if_skipped side columns) (below index)) a b m n → Put (line_if_skipped side columns index) b c n k
+    → Put (flat_map (line_if_skipped side columns) (below (index + 1))) a c m k
+put_next_column side columns index a b c m n k p q =
+    subst (λ (l : List ℕ). Put l a c m k) (sym (lines_more side columns index)) (put_more p q)
 
-pub no_places : (side : Side) (columns : ℕ) (a : Option (List ℕ)) (n : ℕ)
-    → Put (flat_map (place_line side columns) (below 0)) a a n n
+pub no_columns : (side : Side) (columns : ℕ) (a : Option (List ℕ)) (n : ℕ)
+    → Put (flat_map (line_if_skipped side columns) (below 0)) a a n n
 unfolding below
-no_places side columns a n = put_none a n
+no_columns side columns a n = put_none a n
 
-pub put_to : (side : Side) (columns place end : ℕ) (a b : Option (List ℕ)) (m n : ℕ) → place ≡ end
-    → Put (flat_map (place_line side columns) (below place)) a b m n
-    → Put (flat_map (place_line side columns) (below end)) a b m n
-put_to side columns place end a b m n e p =
-    subst (λ (k : ℕ). Put (flat_map (place_line side columns) (below k)) a b m n) e p
+pub put_to : (side : Side) (columns index end : ℕ) (a b : Option (List ℕ)) (m n : ℕ) → index ≡ end
+    → Put (flat_map (line_if_skipped side columns) (below index)) a b m n
+    → Put (flat_map (line_if_skipped side columns) (below end)) a b m n
+put_to side columns index end a b m n e p =
+    subst (λ (k : ℕ). Put (flat_map (line_if_skipped side columns) (below k)) a b m n) e p

@@ -140,10 +140,10 @@ unfoldable pub skipped_line : Side → ℕ → List ℕ
 skipped_line side column = program_word
     ++ (side_word side ++ (column_start ++ (decimal column ++ skipped_end)))
 
--- the line for the column at a place, if the set of skipped columns has this column
-unfoldable pub place_line : Side → ℕ → ℕ → List ℕ
-place_line side columns place =
-    if bit_at columns place == 1 then skipped_line side (place + 1) else []
+-- the line for the column at an index, if the set of skipped columns has this column
+unfoldable pub line_if_skipped : Side → ℕ → ℕ → List ℕ
+line_if_skipped side columns index =
+    if bit_at columns index == 1 then skipped_line side (index + 1) else []
 
 -- the numbers below n, in ascending order
 unfoldable pub below : ℕ → List ℕ
@@ -153,7 +153,7 @@ below (suc n) = below n ++ n ∷ []
 -- The lines of the skipped columns, in ascending order. Bit c - 1 means column c; there are at most
 -- 64.
 unfoldable pub skipped_lines : Side → ℕ → List ℕ
-skipped_lines side columns = flat_map (place_line side columns) (below 64)
+skipped_lines side columns = flat_map (line_if_skipped side columns) (below 64)
 
 -- the lines after a good run, those of the old side first
 abbrev pub outcome_lines : Outcome → List ℕ

@@ -5,13 +5,13 @@ use Rattle.std.specs.Io.KnownBytes.{append_known}
 -- the sink, what the page keeps for the sink, and how much of the page is used
 pub record Paged (W : Type 0) : Type 0 where
   pub sink : W
-  pub held : List ℕ
+  pub waiting : List ℕ
   pub used : ℕ
 
 -- the bytes that went into the sink and onto the page, if the sink tells its own bytes
 abbrev pub known_of : {W : Type 0} → (W → Option (List ℕ)) → Paged W → Option (List ℕ)
-known_of delivered s = append_known (delivered s.sink) s.held
+known_of delivered s = append_known (delivered s.sink) s.waiting
 
 -- no byte waits on the page
-abbrev pub holds_none : List ℕ → Bool
-holds_none held = length held == 0
+abbrev pub none_waits : List ℕ → Bool
+none_waits waiting = length waiting == 0

@@ -30,12 +30,12 @@ fn read_all<R: Reel>(alloc: Global, reel: &mut R) -> Result<Vec<u8>, ConfigFault
         → Rose (R.failures reel.old) (R.failures reel.new) }
 {
     let mut text = Vec::new(alloc);
-    let mut block = [0u8; 4096];
-    'blocks: while text.len() <= LIMIT {
-        match reel.read(&mut block) {
+    let mut chunk = [0u8; 4096];
+    'chunks: while text.len() <= LIMIT {
+        match reel.read(&mut chunk) {
             Ok(0) => return Ok(text),
             Ok(count) => {
-                if let Err(_) = text.extend_from_slice(&block[..count]) {
+                if let Err(_) = text.extend_from_slice(&chunk[..count]) {
                     return Err(ConfigFault::Memory);
                 }
             }

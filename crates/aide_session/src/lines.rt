@@ -6,7 +6,7 @@ ghost use Rattle.aide_session.specs.Lines.{changed_line, column_number, conf_lin
 ghost use Rattle.aide_session.specs.Lines.{database_line};
 ghost use Rattle.aide_session.specs.Lines.{database_place, fault_column, memory_line, open_line};
 ghost use Rattle.aide_session.specs.Lines.{outcome_lines};
-ghost use Rattle.aide_session.specs.Lines.{place_line, side_word, skipped_line, skipped_lines};
+ghost use Rattle.aide_session.specs.Lines.{line_if_skipped, side_word, skipped_line, skipped_lines};
 ghost use Rattle.aide_session.specs.Lines.{too_large_line};
 ghost use Rattle.aide_session.specs.Lines.{unread_line, usage_line, write_line};
 
@@ -189,22 +189,22 @@ fn put_skipped_line<E: Sink>(err: &mut E, side: Side, column: u64)
     put_skipped_end(err);
 }
 
-/// Returns whether the column at this place was skipped.
-fn is_skipped(columns: u64, place: u32) -> bool
-    requires { place < 64 }
-    ensures { result ≡ (bit_at columns place == 1) }
+/// Returns whether the column at this index was skipped.
+fn is_skipped(columns: u64, index: u32) -> bool
+    requires { index < 64 }
+    ensures { result ≡ (bit_at columns index == 1) }
 {
-    (columns >> place) % 2 == 1
+    (columns >> index) % 2 == 1
 }
 
-#[tactic(auto, unfolding(crate::specs::Lines::place_line))]
-fn put_place_line<E: Sink>(err: &mut E, side: Side, columns: u64, place: u32)
-    requires { place < 64 }
-    ensures { Put (place_line side columns place) (E.delivered err.old) (E.delivered err.new)
+#[tactic(auto, unfolding(crate::specs::Lines::line_if_skipped))]
+fn put_line_if_skipped<E: Sink>(err: &mut E, side: Side, columns: u64, index: u32)
+    requires { index < 64 }
+    ensures { Put (line_if_skipped side columns index) (E.delivered err.old) (E.delivered err.new)
         (E.failures err.old) (E.failures err.new) }
 {
-    if is_skipped(columns, place) {
-        put_skipped_line(err, side, place as u64 + 1);
+    if is_skipped(columns, index) {
+        put_skipped_line(err, side, index as u64 + 1);
     }
 }
 
@@ -212,8 +212,8 @@ fn put_skipped_lines<E: Sink>(err: &mut E, side: Side, columns: u64)
     ensures { Put (skipped_lines side columns) (E.delivered err.old) (E.delivered err.new)
         (E.failures err.old) (E.failures err.new) }
 {
-    for place in 0..64 {
-        put_place_line(err, side, columns, place);
+    for index in 0..64 {
+        put_line_if_skipped(err, side, columns, index);
     }
 }
 

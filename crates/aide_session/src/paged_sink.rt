@@ -3,7 +3,7 @@ ghost use Rattle.std.specs.Prelude.{◌≡◌, ◌==◌, ◌&&◌, ◌<◌, ◌�
 ghost use Rattle.std.specs.Prelude.{IfOk, OnOk, Bool, vec_capacity};
 ghost use Rattle.std.specs.Io.KnownBytes.{Appends, Keeps, append_known};
 ghost use Rattle.aide_report.specs.Failures.{CountsFault};
-ghost use Rattle.aide_session.specs.Page.{holds_none, known_of};
+ghost use Rattle.aide_session.specs.Page.{none_waits, known_of};
 
 use crate::words::Memory;
 use aide_db::DeviceFault;
@@ -38,7 +38,7 @@ impl<W> Model for PagedSink<W> {
 
     ghost view = { λ s. record {
       sink = s.sink;
-      held = drop s.passed s.page.items;
+      waiting = drop s.passed s.page.items;
       used = vec_len s.page;
     } };
 }
@@ -49,7 +49,7 @@ impl<W: Sink> PagedSink<W> {
     where
         W: Drop,
         ensures sink { IfOk result (λ s. s.sink ≡ sink) }
-        ensures held { IfOk result (λ s. s.held ≡ []) }
+        ensures waiting { IfOk result (λ s. s.waiting ≡ []) }
         ensures used { IfOk result (λ s. s.used ≡ 0) }
     {
         let Ok(page) = Vec::with_capacity(alloc, PAGE) else {
@@ -63,8 +63,8 @@ impl<W: Sink> PagedSink<W> {
     }
 
     /// Passes on the bytes on the page.
-    fn pass(&mut self) -> Result<(), DeviceFault>
-        ensures ok { OnOk result (self.new.held ≡ []) }
+    fn send(&mut self) -> Result<(), DeviceFault>
+        ensures ok { OnOk result (self.new.waiting ≡ []) }
         ensures room { OnOk result (self.new.used ≡ 0) }
         ensures bytes { Keeps (known_of W.delivered self.old) (known_of W.delivered self.new) }
         ensures flushes { W.flushes self.new.sink ≡ W.flushes self.old.sink }
@@ -107,24 +107,17 @@ impl<W: Sink> Sink for PagedSink<W> {
 
     ghost flushes = { λ s. W.flushes s.sink };
 
-    ghost is_flushed = { λ s. W.is_flushed s.sink && holds_none s.held };
+    ghost is_flushed = { λ s. W.is_flushed s.sink && none_waits s.waiting };
 
     fn write(&mut self, bytes: &[u8]) -> Result<usize, DeviceFault> {
         if self.page.len() >= PAGE {
-            if let Err(fault) = self.pass() {
-                return Err(fault);
-            }
+            self.send()?;
         }
         Ok(self.take(bytes))
     }
 
     fn flush(&mut self) -> Result<(), DeviceFault> {
-        if let Err(fault) = self.pass() {
-            return Err(fault);
-        }
-        match self.sink.flush() {
-            Ok(()) => Ok(()),
-            Err(fault) => Err(fault),
-        }
+        self.send()?;
+        self.sink.flush()
     }
 }

@@ -1,7 +1,7 @@
 use Rattle.std.proofs.Common.{◌∙◌, ◌-◌, ap, drop, length, take}
 use Rattle.std.proofs.lemmas.List.{take_rest}
 use Rattle.aide_session.proofs.Pages.{passed_on}
-use Rattle.aide_session.proofs.paged_sink.PagedSink.pass.Goals as goal
+use Rattle.aide_session.proofs.paged_sink.PagedSink.send.Goals as goal
 
 pub returns-in-Err-clause-bytes : goal.returns-in-Err-clause-bytes
 returns-in-Err-clause-bytes g c =
