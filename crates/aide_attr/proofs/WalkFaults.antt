@@ -71,7 +71,7 @@ run_front p s xs ys q e = by_run (run_all p s xs) refl (sym (run_more p s xs ys)
     by_run None k m = cc
     by_run (Some r) k m = (r, k)
 
--- a index that wants a name is behind no name byte
+-- an index that wants a name is behind no name byte
 ends_wanting : (p : Stage) (s : Bool) (xs : List ℕ) (q : Spot) → run_all p s xs ≡ Some q → q.0 ≡ BeforeName
     → ends_named xs ≡ false
 unfolding run_all

@@ -5,7 +5,7 @@ use Rattle.std.proofs.KnownBytes.{append_known-moved}
 use Rattle.std.proofs.lemmas.List.{drop-drop, take-append-drop}
 use Rattle.std.specs.Io.KnownBytes.{Appends, Keeps, append_known}
 
--- what was passed on and what is left are what the page waiting
+-- what was sent and what is left are what waited on the page
 whole_again : (items : List ℕ) (passed count : ℕ)
     → drop passed items ≡ take count (drop passed items) ++ drop (passed + count) items
 whole_again items passed count = sym (take-append-drop count (drop passed items))
