@@ -4,13 +4,13 @@ use Rattle.std.proofs.Common.{append_assoc, append-nil, None, Some, inl, inr}
 use Rattle.std.specs.Prelude.{nat_le, ◌⊎◌}
 use Rattle.std.proofs.lemmas.Bool.{leb-true}
 use Rattle.std.proofs.lemmas.List.Elements.{All-nil}
-use Rattle.aide_db.specs.Text.{lines}
-use Rattle.aide_db.specs.Lines.{is_end}
+use Rattle.aide_entry.specs.Text.{lines}
+use Rattle.aide_entry.specs.Lines.{is_end}
 use Rattle.aide_db.specs.Database.{counted, IsShort, IsFront, IsDatabase, IsSound, fault_of, whole_lines, IsFirstFault}
 use Rattle.aide_db.specs.Database.{cut_kind, end_kind}
 use Rattle.aide_db.specs.Parts.{IsOpen}
 use Rattle.aide_db.specs.declared.limits.Limits.{Limits}
-use Rattle.aide_db.specs.declared.fault.DbFaultKind.{DbFaultKind}
+use Rattle.aide_entry.specs.declared.fault_kind.DbFaultKind.{DbFaultKind}
 use Rattle.aide_db.proofs.LinesLemmas.{lines_plain, ended_plain, AreLines}
 use Rattle.aide_db.proofs.Front.{open_more, open_end, open_front, open_unsound, bad_line, database_front}
 

@@ -3,17 +3,17 @@ use Rattle.std.proofs.Common.{◌≡◌, ℕ, List, [], ◌∷◌, refl, length,
 use Rattle.std.specs.Prelude.{codes}
 use Rattle.percent_encoding.specs.Percent.{percent_decode}
 use Rattle.aide_attr.specs.Attr.{row, row_of, attr_of_column}
-use Rattle.aide_db.specs.Text.{fields}
-use Rattle.aide_db.specs.Path.{path_cmp}
-use Rattle.aide_db.specs.Lines.{kind_of, kind_of_field}
-use Rattle.aide_db.specs.Fields.{column_named}
-use Rattle.aide_db.specs.Numbers.{number_of, natural_of}
-use Rattle.aide_db.specs.Values.{time_of}
-use Rattle.aide_db.specs.Entry.{is_path}
+use Rattle.aide_entry.specs.Text.{fields}
+use Rattle.aide_entry.specs.Path.{path_cmp}
+use Rattle.aide_entry.specs.Lines.{kind_of, kind_of_field}
+use Rattle.aide_entry.specs.Fields.{column_named}
+use Rattle.aide_entry.specs.Numbers.{number_of, natural_of}
+use Rattle.aide_entry.specs.Values.{time_of}
+use Rattle.aide_entry.specs.Entry.{is_path}
 use Rattle.aide_db.specs.Database.{fault_of}
 use Rattle.aide_db.specs.FaultOrder.{fault_order, field_faults, has_fault}
-use Rattle.aide_db.specs.declared.fault.DbFaultKind.TheVariants.{NoBegin, BadSpec, FieldCount, OutOfOrder}
-use Rattle.aide_db.specs.declared.fault.DbFaultKind.TheVariants.{BadNumber, BadTime}
+use Rattle.aide_entry.specs.declared.fault_kind.DbFaultKind.TheVariants.{NoBegin, BadSpec, FieldCount, OutOfOrder}
+use Rattle.aide_entry.specs.declared.fault_kind.DbFaultKind.TheVariants.{BadNumber, BadTime}
 
 -- three faults for each of 64 columns, and eight others
 all_of_them : length fault_order ≡ 200

@@ -8,26 +8,27 @@ use Rattle.std.proofs.lemmas.List.Elements.{All-head, All-tail}
 use Rattle.aide_attr.specs.Attr.{form_of}
 use Rattle.aide_attr.specs.declared.form.Form.{Form}
 use Rattle.aide_attr.specs.declared.form.Form.TheVariants as forms
-use Rattle.aide_db.specs.Text.{fields}
-use Rattle.aide_db.specs.Lines.{kind_of, is_end, counts, is_blank_kind}
-use Rattle.aide_db.specs.Fields.{columns_of, are_columns, are_distinct, is_name, most_columns}
-use Rattle.aide_db.specs.Values.{is_field, fault_of_form}
-use Rattle.aide_db.specs.Entry.{has_form, is_before, fault_of_column, first_bad, first_bad_from}
-use Rattle.aide_db.specs.Database.{counted, fault_of, fault_after, IsEntryLine}
+use Rattle.aide_entry.specs.Text.{fields}
+use Rattle.aide_entry.specs.Lines.{kind_of, is_end, counts, is_blank_kind}
+use Rattle.aide_entry.specs.Fields.{columns_of, are_columns, are_distinct, is_name, most_columns}
+use Rattle.aide_entry.specs.Values.{is_field, fault_of_form}
+use Rattle.aide_entry.specs.Entry.{has_form, is_before, fault_of_column, first_bad, first_bad_from}
+use Rattle.aide_entry.specs.EntryLines.{IsEntryLine}
+use Rattle.aide_db.specs.Database.{counted, fault_of, fault_after}
 use Rattle.aide_db.specs.FaultOrder.{fault_order, field_faults, faults_of_column, is_kind, is_a, have_a, columns_named}
 use Rattle.aide_db.specs.FaultOrder.{is_number_form, is_time_form, is_digest_form, is_of_numbers, is_of_form, is_wrong}
 use Rattle.aide_db.specs.FaultOrder.{lacks_begin, is_unexpected, names_bad_columns, lacks_spec, has_other_count}
 use Rattle.aide_db.specs.FaultOrder.{has_bad_name, is_out_of_order, has_fault, is_too_long}
 use Rattle.aide_db.specs.Parts.{IsPart, IsOpen}
-use Rattle.aide_db.specs.declared.column.Column.{Column}
-use Rattle.aide_db.specs.declared.column.Column.TheVariants.{Name, Bits, Of, Skipped}
-use Rattle.aide_db.specs.declared.line.LineKind.{LineKind}
-use Rattle.aide_db.specs.declared.line.LineKind.TheVariants.{Blank, Begin, Spec, End, Directive, Other}
-use Rattle.aide_db.specs.declared.fault.DbFaultKind.{DbFaultKind}
-use Rattle.aide_db.specs.declared.fault.DbFaultKind.TheVariants.{LineTooLong, NoBegin, BadDirective}
-use Rattle.aide_db.specs.declared.fault.DbFaultKind.TheVariants.{BadSpec, NoSpec, FieldCount}
-use Rattle.aide_db.specs.declared.fault.DbFaultKind.TheVariants.{BadName, OutOfOrder, BadNumber}
-use Rattle.aide_db.specs.declared.fault.DbFaultKind.TheVariants.{BadTime, BadDigest}
+use Rattle.aide_entry.specs.declared.column.Column.{Column}
+use Rattle.aide_entry.specs.declared.column.Column.TheVariants.{Name, Bits, Of, Skipped}
+use Rattle.aide_entry.specs.declared.line.LineKind.{LineKind}
+use Rattle.aide_entry.specs.declared.line.LineKind.TheVariants.{Blank, Begin, Spec, End, Directive, Other}
+use Rattle.aide_entry.specs.declared.fault_kind.DbFaultKind.{DbFaultKind}
+use Rattle.aide_entry.specs.declared.fault_kind.DbFaultKind.TheVariants.{LineTooLong, NoBegin, BadDirective}
+use Rattle.aide_entry.specs.declared.fault_kind.DbFaultKind.TheVariants.{BadSpec, NoSpec, FieldCount}
+use Rattle.aide_entry.specs.declared.fault_kind.DbFaultKind.TheVariants.{BadName, OutOfOrder, BadNumber}
+use Rattle.aide_entry.specs.declared.fault_kind.DbFaultKind.TheVariants.{BadTime, BadDigest}
 
 -- ---- one field
 

@@ -5,12 +5,12 @@ use Rattle.std.specs.Prelude.{find, All, ◌⊎◌, ◌↔◌}
 use Rattle.std.specs.List.{list_any}
 use Rattle.std.proofs.lemmas.Bool.{or_parts}
 use Rattle.std.proofs.lemmas.List.Elements.{All-nil, All-cons, All-head, All-tail}
-use Rattle.aide_db.specs.Lines.{is_end}
+use Rattle.aide_entry.specs.Lines.{is_end}
 use Rattle.aide_db.specs.Database.{fault_of, IsFront, IsFirstFault, IsAtLine, IsAtCut, IsAtEnd}
 use Rattle.aide_db.specs.FaultOrder.{fault_order, has_fault, HasNoneOf, IsFirstOfLine, HasFaultyLine}
 use Rattle.aide_db.specs.Parts.{IsOpen}
 use Rattle.aide_db.specs.declared.limits.Limits.{Limits}
-use Rattle.aide_db.specs.declared.fault.DbFaultKind.{DbFaultKind}
+use Rattle.aide_entry.specs.declared.fault_kind.DbFaultKind.{DbFaultKind}
 use Rattle.aide_db.proofs.Front.{open_more, bad_line}
 use Rattle.aide_db.proofs.FirstFault.{front_less}
 use Rattle.aide_db.proofs.FaultExists.{open_nil}

@@ -4,7 +4,7 @@ use Rattle.std.specs.Prelude.{◌⊎◌, ◌↔◌}
 use Rattle.aide_db.specs.Database.{IsSound, IsFirstFault, IsFront, IsAtCut, IsAtEnd, fault_of}
 use Rattle.aide_db.specs.FaultOrder.{fault_order, IsFirstOfLine, HasNoneOf, HasFaultyLine}
 use Rattle.aide_db.specs.declared.limits.Limits.{Limits}
-use Rattle.aide_db.specs.declared.fault.DbFaultKind.{DbFaultKind}
+use Rattle.aide_entry.specs.declared.fault_kind.DbFaultKind.{DbFaultKind}
 use Rattle.aide_db.proofs.FaultExists.{HasFirstFault, sound_or_fault}
 use Rattle.aide_db.proofs.FirstFault.{first_fault_unique}
 use Rattle.aide_db.proofs.FaultOrderTexts.{fault_is_first, no_fault_holds, faulty_lines}

@@ -6,7 +6,7 @@ use Rattle.std.proofs.lemmas.Bool.{eqb-true, cases_lt}
 use Rattle.std.proofs.lemmas.List.{take-append-drop, take-append-le, get_or-take, get_or_default, length-take-le}
 use Rattle.std.proofs.lemmas.List.{length-take, drop_more, drop-drop, take_all, drop_all}
 use Rattle.memchr.specs.Find.{IsFirstByte, is_byte}
-use Rattle.aide_db.specs.Text.{is_newline, is_filled}
+use Rattle.aide_entry.specs.Text.{is_newline, is_filled}
 use Rattle.std.proofs.Common.{append_assoc, append-nil}
 use Rattle.sha2.specs.Hashers.{Holds256}
 use Rattle.sha2.specs.declared.Sha256.{Sha256}

@@ -3,7 +3,7 @@ use Rattle.std.specs.Prelude.{◌≡◌, List, []}
 use Rattle.aide_db.specs.DeskView.{DeskView}
 use Rattle.aide_db.specs.Side.{other_side}
 use Rattle.aide_db.specs.Desk.{list_of, columns_of_side}
-use Rattle.aide_db.specs.declared.column.Column.{Column}
+use Rattle.aide_entry.specs.declared.column.Column.{Column}
 use Rattle.aide_db.specs.declared.side.Side.{Side}
 use Rattle.aide_db.specs.declared.judge.Judgement.{Judgement}
 use Rattle.aide_db.specs.declared.judge.Judgement.TheVariants.{NoEntry, Entry, End, Fault}

@@ -6,21 +6,21 @@ use Rattle.std.specs.List.{list_any, range_with_len, enumerate_from}
 use Rattle.aide_attr.specs.Attr.{form_of}
 use Rattle.aide_attr.specs.declared.form.Form.{Form}
 use Rattle.aide_attr.specs.declared.form.Form.TheVariants.{Kind, Mode, Number, Time, Digest}
-use Rattle.aide_db.specs.Text.{fields}
-use Rattle.aide_db.specs.Lines.{kind_of, is_end, counts}
-use Rattle.aide_db.specs.Fields.{columns_of, are_columns, most_columns}
-use Rattle.aide_db.specs.Entry.{path_of, is_path, is_before, has_form}
+use Rattle.aide_entry.specs.Text.{fields}
+use Rattle.aide_entry.specs.Lines.{kind_of, is_end, counts}
+use Rattle.aide_entry.specs.Fields.{columns_of, are_columns, most_columns}
+use Rattle.aide_entry.specs.Entry.{path_of, is_path, is_before, has_form}
 use Rattle.aide_db.specs.Database.{whole_lines, IsFront}
-use Rattle.aide_db.specs.declared.column.Column.{Column}
-use Rattle.aide_db.specs.declared.column.Column.TheVariants.{Name, Bits, Of, Skipped}
-use Rattle.aide_db.specs.declared.line.LineKind.{LineKind}
-use Rattle.aide_db.specs.declared.line.LineKind.TheVariants as kinds
+use Rattle.aide_entry.specs.declared.column.Column.{Column}
+use Rattle.aide_entry.specs.declared.column.Column.TheVariants.{Name, Bits, Of, Skipped}
+use Rattle.aide_entry.specs.declared.line.LineKind.{LineKind}
+use Rattle.aide_entry.specs.declared.line.LineKind.TheVariants as kinds
 use Rattle.aide_db.specs.declared.limits.Limits.{Limits}
-use Rattle.aide_db.specs.declared.fault.DbFaultKind.{DbFaultKind}
-use Rattle.aide_db.specs.declared.fault.DbFaultKind.TheVariants.{LineTooLong, NoBegin, BadDirective}
-use Rattle.aide_db.specs.declared.fault.DbFaultKind.TheVariants.{BadSpec, NoSpec, FieldCount}
-use Rattle.aide_db.specs.declared.fault.DbFaultKind.TheVariants.{BadName, OutOfOrder, BadNumber}
-use Rattle.aide_db.specs.declared.fault.DbFaultKind.TheVariants.{BadTime, BadDigest}
+use Rattle.aide_entry.specs.declared.fault_kind.DbFaultKind.{DbFaultKind}
+use Rattle.aide_entry.specs.declared.fault_kind.DbFaultKind.TheVariants.{LineTooLong, NoBegin, BadDirective}
+use Rattle.aide_entry.specs.declared.fault_kind.DbFaultKind.TheVariants.{BadSpec, NoSpec, FieldCount}
+use Rattle.aide_entry.specs.declared.fault_kind.DbFaultKind.TheVariants.{BadName, OutOfOrder, BadNumber}
+use Rattle.aide_entry.specs.declared.fault_kind.DbFaultKind.TheVariants.{BadTime, BadDigest}
 
 -- ---- the order
 

@@ -1,8 +1,8 @@
 -- Out of memory, and whether a cursor has returned it.
 use Rattle.std.specs.Prelude.{◌≡◌, Bool, false, Result, Ok, Err}
-use Rattle.aide_db.specs.Cause.{cause_of, from_memory}
+use Rattle.aide_entry.specs.Cause.{is_memory}
 use Rattle.aide_db.specs.declared.fault.DbFault.{DbFault}
-use Rattle.aide_db.specs.declared.fault.DbFaultKind.{DbFaultKind}
+use Rattle.aide_entry.specs.declared.fault_kind.DbFaultKind.{DbFaultKind}
 use Rattle.aide_db.specs.declared.stage.Stage.{Stage}
 use Rattle.aide_db.specs.declared.stage.Stage.TheVariants as stages
 use Rattle.aide_db.specs.declared.stage.Progress.{Progress}
@@ -10,10 +10,6 @@ use Rattle.aide_db.specs.declared.stage.Progress.TheVariants as steps
 use Rattle.aide_db.specs.declared.step.Step.{Step}
 use Rattle.aide_db.specs.declared.take_line.Taken.{Taken}
 use Rattle.aide_db.specs.declared.take_line.Taken.TheVariants as takes
-
--- the fault is out of memory
-abbrev pub is_memory : DbFaultKind → Bool
-is_memory kind = from_memory (cause_of kind)
 
 -- the answer is out of memory
 abbrev pub wants_memory : Result Step DbFault → Bool

@@ -1,6 +1,6 @@
 -- The outcome of asking a reel for the next block.
 use Rattle.std.specs.Prelude.{ℕ, ◌≡◌, true, List, [], ◌++◌, take}
-use Rattle.aide_db.specs.Text.{is_filled}
+use Rattle.aide_entry.specs.Text.{is_filled}
 use Rattle.sha2.specs.Hashers.{Holds256}
 use Rattle.sha2.specs.declared.Sha256.{Sha256}
 use Rattle.aide_db.specs.Count.{one_more}

@@ -3,12 +3,13 @@ use Rattle.std.specs.Prelude.{◌≡◌, Option, Some, None, [], ◌∷◌}
 use Rattle.std.proofs.Common.{sym, ap, ◌∙◌}
 use Rattle.std.specs.Cmp.{tied_itself}
 use Rattle.aide_db.specs.Alike.{HoldsAlike}
-use Rattle.aide_db.specs.Attributes.{Entry}
-use Rattle.aide_db.specs.Desk.{desk_entry, entry_at}
+use Rattle.aide_entry.specs.Attributes.{Entry}
+use Rattle.aide_entry.specs.View.{entry_at}
+use Rattle.aide_db.specs.Desk.{desk_entry}
 use Rattle.aide_db.specs.DeskView.{DeskView}
-use Rattle.aide_db.specs.Path.{path_cmp}
+use Rattle.aide_entry.specs.Path.{path_cmp}
 use Rattle.aide_db.specs.declared.side.Side.TheVariants.{Old, New}
-use Rattle.aide_db.proofs.PathLaws.{path_cmp_total}
+use Rattle.aide_entry.proofs.PathLaws.{path_cmp_total}
 use Rattle.aide_report.specs.ChangeView.{alike_of}
 use Rattle.aide_report.specs.NextEntry.{next_entry}
 use Rattle.aide_report.specs.Turn.{turn_of, turn_by, change_at}

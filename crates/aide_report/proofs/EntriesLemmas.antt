@@ -5,7 +5,7 @@ use Rattle.std.specs.List.{flat_map, filter}
 use Rattle.std.proofs.lemmas.List.{drop_more, drop_all}
 use Rattle.aide_attr.specs.declared.attr.Attr.{Attr}
 use Rattle.aide_conf.specs.declared.options.Options.{Options}
-use Rattle.aide_db.specs.Attributes.{Entry}
+use Rattle.aide_entry.specs.Attributes.{Entry}
 use Rattle.aide_report.specs.ChangeView.{alike_of}
 use Rattle.aide_report.specs.Entries.{PathChange, Pair, attribute_text, attributes_text, shown_text}
 use Rattle.aide_report.specs.Sections.{is_in, lists, entry_text, one_text, entries_text}

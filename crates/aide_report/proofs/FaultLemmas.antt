@@ -3,12 +3,12 @@ use Rattle.std.specs.Prelude.{◌≡◌, ◌<◌, ◌≤◌, ℕ, Option, Some, 
 use Rattle.std.proofs.Common.{refl, sym, ap, arith, ◌∙◌}
 use Rattle.aide_report.specs.Asked.{Asked}
 use Rattle.aide_db.specs.Database.{IsSound}
-use Rattle.aide_db.specs.Failures.{is_outside}
+use Rattle.aide_entry.specs.Cause.{is_outside}
 use Rattle.aide_db.specs.declared.fault.DbFault.{DbFault}
-use Rattle.aide_db.specs.declared.fault.DbFaultKind.{DbFaultKind}
-use Rattle.aide_db.specs.declared.fault.DbFaultKind.TheVariants.{LineTooLong, NoBegin, BadDirective, BadSpec, NoSpec}
-use Rattle.aide_db.specs.declared.fault.DbFaultKind.TheVariants.{FieldCount, BadName, OutOfOrder, BadNumber, BadTime}
-use Rattle.aide_db.specs.declared.fault.DbFaultKind.TheVariants.{BadDigest, NoEnd, Memory, Read, TooManyBytes}
+use Rattle.aide_entry.specs.declared.fault_kind.DbFaultKind.{DbFaultKind}
+use Rattle.aide_entry.specs.declared.fault_kind.DbFaultKind.TheVariants.{LineTooLong, NoBegin, BadDirective, BadSpec, NoSpec}
+use Rattle.aide_entry.specs.declared.fault_kind.DbFaultKind.TheVariants.{FieldCount, BadName, OutOfOrder, BadNumber, BadTime}
+use Rattle.aide_entry.specs.declared.fault_kind.DbFaultKind.TheVariants.{BadDigest, NoEnd, Memory, Read, TooManyBytes}
 use Rattle.aide_db.specs.declared.limits.Limits.{Limits}
 use Rattle.aide_db.specs.declared.side.Side.{Side}
 use Rattle.aide_db.specs.declared.side.Side.TheVariants.{Old, New}

@@ -11,7 +11,7 @@ use Rattle.aide_attr.specs.declared.form.Form.{Form}
 use Rattle.aide_attr.specs.declared.form.Form.TheVariants.{Kind, Link}
 use Rattle.aide_attr.proofs.AttrLemmas.{at_number, number_small}
 use Rattle.aide_attr.proofs.DifferenceLemmas.{attr_is}
-use Rattle.aide_db.specs.Attributes.{Attributes, type_in, link_in}
+use Rattle.aide_entry.specs.Attributes.{Attributes, type_in, link_in}
 use Rattle.aide_text.specs.ValueText.{option_text, type_text, printed_link, text_at, value_in}
 
 and_left : (a b : Bool) → (a && b) ≡ true → a ≡ true

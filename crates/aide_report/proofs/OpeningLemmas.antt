@@ -4,10 +4,10 @@ use Rattle.std.specs.Io.KnownBytes.{Appends}
 use Rattle.aide_db.specs.Count.{one_more, sum_of}
 use Rattle.aide_db.specs.Side.{by_side}
 use Rattle.aide_db.specs.declared.fault.DbFault.{DbFault}
-use Rattle.aide_db.specs.declared.fault.DbFaultKind.{DbFaultKind}
-use Rattle.aide_db.specs.declared.fault.DbFaultKind.TheVariants.{LineTooLong, NoBegin, BadDirective, BadSpec, NoSpec}
-use Rattle.aide_db.specs.declared.fault.DbFaultKind.TheVariants.{FieldCount, BadName, OutOfOrder, BadNumber, BadTime}
-use Rattle.aide_db.specs.declared.fault.DbFaultKind.TheVariants.{BadDigest, NoEnd, Memory, Read, TooManyBytes}
+use Rattle.aide_entry.specs.declared.fault_kind.DbFaultKind.{DbFaultKind}
+use Rattle.aide_entry.specs.declared.fault_kind.DbFaultKind.TheVariants.{LineTooLong, NoBegin, BadDirective, BadSpec, NoSpec}
+use Rattle.aide_entry.specs.declared.fault_kind.DbFaultKind.TheVariants.{FieldCount, BadName, OutOfOrder, BadNumber, BadTime}
+use Rattle.aide_entry.specs.declared.fault_kind.DbFaultKind.TheVariants.{BadDigest, NoEnd, Memory, Read, TooManyBytes}
 use Rattle.aide_db.specs.declared.limits.Limits.{Limits}
 use Rattle.aide_db.specs.declared.side.Side.{Side}
 use Rattle.aide_db.specs.declared.side.Side.TheVariants.{Old, New}

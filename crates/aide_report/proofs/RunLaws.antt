@@ -1,10 +1,10 @@
 -- What the contract of `run` says of two texts, drawn from its clause `over`. Each law has that clause as a premise.
 use Rattle.std.specs.Prelude.{◌≡◌, ◌≤◌, ℕ, List, Option, Some, Result, Ok, Err, false}
 use Rattle.std.proofs.Common.{◌+◌, inl, inr, refl, arith}
-use Rattle.aide_db.specs.Failures.{is_outside}
+use Rattle.aide_entry.specs.Cause.{is_outside}
 use Rattle.aide_db.specs.declared.fault.DbFault.{DbFault}
-use Rattle.aide_db.specs.declared.fault.DbFaultKind.{DbFaultKind}
-use Rattle.aide_db.specs.declared.fault.DbFaultKind.TheVariants.{Read, Memory}
+use Rattle.aide_entry.specs.declared.fault_kind.DbFaultKind.{DbFaultKind}
+use Rattle.aide_entry.specs.declared.fault_kind.DbFaultKind.TheVariants.{Read, Memory}
 use Rattle.aide_db.specs.declared.limits.Limits.{Limits}
 use Rattle.aide_report.specs.Asked.{Asked}
 use Rattle.aide_report.specs.Missing.{RunsOver, IsHindered, EndsOver}

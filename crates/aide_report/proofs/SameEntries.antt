@@ -8,8 +8,8 @@ use Rattle.aide_attr.specs.Set.{has}
 use Rattle.aide_attr.specs.declared.attr.Attr.{Attr}
 use Rattle.aide_attr.specs.declared.delta.Ignore.{Ignore}
 use Rattle.aide_attr.specs.declared.level.Level.{Level}
-use Rattle.aide_db.specs.Attributes.{Attributes, Entry, sides_between, is_different}
-use Rattle.aide_db.proofs.ValueLaws.{never_different}
+use Rattle.aide_entry.specs.Attributes.{Attributes, Entry, sides_between, is_different}
+use Rattle.aide_entry.proofs.ValueLaws.{never_different}
 use Rattle.aide_conf.specs.declared.options.Options.{Options}
 use Rattle.aide_text.specs.declared.section.Section.{Section}
 use Rattle.aide_text.specs.declared.section.Section.TheVariants.{AddedEntries, RemovedEntries, ChangedEntries, AllEntries, Details}

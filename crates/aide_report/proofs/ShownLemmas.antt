@@ -11,7 +11,7 @@ use Rattle.aide_attr.specs.Difference.{sides_of}
 use Rattle.aide_attr.specs.Set.{has}
 use Rattle.aide_attr.proofs.AttrLemmas.{at_number, number_small}
 use Rattle.aide_attr.proofs.WalkLemmas.{bool_cases}
-use Rattle.aide_db.specs.Attributes.{Attributes, sides_between}
+use Rattle.aide_entry.specs.Attributes.{Attributes, sides_between}
 
 none_any : (p : Attr → Bool) (xs : List Attr) (k : ℕ) (d : Attr) → list_any p xs ≡ false → k < length xs
     → p (get_or xs k d) ≡ false

@@ -15,7 +15,7 @@ use Rattle.aide_attr.specs.declared.level.Level.{Level}
 use Rattle.aide_attr.specs.declared.level.Level.TheVariants.{AddedRemovedEntries}
 use Rattle.aide_attr.specs.declared.summary_string.Alone.TheVariants.{Added, Removed}
 use Rattle.aide_conf.specs.declared.options.Options.{Options}
-use Rattle.aide_db.specs.Attributes.{Attributes, sides_between, type_in}
+use Rattle.aide_entry.specs.Attributes.{Attributes, sides_between, type_in}
 use Rattle.aide_report.specs.Compare.{Change, Found}
 use Rattle.aide_text.specs.Layout.{empty_line, path_line, side_by_side}
 use Rattle.aide_text.specs.ValueText.{side_text}

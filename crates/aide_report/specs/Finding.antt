@@ -4,8 +4,8 @@ use Rattle.aide_conf.specs.declared.options.Options.{Options}
 use Rattle.aide_conf.specs.declared.task.Task.{Task}
 use Rattle.aide_db.specs.Giving.{columns_of_text}
 use Rattle.aide_db.specs.Map.{database_of, entries_of}
-use Rattle.aide_db.specs.Path.{path_cmp}
-use Rattle.aide_db.specs.Skipped.{skipped_in}
+use Rattle.aide_entry.specs.Path.{path_cmp}
+use Rattle.aide_entry.specs.Skipped.{skipped_in}
 use Rattle.aide_report.specs.Entries.{PathChange}
 use Rattle.aide_report.specs.Merged.{merged}
 use Rattle.aide_report.specs.Report.{Origin, counts_of}

@@ -9,7 +9,7 @@ use Rattle.aide_db.specs.Giving.{columns_of_text}
 use Rattle.aide_db.specs.Kept.{IsKept}
 use Rattle.aide_db.specs.Map.{entries_of}
 use Rattle.aide_db.specs.Side.{other_side}
-use Rattle.aide_db.specs.Skipped.{skipped_in}
+use Rattle.aide_entry.specs.Skipped.{skipped_in}
 use Rattle.aide_db.specs.declared.limits.Limits.{Limits}
 use Rattle.aide_db.specs.declared.reel.Reel.{Ghosts as Reels}
 use Rattle.aide_db.specs.declared.side.Side.{Side}

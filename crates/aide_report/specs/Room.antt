@@ -1,6 +1,6 @@
 -- Faults other than out of memory.
 use Rattle.std.specs.Prelude.{◌≡◌, false, ⊤}
-use Rattle.aide_db.specs.Memory.{is_memory}
+use Rattle.aide_entry.specs.Cause.{is_memory}
 use Rattle.aide_db.specs.declared.fault.DbFault.{DbFault}
 use Rattle.aide_report.specs.declared.run_fault.RunFault.{RunFault}
 use Rattle.aide_report.specs.declared.run_fault.RunFault.TheVariants.{Open, Database, Changed}

@@ -4,8 +4,8 @@ use Rattle.std.specs.Prelude.{false, Result, Ok, Err}
 use Rattle.std.specs.Io.KnownBytes.{Appends}
 use Rattle.aide_db.specs.Count.{one_more}
 use Rattle.aide_db.specs.Database.{IsSound}
-use Rattle.aide_db.specs.Failures.{is_outside}
-use Rattle.aide_db.specs.declared.fault.DbFaultKind.TheVariants.{Read}
+use Rattle.aide_entry.specs.Cause.{is_outside}
+use Rattle.aide_entry.specs.declared.fault_kind.DbFaultKind.TheVariants.{Read}
 use Rattle.aide_db.specs.declared.limits.Limits.{Limits}
 use Rattle.aide_db.specs.declared.side.Side.{Side}
 use Rattle.aide_report.specs.Standing.{IsFaultOf}

@@ -4,13 +4,13 @@ use Rattle.std.specs.Io.KnownBytes.{Appends}
 use Rattle.aide_report.specs.Asked.{Asked}
 use Rattle.sha2.specs.Sha256.{sha256}
 use Rattle.aide_db.specs.Database.{IsSound, IsFirstFault}
-use Rattle.aide_db.specs.Failures.{is_outside}
+use Rattle.aide_entry.specs.Cause.{is_outside}
 use Rattle.aide_db.specs.Giving.{columns_of_text}
 use Rattle.aide_db.specs.Map.{database_of}
-use Rattle.aide_db.specs.Skipped.{skipped_in}
+use Rattle.aide_entry.specs.Skipped.{skipped_in}
 use Rattle.aide_db.specs.declared.fault.DbFault.{DbFault}
-use Rattle.aide_db.specs.declared.fault.DbFaultKind.{DbFaultKind}
-use Rattle.aide_db.specs.declared.fault.DbFaultKind.TheVariants.{Memory, Read}
+use Rattle.aide_entry.specs.declared.fault_kind.DbFaultKind.{DbFaultKind}
+use Rattle.aide_entry.specs.declared.fault_kind.DbFaultKind.TheVariants.{Memory, Read}
 use Rattle.aide_db.specs.declared.limits.Limits.{Limits}
 use Rattle.aide_db.specs.declared.side.Side.{Side}
 use Rattle.aide_db.specs.declared.side.Side.TheVariants.{Old, New}

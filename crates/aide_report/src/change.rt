@@ -1,7 +1,7 @@
 //! What the databases have at one path, as the desk shows it.
 ghost use Rattle.std.specs.Prelude.{◌≡◌, Some};
 ghost use Rattle.aide_db.specs.Desk.{desk_entry};
-ghost use Rattle.aide_db.specs.View.{entry_in};
+ghost use Rattle.aide_entry.specs.View.{entry_in};
 ghost use Rattle.aide_report.specs.ChangeView.{change_of, ShowsPath};
 ghost use Rattle.aide_report.specs.Turn.{change_at};
 ghost use Rattle.aide_text.specs.DecodedRest.{decoded_rest};

@@ -2,8 +2,8 @@
 ghost use Rattle.std.specs.Prelude.{◌≡◌, Option, None, Some};
 ghost use Rattle.aide_attr.specs.Set.{has};
 ghost use Rattle.aide_attr.specs.declared.attr.Attr.{Attr as AnyAttr};
-ghost use Rattle.aide_db.specs.Attributes.{link_in, digest_in, opaque_in};
-ghost use Rattle.aide_db.specs.View.{entry_in};
+ghost use Rattle.aide_entry.specs.Attributes.{link_in, digest_in, opaque_in};
+ghost use Rattle.aide_entry.specs.View.{entry_in};
 ghost use Rattle.aide_report.specs.ChangeView.{change_of};
 ghost use Rattle.aide_report.specs.Entries.{attribute_text, attributes_text, shown_text, title_of};
 ghost use Rattle.aide_report.specs.Entries.{title_word};

@@ -2,7 +2,7 @@
 ghost use Rattle.std.specs.Prelude.{◌≡◌, ℕ, List, IfSome, IfNone};
 ghost use Rattle.sha2.specs.Sha256.{sha256};
 ghost use Rattle.aide_db.specs.Answer.{StandsFor};
-ghost use Rattle.aide_db.specs.declared.column.Column.{Column};
+ghost use Rattle.aide_entry.specs.declared.column.Column.{Column};
 ghost use Rattle.aide_db.specs.declared.stage.Stage.TheVariants.{Ended as AtEnd};
 ghost use Rattle.aide_report.specs.Digests.{digest_on};
 ghost use Rattle.aide_report.specs.Merging.{IsEnded, cursor_at};

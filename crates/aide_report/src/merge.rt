@@ -1,6 +1,7 @@
 //! Two databases read in lock step: one path after another, in path order.
 ghost use Rattle.std.specs.Prelude.{◌≡◌, ℕ, IfOk, IfErr, List, Option};
-ghost use Rattle.aide_db.specs.Desk.{desk_entry, Shows};
+ghost use Rattle.aide_entry.specs.View.{Shows};
+ghost use Rattle.aide_db.specs.Desk.{desk_entry};
 ghost use Rattle.aide_db.specs.Kept.{IsKept};
 ghost use Rattle.aide_db.specs.Side.{other_side};
 ghost use Rattle.aide_report.specs.MergeCalls.{IsAdvanced, IsCursorFault, IsMergeFault, IsOpened};

@@ -7,7 +7,7 @@ ghost use Rattle.aide_db.specs.Desk.{list_of};
 ghost use Rattle.aide_db.specs.DeskView.{DeskView};
 ghost use Rattle.aide_db.specs.Giving.{columns_of_text};
 ghost use Rattle.aide_db.specs.Map.{entries_of};
-ghost use Rattle.aide_db.specs.Path.{path_cmp};
+ghost use Rattle.aide_entry.specs.Path.{path_cmp};
 ghost use Rattle.aide_db.specs.Side.{by_side};
 ghost use Rattle.aide_db.specs.declared.stage.Stage.TheVariants.{Ended as AtEnd};
 ghost use Rattle.aide_report.specs.Bound.{Fits, OpensWithin};

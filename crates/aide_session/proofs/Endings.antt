@@ -5,8 +5,8 @@ use Rattle.std.specs.Prelude.{Result, IsSome, unwrap_or}
 use Rattle.std.specs.Io.KnownBytes.{Keeps}
 use Rattle.std.proofs.Math.Path.{subst}
 use Rattle.aide_db.specs.declared.fault.DbFault.{DbFault}
-use Rattle.aide_db.specs.declared.fault.DbFaultKind.{DbFaultKind}
-use Rattle.aide_db.specs.declared.fault.DbFaultKind.TheVariants as db
+use Rattle.aide_entry.specs.declared.fault_kind.DbFaultKind.{DbFaultKind}
+use Rattle.aide_entry.specs.declared.fault_kind.DbFaultKind.TheVariants as db
 use Rattle.aide_db.specs.declared.side.Side.{Side}
 use Rattle.aide_db.specs.declared.side.Side.TheVariants.{Old, New}
 use Rattle.aide_conf.specs.declared.options.Options.{Options}
@@ -17,7 +17,7 @@ use Rattle.aide_report.specs.Missing.{run_answer}
 use Rattle.aide_report.specs.Runs.{HasCause, Causes}
 use Rattle.aide_report.specs.Runs.{Report}
 use Rattle.aide_report.specs.Sent.{SendsPart}
-use Rattle.aide_db.specs.Memory.{is_memory}
+use Rattle.aide_entry.specs.Cause.{is_memory}
 use Rattle.aide_db.specs.Side.{by_side}
 use Rattle.aide_report.specs.Room.{IsNotOfMemory}
 use Rattle.aide_report.specs.FaultStatus.{fault_status, kind_status}

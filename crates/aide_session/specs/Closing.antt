@@ -9,7 +9,7 @@ use Rattle.aide_conf.specs.declared.fault.ConfFault.{ConfFault}
 use Rattle.aide_conf.specs.declared.options.Options.{Options}
 use Rattle.aide_db.specs.Database.{IsSound}
 use Rattle.aide_db.specs.Side.{by_side}
-use Rattle.aide_db.specs.declared.fault.DbFaultKind.TheVariants.{Read}
+use Rattle.aide_entry.specs.declared.fault_kind.DbFaultKind.TheVariants.{Read}
 use Rattle.aide_db.specs.declared.side.Side.{Side}
 use Rattle.aide_db.specs.declared.side.Side.TheVariants.{Old, New}
 use Rattle.aide_report.specs.FaultStatus.{fault_status}

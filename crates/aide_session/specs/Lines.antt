@@ -11,10 +11,10 @@ use Rattle.aide_report.specs.declared.run_fault.RunFault.TheVariants.{Write}
 use Rattle.aide_db.specs.Side.{by_side}
 use Rattle.aide_db.specs.declared.side.Side.{Side}
 use Rattle.aide_db.specs.declared.side.Side.TheVariants.{Old, New}
-use Rattle.aide_db.specs.Fault.{words_of_kind}
+use Rattle.aide_entry.specs.Fault.{words_of_kind}
 use Rattle.aide_db.specs.declared.fault.DbFault.{DbFault}
-use Rattle.aide_db.specs.declared.fault.DbFaultKind.{DbFaultKind}
-use Rattle.aide_db.specs.declared.fault.DbFaultKind.TheVariants as db
+use Rattle.aide_entry.specs.declared.fault_kind.DbFaultKind.{DbFaultKind}
+use Rattle.aide_entry.specs.declared.fault_kind.DbFaultKind.TheVariants as db
 use Rattle.aide_conf.specs.Fault.{kind_words, text_word}
 use Rattle.aide_conf.specs.declared.fault.ConfFault.{ConfFault}
 

@@ -8,15 +8,17 @@ ghost use Rattle.aide_db.specs.Told.{tells, bytes_of};
 ghost use Rattle.aide_db.specs.CursorView.{to_use};
 ghost use Rattle.aide_db.specs.Hashed.{HasHashed, IsHashedAt};
 ghost use Rattle.aide_db.specs.Takes.{Takes};
-ghost use Rattle.aide_db.specs.Failures.{IsOfText, after_answer};
+ghost use Rattle.aide_entry.specs.Cause.{IsOfText};
+ghost use Rattle.aide_db.specs.Failures.{after_answer};
 ghost use Rattle.aide_db.specs.Keeping.{IsOutcomeOfEnd, KeepsBytes, KeepsCursor};
 
 use super::Cursor;
 use crate::drain::{Drained, drain};
-use crate::fault::{DbFault, DbFaultKind};
+use crate::fault::DbFault;
 use crate::reel::Reel;
 use crate::stage::{FaultAt, Stage};
 use crate::step::Step;
+use aide_entry::DbFaultKind;
 
 impl<R: Reel> Cursor<R> {
     /// Takes the bytes after the end line.

@@ -1,4 +1,4 @@
-use Rattle.aide_db.specs.View.{entry_in}
+use Rattle.aide_entry.specs.View.{entry_in}
 use Rattle.aide_report.proofs.AlikeLemmas.{change_of_alike}
 use Rattle.aide_report.proofs.change.common.Goals as goal
 

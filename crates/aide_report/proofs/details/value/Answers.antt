@@ -1,5 +1,5 @@
 use Rattle.std.proofs.Common.{◌∙◌, sym, ap}
-use Rattle.aide_db.specs.View.{entry_in}
+use Rattle.aide_entry.specs.View.{entry_in}
 use Rattle.aide_text.specs.ValueText.{option_text, type_text}
 use Rattle.aide_report.proofs.FormLemmas.{kind_at, link_at}
 use Rattle.aide_report.proofs.details.value.Goals as goal

@@ -2,7 +2,7 @@ use Rattle.std.proofs.Common.{◌∙◌, sym, ap}
 use Rattle.std.specs.Prelude.{not}
 use Rattle.aide_attr.specs.Difference.{sides_of}
 use Rattle.aide_attr.specs.Summary.{summary_letters}
-use Rattle.aide_db.specs.View.{entry_in}
+use Rattle.aide_entry.specs.View.{entry_in}
 use Rattle.aide_report.proofs.DifferenceLemmas.{differ_from}
 use Rattle.aide_report.proofs.ShownLemmas.{same_sides}
 use Rattle.aide_report.proofs.difference.letters_between.Goals as goal

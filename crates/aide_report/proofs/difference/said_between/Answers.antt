@@ -1,6 +1,6 @@
 use Rattle.std.proofs.Common.{◌∙◌, ap}
 use Rattle.aide_attr.specs.Difference.{is_shown, sides_of}
-use Rattle.aide_db.specs.View.{entry_in}
+use Rattle.aide_entry.specs.View.{entry_in}
 use Rattle.aide_report.proofs.DifferenceLemmas.{differ_from}
 use Rattle.aide_report.proofs.ShownLemmas.{same_sides}
 use Rattle.aide_report.proofs.difference.said_between.Goals as goal

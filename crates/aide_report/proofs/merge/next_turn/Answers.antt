@@ -1,4 +1,4 @@
-use Rattle.aide_db.specs.View.{entry_in}
+use Rattle.aide_entry.specs.View.{entry_in}
 use Rattle.aide_report.proofs.AlikeLemmas.{turn_of_alike}
 use Rattle.aide_report.proofs.merge.next_turn.Goals as goal
 

@@ -2,7 +2,7 @@ use Rattle.std.proofs.Common.{subst}
 use Rattle.std.proofs.lemmas.Result.{err_from_is_err_and}
 use Rattle.aide_db.specs.Desk.{list_of, columns_of_side}
 use Rattle.aide_db.specs.Map.{entries_of}
-use Rattle.aide_db.specs.Path.{path_cmp}
+use Rattle.aide_entry.specs.Path.{path_cmp}
 use Rattle.aide_db.specs.declared.side.Side.TheVariants.{Old, New}
 use Rattle.aide_report.specs.Merged.{merged}
 use Rattle.aide_report.specs.Merging.{cursor_at}

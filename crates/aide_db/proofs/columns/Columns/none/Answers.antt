@@ -1,5 +1,0 @@
-use Rattle.aide_db.proofs.PlaceLemmas.{none_placed}
-use Rattle.aide_db.proofs.columns.Columns.none.Goals as goal
-
-pub invariant_of-result-clause-placed : goal.invariant_of-result-clause-placed
-invariant_of-result-clause-placed c = none_placed

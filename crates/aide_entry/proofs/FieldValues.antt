@@ -1,0 +1,58 @@
+-- What fields mean, step by step.
+use Rattle.std.proofs.Common.{◌≡◌, ℕ, ℤ, ◌≤◌, List, length, refl, sym, ◌∙◌, true, false, cond, if◌then◌else◌, Bool, Option, Some, None, Ok, Err}
+use Rattle.std.proofs.Common.{nat_le}
+use Rattle.std.specs.Prelude.{option_map}
+use Rattle.std.proofs.lemmas.Bool.{le-leb}
+use Rattle.base64.specs.declared.decode.DecodeError.{DecodeError}
+use Rattle.base64.specs.Engines.{standard}
+use Rattle.base64.specs.GeneralPurpose.{decode_of, decoded_of}
+use Rattle.aide_attr.specs.declared.file_type.FileType.{FileType}
+use Rattle.aide_attr.specs.Attr.{bit_of, holder_of, form_of}
+use Rattle.aide_attr.specs.declared.attr.Attr.{Attr}
+use Rattle.aide_entry.specs.Text.{fields}
+use Rattle.aide_entry.specs.Fields.{field_under, is_bits, is_of}
+use Rattle.aide_entry.specs.Entry.{field_of, is_on, attributes_of, value_in}
+use Rattle.aide_entry.specs.Places.{bits_in, is_set}
+use Rattle.aide_entry.proofs.PlaceLemmas.{set_is_on}
+use Rattle.aide_entry.specs.declared.column.Column.{Column}
+use Rattle.aide_entry.specs.Attributes.{type_value, type_in}
+use Rattle.aide_entry.specs.Numbers.{number_of}
+use Rattle.aide_entry.specs.Values.{begins_number, time_of}
+
+pub time_decoded : (field bytes : List ℕ) → begins_number field ≡ false → length field ≤ 44
+    → decode_of standard field ≡ Ok bytes → time_of field ≡ number_of bytes
+unfolding time_of decoded_of
+time_decoded field bytes plain short ok = rw (plain, le-leb (length field) 44 short, ok) refl
+
+pub time_undecoded : (field : List ℕ) (e : DecodeError) → begins_number field ≡ false → decode_of standard field ≡ Err e
+    → time_of field ≡ None
+unfolding time_of decoded_of
+time_undecoded field e plain err =
+    rw (plain, err) (elim (nat_le (length field) 44) as (λ b. cond {A = Option ℤ} b None None ≡ None) [ true ↦ refl | false ↦ refl ])
+
+pub types_mapped : (o : Option FileType) → type_in (option_map type_value o) ≡ o
+types_mapped None = refl
+types_mapped (Some kind) = refl
+
+-- the field of an attribute, from the parts
+pub field_on : (cs : List Column) (line : List ℕ) (attr holder : Attr) (bit bits : Option ℕ) (field : Option (List ℕ))
+    → holder ≡ holder_of attr → bit ≡ bit_of attr → bits ≡ bits_in cs line → is_set bit bits ≡ true
+    → field ≡ field_under (is_of holder) cs (fields line) → field ≡ field_of cs line attr
+field_on cs line attr holder bit bits field h b f on is =
+    let t : is_on (bit_of attr) (field_under is_bits cs (fields line)) ≡ true = sym (set_is_on (bit_of attr) (field_under is_bits cs (fields line))) ∙ rw (← b, ← f) on in
+    is ∙ rw (h, t) refl
+
+pub field_off : (cs : List Column) (line : List ℕ) (attr : Attr) (bit bits : Option ℕ)
+    → bit ≡ bit_of attr → bits ≡ bits_in cs line → is_set bit bits ≡ false → None ≡ field_of cs line attr
+field_off cs line attr bit bits b f off =
+    let t : is_on (bit_of attr) (field_under is_bits cs (fields line)) ≡ false = sym (set_is_on (bit_of attr) (field_under is_bits cs (fields line))) ∙ rw (← b, ← f) off in
+    rw t refl
+
+-- an attribute without a column has no value
+pub lacking : (cs : List Column) (line : List ℕ) (attr : Attr) → field_under (is_of (holder_of attr)) cs (fields line) ≡ None
+    → attributes_of cs line attr ≡ None
+lacking cs line attr none = rw none (by_test (is_on (bit_of attr) (field_under is_bits cs (fields line))))
+  where
+    by_test : (b : Bool) → value_in (form_of attr) (if b then None else None) ≡ None
+    by_test true = refl
+    by_test false = refl

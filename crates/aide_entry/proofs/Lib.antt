@@ -1,0 +1,23 @@
+mod Examples
+pub mod BlankLemmas
+pub mod SpanLemmas
+pub mod ShapeLemmas
+pub mod PathLemmas
+pub mod CutLemmas
+pub mod FieldLemmas
+pub mod KindLemmas
+pub mod Order
+pub mod NumberLemmas
+pub mod PathLaws
+pub mod SkippedLemmas
+pub mod ValueLaws
+pub mod FormLaws
+pub mod DecodeLemmas
+pub mod FieldValues
+pub mod AttrLoops
+pub mod ColumnLemmas
+pub mod PlaceLemmas
+pub mod JudgedFields
+pub mod SymbolLemmas
+pub mod SplitLemmas
+pub mod EntryFaults

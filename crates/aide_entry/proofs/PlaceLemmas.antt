@@ -1,0 +1,176 @@
+-- Where the first column of a kind stands.
+use Rattle.std.proofs.Common.{◌≡◌, ℕ, ◌+◌, ◌-◌, ◌<◌, ◌≢◌, List, [], ◌∷◌, ◌++◌, length, take, drop, set, get_or, replicate, map, suc, zero, refl, sym, ap, ◌∙◌}
+use Rattle.std.proofs.Common.{Bool, true, false, if◌then◌else◌, Option, None, Some, inl, inr, arith, get_or-set_same, get_or-set_other}
+use Rattle.std.proofs.lemmas.Bool.{cases_eq, eq-eqb, ne_eqb}
+use Rattle.std.proofs.lemmas.List.{drop_all, get_or-replicate, take_more_set, map-append}
+use Rattle.aide_attr.specs.Attr.{number}
+use Rattle.aide_entry.specs.Codes.{code_of}
+use Rattle.aide_entry.specs.Entry.{is_on}
+use Rattle.aide_entry.specs.Fields.{field_under, is_column}
+use Rattle.aide_entry.specs.Places.{ArePlaces, place_of, one_behind, field_at_place, bits_said, is_set}
+use Rattle.aide_entry.specs.Spans.{first_in}
+use Rattle.aide_entry.specs.declared.column.Column.{Column}
+use Rattle.aide_entry.specs.declared.column.Column.TheVariants.{Name, Bits, Of, Skipped}
+use Rattle.aide_entry.proofs.ColumnLemmas.{column_is, code_fits}
+
+code_small : (c : Column) → code_of c < 64
+code_small Name = omega arith
+code_small Bits = omega arith
+code_small Skipped = omega arith
+code_small (Of attr) = code_fits attr
+
+itself : (c : Column) → is_column c c ≡ true
+itself Name = refl
+itself Bits = refl
+itself Skipped = refl
+itself (Of attr) = eq-eqb (number attr) (number attr) refl
+
+other : (a b : Column) → code_of a ≢ code_of b → is_column a b ≡ false
+other Name Name ne = absurd (ne refl)
+other Bits Bits ne = absurd (ne refl)
+other Skipped Skipped ne = absurd (ne refl)
+other (Of a) (Of b) ne = ne_eqb (number a) (number b) (λ e. ne (ap (λ n. 3 + n) e))
+other Name Bits ne = refl
+other Name Skipped ne = refl
+other Name (Of b) ne = refl
+other Bits Name ne = refl
+other Bits Skipped ne = refl
+other Bits (Of b) ne = refl
+other Skipped Name ne = refl
+other Skipped Bits ne = refl
+other Skipped (Of b) ne = refl
+other (Of a) Name ne = refl
+other (Of a) Bits ne = refl
+other (Of a) Skipped ne = refl
+
+-- ---- what stands at a place
+
+nothing_at : (place : ℕ) → None ≡ field_at_place place []
+nothing_at zero = refl
+nothing_at (suc index) = sym (ap first_in (drop_all {X = List ℕ} index [] (omega arith)))
+
+behind : (place : ℕ) (field : List ℕ) (fields : List (List ℕ))
+    → field_at_place place fields ≡ field_at_place (one_behind place) (field ∷ fields)
+behind zero field fields = refl
+behind (suc index) field fields = refl
+
+field_placed : (test : Column → Bool) (cs : List Column) (fields : List (List ℕ))
+    → field_under test cs fields ≡ field_at_place (place_of test cs) fields
+field_placed test [] fields = refl
+field_placed test (c ∷ cs) [] = nothing_at (place_of test (c ∷ cs))
+field_placed test (c ∷ cs) (field ∷ fields) = by_test (test c) (field_placed test cs fields)
+  where
+    by_test : (b : Bool) → field_under test cs fields ≡ field_at_place (place_of test cs) fields
+        → (if b then Some field else field_under test cs fields)
+        ≡ field_at_place (if b then 1 else one_behind (place_of test cs)) (field ∷ fields)
+    by_test true more = refl
+    by_test false more = more ∙ behind (place_of test cs) field fields
+
+-- ---- a column more
+
+-- the place, where a column at this index is added
+after : ℕ → Bool → ℕ → ℕ
+after zero true index = suc index
+after zero false index = 0
+after (suc place) b index = suc place
+
+after_behind : (place : ℕ) (b : Bool) (index : ℕ) → one_behind (after place b index) ≡ after (one_behind place) b (suc index)
+unfolding after
+after_behind zero true index = refl
+after_behind zero false index = refl
+after_behind (suc place) b index = refl
+
+placed_more : (test : Column → Bool) (cs : List Column) (c : Column)
+    → place_of test (cs ++ c ∷ []) ≡ after (place_of test cs) (test c) (length cs)
+unfolding after
+placed_more test [] c = by_test (test c)
+  where
+    by_test : (b : Bool) → (if b then 1 else 0) ≡ after 0 b 0
+    by_test true = refl
+    by_test false = refl
+placed_more test (x ∷ cs) c = by_test (test x) (placed_more test cs c)
+  where
+    by_test : (b : Bool) → place_of test (cs ++ c ∷ []) ≡ after (place_of test cs) (test c) (length cs)
+        → (if b then 1 else one_behind (place_of test (cs ++ c ∷ [])))
+        ≡ after (if b then 1 else one_behind (place_of test cs)) (test c) (suc (length cs))
+    by_test true more = refl
+    by_test false more = ap one_behind more ∙ after_behind (place_of test cs) (test c) (length cs)
+
+-- nothing has a place at first
+pub none_placed : ArePlaces (replicate 64 0) []
+none_placed wanted = get_or-replicate 64 (code_of wanted) 0 0 (code_small wanted)
+
+module _ (places : List ℕ) (cs : List Column) (c : Column) (are : ArePlaces places cs) where
+  other_placed : (wanted : Column) → code_of wanted ≢ code_of c
+      → get_or places (code_of wanted) 0 ≡ place_of (is_column wanted) (cs ++ c ∷ [])
+  unfolding after
+  other_placed wanted ne =
+      are wanted ∙ sym (placed_more (is_column wanted) cs c ∙ rw (other wanted c ne) (kept (place_of (is_column wanted) cs)))
+    where
+      kept : (place : ℕ) → after place false (length cs) ≡ place
+      kept zero = refl
+      kept (suc place) = refl
+
+  -- the first column of its kind is added
+  pub first_placed : (place : ℕ) → length places ≡ 64 → place ≡ length cs + 1 → get_or places (code_of c) 0 ≡ 0
+      → ArePlaces (set places (code_of c) place) (cs ++ c ∷ [])
+  unfolding after
+  first_placed place long is none wanted = elim (cases_eq (code_of wanted) (code_of c)) [
+    | inl e ↦
+        let same : wanted ≡ c = column_is wanted c e in
+        let lt : code_of c < length places = omega (arith, code_small c) in
+        let zero_there : place_of (is_column c) cs ≡ 0 = sym (are c) ∙ none in
+        rw same (get_or-set_same places (code_of c) place 0 lt
+        ∙ sym (placed_more (is_column c) cs c ∙ rw (zero_there, itself c) (let s : suc (length cs) ≡ place = omega (arith, is) in s)))
+    | inr ne ↦ get_or-set_other places (code_of c) (code_of wanted) place 0 ne ∙ other_placed wanted ne
+  ]
+
+  -- a further column of its kind is added
+  pub again_placed : (get_or places (code_of c) 0 ≡ 0 → ⊥) → ArePlaces places (cs ++ c ∷ [])
+  unfolding after
+  again_placed some wanted = elim (cases_eq (code_of wanted) (code_of c)) [
+    | inl e ↦
+        let same : wanted ≡ c = column_is wanted c e in
+        are wanted ∙ sym (placed_more (is_column wanted) cs c ∙ there (place_of (is_column wanted) cs) (is_column wanted c)
+        (λ none. some (ap (λ w. get_or places (code_of w) 0) (sym same) ∙ are wanted ∙ none)))
+    | inr ne ↦ other_placed wanted ne
+  ]
+    where
+      there : (place : ℕ) (b : Bool) → (place ≡ 0 → ⊥) → after place b (length cs) ≡ place
+      there zero b h = absurd (h refl)
+      there (suc place) b h = refl
+
+-- a function of each column, kept beside the first ones
+pub pushed_map : {A B : Type 0} (f : A → B) (xs : List B) (kinds : List A) (count : ℕ) (x : B) (c : A) → count < length xs
+    → count < length kinds → x ≡ f c → take count xs ≡ map f (take count kinds)
+    → take (count + 1) (set xs count x) ≡ map f (take (count + 1) (set kinds count c))
+pushed_map f xs kinds count x c lt less is same =
+    take_more_set xs count x lt ∙ ap (λ l. l ++ x ∷ []) same ∙ ap (λ y. map f (take count kinds) ++ y ∷ []) is
+    ∙ sym (ap (map f) (take_more_set kinds count c less) ∙ map-append f (take count kinds) (c ∷ []))
+
+-- ---- what is looked up
+
+at_place : (place : ℕ) (fields : List (List ℕ)) → (place ≡ 0 → ⊥)
+    → field_at_place place fields ≡ first_in (drop (place - 1) fields)
+at_place zero fields some = absurd (some refl)
+at_place (suc index) fields some = let e : suc index - 1 ≡ index = omega arith in rw e refl
+
+module _ (places : List ℕ) (cs : List Column) (wanted : Column) (code : ℕ) (is : code ≡ code_of wanted) (are : ArePlaces places cs) where
+  place_is : get_or places code 0 ≡ place_of (is_column wanted) cs
+  place_is = ap (λ k. get_or places k 0) is ∙ are wanted
+
+  pub none_found : get_or places code 0 ≡ 0 → (fields : List (List ℕ)) → field_under (is_column wanted) cs fields ≡ None
+  none_found none fields =
+      field_placed (is_column wanted) cs fields ∙ ap (λ p. field_at_place p fields) (sym place_is ∙ none)
+
+  pub some_found : (get_or places code 0 ≡ 0 → ⊥) → (fields : List (List ℕ))
+      → field_under (is_column wanted) cs fields ≡ first_in (drop (get_or places code 0 - 1) fields)
+  some_found some fields =
+      field_placed (is_column wanted) cs fields ∙ ap (λ p. field_at_place p fields) (sym place_is) ∙ at_place (get_or places code 0) fields some
+
+-- ---- bits
+
+pub set_is_on : (bit : Option ℕ) (field : Option (List ℕ)) → is_set bit (bits_said field) ≡ is_on bit field
+set_is_on None field = refl
+set_is_on (Some bit) None = refl
+set_is_on (Some bit) (Some field) = refl

@@ -1,0 +1,5 @@
+use Rattle.aide_entry.proofs.PlaceLemmas.{none_placed}
+use Rattle.aide_entry.proofs.columns.Columns.none.Goals as goal
+
+pub invariant_of-result-clause-placed : goal.invariant_of-result-clause-placed
+invariant_of-result-clause-placed c = none_placed

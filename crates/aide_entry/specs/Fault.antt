@@ -1,0 +1,44 @@
+-- The numbers and the words of faults.
+use Rattle.std.specs.Prelude.{ℕ, List, codes}
+use Rattle.aide_entry.specs.declared.fault_kind.DbFaultKind.{DbFaultKind}
+use Rattle.aide_entry.specs.declared.fault_kind.DbFaultKind.TheVariants.{LineTooLong, NoBegin, BadDirective}
+use Rattle.aide_entry.specs.declared.fault_kind.DbFaultKind.TheVariants.{BadSpec, NoSpec, FieldCount}
+use Rattle.aide_entry.specs.declared.fault_kind.DbFaultKind.TheVariants.{BadName, OutOfOrder, BadNumber}
+use Rattle.aide_entry.specs.declared.fault_kind.DbFaultKind.TheVariants.{BadTime, BadDigest, NoEnd}
+use Rattle.aide_entry.specs.declared.fault_kind.DbFaultKind.TheVariants.{Memory, Read, TooManyBytes}
+
+-- the number of a kind of fault
+abbrev pub number_of_kind : DbFaultKind → ℕ
+number_of_kind LineTooLong = 1
+number_of_kind NoBegin = 2
+number_of_kind BadDirective = 3
+number_of_kind BadSpec = 4
+number_of_kind NoSpec = 5
+number_of_kind FieldCount = 6
+number_of_kind BadName = 7
+number_of_kind OutOfOrder = 8
+number_of_kind (BadNumber column) = 9
+number_of_kind (BadTime column) = 10
+number_of_kind (BadDigest column) = 11
+number_of_kind NoEnd = 12
+number_of_kind Memory = 13
+number_of_kind Read = 14
+number_of_kind TooManyBytes = 15
+
+-- the words of a kind of fault, before the number of a column
+unfoldable pub words_of_kind : DbFaultKind → List ℕ
+words_of_kind LineTooLong = codes "line too long"
+words_of_kind NoBegin = codes "no @@begin_db"
+words_of_kind BadDirective = codes "unexpected directive"
+words_of_kind BadSpec = codes "bad @@db_spec"
+words_of_kind NoSpec = codes "no @@db_spec"
+words_of_kind FieldCount = codes "wrong number of fields"
+words_of_kind BadName = codes "bad name"
+words_of_kind OutOfOrder = codes "entry out of path order"
+words_of_kind (BadNumber column) = codes "bad number in column"
+words_of_kind (BadTime column) = codes "bad time in column"
+words_of_kind (BadDigest column) = codes "bad digest in column"
+words_of_kind NoEnd = codes "no @@end_db"
+words_of_kind Memory = codes "out of memory"
+words_of_kind Read = codes "read failed"
+words_of_kind TooManyBytes = codes "too many bytes"

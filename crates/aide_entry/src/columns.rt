@@ -1,0 +1,159 @@
+//! The columns of a database.
+ghost use Rattle.std.specs.Prelude.{◌≡◌, ◌+◌, ◌≤◌, [], ◌∷◌, ◌++◌, length, true, false, take, map};
+ghost use Rattle.std.specs.Prelude.{All};
+ghost use Rattle.std.specs.Prelude.{ℕ, List, None, IfNone, IfSome, drop};
+ghost use Rattle.aide_entry.specs.Fields.{is_column, field_under};
+ghost use Rattle.aide_entry.specs.Places.{ArePlaces};
+ghost use Rattle.aide_entry.specs.Spans.{first_in};
+ghost use Rattle.aide_entry.specs.declared.column.Column.{Column};
+ghost use Rattle.aide_entry.specs.Skipped.{skipped_in};
+ghost use Rattle.aide_entry.specs.Codes.{code_of};
+ghost use Rattle.aide_entry.specs.Shapes.{shape_of, IsShort};
+
+use crate::column::{Column, code_of, is_column};
+use crate::shape::{Shape, shape_of};
+
+/// Notes the place of an added column, if it is the first one of its kind.
+fn note_place(places: &mut [u8; 64], column: Column, place: u8)
+    ensures { (columns : List Column) → place ≡ length columns + 1 → ArePlaces places.old columns
+        → ArePlaces places.new (columns ++ column ∷ []) }
+{
+    let code = code_of(column) as usize;
+    if places[code] == 0 {
+        places[code] = place;
+    }
+}
+
+/// The columns that a spec line names, at most 64.
+#[derive(Clone, Copy)]
+pub struct Columns {
+    kinds: [Column; 64],
+    // the numbers of the columns, since bytes are fast to compare
+    codes: [u8; 64],
+    // what the fields of each column have to be, since each line asks for it
+    shapes: [Shape; 64],
+    // for the number of each column, the place of the first column of this kind, since each entry looks up fields
+    places: [u8; 64],
+    count: u8,
+    ghost few: { count ≤ 64 },
+    ghost numbers: { take count codes ≡ map code_of (take count kinds) },
+    ghost shaped: { take count shapes ≡ map shape_of (take count kinds) },
+    ghost short: { All IsShort (take count shapes) },
+    ghost placed: { ArePlaces places (take count kinds) },
+}
+
+impl Columns {
+    ghost use Rattle.aide_entry.specs.Columns.{columns_in};
+
+    /// Returns a list without columns.
+    pub fn none() -> Columns
+        ensures { columns_in result ≡ [] }
+    {
+        Columns {
+            kinds: [Column::Skipped; 64],
+            codes: [0; 64],
+            shapes: [Shape::Free; 64],
+            places: [0; 64],
+            count: 0,
+        }
+    }
+
+    /// Returns the columns, in their order.
+    pub(crate) fn as_slice(&self) -> &[Column]
+        ensures same { result.now ≡ columns_in self.now }
+        ensures few { length result.now ≤ 64 }
+    {
+        let (front, _) = self.kinds.split_at(self.count as usize);
+        front
+    }
+
+    /// Returns what the fields of each column have to be, in the order of the columns.
+    pub(crate) fn shapes(&self) -> &[Shape]
+        ensures same { result.now ≡ map shape_of (columns_in self.now) }
+        ensures few { length result.now ≤ 64 }
+        ensures short { All IsShort result.now }
+    {
+        let (front, _) = self.shapes.split_at(self.count as usize);
+        front
+    }
+
+    /// Returns the index of the first column of this kind.
+    pub(crate) fn index_of(&self, wanted: Column) -> Option<usize>
+        ensures none { IfNone result ((fields : List (List ℕ))
+            → field_under (is_column wanted) (columns_in self.now) fields ≡ None) }
+        ensures some { IfSome result (λ index. (fields : List (List ℕ))
+            → field_under (is_column wanted) (columns_in self.now) fields
+            ≡ first_in (drop index fields)) }
+    {
+        let place = self.places[code_of(wanted) as usize];
+        if place == 0 {
+            None
+        } else {
+            Some(place as usize - 1)
+        }
+    }
+
+    /// Returns whether these are the same columns.
+    pub fn same(&self, other: &Columns) -> bool
+        ensures only { result ≡ true → columns_in self.now ≡ columns_in other.now }
+        ensures alike { columns_in self.now ≡ columns_in other.now → result ≡ true }
+    {
+        // the usual case, which needs no loop
+        if self.count == other.count && self.codes == other.codes {
+            return true;
+        }
+        let (codes, _) = self.codes.split_at(self.count as usize);
+        let (other_codes, _) = other.codes.split_at(other.count as usize);
+        codes == other_codes
+    }
+
+    /// Returns the unknown columns as bits. The lowest bit belongs to the first column.
+    pub fn skipped(&self) -> u64
+        ensures { result ≡ skipped_in (columns_in self.now) }
+    {
+        skipped_bits(self.as_slice())
+    }
+
+    /// Copies the columns of another list, if they are not the same already.
+    pub fn copy(&mut self, other: &Columns)
+        ensures { columns_in self.new ≡ columns_in other.now }
+    {
+        if !self.same(other) {
+            *self = *other;
+        }
+    }
+
+    /// Appends a column if there are fewer than 64. Returns whether it did.
+    pub(crate) fn push(&mut self, column: Column) -> bool
+        ensures pushed { result ≡ true → columns_in self.new ≡ columns_in self.old ++ column ∷ [] }
+        ensures full { result ≡ false → length (columns_in self.old) ≡ 64 }
+        ensures kept { result ≡ false → columns_in self.new ≡ columns_in self.old }
+    {
+        if self.count == 64 {
+            return false;
+        }
+        self.kinds[self.count as usize] = column;
+        self.codes[self.count as usize] = code_of(column);
+        self.shapes[self.count as usize] = shape_of(column);
+        self.count += 1;
+        note_place(&mut self.places, column, self.count);
+        true
+    }
+}
+
+/// Returns the unknown columns as bits. The lowest bit belongs to the first column.
+fn skipped_bits(columns: &[Column]) -> u64
+    requires few { length columns.now ≤ 64 }
+    ensures { result ≡ skipped_in columns.now }
+{
+    let mut bits: u64 = 0;
+    let mut rest = columns;
+    'columns: while let Some((column, before)) = rest.split_last() {
+        bits *= 2;
+        if is_column(Column::Skipped, *column) {
+            bits += 1;
+        }
+        rest = before;
+    }
+    bits
+}

@@ -1,0 +1,176 @@
+//! Compares two entries.
+ghost use Rattle.std.specs.Prelude.{◌≡◌, is_some, true};
+ghost use Rattle.aide_entry.specs.Path.{path_cmp};
+ghost use Rattle.aide_entry.specs.Columns.{columns_in};
+ghost use Rattle.aide_entry.specs.Places.{bits_in};
+ghost use Rattle.aide_entry.specs.Values.{value_of, is_field};
+ghost use Rattle.aide_entry.specs.View.{entry_in};
+ghost use Rattle.aide_entry.specs.Attributes.{number_order, is_different, sides_between};
+ghost use Rattle.aide_attr.specs.Set.{has};
+ghost use Rattle.aide_attr.specs.Difference.{sides_of};
+ghost use Rattle.aide_attr.specs.declared.attr.Attr.{Attr};
+
+use crate::path::cmp_paths;
+use crate::value::{differ, has_value};
+use crate::view::{View, with_if};
+use aide_attr::{Attr, AttrSet, Delta, Form};
+use std::cmp::Ordering;
+
+/// Compares the paths of two entries, piece by piece.
+pub fn cmp_names(x: &View<'_>, y: &View<'_>) -> Ordering
+    ensures { result ≡ path_cmp (entry_in x.now).0 (entry_in y.now).0 }
+{
+    let (left, _) = x.name();
+    let (right, _) = y.name();
+    cmp_paths(left, right)
+}
+
+/// How two entries differ at an attribute: whether each has it, and whether both have it with different values.
+#[derive(Clone, Copy)]
+struct Contrast {
+    in_old: bool,
+    in_new: bool,
+    differs: bool,
+}
+
+/// Returns how two entries differ at an attribute of this form, if both have a field for it.
+fn contrast_of(form: Form, old: &[u8], new: &[u8]) -> Contrast
+    requires old { is_field form old.now ≡ true }
+    requires new { is_field form new.now ≡ true }
+    ensures in_old { result.in_old ≡ is_some (value_of form old.now) }
+    ensures in_new { result.in_new ≡ is_some (value_of form new.now) }
+    ensures differs { result.differs
+        ≡ is_different (value_of form old.now) (value_of form new.now) }
+{
+    let in_old = has_value(form, old);
+    if old == new {
+        return Contrast {
+            in_old,
+            in_new: in_old,
+            differs: false,
+        };
+    }
+    Contrast {
+        in_old,
+        in_new: has_value(form, new),
+        differs: differ(form, old, new),
+    }
+}
+
+/// Returns how two entries differ at an attribute, given the numbers in their fields of bits.
+fn contrast_at(
+    old: &View<'_>,
+    old_bits: Option<u64>,
+    new: &View<'_>,
+    new_bits: Option<u64>,
+    attr: Attr,
+) -> Contrast
+    requires old { old_bits ≡ bits_in (columns_in old.now.columns.now) old.now.line.now }
+    requires new { new_bits ≡ bits_in (columns_in new.now.columns.now) new.now.line.now }
+    ensures in_old { result.in_old ≡ is_some ((entry_in old.now).1 attr) }
+    ensures in_new { result.in_new ≡ is_some ((entry_in new.now).1 attr) }
+    ensures differs { result.differs ≡ is_different ((entry_in old.now).1 attr)
+        ((entry_in new.now).1 attr) }
+{
+    // most attributes have no column
+    if old.lacks(attr) && new.lacks(attr) {
+        return Contrast {
+            in_old: false,
+            in_new: false,
+            differs: false,
+        };
+    }
+    match (old.field_by(old_bits, attr), new.field_by(new_bits, attr)) {
+        (None, None) => Contrast {
+            in_old: false,
+            in_new: false,
+            differs: false,
+        },
+        (Some(before), None) => Contrast {
+            in_old: has_value(attr.form(), before),
+            in_new: false,
+            differs: false,
+        },
+        (None, Some(after)) => Contrast {
+            in_old: false,
+            in_new: has_value(attr.form(), after),
+            differs: false,
+        },
+        (Some(before), Some(after)) => contrast_of(attr.form(), before, after),
+    }
+}
+
+/// The attributes that two entries have, and those that both have with different values.
+#[derive(Clone, Copy)]
+struct Contrasts {
+    in_old: AttrSet,
+    in_new: AttrSet,
+    differs: AttrSet,
+}
+
+/// Finds the attributes that two entries have and those that differ, in one pass over all attributes.
+fn contrasts_between(old: &View<'_>, new: &View<'_>) -> Contrasts
+    ensures in_old { (attr : Attr) → has result.in_old attr ≡ is_some ((entry_in old.now).1 attr) }
+    ensures in_new { (attr : Attr) → has result.in_new attr ≡ is_some ((entry_in new.now).1 attr) }
+    ensures differs { (attr : Attr) → has result.differs attr
+        ≡ is_different ((entry_in old.now).1 attr) ((entry_in new.now).1 attr) }
+{
+    let old_bits = old.bits();
+    let new_bits = new.bits();
+    let mut in_old = AttrSet::empty();
+    let mut in_new = AttrSet::empty();
+    let mut differs = AttrSet::empty();
+    let mut rest: &[Attr] = &Attr::ALL;
+    'attrs: while let Some((attr, more)) = rest.split_first() {
+        let contrast = contrast_at(old, old_bits, new, new_bits, *attr);
+        in_old = with_if(in_old, *attr, contrast.in_old);
+        in_new = with_if(in_new, *attr, contrast.in_new);
+        differs = with_if(differs, *attr, contrast.differs);
+        rest = more;
+    }
+    Contrasts {
+        in_old,
+        in_new,
+        differs,
+    }
+}
+
+/// Compares the new number with the old one. Returns `Equal` if either is missing.
+fn order(old: Option<i128>, new: Option<i128>) -> Ordering
+    ensures { result ≡ number_order old new }
+{
+    match old {
+        None => Ordering::Equal,
+        Some(before) => match new {
+            None => Ordering::Equal,
+            Some(after) => after.cmp(&before),
+        },
+    }
+}
+
+/// Returns how two entries of one path differ: the attributes of each entry, the attributes with different values, the
+/// order of the sizes, and the types.
+pub fn delta_of(old: &View<'_>, new: &View<'_>) -> Delta
+    ensures in_old { (attr : Attr) → (sides_of result).in_old attr
+        ≡ (sides_between (entry_in old.now).1 (entry_in new.now).1).in_old attr }
+    ensures in_new { (attr : Attr) → (sides_of result).in_new attr
+        ≡ (sides_between (entry_in old.now).1 (entry_in new.now).1).in_new attr }
+    ensures differs { (attr : Attr) → (sides_of result).differs attr
+        ≡ (sides_between (entry_in old.now).1 (entry_in new.now).1).differs attr }
+    ensures size { (sides_of result).size ≡ (sides_between (entry_in old.now).1
+        (entry_in new.now).1).size }
+    ensures old_type { (sides_of result).old_type ≡ (sides_between (entry_in old.now).1
+        (entry_in new.now).1).old_type }
+    ensures new_type { (sides_of result).new_type ≡ (sides_between (entry_in old.now).1
+        (entry_in new.now).1).new_type }
+{
+    let sets = contrasts_between(old, new);
+    Delta {
+        old: sets.in_old,
+        new: sets.in_new,
+        changed: sets.differs,
+        size: order(old.number(Attr::Size), new.number(Attr::Size)),
+        old_type: old.kind(),
+        new_type: new.kind(),
+    }
+}

@@ -1,0 +1,232 @@
+//! Views: entries that are lent.
+ghost use Rattle.std.specs.Prelude.{◌≡◌, ◌||◌, ◌&&◌, true};
+ghost use Rattle.aide_attr.specs.Set.{has, is_attr};
+ghost use Rattle.aide_attr.specs.declared.attr.Attr.{Attr};
+ghost use Rattle.aide_entry.specs.Columns.{columns_in};
+ghost use Rattle.aide_entry.specs.Entry.{has_entry};
+ghost use Rattle.aide_entry.specs.Spans.{AreSpans};
+
+use crate::base64_tables::Base64Tables;
+use crate::column::Column;
+use crate::columns::Columns;
+use crate::decoded::Decoded;
+use crate::entry::{bits_of, field_under, is_on, name_of};
+use crate::held_entry::HeldEntry;
+use crate::number::{read_mode, read_number};
+use crate::spans::Spans;
+use crate::value::{has_value, is_nought, read_digest, read_link, read_time, read_type};
+use aide_attr::{Attr, AttrSet, FileType, Form};
+use percent_encoding::percent_decode;
+
+/// Returns the set, with the attribute added if it belongs there.
+pub(crate) fn with_if(set: AttrSet, attr: Attr, belongs: bool) -> AttrSet
+    ensures { (a : Attr) → has result a ≡ (has set a || (belongs && is_attr a attr)) }
+{
+    if belongs {
+        set.union(AttrSet::of(attr))
+    } else {
+        set
+    }
+}
+
+/// An entry of a database, without a copy of its bytes.
+#[derive(Clone, Copy)]
+pub struct View<'a> {
+    pub(crate) line: &'a [u8],
+    pub(crate) columns: &'a Columns,
+    pub(crate) spans: &'a Spans,
+    ghost spanned: { AreSpans line.now spans.now },
+    ghost judged: { has_entry (columns_in columns.now) line.now ≡ true },
+}
+
+impl<'a> HeldEntry<'a> {
+    ghost use Rattle.std.specs.Prelude.{IfSome};
+    ghost use Rattle.aide_entry.specs.View.{Shows, entry_at, line_in, columns_under};
+
+    /// Returns a view of the entry, if there is one.
+    pub fn view(&self) -> Option<View<'a>>
+        ensures shows { Shows result (entry_at (columns_in self.now.columns.now)
+            self.now.line.now) }
+        ensures lent { IfSome result (λ view. line_in view ≡ self.now.line.now) }
+        ensures under { IfSome result (λ view. columns_under view
+            ≡ columns_in self.now.columns.now) }
+    {
+        if self.line.is_empty() {
+            None
+        } else {
+            Some(View {
+                line: self.line,
+                columns: self.columns,
+                spans: self.spans,
+            })
+        }
+    }
+}
+
+impl<'a> View<'a> {
+    ghost use Rattle.std.specs.Prelude.{is_some, option_map, None};
+    ghost use Rattle.std.specs.Option.{option_copied};
+    ghost use Rattle.percent_encoding.specs.Iter.{decoded_bytes};
+    ghost use Rattle.aide_entry.specs.View.{entry_in, name_in};
+    ghost use Rattle.aide_entry.specs.Attributes.{type_in, number_in, link_in, digest_in, opaque_in};
+    ghost use Rattle.aide_entry.specs.Entry.{field_of};
+    ghost use Rattle.aide_entry.specs.Places.{bits_in};
+    ghost use Rattle.aide_entry.specs.Lent.{IsDigest, lent_link};
+
+    /// Returns the path of the entry twice: the field as it is written, and the decoded bytes.
+    pub fn name(&self) -> (&'a [u8], Decoded<'a>)
+        ensures field { result.0.now ≡ name_in self.now }
+        ensures path { decoded_bytes result.1 ≡ (entry_in self.now).0 }
+    {
+        let name = name_of(self.columns, self.line, self.spans);
+        (name, percent_decode(name))
+    }
+
+    /// Returns the number in the field of bits, if there is such a field. It is read once for many attributes.
+    pub(crate) fn bits(&self) -> Option<u64>
+        ensures { result ≡ bits_in (columns_in self.now.columns.now) self.now.line.now }
+    {
+        bits_of(self.columns, self.line, self.spans)
+    }
+
+    /// Returns whether the attribute has no column. Then the entry lacks the attribute, whatever its line says.
+    pub(crate) fn lacks(&self, attr: Attr) -> bool
+        ensures { result ≡ true → (entry_in self.now).1 attr ≡ None }
+    {
+        match self.columns.index_of(Column::Of(attr.holder())) {
+            None => true,
+            Some(_) => false,
+        }
+    }
+
+    /// Returns the field of an attribute's column, if it counts by these bits.
+    pub(crate) fn field_by(&self, bits: Option<u64>, attr: Attr) -> Option<&'a [u8]>
+        requires { bits ≡ bits_in (columns_in self.now.columns.now) self.now.line.now }
+        ensures { option_copied result ≡ field_of (columns_in self.now.columns.now)
+            self.now.line.now attr }
+    {
+        if is_on(attr.bit(), bits) {
+            field_under(
+                self.columns,
+                Column::Of(attr.holder()),
+                self.line,
+                self.spans,
+            )
+        } else {
+            None
+        }
+    }
+
+    /// Returns the field of an attribute's column, if it counts.
+    fn field_of(&self, attr: Attr) -> Option<&'a [u8]>
+        ensures { option_copied result ≡ field_of (columns_in self.now.columns.now)
+            self.now.line.now attr }
+    {
+        match attr.bit() {
+            None => field_under(
+                self.columns,
+                Column::Of(attr.holder()),
+                self.line,
+                self.spans,
+            ),
+            Some(_) => self.field_by(self.bits(), attr),
+        }
+    }
+
+    /// Returns whether the entry has an attribute, by these bits.
+    fn has(&self, bits: Option<u64>, attr: Attr) -> bool
+        requires { bits ≡ bits_in (columns_in self.now.columns.now) self.now.line.now }
+        ensures { result ≡ is_some ((entry_in self.now).1 attr) }
+    {
+        match self.field_by(bits, attr) {
+            None => false,
+            Some(field) => has_value(attr.form(), field),
+        }
+    }
+
+    /// Returns the attributes that the entry has.
+    pub fn attrs(&self) -> AttrSet
+        ensures { (attr : Attr) → has result attr ≡ is_some ((entry_in self.now).1 attr) }
+    {
+        let bits = self.bits();
+        let mut set = AttrSet::empty();
+        let mut rest: &[Attr] = &Attr::ALL;
+        'attrs: while let Some((attr, more)) = rest.split_first() {
+            set = with_if(set, *attr, self.has(bits, *attr));
+            rest = more;
+        }
+        set
+    }
+
+    /// Returns the type of the file, if the entry has it.
+    #[tactic(auto, unfolding(aide_attr::specs::Attr::row_of, aide_attr::specs::Attr::row))]
+    pub fn kind(&self) -> Option<FileType>
+        ensures { result ≡ type_in ((entry_in self.now).1 Attr.Ftype) }
+    {
+        match self.field_of(Attr::Ftype) {
+            None => None,
+            Some(field) => read_type(field),
+        }
+    }
+
+    /// Returns the value of an attribute that is a number, if the entry has it.
+    pub fn number(&self, attr: Attr) -> Option<i128>
+        ensures { result ≡ number_in ((entry_in self.now).1 attr) }
+    {
+        let Some(field) = self.field_of(attr) else {
+            return None;
+        };
+        match attr.form() {
+            Form::Mode => match read_mode(field) {
+                None => None,
+                Some(mode) => Some(i128::from(mode % 4096)),
+            },
+            Form::Number => read_number(field),
+            Form::Time => read_time(field),
+            _ => None,
+        }
+    }
+
+    #[tactic(auto, unfolding(aide_attr::specs::Attr::row_of, aide_attr::specs::Attr::row))]
+    /// Returns the name in a symbolic link, if the entry has one or says that there is none.
+    pub fn link(&self) -> Option<Option<Decoded<'a>>>
+        ensures { option_map lent_link result ≡ link_in ((entry_in self.now).1 Attr.Lname) }
+    {
+        match self.field_of(Attr::Lname) {
+            None => None,
+            Some(field) => Some(read_link(field)),
+        }
+    }
+
+    /// Decodes a digest into the front of a buffer, if the entry has it. Returns how many bytes there are.
+    pub fn digest(&self, attr: Attr, buffer: &mut [u8; 64]) -> Option<usize>
+        ensures { IsDigest (digest_in ((entry_in self.now).1 attr)) result buffer.new }
+    {
+        let Some(field) = self.field_of(attr) else {
+            return None;
+        };
+        match attr.form() {
+            Form::Digest(least, most) => read_digest(
+                &Base64Tables::new(),
+                least,
+                most,
+                field,
+                buffer,
+            ),
+            _ => None,
+        }
+    }
+
+    /// Returns the bytes of an attribute whose bytes have no further meaning, if the entry has it.
+    pub fn field(&self, attr: Attr) -> Option<&'a [u8]>
+        ensures { option_copied result ≡ opaque_in ((entry_in self.now).1 attr) }
+    {
+        let Some(field) = self.field_of(attr) else {
+            return None;
+        };
+        match attr.form() {
+            Form::Opaque => { if is_nought(field) { None } else { Some(field) } }
+            _ => None,
+        }
+    }
+}
