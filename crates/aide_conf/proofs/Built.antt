@@ -18,8 +18,8 @@ use Rattle.aide_attr.specs.Set.{has}
 use Rattle.aide_conf.specs.declared.options.Options.{Options}
 use Rattle.aide_conf.specs.declared.option_kind.Side.{Side}
 use Rattle.aide_conf.specs.declared.option_kind.Side.TheVariants.{Old, New}
-use Rattle.aide_conf.specs.declared.option_kind.Switch.{Switch}
-use Rattle.aide_conf.specs.declared.option_kind.AttrList.{AttrList}
+use Rattle.aide_conf.specs.declared.options.Switch.{Switch}
+use Rattle.aide_conf.specs.declared.options.AttrList.{AttrList}
 use Rattle.aide_conf.specs.declared.builder.SettingsBuilder.{SettingsBuilder}
 use Rattle.aide_conf.specs.Effect.{Effect, NamesDatabase, EndsOptions, DefinesGroup, DefinesVariable, DropsVariable}
 use Rattle.aide_conf.specs.Effect.{same}

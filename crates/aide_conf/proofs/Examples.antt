@@ -12,9 +12,10 @@ use Rattle.aide_conf.specs.declared.fault.ConfFaultKind.TheVariants.{BadDirectiv
 use Rattle.aide_conf.specs.declared.fault.ConfFaultKind.TheVariants.{MissingEndif, TooDeep, BadName, BadValue, BadUrl}
 use Rattle.aide_conf.specs.declared.fault.ConfFaultKind.TheVariants.{BadLine, UnknownAttribute, NoOldDatabase}
 use Rattle.aide_conf.specs.declared.fault.ConfFaultKind.TheVariants.{NoNewDatabase}
-use Rattle.aide_conf.specs.declared.option_kind.Switch.TheVariants.{Quiet}
+use Rattle.aide_conf.specs.declared.options.Switch.TheVariants.{Quiet}
 use Rattle.aide_conf.specs.Cutting.{Place, is_blank, strip, lines_of, places}
 use Rattle.aide_conf.specs.Effect.{Effect, Nothing, Faulty, SetsLevel, DefinesGroup, DefinesVariable, OpensBlock}
+use Rattle.aide_conf.specs.Options.{switch_named, list_named}
 use Rattle.aide_conf.specs.Effect.{kept_effect, value_effect, is_selection, is_directive, is_omitted, main_option}
 use Rattle.aide_conf.specs.Effect.{is_accepted, is_older, option_named, bool_named, is_left_out, path_after, path_of}
 use Rattle.aide_conf.specs.Directive.{line_effect, directive_of, directive_by, condition}
@@ -47,11 +48,11 @@ unfolding line line_effect directive_of kept_effect value_effect is_selection is
 level = refl
 
 group_line : line (codes "my = p+s") ≡ DefinesGroup (codes "my") (codes "p+s")
-unfolding line line_effect directive_of kept_effect is_selection is_directive option_named main_option is_accepted is_older strip is_blank is_group_name is_word is_word_byte attr_named row_of row is_empty_name
+unfolding line line_effect directive_of kept_effect is_selection is_directive option_named main_option switch_named list_named is_accepted is_older strip is_blank is_group_name is_word is_word_byte attr_named row_of row is_empty_name
 group_line = refl
 
 taken_name : line (codes "p = s") ≡ Faulty BadName
-unfolding line line_effect directive_of kept_effect is_selection is_directive option_named main_option is_accepted is_older strip is_blank is_group_name is_word is_word_byte attr_named row_of row is_empty_name
+unfolding line line_effect directive_of kept_effect is_selection is_directive option_named main_option switch_named list_named is_accepted is_older strip is_blank is_group_name is_word is_word_byte attr_named row_of row is_empty_name
 taken_name = refl
 
 no_line : line (codes "hello") ≡ Faulty BadLine
@@ -79,7 +80,7 @@ unfolding line line_effect directive_of kept_effect value_effect is_selection is
 two_slashes = refl
 
 empty_older : line (codes "grouped=") ≡ Faulty BadValue
-unfolding line line_effect directive_of kept_effect is_selection is_directive option_named main_option is_accepted is_older strip is_blank
+unfolding line line_effect directive_of kept_effect is_selection is_directive option_named main_option switch_named list_named is_accepted is_older strip is_blank
 empty_older = refl
 
 -- ---- settings of places
@@ -95,13 +96,13 @@ unfolding at last_given says line_effect directive_of kept_effect value_effect i
 last_level = refl
 
 last_of_two : last_given (switch_in Quiet) (at (codes "report_quiet=yes") ∷ at (codes "report_quiet=no") ∷ []) ≡ Some false
-unfolding at last_given says line_effect directive_of kept_effect value_effect is_selection is_directive option_named main_option strip is_blank bool_named
+unfolding at last_given says line_effect directive_of kept_effect value_effect is_selection is_directive option_named main_option switch_named strip is_blank bool_named
 last_of_two = refl
 
 -- ---- faults of places
 
 unknown_attribute : fault_at Check [] (record (at (codes "report_force_attrs=p+nope")) { verdict = Some (Err (UnknownName 2)) }) ≡ Some UnknownAttribute
-unfolding at fault_at says line_effect directive_of kept_effect value_effect is_selection is_directive option_named main_option strip is_blank
+unfolding at fault_at says line_effect directive_of kept_effect value_effect is_selection is_directive option_named main_option switch_named list_named strip is_blank
 unknown_attribute = refl
 
 end_of_after : Marked

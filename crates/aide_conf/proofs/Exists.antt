@@ -17,10 +17,8 @@ use Rattle.aide_conf.specs.declared.fault.ConfFault.{ConfFault}
 use Rattle.aide_conf.specs.declared.fault.ConfFaultKind.{ConfFaultKind}
 use Rattle.aide_conf.specs.declared.options.Options.{Options}
 use Rattle.aide_conf.specs.declared.option_kind.Side.TheVariants.{Old, New}
-use Rattle.aide_conf.specs.declared.option_kind.Switch.{Switch}
-use Rattle.aide_conf.specs.declared.option_kind.Switch.TheVariants.{Grouped, Summarize, Base16, Quiet}
-use Rattle.aide_conf.specs.declared.option_kind.AttrList.{AttrList}
-use Rattle.aide_conf.specs.declared.option_kind.AttrList.TheVariants.{IgnoreAdded, IgnoreRemoved, IgnoreChanged, Force}
+use Rattle.aide_conf.specs.declared.options.Switch.{Switch}
+use Rattle.aide_conf.specs.declared.options.AttrList.{AttrList}
 use Rattle.aide_conf.specs.declared.blocks.Frame.{Frame}
 use Rattle.aide_conf.specs.Cutting.{Place, places}
 use Rattle.aide_conf.specs.Blocks.{nothing}
@@ -32,10 +30,11 @@ use Rattle.aide_conf.specs.MarkedPaths.{path_set}
 use Rattle.aide_conf.specs.PlaceFault.{fault_at}
 use Rattle.aide_conf.specs.RightMarks.{AreSound, IsMarkedWell}
 use Rattle.aide_conf.specs.MarkedBlocks.{seen, seen_in}
-use Rattle.aide_conf.specs.Settings.{AreOptions, AreSettings, Configured, attrs_in, attrs_of, counted, has_any}
-use Rattle.aide_conf.specs.Settings.{level_in, switch_default, switch_in, switch_of}
+use Rattle.aide_conf.specs.Options.{switch_default, options_of}
+use Rattle.aide_conf.specs.Settings.{AreOptions, AreSettings, Configured, attrs_in, counted, has_any, level_in, switch_in}
 use Rattle.aide_conf.specs.ReadResult.{ReadsAs}
 use Rattle.aide_conf.proofs.Cuts.{append_nothing}
+use Rattle.aide_conf.proofs.OptionsLemmas.{made_switch, made_attrs}
 use Rattle.aide_conf.proofs.PlaceTaken.{ends_somehow, goes_on}
 use Rattle.aide_conf.proofs.SetOf.{set_of, has_set_of}
 
@@ -179,32 +178,19 @@ has_list_of : (l : AttrList) (xs : List Marked) (a : Attr)
 unfolding list_of
 has_list_of l xs a = ap (λ f. f a) (has_set_of (has_any (last_given (attrs_in l) xs)))
 
-switch_at : Switch → List Marked → Bool
-switch_at s xs = unwrap_or (last_given (switch_in s) xs) (switch_default s)
+switch_at : List Marked → Switch → Bool
+switch_at xs s = unwrap_or (last_given (switch_in s) xs) (switch_default s)
 
 options_at : List Marked → Options
-options_at xs = record {
-  level = unwrap_or (last_given level_in xs) ChangedAttributes;
-  grouped = switch_at Grouped xs;
-  summarize = switch_at Summarize xs;
-  base16 = switch_at Base16 xs;
-  quiet = switch_at Quiet xs;
-  ignore = record { added = list_of IgnoreAdded xs; removed = list_of IgnoreRemoved xs; changed = list_of IgnoreChanged xs; force = list_of Force xs };
-}
+options_at xs = options_of (unwrap_or (last_given level_in xs) ChangedAttributes) (switch_at xs) (λ l. list_of l xs)
 
 are_options : (xs : List Marked) → AreOptions xs (options_at xs)
 unfolding options_at switch_at
-are_options xs = record { level = refl; switches = by_switch; attrs = by_list }
-  where
-    by_switch : (s : Switch) → switch_of (options_at xs) s ≡ unwrap_or (last_given (switch_in s) xs) (switch_default s)
-    by_switch Grouped = refl
-    by_switch _ = refl
-
-    by_list : (l : AttrList) (a : Attr) → has (attrs_of (options_at xs) l) a ≡ has_any (last_given (attrs_in l) xs) a
-    by_list IgnoreAdded a = has_list_of IgnoreAdded xs a
-    by_list IgnoreRemoved a = has_list_of IgnoreRemoved xs a
-    by_list IgnoreChanged a = has_list_of IgnoreChanged xs a
-    by_list Force a = has_list_of Force xs a
+are_options xs = record {
+  level = refl;
+  switches = λ s. made_switch (unwrap_or (last_given level_in xs) ChangedAttributes) (switch_at xs) (λ l. list_of l xs) s;
+  attrs = λ l a. ap (λ z. has z a) (made_attrs (unwrap_or (last_given level_in xs) ChangedAttributes) (switch_at xs) (λ m. list_of m xs) l) ∙ has_list_of l xs a;
+}
 
 settings_at : List Marked → Configured
 settings_at xs = record { options = options_at (counted xs); old_path = path_set Old xs; new_path = path_set New xs }

@@ -7,6 +7,7 @@ use Rattle.aide_conf.specs.declared.fault.ConfText.TheVariants.{File}
 use Rattle.aide_conf.specs.declared.fault.ConfFaultKind.TheVariants.{BadDirective, LeftOut, TooDeep, BadName, BadValue, BadUrl}
 use Rattle.aide_conf.specs.Cutting.{is_blank, strip}
 use Rattle.aide_conf.specs.Effect.{is_accepted, is_directive, is_left_out, is_older, is_omitted, is_selection}
+use Rattle.aide_conf.specs.Options.{switch_named, list_named}
 use Rattle.aide_conf.specs.Effect.{kept_effect, main_option, path_of, option_named, value_effect}
 use Rattle.aide_conf.specs.Directive.{line_effect, directive_of, directive_by, condition}
 use Rattle.aide_conf.specs.Marks.{Marked, says}
@@ -25,15 +26,15 @@ at depth bytes =
 
 -- an option that is left out, without a value
 older_left_out : has_fault Check [] (at 0 (codes "grouped=")) LeftOut ≡ true
-unfolding at has_fault directive_of is_directive is_selection option_named main_option is_accepted is_older strip is_blank
+unfolding at has_fault directive_of is_directive is_selection option_named main_option switch_named list_named is_accepted is_older strip is_blank
 older_left_out = refl
 
 older_empty : has_fault Check [] (at 0 (codes "grouped=")) BadValue ≡ true
-unfolding at has_fault directive_of is_directive is_selection option_named main_option is_accepted is_older strip is_blank
+unfolding at has_fault directive_of is_directive is_selection option_named main_option switch_named list_named is_accepted is_older strip is_blank
 older_empty = refl
 
 empty_told : fault_at Check [] (at 0 (codes "grouped=")) ≡ Some BadValue
-unfolding at fault_at says line_effect directive_of kept_effect is_selection is_directive option_named main_option is_accepted is_older strip is_blank
+unfolding at fault_at says line_effect directive_of kept_effect is_selection is_directive option_named main_option switch_named list_named is_accepted is_older strip is_blank
 empty_told = refl
 
 -- a URL that is left out leads to no path

@@ -18,7 +18,7 @@ use Rattle.aide_conf.specs.declared.task.Need.{Need}
 use Rattle.aide_conf.specs.declared.task.Need.TheVariants.{Check, Compare}
 use Rattle.aide_conf.specs.declared.option_kind.Side.{Side}
 use Rattle.aide_conf.specs.declared.option_kind.Side.TheVariants.{Old, New}
-use Rattle.aide_conf.specs.declared.option_kind.Switch.{Switch}
+use Rattle.aide_conf.specs.declared.options.Switch.{Switch}
 use Rattle.aide_conf.specs.declared.option_kind.OptionKind.{OptionKind}
 use Rattle.aide_conf.specs.declared.option_kind.OptionKind.TheVariants as kinds
 use Rattle.aide_conf.specs.Cutting.{strip, bytes_before, bytes_after}

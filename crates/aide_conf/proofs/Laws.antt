@@ -1,10 +1,17 @@
 -- Laws of the definitions of a configuration.
-use Rattle.std.proofs.Common.{ℕ, ◌≡◌, List, Some, None, Result, Ok, Err}
+use Rattle.std.proofs.Common.{ℕ, ◌≡◌, refl, List, Some, None, Result, Ok, Err}
 use Rattle.std.specs.Prelude.{IsSome, ◌↔◌}
 use Rattle.aide_conf.specs.declared.task.Need.{Need}
 use Rattle.aide_conf.specs.declared.task.Need.TheVariants.{Compare}
 use Rattle.aide_conf.specs.declared.fault.ConfFault.{ConfFault}
 use Rattle.aide_conf.specs.declared.fault.ConfFaultKind.{ConfFaultKind}
+use Rattle.aide_conf.specs.declared.option_kind.OptionKind.TheVariants as option
+use Rattle.aide_conf.specs.declared.options.Switch.{Switch}
+use Rattle.aide_conf.specs.declared.options.Switch.TheVariants.{Grouped}
+use Rattle.aide_conf.specs.declared.options.AttrList.{AttrList}
+use Rattle.aide_conf.specs.declared.options.AttrList.TheVariants.{IgnoreAdded}
+use Rattle.aide_conf.specs.Options.{switch_name, switch_named, list_name, list_named}
+use Rattle.aide_conf.specs.Effect.{main_option, option_named}
 use Rattle.aide_conf.specs.Cutting.{Place}
 use Rattle.aide_conf.specs.Blocks.{Seen, AreEnclosing}
 use Rattle.aide_conf.specs.Marks.{Marked}
@@ -34,6 +41,18 @@ no_configuration_has_two_answers need before file after (Err e) s h i = only_fir
 pub what_is_compared_is_named : (before file after : List ℕ) (c : Configured) → ReadsAs Compare before file after (Ok c)
     → IsSome c.old_path × IsSome c.new_path
 what_is_compared_is_named = both_named
+
+-- The name of each switch sets this switch; the second line stands for every further one.
+pub name_of_a_switch_sets_it : (s : Switch) → option_named (switch_name s) ≡ Some (option.Flag s)
+unfolding option_named main_option switch_named
+name_of_a_switch_sets_it Grouped = refl
+name_of_a_switch_sets_it _ = refl
+
+-- So does the name of each set of attributes.
+pub name_of_a_list_sets_it : (l : AttrList) → option_named (list_name l) ≡ Some (option.Attributes l)
+unfolding option_named main_option switch_named list_named
+name_of_a_list_sets_it IgnoreAdded = refl
+name_of_a_list_sets_it _ = refl
 
 -- So many lines enclose a line, and no other number of them.
 pub a_line_has_one_depth : (m n : ℕ) (here : List Seen) → AreEnclosing m here → AreEnclosing n here → m ≡ n

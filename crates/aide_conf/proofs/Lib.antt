@@ -7,6 +7,7 @@ pub mod NameLemmas
 pub mod BoundedLemmas
 pub mod Names
 pub mod VariablesLemmas
+pub mod OptionsLemmas
 pub mod Steps
 pub mod VariableSteps
 pub mod Starts

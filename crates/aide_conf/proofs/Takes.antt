@@ -15,8 +15,8 @@ use Rattle.aide_conf.specs.declared.fault.ConfFaultKind.{ConfFaultKind}
 use Rattle.aide_conf.specs.declared.fault.ConfFaultKind.TheVariants.{BadDirective, BadName, LineTooLong, ValueTooLong}
 use Rattle.aide_conf.specs.declared.fault.ConfFaultKind.TheVariants.{TooMany}
 use Rattle.aide_conf.specs.declared.option_kind.Side.{Side}
-use Rattle.aide_conf.specs.declared.option_kind.Switch.{Switch}
-use Rattle.aide_conf.specs.declared.option_kind.AttrList.{AttrList}
+use Rattle.aide_conf.specs.declared.options.Switch.{Switch}
+use Rattle.aide_conf.specs.declared.options.AttrList.{AttrList}
 use Rattle.aide_conf.specs.declared.builder.SettingsBuilder.{SettingsBuilder}
 use Rattle.aide_conf.specs.Effect.{Effect, Nothing, Faulty, NamesDatabase, SetsLevel, SetsSwitch, SetsAttributes}
 use Rattle.aide_conf.specs.Effect.{EndsOptions, DefinesGroup, DefinesVariable, DropsVariable, OpensBlock, DividesBlock}

@@ -1,7 +1,7 @@
 -- What a line says, as a function of its bytes.
 use Rattle.std.specs.Prelude.{ℕ, Bool, true, false, not, ◌&&◌, ◌||◌, ◌==◌, nat_lt, nat_eq, List, []}
 use Rattle.std.specs.Prelude.{◌∷◌, length, drop}
-use Rattle.std.specs.Prelude.{Option, Some, None, codes, if◌then◌else◌}
+use Rattle.std.specs.Prelude.{Option, Some, None, option_map, codes, if◌then◌else◌}
 use Rattle.std.specs.List.{list_any, starts_with}
 use Rattle.std.specs.Option.{option_or}
 use Rattle.std.specs.Str.{is_utf8}
@@ -16,14 +16,11 @@ use Rattle.aide_conf.specs.declared.fault.ConfFaultKind.TheVariants.{BadUrl, Lin
 use Rattle.aide_conf.specs.declared.fault.ConfFaultKind.TheVariants.{ValueTooLong, BadLine}
 use Rattle.aide_conf.specs.declared.option_kind.Side.{Side}
 use Rattle.aide_conf.specs.declared.option_kind.Side.TheVariants.{Old, New}
-use Rattle.aide_conf.specs.declared.option_kind.Switch.{Switch}
-use Rattle.aide_conf.specs.declared.option_kind.Switch.TheVariants.{Grouped, Summarize}
-use Rattle.aide_conf.specs.declared.option_kind.Switch.TheVariants.{Base16, Quiet}
-use Rattle.aide_conf.specs.declared.option_kind.AttrList.{AttrList}
-use Rattle.aide_conf.specs.declared.option_kind.AttrList.TheVariants.{IgnoreAdded, IgnoreRemoved}
-use Rattle.aide_conf.specs.declared.option_kind.AttrList.TheVariants.{IgnoreChanged, Force}
+use Rattle.aide_conf.specs.declared.options.Switch.{Switch}
+use Rattle.aide_conf.specs.declared.options.AttrList.{AttrList}
 use Rattle.aide_conf.specs.declared.option_kind.OptionKind.{OptionKind}
 use Rattle.aide_conf.specs.declared.option_kind.OptionKind.TheVariants as option
+use Rattle.aide_conf.specs.Options.{switch_named, list_named}
 use Rattle.aide_conf.specs.Cutting.{strip, bytes_before, bytes_after}
 use Rattle.aide_conf.specs.Limits.{longest_line, longest_value}
 
@@ -61,28 +58,27 @@ pub data Effect : Type 0 where
 
 -- ---- options
 
--- the options that have a form or an effect, each with its name
-abbrev pub main_options : List (List ℕ × OptionKind)
-main_options =
+-- The options that have a form or an effect and are neither switches nor sets of attributes, each
+-- with its name.
+abbrev pub other_options : List (List ℕ × OptionKind)
+other_options =
     (codes "database_in", option.Url Old)
     ∷ (codes "database", option.Url Old)
     ∷ (codes "database_new", option.Url New)
     ∷ (codes "report_level", option.Level)
-    ∷ (codes "report_grouped", option.Flag Grouped)
-    ∷ (codes "report_summarize_changes", option.Flag Summarize)
-    ∷ (codes "report_base16", option.Flag Base16)
-    ∷ (codes "report_quiet", option.Flag Quiet)
-    ∷ (codes "report_ignore_added_attrs", option.Attributes IgnoreAdded)
-    ∷ (codes "report_ignore_removed_attrs", option.Attributes IgnoreRemoved)
-    ∷ (codes "report_ignore_changed_attrs", option.Attributes IgnoreChanged)
-    ∷ (codes "report_force_attrs", option.Attributes Force)
     ∷ (codes "report_url", option.ReportUrl)
     ∷ (codes "report_format", option.ReportFormat)
     ∷ []
 
+-- the switch or the set of attributes with a name
+abbrev pub report_option : List ℕ → Option OptionKind
+report_option n =
+    option_or (option_map (λ s. option.Flag s) (switch_named n))
+    (option_map (λ l. option.Attributes l) (list_named n))
+
 -- the option that a name sets, if the option has a form or an effect
 unfoldable pub main_option : List ℕ → Option OptionKind
-main_option n = look_up main_options n
+main_option n = option_or (look_up other_options n) (report_option n)
 
 -- the names of options that have no effect here
 abbrev pub accepted_names : List (List ℕ)

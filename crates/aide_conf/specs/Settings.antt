@@ -8,13 +8,10 @@ use Rattle.aide_attr.specs.declared.level.Level.{Level}
 use Rattle.aide_attr.specs.declared.level.Level.TheVariants.{ChangedAttributes}
 use Rattle.aide_attr.specs.Set.{has}
 use Rattle.aide_conf.specs.declared.options.Options.{Options}
+use Rattle.aide_conf.specs.declared.options.Switch.{Switch}
+use Rattle.aide_conf.specs.declared.options.AttrList.{AttrList}
 use Rattle.aide_conf.specs.declared.option_kind.Side.TheVariants.{Old, New}
-use Rattle.aide_conf.specs.declared.option_kind.Switch.{Switch}
-use Rattle.aide_conf.specs.declared.option_kind.Switch.TheVariants.{Grouped, Summarize}
-use Rattle.aide_conf.specs.declared.option_kind.Switch.TheVariants.{Base16, Quiet}
-use Rattle.aide_conf.specs.declared.option_kind.AttrList.{AttrList}
-use Rattle.aide_conf.specs.declared.option_kind.AttrList.TheVariants.{IgnoreAdded, IgnoreRemoved}
-use Rattle.aide_conf.specs.declared.option_kind.AttrList.TheVariants.{IgnoreChanged, Force}
+use Rattle.aide_conf.specs.Options.{switch_of, switch_default, is_switch, attrs_of, is_list}
 use Rattle.aide_conf.specs.Effect.{Effect, SetsLevel, SetsSwitch, SetsAttributes, EndsOptions}
 use Rattle.aide_conf.specs.Marks.{Marked, says, last_given}
 use Rattle.aide_conf.specs.MarkedGroups.{set_meant}
@@ -55,14 +52,6 @@ level_in x = level_by (says x)
 
 -- ---- the switches
 
--- both are the same switch
-abbrev pub is_switch : Switch → Switch → Bool
-is_switch Grouped Grouped = true
-is_switch Summarize Summarize = true
-is_switch Base16 Base16 = true
-is_switch Quiet Quiet = true
-is_switch _ _ = false
-
 -- the value that a line gives to a switch
 abbrev pub switch_by : Switch → Effect → Option Bool
 switch_by s (SetsSwitch t b) = if is_switch s t then Some b else None
@@ -72,29 +61,7 @@ switch_by _ _ = None
 abbrev pub switch_in : Switch → Marked → Option Bool
 switch_in s x = switch_by s (says x)
 
--- the value of a switch that no place sets
-abbrev pub switch_default : Switch → Bool
-switch_default Grouped = true
-switch_default Summarize = true
-switch_default Base16 = false
-switch_default Quiet = false
-
--- the value that a switch has in some options
-abbrev pub switch_of : Options → Switch → Bool
-switch_of o Grouped = o.grouped
-switch_of o Summarize = o.summarize
-switch_of o Base16 = o.base16
-switch_of o Quiet = o.quiet
-
 -- ---- the sets of attributes
-
--- both are the same set of attributes of the options
-abbrev pub is_list : AttrList → AttrList → Bool
-is_list IgnoreAdded IgnoreAdded = true
-is_list IgnoreRemoved IgnoreRemoved = true
-is_list IgnoreChanged IgnoreChanged = true
-is_list Force Force = true
-is_list _ _ = false
 
 -- the set that a line gives to a set of attributes, by the verdict on its expression
 abbrev pub attrs_by : AttrList → Effect → Option (Result AttrSet ExprFault) → Option AttrSet
@@ -109,13 +76,6 @@ attrs_in l x = attrs_by l (says x) x.verdict
 abbrev pub has_any : Option AttrSet → Attr → Bool
 has_any None a = false
 has_any (Some s) a = has s a
-
--- the value of a set of attributes in some options
-abbrev pub attrs_of : Options → AttrList → AttrSet
-attrs_of o IgnoreAdded = o.ignore.added
-attrs_of o IgnoreRemoved = o.ignore.removed
-attrs_of o IgnoreChanged = o.ignore.changed
-attrs_of o Force = o.ignore.force
 
 -- ---- all of them
 

@@ -12,8 +12,8 @@ ghost use Rattle.aide_conf.specs.code.Builder.{NamesPath, HasNewGroup, IsMisjudg
 
 use crate::effect::Effect;
 use crate::fault::ConfFaultKind;
-use crate::option_kind::{AttrList, Side, Switch};
-use crate::options::Options;
+use crate::option_kind::Side;
+use crate::options::{AttrList, Options, Switch};
 use aide_attr::{AttrSet, ExprFault, GroupFault, Groups, Level, NameMap};
 use std::alloc::{AllocError, Allocator};
 
@@ -63,12 +63,7 @@ impl<A: Allocator + Copy> SettingsBuilder<A> {
         if self.fixed {
             return;
         }
-        match switch {
-            Switch::Grouped => self.options.grouped = on,
-            Switch::Summarize => self.options.summarize = on,
-            Switch::Base16 => self.options.base16 = on,
-            Switch::Quiet => self.options.quiet = on,
-        }
+        self.options.set_switch(switch, on);
     }
 
     /// Sets a set of attributes, unless the report options are fixed.
@@ -78,12 +73,7 @@ impl<A: Allocator + Copy> SettingsBuilder<A> {
         if self.fixed {
             return;
         }
-        match list {
-            AttrList::IgnoreAdded => self.options.ignore.added = set,
-            AttrList::IgnoreRemoved => self.options.ignore.removed = set,
-            AttrList::IgnoreChanged => self.options.ignore.changed = set,
-            AttrList::Force => self.options.ignore.force = set,
-        }
+        self.options.set_attributes(list, set);
     }
 
     /// Keeps the path of a database.

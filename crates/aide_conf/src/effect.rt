@@ -7,7 +7,8 @@ ghost use Rattle.aide_conf.specs.code.Returned.{effect_or_fault, IsNamedWell};
 use crate::expansion::LONGEST_VALUE;
 use crate::fault::ConfFaultKind;
 use crate::line::{at_equals, is_selection, strip};
-use crate::option_kind::{AttrList, OptionKind, Side, Switch, option_named};
+use crate::option_kind::{OptionKind, Side, option_named};
+use crate::options::{AttrList, Switch};
 use crate::value::{bool_named, is_left_out, path_of};
 use aide_attr::{Level, is_group_name};
 

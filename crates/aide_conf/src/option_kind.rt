@@ -3,29 +3,13 @@
 ghost use Rattle.std.specs.Prelude.{◌≡◌};
 ghost use Rattle.aide_conf.specs.Effect.{main_option, is_accepted, is_older, option_named};
 
+use crate::options::{AttrList, Switch};
+
 /// One of the two databases.
 #[derive(Clone, Copy)]
 pub(crate) enum Side {
     Old,
     New,
-}
-
-/// A report option that is on or off.
-#[derive(Clone, Copy)]
-pub(crate) enum Switch {
-    Grouped,
-    Summarize,
-    Base16,
-    Quiet,
-}
-
-/// A report option that is a set of attributes.
-#[derive(Clone, Copy)]
-pub(crate) enum AttrList {
-    IgnoreAdded,
-    IgnoreRemoved,
-    IgnoreChanged,
-    Force,
 }
 
 /// The kind of an option: which value it has, and what it is for.
@@ -54,26 +38,14 @@ fn main_option(name: &[u8]) -> Option<OptionKind>
         Some(OptionKind::Url(Side::New))
     } else if name == b"report_level".as_slice() {
         Some(OptionKind::Level)
-    } else if name == b"report_grouped".as_slice() {
-        Some(OptionKind::Flag(Switch::Grouped))
-    } else if name == b"report_summarize_changes".as_slice() {
-        Some(OptionKind::Flag(Switch::Summarize))
-    } else if name == b"report_base16".as_slice() {
-        Some(OptionKind::Flag(Switch::Base16))
-    } else if name == b"report_quiet".as_slice() {
-        Some(OptionKind::Flag(Switch::Quiet))
-    } else if name == b"report_ignore_added_attrs".as_slice() {
-        Some(OptionKind::Attributes(AttrList::IgnoreAdded))
-    } else if name == b"report_ignore_removed_attrs".as_slice() {
-        Some(OptionKind::Attributes(AttrList::IgnoreRemoved))
-    } else if name == b"report_ignore_changed_attrs".as_slice() {
-        Some(OptionKind::Attributes(AttrList::IgnoreChanged))
-    } else if name == b"report_force_attrs".as_slice() {
-        Some(OptionKind::Attributes(AttrList::Force))
     } else if name == b"report_url".as_slice() {
         Some(OptionKind::ReportUrl)
     } else if name == b"report_format".as_slice() {
         Some(OptionKind::ReportFormat)
+    } else if let Some(switch) = Switch::named(name) {
+        Some(OptionKind::Flag(switch))
+    } else if let Some(list) = AttrList::named(name) {
+        Some(OptionKind::Attributes(list))
     } else {
         None
     }

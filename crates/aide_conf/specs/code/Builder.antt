@@ -38,17 +38,14 @@ use Rattle.aide_conf.specs.declared.fault.ConfFault.{ConfFault}
 use Rattle.aide_conf.specs.declared.fault.ConfFaultKind.{ConfFaultKind}
 use Rattle.aide_conf.specs.declared.fault.ConfFaultKind.TheVariants.{TooMany, Memory}
 use Rattle.aide_conf.specs.declared.options.Options.{Options}
+use Rattle.aide_conf.specs.declared.options.Switch.{Switch}
+use Rattle.aide_conf.specs.declared.options.AttrList.{AttrList}
 use Rattle.aide_conf.specs.declared.option_kind.Side.{Side}
 use Rattle.aide_conf.specs.declared.option_kind.Side.TheVariants.{Old, New}
-use Rattle.aide_conf.specs.declared.option_kind.Switch.{Switch}
-use Rattle.aide_conf.specs.declared.option_kind.Switch.TheVariants.{Grouped, Summarize}
-use Rattle.aide_conf.specs.declared.option_kind.Switch.TheVariants.{Base16, Quiet}
-use Rattle.aide_conf.specs.declared.option_kind.AttrList.{AttrList}
-use Rattle.aide_conf.specs.declared.option_kind.AttrList.TheVariants.{IgnoreAdded, IgnoreRemoved}
-use Rattle.aide_conf.specs.declared.option_kind.AttrList.TheVariants.{IgnoreChanged, Force}
 use Rattle.aide_conf.specs.declared.builder.SettingsBuilder.{SettingsBuilder}
 use Rattle.aide_conf.specs.declared.blocks.Frame.{Frame}
 use Rattle.aide_conf.specs.Cutting.{Place}
+use Rattle.aide_conf.specs.Options.{options_of, switch_of, is_switch, attrs_of, is_list}
 use Rattle.aide_conf.specs.Effect.{Effect, same}
 use Rattle.aide_conf.specs.Marks.{Marked}
 use Rattle.aide_conf.specs.MarkedGroups.{IsJudgedWell}
@@ -101,21 +98,17 @@ unless_fixed p o = if p.fixed then p else record p { options = o }
 
 -- the options with this level, otherwise as before
 abbrev pub with_level : Level → Options → Options
-with_level l o = record o { level = l }
+with_level l o = options_of l (switch_of o) (attrs_of o)
 
 -- the options with this value of a switch, otherwise as before
 abbrev pub with_switch : Switch → Bool → Options → Options
-with_switch Grouped b o = record o { grouped = b }
-with_switch Summarize b o = record o { summarize = b }
-with_switch Base16 b o = record o { base16 = b }
-with_switch Quiet b o = record o { quiet = b }
+with_switch s b o =
+    options_of o.level (λ t. if is_switch t s then b else switch_of o t) (attrs_of o)
 
 -- the options with this set of attributes, otherwise as before
 abbrev pub with_attrs : AttrList → AttrSet → Options → Options
-with_attrs IgnoreAdded s o = record o { ignore = record o.ignore { added = s } }
-with_attrs IgnoreRemoved s o = record o { ignore = record o.ignore { removed = s } }
-with_attrs IgnoreChanged s o = record o { ignore = record o.ignore { changed = s } }
-with_attrs Force s o = record o { ignore = record o.ignore { force = s } }
+with_attrs l set o =
+    options_of o.level (switch_of o) (λ m. if is_list m l then set else attrs_of o m)
 
 -- the path of a database is this one, and everything else is as before
 abbrev pub NamesPath : {A : Type 0} → Side → List ℕ → SettingsBuilder A → SettingsBuilder A → Type 0
