@@ -5,17 +5,17 @@ use std::alloc::Global;
 
 /// The results of a session.
 #[derive(Drop)]
-pub(crate) struct Ended {
+pub(super) struct Ended {
     /// The exit status.
-    pub(crate) status: u8,
+    pub(super) status: u8,
     /// Standard output.
-    pub(crate) output: MemorySink<Global>,
+    pub(super) output: MemorySink<Global>,
     /// Standard error.
-    pub(crate) errors: MemorySink<Global>,
+    pub(super) errors: MemorySink<Global>,
 }
 
 /// Runs `aide --compare --config /conf` over three files in memory.
-pub(crate) fn run_session(
+pub(super) fn run_session(
     alloc: Global,
     config: &[u8],
     old: &[u8],

@@ -15,7 +15,7 @@ const LIMITS: Limits = Limits {
 
 /// Why there are no counts to return.
 #[derive(Drop)]
-pub(crate) enum Refusal {
+pub(super) enum Refusal {
     /// The configuration has a fault, or names no databases.
     Configuration,
     /// Memory ran out for the desk.
@@ -26,7 +26,7 @@ pub(crate) enum Refusal {
 
 /// Compares two databases by a configuration that names both. The report is kept in memory, and then dropped.
 /// If a database has a fault, there are no counts.
-pub(crate) fn counts_of(
+pub(super) fn counts_of(
     alloc: Global,
     config: &[u8],
     old: &[u8],
