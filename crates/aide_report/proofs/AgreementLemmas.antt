@@ -5,15 +5,18 @@ use Rattle.std.proofs.lemmas.Bool.{leb-false, lt-leb}
 use Rattle.std.specs.Prelude.{◌&&◌, not}
 use Rattle.std.specs.Io.KnownBytes.{Keeps}
 use Rattle.aide_attr.specs.declared.level.Level.{Level}
-use Rattle.aide_attr.specs.declared.level.Level.TheVariants.{DatabaseAttributes, ListEntries, ChangedAttributes}
+use Rattle.aide_attr.specs.declared.level.Level.TheVariants.{DatabaseAttributes}
 use Rattle.aide_conf.specs.declared.options.Options.{Options}
 use Rattle.aide_report.specs.Agreement.{BeginsWith, beginning_of, goes_on}
 use Rattle.aide_report.specs.Report.{Origin, databases_of, databases_text, is_silent}
 use Rattle.aide_text.specs.Overview.{overview_of, when, databases_differ}
-use Rattle.aide_report.specs.Sections.{asked_sections, list_sections}
+use Rattle.aide_report.specs.Sections.{has_entry, is_there}
+use Rattle.aide_text.specs.Section.{contents_of, fits, grouped_of, level_of, row, row_of}
 use Rattle.aide_attr.specs.Level.{rank, reaches}
 use Rattle.aide_text.specs.Sheet.{Sheet, Wrote, WritesFirst, WritesSome}
-use Rattle.aide_text.specs.declared.section.Section.TheVariants.{Details}
+use Rattle.aide_text.specs.declared.counts.Counts.{Counts}
+use Rattle.aide_text.specs.declared.section.Section.{Section}
+use Rattle.aide_text.specs.declared.section.Section.TheVariants.{AddedEntries}
 use Rattle.aide_report.proofs.ReportLemmas.{flushed_whole}
 use Rattle.aide_text.proofs.Sheets.{wrote_more, wrote_nothing}
 
@@ -24,14 +27,18 @@ none_behind level first later behind below =
     let less : rank level < rank first = leb-false (rank first) (rank level) below in
     lt-leb (rank later) (rank level) (omega (arith, behind, less))
 
--- below the level of the databases no section is asked for
-pub none_asked : (options : Options) → reaches options.level DatabaseAttributes ≡ false
-    → length (asked_sections options) ≡ 0
-unfolding asked_sections
-none_asked options below =
-    ap (λ b. length ((if b then list_sections options.grouped else []) ++ (if reaches options.level ChangedAttributes then Details ∷ [] else [])))
-    (none_behind options.level DatabaseAttributes ListEntries (omega arith) below)
-    ∙ ap (λ b. length (if b then Details ∷ [] else [])) (none_behind options.level DatabaseAttributes ChangedAttributes (omega arith) below)
+-- no section is of a level before that of the databases; the second line stands for every further section
+late : (section : Section) → rank DatabaseAttributes ≤ rank (level_of section)
+unfolding row_of row
+late AddedEntries = omega arith
+late _ = omega arith
+
+-- below the level of the databases there is no section
+pub none_there : (options : Options) (counts : Counts) (section : Section)
+    → reaches options.level DatabaseAttributes ≡ false → is_there options counts section ≡ false
+none_there options counts section below =
+    ap (λ b. (b && fits (grouped_of section) options.grouped) && has_entry counts (contents_of section))
+    (none_behind options.level DatabaseAttributes (level_of section) (late section) below)
 
 -- nor the databases
 pub no_databases : (options : Options) (old_origin new_origin : Origin)

@@ -1,5 +1,5 @@
 -- What a section says of changes, one after another.
-use Rattle.std.proofs.Common.{◌≡◌, ◌∙◌, ℕ, Bool, true, false, if◌then◌else◌, cond, List, [], ◌∷◌, ◌++◌, refl, sym, ap, ◌+◌, Some, None}
+use Rattle.std.proofs.Common.{◌≡◌, ◌∙◌, ◌&&◌, ℕ, Bool, true, false, if◌then◌else◌, cond, List, [], ◌∷◌, ◌++◌, refl, sym, ap, ◌+◌, Some, None}
 use Rattle.std.proofs.Common.{◌<◌, ◌≤◌, length, drop, get_or}
 use Rattle.std.specs.List.{flat_map, filter}
 use Rattle.std.proofs.lemmas.List.{drop_more, drop_all}
@@ -7,90 +7,93 @@ use Rattle.aide_attr.specs.declared.attr.Attr.{Attr}
 use Rattle.aide_conf.specs.declared.options.Options.{Options}
 use Rattle.aide_entry.specs.Attributes.{Entry}
 use Rattle.aide_report.specs.ChangeView.{alike_of}
+use Rattle.aide_report.specs.Changed.{differ_by}
 use Rattle.aide_report.specs.Entries.{PathChange, Pair, attribute_text, attributes_text, shown_text}
-use Rattle.aide_report.specs.Sections.{is_in, lists, entry_text, one_text, entries_text}
-use Rattle.aide_report.proofs.SameEntries.{in_none}
-use Rattle.aide_text.specs.declared.section.Section.{Section}
-use Rattle.aide_text.specs.declared.section.Section.TheVariants.{AddedEntries, RemovedEntries, ChangedEntries, AllEntries, Details}
+use Rattle.aide_report.specs.Sections.{all_listed, is_in, lists, entry_text, one_text, entries_text}
+use Rattle.aide_report.proofs.SameEntries.{and_no, in_none, nowhere}
+use Rattle.aide_text.specs.declared.section.Contents.{Contents}
+use Rattle.aide_text.specs.declared.section.Contents.TheVariants.{Listed, Detailed}
 
-pub entries_first : (options : Options) (section : Section) (entry : PathChange) (more : List PathChange)
-    → entries_text options section (entry ∷ more) ≡ one_text options section entry ++ entries_text options section more
+pub entries_first : (options : Options) (contents : Contents) (entry : PathChange) (more : List PathChange)
+    → entries_text options contents (entry ∷ more) ≡ one_text options contents entry ++ entries_text options contents more
 unfolding entries_text one_text
-entries_first options section entry more = by_test (is_in options section entry)
+entries_first options contents entry more = by_test (is_in options contents entry)
   where
     by_test : (b : Bool)
-        → flat_map (entry_text options section) (cond b (entry ∷ filter (is_in options section) more) (filter (is_in options section) more))
-        ≡ (if b then entry_text options section entry else []) ++ flat_map (entry_text options section) (filter (is_in options section) more)
+        → flat_map (entry_text options contents) (cond b (entry ∷ filter (is_in options contents) more) (filter (is_in options contents) more))
+        ≡ (if b then entry_text options contents entry else []) ++ flat_map (entry_text options contents) (filter (is_in options contents) more)
     by_test true = refl
     by_test false = refl
 
-pub entries_step : (options : Options) (section : Section) (entry : PathChange) (rest changes more : List PathChange)
+pub entries_step : (options : Options) (contents : Contents) (entry : PathChange) (rest changes more : List PathChange)
     → rest ≡ changes ++ more → changes ≡ entry ∷ []
-    → entries_text options section rest ≡ one_text options section entry ++ entries_text options section more
-entries_step options section entry rest changes more is one =
-    ap (entries_text options section) (is ∙ ap (λ l. l ++ more) one) ∙ entries_first options section entry more
+    → entries_text options contents rest ≡ one_text options contents entry ++ entries_text options contents more
+entries_step options contents entry rest changes more is one =
+    ap (entries_text options contents) (is ∙ ap (λ l. l ++ more) one) ∙ entries_first options contents entry more
 
-pub entries_same : (options : Options) (section : Section) (rest changes more : List PathChange)
+pub entries_same : (options : Options) (contents : Contents) (rest changes more : List PathChange)
     → rest ≡ changes ++ more → changes ≡ []
-    → entries_text options section rest ≡ entries_text options section more
-entries_same options section rest changes more is none =
-    ap (entries_text options section) (is ∙ ap (λ l. l ++ more) none)
+    → entries_text options contents rest ≡ entries_text options contents more
+entries_same options contents rest changes more is none =
+    ap (entries_text options contents) (is ∙ ap (λ l. l ++ more) none)
 
-pub entries_end : (options : Options) (section : Section) (rest : List PathChange) → rest ≡ []
-    → entries_text options section rest ≡ []
+pub entries_end : (options : Options) (contents : Contents) (rest : List PathChange) → rest ≡ []
+    → entries_text options contents rest ≡ []
 unfolding entries_text
-entries_end options section rest none = ap (entries_text options section) none
+entries_end options contents rest none = ap (entries_text options contents) none
 
 -- ---- one change
 
-pub text_of_one : (options : Options) (section : Section) (entry : PathChange) → is_in options section entry ≡ true
-    → entry_text options section entry ≡ one_text options section entry
+pub text_of_one : (options : Options) (contents : Contents) (entry : PathChange) → is_in options contents entry ≡ true
+    → entry_text options contents entry ≡ one_text options contents entry
 unfolding one_text
-text_of_one options section entry h = sym (ap (λ b. if b then entry_text options section entry else []) h)
+text_of_one options contents entry h = sym (ap (λ b. if b then entry_text options contents entry else []) h)
 
-pub text_of_none : (options : Options) (section : Section) (entry : PathChange) → is_in options section entry ≡ false
-    → [] ≡ one_text options section entry
+pub text_of_none : (options : Options) (contents : Contents) (entry : PathChange) → is_in options contents entry ≡ false
+    → [] ≡ one_text options contents entry
 unfolding one_text
-text_of_none options section entry h = sym (ap (λ b. if b then entry_text options section entry else []) h)
+text_of_none options contents entry h = sym (ap (λ b. if b then entry_text options contents entry else []) h)
 
 -- an entry that both sides have alike says nothing
-pub entries_alike : (options : Options) (section : Section) (entry : Entry) (rest changes more : List PathChange)
+pub entries_alike : (options : Options) (contents : Contents) (entry : Entry) (rest changes more : List PathChange)
     → rest ≡ changes ++ more → changes ≡ alike_of entry ∷ []
-    → entries_text options section rest ≡ entries_text options section more
-entries_alike options section entry rest changes more is one =
-    entries_step options section (alike_of entry) rest changes more is one
-    ∙ ap (λ text. text ++ entries_text options section more) (sym (text_of_none options section (alike_of entry) (in_none options section entry)))
+    → entries_text options contents rest ≡ entries_text options contents more
+entries_alike options contents entry rest changes more is one =
+    entries_step options contents (alike_of entry) rest changes more is one
+    ∙ ap (λ text. text ++ entries_text options contents more) (sym (text_of_none options contents (alike_of entry) (in_none options contents entry)))
 
 -- a list that has such changes says what the list of all says
-pub listed_text : (options : Options) (section : Section) (entry : PathChange) → lists section entry ≡ true
-    → one_text options AllEntries entry ≡ one_text options section entry
+pub listed_text : (options : Options) (contents : Contents) (entry : PathChange) → lists contents entry ≡ true
+    → one_text options all_listed entry ≡ one_text options contents entry
 unfolding one_text
-listed_text options AllEntries entry l = refl
-listed_text options Details entry l = cc
-listed_text options AddedEntries (path, (None, Some new)) l = refl
-listed_text options AddedEntries (path, (None, None)) l = cc
-listed_text options AddedEntries (path, (Some old, None)) l = cc
-listed_text options AddedEntries (path, (Some old, Some new)) l = cc
-listed_text options RemovedEntries (path, (Some old, None)) l = refl
-listed_text options RemovedEntries (path, (None, None)) l = cc
-listed_text options RemovedEntries (path, (None, Some new)) l = cc
-listed_text options RemovedEntries (path, (Some old, Some new)) l = cc
-listed_text options ChangedEntries (path, (Some old, Some new)) l = refl
-listed_text options ChangedEntries (path, (None, None)) l = cc
-listed_text options ChangedEntries (path, (None, Some new)) l = cc
-listed_text options ChangedEntries (path, (Some old, None)) l = cc
+listed_text options Detailed entry l = cc
+listed_text options (Listed a r c) (path, (None, None)) l = cc
+listed_text options (Listed a r c) (path, (None, Some new)) l = rw l refl
+listed_text options (Listed true r c) (path, (Some old, None)) l = rw l refl
+listed_text options (Listed false r c) (path, (Some old, None)) l = rw l refl
+listed_text options (Listed true true c) (path, (Some old, Some new)) l = rw l refl
+listed_text options (Listed true false c) (path, (Some old, Some new)) l = rw l refl
+listed_text options (Listed false true c) (path, (Some old, Some new)) l = rw l refl
+listed_text options (Listed false false c) (path, (Some old, Some new)) l = rw l refl
+
+unlisted : (options : Options) (a r c : Bool) (entry : PathChange) → lists (Listed a r c) entry ≡ false
+    → is_in options (Listed a r c) entry ≡ false
+unlisted options a r c (path, (None, None)) l =
+    nowhere (a && false) (r && false) (c && false) (and_no a) (and_no r) (and_no c)
+unlisted options a r c (path, (None, Some new)) l =
+    nowhere (a && true) (r && false) (c && false) (ap (λ b. b && true) l) (and_no r) (and_no c)
+unlisted options a r c (path, (Some old, None)) l =
+    nowhere (a && false) (r && true) (c && false) (and_no a) (ap (λ b. b && true) l) (and_no c)
+unlisted options a r c (path, (Some old, Some new)) l =
+    nowhere (a && false) (r && false) (c && differ_by options.ignore old new) (and_no a) (and_no r)
+    (ap (λ b. b && differ_by options.ignore old new) l)
 
 -- a list that has no such changes says nothing
-pub unlisted_text : (options : Options) (section : Section) (entry : PathChange) → (section ≡ Details → ⊥)
-    → lists section entry ≡ false → [] ≡ one_text options section entry
-unlisted_text options AddedEntries entry h l = text_of_none options AddedEntries entry l
-unlisted_text options RemovedEntries entry h l = text_of_none options RemovedEntries entry l
-unlisted_text options AllEntries entry h l = cc
-unlisted_text options Details entry h l = absurd (h refl)
-unlisted_text options ChangedEntries (path, (Some old, Some new)) h l = cc
-unlisted_text options ChangedEntries (path, (None, None)) h l = text_of_none options ChangedEntries (path, (None, None)) refl
-unlisted_text options ChangedEntries (path, (None, Some new)) h l = text_of_none options ChangedEntries (path, (None, Some new)) refl
-unlisted_text options ChangedEntries (path, (Some old, None)) h l = text_of_none options ChangedEntries (path, (Some old, None)) refl
+pub unlisted_text : (options : Options) (contents : Contents) (entry : PathChange) → (contents ≡ Detailed → ⊥)
+    → lists contents entry ≡ false → [] ≡ one_text options contents entry
+unlisted_text options Detailed entry h l = absurd (h refl)
+unlisted_text options (Listed a r c) entry h l =
+    text_of_none options (Listed a r c) entry (unlisted options a r c entry l)
 
 -- ---- the attributes that details show
 

@@ -1,5 +1,5 @@
 -- An entry does not differ from itself.
-use Rattle.std.proofs.Common.{◌≡◌, List, [], ◌∷◌, refl, ap, true, false, Bool, ◌&&◌, ◌||◌, not}
+use Rattle.std.proofs.Common.{◌≡◌, ◌∙◌, List, [], ◌∷◌, refl, ap, true, false, Bool, ◌&&◌, ◌||◌, not}
 use Rattle.std.specs.Prelude.{Some, is_some}
 use Rattle.std.specs.List.{list_any}
 use Rattle.aide_attr.specs.Attr.{all_attrs}
@@ -11,8 +11,8 @@ use Rattle.aide_attr.specs.declared.level.Level.{Level}
 use Rattle.aide_entry.specs.Attributes.{Attributes, Entry, sides_between, is_different}
 use Rattle.aide_entry.proofs.ValueLaws.{never_different}
 use Rattle.aide_conf.specs.declared.options.Options.{Options}
-use Rattle.aide_text.specs.declared.section.Section.{Section}
-use Rattle.aide_text.specs.declared.section.Section.TheVariants.{AddedEntries, RemovedEntries, ChangedEntries, AllEntries, Details}
+use Rattle.aide_text.specs.declared.section.Contents.{Contents}
+use Rattle.aide_text.specs.declared.section.Contents.TheVariants.{Listed, Detailed}
 use Rattle.aide_report.specs.ChangeView.{alike_of}
 use Rattle.aide_report.specs.Changed.{differ_by}
 use Rattle.aide_report.specs.Entries.{shows_any, shows_at}
@@ -40,14 +40,21 @@ pub never_shown : (i : Ignore) (level : Level) (a : Attr) (old new : Attributes)
 unfolding differ_by
 never_shown i level a old new e = ap (λ b. b && shown_at (sides_between old new) i level a) (never_differs i old new e)
 
--- so no section has it
+-- so no contents have it
 pub shows_nothing : (options : Options) (old : Attributes) → shows_any options (Some old, Some old) ≡ false
 unfolding shows_any
 shows_nothing options old = none_any (shows_at options (Some old, Some old)) all_attrs (λ a. never_shown options.ignore options.level a old old refl)
 
-pub in_none : (options : Options) (section : Section) (entry : Entry) → is_in options section (alike_of entry) ≡ false
-in_none options AddedEntries entry = refl
-in_none options RemovedEntries entry = refl
-in_none options ChangedEntries entry = never_differs options.ignore entry.1 entry.1 refl
-in_none options AllEntries entry = never_differs options.ignore entry.1 entry.1 refl
-in_none options Details entry = shows_nothing options entry.1
+pub and_no : (b : Bool) → b && false ≡ false
+and_no true = refl
+and_no false = refl
+
+-- none of three
+pub nowhere : (x y z : Bool) → x ≡ false → y ≡ false → z ≡ false → (x || (y || z)) ≡ false
+nowhere x y z p q r = rw (p, q, r) refl
+
+pub in_none : (options : Options) (contents : Contents) (entry : Entry) → is_in options contents (alike_of entry) ≡ false
+in_none options (Listed added removed changed) entry =
+    nowhere (added && false) (removed && false) (changed && differ_by options.ignore entry.1 entry.1) (and_no added) (and_no removed)
+    (ap (λ b. changed && b) (never_differs options.ignore entry.1 entry.1 refl) ∙ and_no changed)
+in_none options Detailed entry = shows_nothing options entry.1

@@ -1,6 +1,6 @@
 -- A section that is asked for is there exactly where it has an entry.
 use Rattle.std.proofs.Common.{◌≡◌, ◌∙◌, ℕ, ◌+◌, Bool, true, false, cond, List, [], ◌∷◌, refl, sym, ap, arith, length}
-use Rattle.std.specs.Prelude.{count_by, ◌==◌, ◌||◌, not}
+use Rattle.std.specs.Prelude.{count_by, ◌==◌, ◌||◌, ◌&&◌, not}
 use Rattle.std.specs.List.{list_any}
 use Rattle.std.proofs.lemmas.List.Sums.{sum_by-append}
 use Rattle.aide_conf.specs.declared.options.Options.{Options}
@@ -12,10 +12,11 @@ use Rattle.aide_report.specs.Changes.{is_added, is_removed, is_changed}
 use Rattle.aide_report.specs.Compare.{changes, added, removed, changed}
 use Rattle.aide_report.specs.Entries.{is_shown_entry}
 use Rattle.aide_report.specs.Report.{counts_of}
-use Rattle.aide_report.specs.Sections.{has_entry, is_in}
+use Rattle.aide_report.specs.Sections.{has_entry, is_in, is_there}
 use Rattle.aide_text.specs.declared.section.Section.{Section}
-use Rattle.aide_text.specs.declared.section.Section.TheVariants.{AddedEntries, RemovedEntries, ChangedEntries}
-use Rattle.aide_text.specs.declared.section.Section.TheVariants.{AllEntries, Details}
+use Rattle.aide_text.specs.declared.section.Contents.{Contents}
+use Rattle.aide_text.specs.declared.section.Contents.TheVariants.{Listed, Detailed}
+use Rattle.aide_text.specs.Section.{contents_of, is_asked}
 use Rattle.aide_report.proofs.Laws.{added_count, removed_count, changed_count}
 
 none_more : (n : ℕ) → 0 + n ≡ n
@@ -50,6 +51,15 @@ any_either p q [] = refl
 any_either p q (x ∷ xs) =
     ap (λ b. (p x || q x) || b) (any_either p q xs) ∙ either_item (p x) (q x) (list_any p xs) (list_any q xs)
 
+any_none : {X : Type 0} (xs : List X) → false ≡ list_any (λ x. false) xs
+any_none [] = refl
+any_none (x ∷ xs) = any_none xs
+
+-- a kind that is listed, and one that is not
+any_kind : {X : Type 0} (b : Bool) (p : X → Bool) (xs : List X) → b && list_any p xs ≡ list_any (λ x. b && p x) xs
+any_kind true p xs = refl
+any_kind false p xs = any_none xs
+
 module _ (options : Options) (old new : Database) where
   some_added : not (length (added old new) == 0) ≡ list_any is_added (changes old new)
   some_added = ap (λ n. not (n == 0)) (sym (added_count path_cmp path_cmp_total path_cmp-IsAntisymmetric old new)) ∙ some_counted is_added (changes old new)
@@ -61,15 +71,25 @@ module _ (options : Options) (old new : Database) where
   some_changed = ap (λ n. not (n == 0)) (sym (changed_count path_cmp path_cmp_total (differ_by options.ignore) path_cmp-IsAntisymmetric old new))
       ∙ some_counted (is_changed (differ_by options.ignore)) (changes old new)
 
-  pub has_entry_law : (section : Section)
-      → has_entry (counts_of options old new) section ≡ list_any (is_in options section) (changes old new)
-  has_entry_law AddedEntries = some_added
-  has_entry_law RemovedEntries = some_removed
-  has_entry_law ChangedEntries = some_changed
-  has_entry_law AllEntries =
-      ap (λ b. b || (not (length (removed old new) == 0) || not (length (changed (differ_by options.ignore) old new) == 0))) some_added
-      ∙ ap (λ b. list_any is_added (changes old new) || (b || not (length (changed (differ_by options.ignore) old new) == 0))) some_removed
-      ∙ ap (λ b. list_any is_added (changes old new) || (list_any is_removed (changes old new) || b)) some_changed
-      ∙ ap (λ b. list_any is_added (changes old new) || b) (sym (any_either is_removed (is_changed (differ_by options.ignore)) (changes old new)))
-      ∙ sym (any_either is_added (λ entry. is_removed entry || is_changed (differ_by options.ignore) entry) (changes old new))
-  has_entry_law Details = some_counted (is_shown_entry options) (changes old new)
+  listed_law : (added removed changed : Bool)
+      → has_entry (counts_of options old new) (Listed added removed changed)
+      ≡ list_any (is_in options (Listed added removed changed)) (changes old new)
+  listed_law added removed changed =
+      let all = changes old new in
+      let differs = is_changed (differ_by options.ignore) in
+      (λ i. (added && some_added i) || ((removed && some_removed i) || (changed && some_changed i)))
+      ∙ (λ i. any_kind added is_added all i || (any_kind removed is_removed all i || any_kind changed differs all i))
+      ∙ ap (λ b. list_any (λ x. added && is_added x) all || b) (sym (any_either (λ x. removed && is_removed x) (λ x. changed && differs x) all))
+      ∙ sym (any_either (λ x. added && is_added x) (λ x. (removed && is_removed x) || (changed && differs x)) all)
+
+  -- contents have an entry exactly where some change is in them
+  pub has_entry_law : (contents : Contents)
+      → has_entry (counts_of options old new) contents ≡ list_any (is_in options contents) (changes old new)
+  has_entry_law (Listed added removed changed) = listed_law added removed changed
+  has_entry_law Detailed = some_counted (is_shown_entry options) (changes old new)
+
+  -- so a section is there exactly where it is asked for and some change is in it
+  pub is_there_law : (section : Section) → is_there options (counts_of options old new) section
+      ≡ is_asked options.level options.grouped section && list_any (is_in options (contents_of section)) (changes old new)
+  is_there_law section =
+      ap (λ b. is_asked options.level options.grouped section && b) (has_entry_law (contents_of section))

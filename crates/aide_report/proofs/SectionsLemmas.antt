@@ -4,18 +4,16 @@ use Rattle.std.proofs.Common.{drop, get_or, refl, sym, ap, append-nil, length-ap
 use Rattle.std.specs.List.{flat_map, filter}
 use Rattle.std.proofs.lemmas.List.{drop_more, drop_all, take_more, take_all, take-append-drop}
 use Rattle.std.proofs.lemmas.List.Elements.{filter-append}
-use Rattle.std.specs.Prelude.{if◌then◌else◌}
-use Rattle.aide_attr.specs.declared.level.Level.TheVariants.{ListEntries, ChangedAttributes}
+use Rattle.std.specs.Prelude.{if◌then◌else◌, ◌&&◌, max}
 use Rattle.aide_conf.specs.declared.options.Options.{Options}
-use Rattle.std.proofs.lemmas.List.Sums.{length-filter, count_by-le-length}
 use Rattle.aide_db.specs.declared.side.Side.{Side}
 use Rattle.aide_report.specs.Openings.{OpensExactly, OpensAtMost}
 use Rattle.aide_text.specs.Overview.{differs}
 use Rattle.aide_report.specs.Report.{is_silent, section_count}
-use Rattle.aide_report.specs.Sections.{asked_sections, list_sections, has_entry, sections_of}
+use Rattle.aide_report.specs.Sections.{has_entry, is_there, sections_of}
+use Rattle.aide_text.specs.Section.{all_sections, contents_of, fits, grouped_of, level_of}
 use Rattle.aide_attr.specs.Level.{reaches}
 use Rattle.aide_text.specs.declared.counts.Counts.{Counts}
-use Rattle.aide_text.specs.declared.section.Section.TheVariants.{Details}
 
 module _ {X : Type 0} (h : X → Bool) where
   filter_yes : (x : X) (xs : List X) → h x ≡ true → filter h (x ∷ xs) ≡ x ∷ filter h xs
@@ -87,22 +85,52 @@ opens_then a b c m n k less p q =
 
 -- ---- how many sections there are
 
-count_filter : {X : Type 0} (h : X → Bool) (xs : List X) → length (filter h xs) ≤ length xs
-count_filter h xs = omega (arith, length-filter h xs, count_by-le-length h xs)
+module _ {X : Type 0} where
+  no_fewer : (a b : Bool) (x : X) (xs ys : List X) → (a ≡ true → b ≡ true) → length xs ≤ length ys
+      → length (cond a (x ∷ xs) xs) ≤ length (cond b (x ∷ ys) ys)
+  no_fewer true true x xs ys h e = omega (arith, e)
+  no_fewer true false x xs ys h e = let n = h refl in cc
+  no_fewer false true x xs ys h e = omega (arith, e)
+  no_fewer false false x xs ys h e = omega (arith, e)
 
-asked_few : (grouped : Bool) (listed detailed : Bool)
-    → length ((if listed then list_sections grouped else []) ++ (if detailed then Details ∷ [] else [])) ≤ 4
-asked_few true true true = omega arith
-asked_few _ true true = omega arith
-asked_few _ _ true = omega arith
-asked_few _ _ _ = omega arith
+  -- where each item that passes one test passes another, no fewer pass this one
+  wider : (p q : X → Bool) → ((x : X) → p x ≡ true → q x ≡ true) → (xs : List X)
+      → length (filter p xs) ≤ length (filter q xs)
+  wider p q h [] = omega arith
+  wider p q h (x ∷ xs) = no_fewer (p x) (q x) x (filter p xs) (filter q xs) (h x) (wider p q h xs)
+
+-- how many sections want lists that are grouped, or that are not
+unfoldable pub fitting : Bool → ℕ
+fitting grouped = length (filter (λ section. fits (grouped_of section) grouped) all_sections)
+
+-- the most sections that a report has
+unfoldable pub most_sections : ℕ
+most_sections = max (fitting true) (fitting false)
+
+fitting_few : (grouped : Bool) → fitting grouped ≤ most_sections
+unfolding most_sections
+fitting_few true = omega arith
+fitting_few false = omega arith
+
+middle : (a b c : Bool) → (a && b) && c ≡ true → b ≡ true
+middle true true c e = refl
+middle true false c e = cc
+middle false b c e = cc
+
+there_fits : (options : Options) (counts : Counts) → length (sections_of options counts) ≤ fitting options.grouped
+unfolding fitting
+there_fits options counts =
+    wider (is_there options counts) (λ section. fits (grouped_of section) options.grouped)
+    (λ section. middle (reaches options.level (level_of section)) (fits (grouped_of section) options.grouped) (has_entry counts (contents_of section)))
+    all_sections
 
 by_silent : (options : Options) (counts : Counts) (silent : Bool)
-    → (if silent then 0 else length (sections_of options counts)) ≤ 4
-unfolding asked_sections
+    → (if silent then 0 else length (sections_of options counts)) ≤ most_sections
 by_silent options counts true = omega arith
-by_silent options counts false =
-    omega (arith, count_filter (has_entry counts) (asked_sections options), asked_few options.grouped (reaches options.level ListEntries) (reaches options.level ChangedAttributes))
+by_silent options counts false = omega (arith, there_fits options counts, fitting_few options.grouped)
 
-pub sections_few : (options : Options) (counts : Counts) → section_count options counts ≤ 4
-sections_few options counts = by_silent options counts (is_silent options (differs counts))
+-- with two more, no report has more sections than the most
+pub sections_few : (options : Options) (counts : Counts) (most : ℕ) → 2 + most_sections ≤ most
+    → 2 + section_count options counts ≤ most
+sections_few options counts most h =
+    omega (arith, h, by_silent options counts (is_silent options (differs counts)))

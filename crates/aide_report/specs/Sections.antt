@@ -1,83 +1,72 @@
 -- The sections of entries: which there are, what each says of a change, and its text.
-use Rattle.std.specs.Prelude.{ℕ, ◌==◌, ◌||◌, not, Bool, true, false, if◌then◌else◌, List, [], ◌∷◌}
-use Rattle.std.specs.Prelude.{◌++◌}
+use Rattle.std.specs.Prelude.{ℕ, ◌==◌, ◌||◌, ◌&&◌, not, Bool, true, false, if◌then◌else◌, List, []}
+use Rattle.std.specs.Prelude.{◌++◌, Some, None}
 use Rattle.std.specs.List.{flat_map, filter}
-use Rattle.aide_attr.specs.declared.level.Level.TheVariants.{ListEntries, ChangedAttributes}
 use Rattle.aide_conf.specs.declared.options.Options.{Options}
 use Rattle.aide_report.specs.Changed.{differ_by}
-use Rattle.aide_report.specs.Changes.{is_added, is_removed, is_common, is_changed}
+use Rattle.aide_report.specs.Changes.{is_added, is_removed, is_changed}
 use Rattle.aide_report.specs.Entries.{PathChange, list_line, entry_details, shows_any}
-use Rattle.aide_text.specs.Overview.{databases_differ}
-use Rattle.aide_attr.specs.Level.{reaches}
+use Rattle.aide_text.specs.Section.{all_sections, contents_of, is_asked}
 use Rattle.aide_text.specs.Titles.{section_head}
 use Rattle.aide_text.specs.declared.counts.Counts.{Counts}
+use Rattle.aide_text.specs.declared.section.Contents.{Contents}
+use Rattle.aide_text.specs.declared.section.Contents.TheVariants.{Listed, Detailed}
 use Rattle.aide_text.specs.declared.section.Section.{Section}
-use Rattle.aide_text.specs.declared.section.Section.TheVariants.{AddedEntries, RemovedEntries}
-use Rattle.aide_text.specs.declared.section.Section.TheVariants.{ChangedEntries, AllEntries}
-use Rattle.aide_text.specs.declared.section.Section.TheVariants.{Details}
 
 -- ---- which sections there are
 
--- three lists if entries are grouped, and otherwise one
-abbrev pub list_sections : Bool → List Section
-list_sections grouped =
-    if grouped then AddedEntries ∷ RemovedEntries ∷ ChangedEntries ∷ [] else (AllEntries ∷ [])
+-- whether there is an entry for these contents, by the counts
+abbrev pub has_entry : Counts → Contents → Bool
+has_entry counts (Listed added removed changed) =
+    (added && not (counts.added == 0))
+    || ((removed && not (counts.removed == 0)) || (changed && not (counts.changed == 0)))
+has_entry counts Detailed = not (counts.shown == 0)
 
--- the sections that the options ask for, in their order
-unfoldable pub asked_sections : Options → List Section
-asked_sections options =
-    (if reaches options.level ListEntries then list_sections options.grouped else [])
-    ++ (if reaches options.level ChangedAttributes then Details ∷ [] else [])
+-- whether the report has the section: the options ask for it, and it has an entry
+abbrev pub is_there : Options → Counts → Section → Bool
+is_there options counts section =
+    is_asked options.level options.grouped section && has_entry counts (contents_of section)
 
--- whether a section has an entry, by the counts
-abbrev pub has_entry : Counts → Section → Bool
-has_entry counts AddedEntries = not (counts.added == 0)
-has_entry counts RemovedEntries = not (counts.removed == 0)
-has_entry counts ChangedEntries = not (counts.changed == 0)
-has_entry counts AllEntries = databases_differ counts.added counts.removed counts.changed
-has_entry counts Details = not (counts.shown == 0)
-
--- each section that is asked for and has an entry
+-- the sections of the report, in their order
 abbrev pub sections_of : Options → Counts → List Section
-sections_of options counts = filter (has_entry counts) (asked_sections options)
+sections_of options counts = filter (is_there options counts) all_sections
 
 -- ---- their texts
 
--- whether the section has the change
-abbrev pub is_in : Options → Section → PathChange → Bool
-is_in options AddedEntries entry = is_added entry
-is_in options RemovedEntries entry = is_removed entry
-is_in options ChangedEntries entry = is_changed (differ_by options.ignore) entry
-is_in options AllEntries entry = is_added entry
-    || (is_removed entry || is_changed (differ_by options.ignore) entry)
-is_in options Details entry = shows_any options entry.1
+-- a list of the added, the removed and the changed entries
+abbrev pub all_listed : Contents
+all_listed = Listed true true true
 
--- whether the section is a list in which this change is, if it is listed at all
-abbrev pub lists : Section → PathChange → Bool
-lists AddedEntries entry = is_added entry
-lists RemovedEntries entry = is_removed entry
-lists ChangedEntries entry = is_common entry
-lists AllEntries entry = true
-lists Details entry = false
+-- whether these contents have the change
+abbrev pub is_in : Options → Contents → PathChange → Bool
+is_in options (Listed added removed changed) entry =
+    (added && is_added entry)
+    || ((removed && is_removed entry) || (changed && is_changed (differ_by options.ignore) entry))
+is_in options Detailed entry = shows_any options entry.1
 
--- what a section says of a change that it has
-abbrev pub entry_text : Options → Section → PathChange → List ℕ
-entry_text options AddedEntries entry = list_line options entry
-entry_text options RemovedEntries entry = list_line options entry
-entry_text options ChangedEntries entry = list_line options entry
-entry_text options AllEntries entry = list_line options entry
-entry_text options Details entry = entry_details options entry
+-- whether a list is to have changes of this kind, if they are listed at all
+abbrev pub lists : Contents → PathChange → Bool
+lists (Listed added removed changed) (path, (None, Some new)) = added
+lists (Listed added removed changed) (path, (Some old, None)) = removed
+lists (Listed added removed changed) (path, (Some old, Some new)) = changed
+lists _ _ = false
 
--- the same, and nothing for a change that the section does not have
-unfoldable pub one_text : Options → Section → PathChange → List ℕ
-one_text options section entry =
-    if is_in options section entry then entry_text options section entry else []
+-- what contents say of a change that they have
+abbrev pub entry_text : Options → Contents → PathChange → List ℕ
+entry_text options (Listed added removed changed) entry = list_line options entry
+entry_text options Detailed entry = entry_details options entry
 
--- what a section says of all changes, in their order
-unfoldable pub entries_text : Options → Section → List PathChange → List ℕ
-entries_text options section entries =
-    flat_map (entry_text options section) (filter (is_in options section) entries)
+-- the same, and nothing for a change that they do not have
+unfoldable pub one_text : Options → Contents → PathChange → List ℕ
+one_text options contents entry =
+    if is_in options contents entry then entry_text options contents entry else []
+
+-- what contents say of all changes, in their order
+unfoldable pub entries_text : Options → Contents → List PathChange → List ℕ
+entries_text options contents entries =
+    flat_map (entry_text options contents) (filter (is_in options contents) entries)
 
 -- the title lines of a section, and what it says of all changes
 unfoldable pub section_text : Options → List PathChange → Section → List ℕ
-section_text options entries section = section_head section ++ entries_text options section entries
+section_text options entries section =
+    section_head section ++ entries_text options (contents_of section) entries

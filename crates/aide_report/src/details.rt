@@ -24,7 +24,7 @@ use aide_attr::{Attr, AttrSet, FileType, Form};
 use aide_conf::Options;
 use aide_db::View;
 use aide_text::{
-    DecodedFeed, Pen, Printed, Ready, Section, Sink, SliceFeed, ValueText, digest_of, kind_text,
+    Contents, DecodedFeed, Pen, Printed, Ready, Sink, SliceFeed, ValueText, digest_of, kind_text,
     mode_of, number_of, put_newline, put_path_line, put_side_by_side,
 };
 
@@ -201,7 +201,7 @@ pub(crate) fn put_details<W: Sink>(
     options: &Options,
     change: Change<'_>,
 )
-    ensures { Wrote (one_text options.now Section.Details (change_of change.entry))
+    ensures { Wrote (one_text options.now Contents.Detailed (change_of change.entry))
         (sheet W.delivered W.failures W.flushes out.old pen.old)
         (sheet W.delivered W.failures W.flushes out.new pen.new) }
 {

@@ -10,13 +10,12 @@ ghost use Rattle.aide_report.specs.ChangeView.{change_of};
 ghost use Rattle.aide_report.specs.Changed.{differ_by};
 ghost use Rattle.aide_report.specs.Changes.{is_changed};
 ghost use Rattle.aide_report.specs.Entries.{shows_at, shows_any, shows_alone, letters_of};
-ghost use Rattle.aide_report.specs.Sections.{is_in};
+ghost use Rattle.aide_report.specs.Sections.{all_listed, is_in};
 
 use crate::change::Change;
 use aide_attr::{Alone, AttrSet, Ignore, Level, reported, shown, summary, summary_one};
 use aide_conf::Options;
 use aide_db::{View, delta_of};
-use aide_text::Section;
 
 /// Whether the details of an entry are shown that only one side has.
 fn shows_alone(level: Level) -> bool
@@ -96,7 +95,7 @@ fn letters_between(old: &View<'_>, new: &View<'_>, ignore: &Ignore) -> Option<[u
 /// The summary string of a change, if it is an added, removed or changed entry.
 pub(crate) fn letters(change: Change<'_>, options: &Options) -> Option<[u8; 18]>
     ensures listed { is_some result
-        ≡ is_in options.now Section.AllEntries (change_of change.entry) }
+        ≡ is_in options.now all_listed (change_of change.entry) }
     ensures letters { IfSome result (λ letters. letters
         ≡ letters_of options.now.ignore (change_of change.entry).1) }
 {

@@ -6,7 +6,7 @@ ghost use Rattle.aide_report.specs.MergeCalls.{IsStopOf, KeepsMerge};
 ghost use Rattle.aide_report.specs.Merging.{remaining, IsReady, IsEnded, StandsAt};
 ghost use Rattle.aide_report.specs.PassFaults.{Writes};
 ghost use Rattle.aide_report.specs.Passes.{on_sheet};
-ghost use Rattle.aide_report.specs.Sections.{lists, entries_text, one_text};
+ghost use Rattle.aide_report.specs.Sections.{all_listed, lists, entries_text, one_text};
 ghost use Rattle.aide_text.specs.PenSheet.{sheet};
 ghost use Rattle.aide_text.specs.Sheet.{Wrote, WritesSome};
 
@@ -16,7 +16,7 @@ use crate::difference::letters;
 use crate::merge::{Merge, Turn};
 use aide_conf::Options;
 use aide_db::{DbFault, Desk, Reel, Side};
-use aide_text::{Pen, Section, Sink, put, put_path_end};
+use aide_text::{Contents, Pen, Sink, put, put_path_end};
 use std::alloc::Allocator;
 
 /// Why a pass was broken off.
@@ -76,7 +76,7 @@ fn put_line<W: Sink>(
 
 /// Writes the line of an added, removed or changed entry, and nothing for any other.
 fn put_listed<W: Sink>(out: &mut W, pen: &mut Pen, options: &Options, change: Change<'_>)
-    ensures { Wrote (one_text options.now Section.AllEntries (change_of change.entry))
+    ensures { Wrote (one_text options.now all_listed (change_of change.entry))
         (sheet W.delivered W.failures W.flushes out.old pen.old)
         (sheet W.delivered W.failures W.flushes out.new pen.new) }
 {
@@ -85,43 +85,39 @@ fn put_listed<W: Sink>(out: &mut W, pen: &mut Pen, options: &Options, change: Ch
     }
 }
 
-/// Whether a list has changes of this kind, if they are listed at all.
-fn lists(section: Section, change: Change<'_>) -> bool
-    ensures { result ≡ lists section (change_of change.entry) }
+/// Whether a list is to have changes of this kind, if they are listed at all.
+fn lists(contents: Contents, change: Change<'_>) -> bool
+    ensures { result ≡ lists contents (change_of change.entry) }
 {
-    match section {
-        Section::AddedEntries => match change {
-            Change::Added(_) => true,
-            _ => false,
+    match contents {
+        Contents::Listed {
+            added,
+            removed,
+            changed,
+        } => match change {
+            Change::Added(_) => added,
+            Change::Removed(_) => removed,
+            Change::Common(_, _) => changed,
         },
-        Section::RemovedEntries => match change {
-            Change::Removed(_) => true,
-            _ => false,
-        },
-        Section::ChangedEntries => match change {
-            Change::Common(_, _) => true,
-            _ => false,
-        },
-        Section::AllEntries => true,
-        Section::Details => false,
+        Contents::Detailed => false,
     }
 }
 
-/// Writes what a section says of a change, and nothing if the change is not in the section.
+/// Writes what a section says of a change, and nothing if the section does not have the change.
 fn put_change<W: Sink>(
     out: &mut W,
     pen: &mut Pen,
     options: &Options,
-    section: Section,
+    contents: Contents,
     change: Change<'_>,
 )
-    ensures { Wrote (one_text options.now section (change_of change.entry))
+    ensures { Wrote (one_text options.now contents (change_of change.entry))
         (sheet W.delivered W.failures W.flushes out.old pen.old)
         (sheet W.delivered W.failures W.flushes out.new pen.new) }
 {
-    if let Section::Details = section {
+    if let Contents::Detailed = contents {
         put_details(out, pen, options, change);
-    } else if lists(section, change) {
+    } else if lists(contents, change) {
         put_listed(out, pen, options, change);
     }
 }
@@ -133,14 +129,14 @@ pub(crate) fn put_entries<R: Reel, W: Sink, A: Allocator + Copy>(
     out: &mut W,
     pen: &mut Pen,
     options: &Options,
-    section: Section,
+    contents: Contents,
 ) -> Result<(), PassFault>
     requires ready { IsReady merge.old desk.old }
     requires writes_on { pen.old.failed ≡ false }
     ensures keeps { KeepsMerge R.Reel merge.old merge.new desk.old desk.new }
     ensures writes { (old new : List ℕ) → StandsAt R.to_come merge.old desk.old Side.Old old
         → StandsAt R.to_come merge.old desk.old Side.New new
-        → Writes result (entries_text options.now section (remaining merge.old desk.old old new))
+        → Writes result (entries_text options.now contents (remaining merge.old desk.old old new))
         (on_sheet W.Sink out.old pen.old) (on_sheet W.Sink out.new pen.new) }
     ensures some { WritesSome (on_sheet W.Sink out.old pen.old) (on_sheet W.Sink out.new pen.new) }
     ensures writes_on { OnOk result (pen.new.failed ≡ false) }
@@ -157,7 +153,7 @@ pub(crate) fn put_entries<R: Reel, W: Sink, A: Allocator + Copy>(
         }
         match at_turn(desk, turn) {
             AtPath::Differs(change) => {
-                put_change(out, pen, options, section, change);
+                put_change(out, pen, options, contents, change);
                 if pen.failed {
                     return Err(PassFault::Write);
                 }

@@ -33,7 +33,7 @@ use crate::plan::Plan;
 use crate::run_fault::RunFault;
 use aide_conf::Options;
 use aide_db::{Cursor, DbFault, DbFaultKind, Desk, Limits, OpenFault, Reel, Side, Sources, Step};
-use aide_text::{Counts, Pen, Section, Sink};
+use aide_text::{Contents, Counts, Pen, Sink};
 use std::alloc::Allocator;
 
 /// Lets go of what a desk still holds from an earlier run.
@@ -210,7 +210,7 @@ pub(crate) fn entries_pass<S: Sources, W: Sink, A: Allocator + Copy>(
     desk: &mut Desk<A>,
     out: &mut W,
     pen: &mut Pen,
-    section: Section,
+    contents: Contents,
 ) -> Result<(), RunFault>
     requires limits { AreLimits plan.now.limits }
     requires digests { AreDigests (S.bytes_of sources.old) plan.now.finding.now.digests }
@@ -219,7 +219,7 @@ pub(crate) fn entries_pass<S: Sources, W: Sink, A: Allocator + Copy>(
         (seen S.Sources sources.old) (seen S.Sources sources.new)
         desk.old desk.new (pen.new.failed ≡ true) result }
     ensures writes { WritesOver (S.bytes_of sources.old) (λ old new.
-        entries_text plan.now.task.now.options section
+        entries_text plan.now.task.now.options contents
         (merged path_cmp (entries_of old) (entries_of new)))
         result (on_sheet W.Sink out.old pen.old) (on_sheet W.Sink out.new pen.new) }
     ensures pen { KeepsPen (on_sheet W.Sink out.old pen.old) (on_sheet W.Sink out.new pen.new)
@@ -229,7 +229,7 @@ pub(crate) fn entries_pass<S: Sources, W: Sink, A: Allocator + Copy>(
 {
     let (old_reel, new_reel) = open_both(sources)?;
     let mut merge = Merge::start(old_reel, new_reel, plan.limits, desk);
-    match put_entries(&mut merge, desk, out, pen, &plan.task.options, section) {
+    match put_entries(&mut merge, desk, out, pen, &plan.task.options, contents) {
         Ok(()) => {
             let changed = changed_side(&merge, &plan.finding.digests);
             close_both(sources, merge);

@@ -6,56 +6,41 @@ ghost use Rattle.aide_report.specs.Digests.{AreDigests};
 ghost use Rattle.aide_report.specs.Finding.{pass_of};
 ghost use Rattle.aide_report.specs.Passes.{KeepsPen, Passes, WritesOver, on_sheet};
 ghost use Rattle.aide_report.specs.Report.{sections_text};
-ghost use Rattle.aide_report.specs.Sections.{asked_sections, has_entry, sections_of, section_text};
+ghost use Rattle.aide_report.specs.Sections.{has_entry, is_there, sections_of, section_text};
 ghost use Rattle.aide_report.specs.Seen.{AreLimits, seen};
 ghost use Rattle.aide_text.specs.Sheet.{WritesFirst};
 
 use crate::pass::entries_pass;
 use crate::plan::Plan;
 use crate::run_fault::RunFault;
-use aide_attr::Level;
 use aide_conf::Options;
 use aide_db::{Desk, Side, Sources};
-use aide_text::{Counts, Pen, Section, Sink, put_section_head};
+use aide_text::{Contents, Counts, Pen, Section, Sink, put_section_head};
 use std::alloc::Allocator;
 
-/// The sections that the options ask for, in their order.
-#[tactic(auto, unfolding(crate::specs::Sections::asked_sections))]
-fn asked_sections(options: &Options) -> &'static [Section]
-    ensures { result.now ≡ asked_sections options.now }
+/// Whether there is an entry for these contents.
+fn has_entry(counts: &Counts, contents: Contents) -> bool
+    ensures { result ≡ has_entry counts.now contents }
 {
-    let listed = options.level.reaches(Level::ListEntries);
-    let detailed = options.level.reaches(Level::ChangedAttributes);
-    match (listed, options.grouped, detailed) {
-        (false, _, false) => &[],
-        (false, _, true) => &[Section::Details],
-        (true, true, false) => &[
-            Section::AddedEntries,
-            Section::RemovedEntries,
-            Section::ChangedEntries,
-        ],
-        (true, true, true) => &[
-            Section::AddedEntries,
-            Section::RemovedEntries,
-            Section::ChangedEntries,
-            Section::Details,
-        ],
-        (true, false, false) => &[Section::AllEntries],
-        (true, false, true) => &[Section::AllEntries, Section::Details],
+    match contents {
+        Contents::Listed {
+            added,
+            removed,
+            changed,
+        } => {
+            added && counts.added != 0
+                || removed && counts.removed != 0
+                || changed && counts.changed != 0
+        }
+        Contents::Detailed => counts.shown != 0,
     }
 }
 
-/// Whether a section has an entry.
-fn has_entry(counts: &Counts, section: Section) -> bool
-    ensures { result ≡ has_entry counts.now section }
+/// Whether the report has the section.
+fn is_there(options: &Options, counts: &Counts, section: Section) -> bool
+    ensures { result ≡ is_there options.now counts.now section }
 {
-    match section {
-        Section::AddedEntries => counts.added != 0,
-        Section::RemovedEntries => counts.removed != 0,
-        Section::ChangedEntries => counts.changed != 0,
-        Section::AllEntries => counts.databases_differ(),
-        Section::Details => counts.shown != 0,
-    }
+    section.is_asked(options.level, options.grouped) && has_entry(counts, section.contents())
 }
 
 /// A section: its title lines, and a pass over both databases.
@@ -83,10 +68,10 @@ fn section_pass<S: Sources, W: Sink, A: Allocator + Copy>(
     if pen.failed {
         return Err(RunFault::Write { written: pen.sent });
     }
-    entries_pass(plan, sources, desk, out, pen, section)
+    entries_pass(plan, sources, desk, out, pen, section.contents())
 }
 
-/// Writes all sections that have an entry.
+/// Writes all sections of the report.
 pub(crate) fn put_sections<S: Sources, W: Sink, A: Allocator + Copy>(
     plan: &Plan<'_>,
     sources: &mut S,
@@ -111,9 +96,8 @@ pub(crate) fn put_sections<S: Sources, W: Sink, A: Allocator + Copy>(
     ensures pen { KeepsPen (on_sheet W.Sink out.old pen.old) (on_sheet W.Sink out.new pen.new)
         pen.new result }
 {
-    let asked = asked_sections(&plan.task.options);
-    for section in asked {
-        if !has_entry(&plan.finding.counts, *section) {
+    for section in &Section::ALL {
+        if !is_there(&plan.task.options, &plan.finding.counts, *section) {
             continue;
         }
         match section_pass(plan, sources, desk, out, pen, *section) {

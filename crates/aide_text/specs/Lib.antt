@@ -14,4 +14,5 @@ pub mod TextRest
 pub mod Sheet
 pub mod PenSheet
 pub mod Overview
+pub mod Section
 pub mod Titles

@@ -28,7 +28,7 @@ pub use memory_sink::MemorySink;
 pub use overview::put_overview;
 pub use pen::{Pen, emit_path, put, put_newline, put_path_end};
 pub use ready::Ready;
-pub use section::Section;
+pub use section::{Contents, Section};
 pub use sink::{Sink, WriteSink};
 pub use slices::SliceFeed;
 pub use titles::{put_path_line, put_section_head, put_titled};

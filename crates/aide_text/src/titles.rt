@@ -3,12 +3,12 @@ ghost use Rattle.std.specs.Prelude.{◌≡◌, ◌++◌};
 ghost use Rattle.aide_text.specs.PenSheet.{sheet};
 ghost use Rattle.aide_text.specs.Sheet.{Wrote};
 ghost use Rattle.aide_text.specs.Layout.{path_line};
-ghost use Rattle.aide_text.specs.Titles.{rule_before, rule_after, titled, title_of, gap_of};
-ghost use Rattle.aide_text.specs.Titles.{section_head};
+ghost use Rattle.aide_text.specs.Section.{gap_of};
+ghost use Rattle.aide_text.specs.Titles.{rule_before, rule_after, titled, section_head};
 
 use crate::feed::Feed;
 use crate::pen::{Pen, put, put_ended, put_path_end};
-use crate::section::Section;
+use crate::section::{Contents, Section};
 use crate::sink::Sink;
 
 #[tactic(auto, unfolding(crate::specs::Titles::rule_before))]
@@ -45,27 +45,12 @@ pub fn put_titled<W: Sink>(out: &mut W, pen: &mut Pen, title: &[u8])
     put_rule_after(out, pen);
 }
 
-fn title(section: Section) -> &'static [u8]
-    ensures { result.now ≡ title_of section }
+fn gap(contents: Contents) -> &'static [u8]
+    ensures { result.now ≡ gap_of contents }
 {
-    match section {
-        Section::AddedEntries => b"Added entries:",
-        Section::RemovedEntries => b"Removed entries:",
-        Section::ChangedEntries => b"Changed entries:",
-        Section::AllEntries => b"Added, removed and changed entries:",
-        Section::Details => b"Detailed information about changes:",
-    }
-}
-
-fn gap(section: Section) -> &'static [u8]
-    ensures { result.now ≡ gap_of section }
-{
-    match section {
-        Section::AddedEntries => b"\n",
-        Section::RemovedEntries => b"\n",
-        Section::ChangedEntries => b"\n",
-        Section::AllEntries => b"\n",
-        Section::Details => b"",
+    match contents {
+        Contents::Listed { .. } => b"\n",
+        Contents::Detailed => b"",
     }
 }
 
@@ -74,8 +59,8 @@ pub fn put_section_head<W: Sink>(out: &mut W, pen: &mut Pen, section: Section)
     ensures { Wrote (section_head section) (sheet W.delivered W.failures W.flushes out.old pen.old)
         (sheet W.delivered W.failures W.flushes out.new pen.new) }
 {
-    put_titled(out, pen, title(section));
-    put(out, pen, gap(section));
+    put_titled(out, pen, section.title());
+    put(out, pen, gap(section.contents()));
 }
 
 /// Writes a line with a word, a colon and a path.

@@ -13,7 +13,8 @@ use Rattle.aide_report.proofs.OpeningLemmas.{refused_later, unsent_nothing, unse
 use Rattle.aide_report.proofs.ReadingLemmas.{clears_then}
 use Rattle.aide_report.proofs.ReportLemmas.{caused_as, counts_nothing}
 use Rattle.aide_report.proofs.RunLemmas.{ends_well, ends_early, sections_are}
-use Rattle.aide_report.proofs.SectionsLemmas.{opens_more, opens_then, sections_few}
+use Rattle.aide_report.proofs.SectionsLemmas.{fitting, most_sections, opens_more, opens_then, sections_few}
+use Rattle.aide_text.specs.Section.{row, row_of}
 use Rattle.aide_report.proofs.comparison.run.Goals as goal
 
 pub write_report-requires-clause-digests : goal.write_report-requires-clause-digests
@@ -43,9 +44,10 @@ returns-in-Ok-write_report-clause-opens_within g c old new told_old told_new sou
     opens_then _ _ _ 2 (section_count c.args.task.now.options c.in-Ok.finding.counts) _ (omega (arith, are)) c.in-Ok.ensures.opens c.in-Ok-write_report.ensures.passes.opens_some
 
 pub returns-in-Ok-write_report-clause-opens_some : goal.returns-in-Ok-write_report-clause-opens_some
+unfolding most_sections fitting row_of row
 returns-in-Ok-write_report-clause-opens_some g c =
     let few = sections_few c.args.task.now.options c.in-Ok.finding.counts in
-    opens_then _ _ _ 2 (section_count c.args.task.now.options c.in-Ok.finding.counts) _ (omega (arith, few)) c.in-Ok.ensures.opens c.in-Ok-write_report.ensures.passes.opens_some
+    opens_then _ _ _ 2 (section_count c.args.task.now.options c.in-Ok.finding.counts) _ (few _ (omega arith)) c.in-Ok.ensures.opens c.in-Ok-write_report.ensures.passes.opens_some
 
 pub returns-in-Err-write_report-clause-nothing : goal.returns-in-Err-write_report-clause-nothing
 returns-in-Err-write_report-clause-nothing g c side text told unsound =
@@ -73,9 +75,10 @@ returns-in-Err-write_report-clause-opens_within g c old new told_old told_new so
     opens_then _ _ _ 2 (section_count c.args.task.now.options c.in-Ok.finding.counts) _ (omega (arith, are)) c.in-Ok.ensures.opens c.in-Err-write_report.ensures.passes.opens_some
 
 pub returns-in-Err-write_report-clause-opens_some : goal.returns-in-Err-write_report-clause-opens_some
+unfolding most_sections fitting row_of row
 returns-in-Err-write_report-clause-opens_some g c =
     let few = sections_few c.args.task.now.options c.in-Ok.finding.counts in
-    opens_then _ _ _ 2 (section_count c.args.task.now.options c.in-Ok.finding.counts) _ (omega (arith, few)) c.in-Ok.ensures.opens c.in-Err-write_report.ensures.passes.opens_some
+    opens_then _ _ _ 2 (section_count c.args.task.now.options c.in-Ok.finding.counts) _ (few _ (omega arith)) c.in-Ok.ensures.opens c.in-Err-write_report.ensures.passes.opens_some
 
 pub returns-in-Err-write_report-clause-opens_first : goal.returns-in-Err-write_report-clause-opens_first
 returns-in-Err-write_report-clause-opens_first g c =

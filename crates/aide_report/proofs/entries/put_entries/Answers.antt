@@ -18,7 +18,7 @@ pass-init g c = record {
   ready = c.requires.ready;
   writes_on = c.requires.writes_on;
   keeps = merge_none g.R.Reel c.args.merge.now c.args.desk.now;
-  writes = λ old new s t. writing_start (entries_text c.args.options.now c.args.section (remaining c.args.merge.now c.args.desk.now old new))
+  writes = λ old new s t. writing_start (entries_text c.args.options.now c.args.contents (remaining c.args.merge.now c.args.desk.now old new))
       (on_sheet g.W.Sink c.args.out.now c.args.pen.now);
   some = some_nothing (on_sheet g.W.Sink c.args.out.now c.args.pen.now);
 }
@@ -38,7 +38,7 @@ returns-in-End-clause-keeps g c =
 pub returns-in-End-clause-writes : goal.returns-in-End-clause-writes
 returns-in-End-clause-writes g c old new s t =
     let stands = c.pass.invariant.keeps.stands in
-    writing_done (entries_end c.args.options.now c.args.section (remaining c.pass.merge c.pass.desk old new)
+    writing_done (entries_end c.args.options.now c.args.contents (remaining c.pass.merge c.pass.desk old new)
     (c.in-Ok.ensures.step.end old new (stands Old old s) (stands New new t) c.in-End.is))
     (c.pass.invariant.writes old new s t)
 
@@ -48,7 +48,7 @@ returns-then-pen g c =
     record {
       keeps = merge_then c.pass.invariant.keeps c.next.ensures.keeps;
       writes = λ old new s t. writing_so_far (writing_more
-          (entries_step c.args.options.now c.args.section (change_of c.in-Differs.change) (remaining c.pass.merge c.pass.desk old new)
+          (entries_step c.args.options.now c.args.contents (change_of c.in-Differs.change) (remaining c.pass.merge c.pass.desk old new)
           (change_at c.in-Ok.turn (desk_entry Old c.next.new.desk) (desk_entry New c.next.new.desk)) (remaining c.next.new.self c.next.new.desk old new)
           (c.in-Ok.ensures.step.gives old new (stands Old old s) (stands New new t)) c.in-Differs.ensures)
           (c.pass.invariant.writes old new s t) c.put_change.ensures);
@@ -66,7 +66,7 @@ pass-preserved-else-pen g c =
       writes_on = c.if-pen.false;
       keeps = merge_then c.pass.invariant.keeps c.next.ensures.keeps;
       writes = λ old new s t. writing_more
-          (entries_step c.args.options.now c.args.section (change_of c.in-Differs.change) (remaining c.pass.merge c.pass.desk old new)
+          (entries_step c.args.options.now c.args.contents (change_of c.in-Differs.change) (remaining c.pass.merge c.pass.desk old new)
           (change_at c.in-Ok.turn (desk_entry Old c.next.new.desk) (desk_entry New c.next.new.desk)) (remaining c.next.new.self c.next.new.desk old new)
           (c.in-Ok.ensures.step.gives old new (stands Old old s) (stands New new t)) c.in-Differs.ensures)
           (c.pass.invariant.writes old new s t) c.put_change.ensures;
@@ -80,9 +80,9 @@ pass-preserved-in-Alike g c =
       ready = c.in-Ok.ensures.step.ready;
       writes_on = c.pass.invariant.writes_on;
       keeps = merge_then c.pass.invariant.keeps c.next.ensures.keeps;
-      writes = λ old new s t. subst (λ rest. Writing (entries_text c.args.options.now c.args.section (remaining c.args.merge.now c.args.desk.now old new)) rest
+      writes = λ old new s t. subst (λ rest. Writing (entries_text c.args.options.now c.args.contents (remaining c.args.merge.now c.args.desk.now old new)) rest
           (on_sheet g.W.Sink c.args.out.now c.args.pen.now) (on_sheet g.W.Sink c.pass.out c.pass.pen))
-          (entries_alike c.args.options.now c.args.section c.in-Alike.ensures.entry (remaining c.pass.merge c.pass.desk old new)
+          (entries_alike c.args.options.now c.args.contents c.in-Alike.ensures.entry (remaining c.pass.merge c.pass.desk old new)
           (change_at c.in-Ok.turn (desk_entry Old c.next.new.desk) (desk_entry New c.next.new.desk)) (remaining c.next.new.self c.next.new.desk old new)
           (c.in-Ok.ensures.step.gives old new (stands Old old s) (stands New new t)) c.in-Alike.ensures.only)
           (c.pass.invariant.writes old new s t);
@@ -96,9 +96,9 @@ pass-preserved g c =
       ready = c.in-Ok.ensures.step.ready;
       writes_on = c.pass.invariant.writes_on;
       keeps = merge_then c.pass.invariant.keeps c.next.ensures.keeps;
-      writes = λ old new s t. subst (λ rest. Writing (entries_text c.args.options.now c.args.section (remaining c.args.merge.now c.args.desk.now old new)) rest
+      writes = λ old new s t. subst (λ rest. Writing (entries_text c.args.options.now c.args.contents (remaining c.args.merge.now c.args.desk.now old new)) rest
           (on_sheet g.W.Sink c.args.out.now c.args.pen.now) (on_sheet g.W.Sink c.pass.out c.pass.pen))
-          (entries_same c.args.options.now c.args.section (remaining c.pass.merge c.pass.desk old new)
+          (entries_same c.args.options.now c.args.contents (remaining c.pass.merge c.pass.desk old new)
           (change_at c.in-Ok.turn (desk_entry Old c.next.new.desk) (desk_entry New c.next.new.desk)) (remaining c.next.new.self c.next.new.desk old new)
           (c.in-Ok.ensures.step.gives old new (stands Old old s) (stands New new t)) c.in-Nothing.ensures)
           (c.pass.invariant.writes old new s t);

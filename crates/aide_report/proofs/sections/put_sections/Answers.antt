@@ -1,4 +1,4 @@
-use Rattle.std.proofs.Common.{◌∙◌, ◌+◌, ap, sym, subst, arith, drop, length}
+use Rattle.std.proofs.Common.{◌∙◌, ◌+◌, ap, sym, subst, arith, drop, get_or}
 use Rattle.std.specs.List.{flat_map, filter}
 use Rattle.aide_db.specs.declared.side.Side.TheVariants.{Old, New}
 use Rattle.aide_report.specs.Digests.{AreDigests}
@@ -6,12 +6,12 @@ use Rattle.aide_report.specs.Finding.{pass_of}
 use Rattle.aide_report.specs.Passes.{on_sheet}
 use Rattle.aide_report.specs.Seen.{seen}
 use Rattle.aide_report.specs.Report.{sections_text}
-use Rattle.aide_report.specs.Sections.{has_entry, section_text}
+use Rattle.aide_report.specs.Sections.{is_there, section_text}
+use Rattle.aide_text.specs.Section.{all_sections}
 use Rattle.aide_attr.specs.Level.{reaches}
 use Rattle.aide_attr.specs.declared.level.Level.TheVariants.{DatabaseAttributes}
-use Rattle.aide_report.proofs.AgreementLemmas.{none_asked, first_nothing, first_some}
+use Rattle.aide_report.proofs.AgreementLemmas.{none_there, first_nothing, first_some}
 use Rattle.aide_report.proofs.PassLemmas.{passes_none, passes_same, passes_stop, passes_then, pen_then}
-use Rattle.aide_text.specs.Sheet.{Wrote, WritesPart}
 use Rattle.aide_text.specs.declared.section.Section.TheVariants.{AddedEntries}
 use Rattle.aide_report.proofs.SectionsLemmas.{rest_yes, rest_no, rest_end, passed, passed_yes, passed_no, passed_none}
 use Rattle.aide_report.proofs.SectionsLemmas.{passed_all, passed_some}
@@ -21,97 +21,85 @@ use Rattle.aide_report.proofs.sections.put_sections.Goals as goal
 
 pub loop-section-init : goal.loop-section-init
 loop-section-init g c =
-    let h = has_entry c.args.plan.now.finding.now.counts in
-    let asked = c.asked_sections-asked.result.now in
+    let h = is_there c.args.plan.now.task.now.options c.args.plan.now.finding.now.counts in
     let start = on_sheet g.W.Sink c.args.out.now c.args.pen.now in
     record {
-      passes = passes_none c.args.plan.now.limits (passed h asked 0) (seen g.S.Sources c.args.sources.now) c.args.desk.now (passed_none h asked);
+      passes = passes_none c.args.plan.now.limits (passed h all_sections 0) (seen g.S.Sources c.args.sources.now) c.args.desk.now (passed_none h all_sections);
       writes_on = c.requires.writes_on;
-      writes = λ old new told_old told_new. writing_start (flat_map (section_text c.args.plan.now.task.now.options (pass_of old new)) (filter h asked)) start;
+      writes = λ old new told_old told_new. writing_start (flat_map (section_text c.args.plan.now.task.now.options (pass_of old new)) (filter h all_sections)) start;
       some = some_nothing start;
       first = first_nothing (reaches c.args.plan.now.task.now.options.level DatabaseAttributes) start;
     }
 
 pub returns-in-Err-clause-passes : goal.returns-in-Err-clause-passes
 returns-in-Err-clause-passes g c =
-    let h = has_entry c.args.plan.now.finding.now.counts in
-    let asked = c.asked_sections-asked.result.now in
+    let h = is_there c.args.plan.now.task.now.options c.args.plan.now.finding.now.counts in
     let i = c.loop-section.section-index in
-    let one = passed_yes h asked i AddedEntries (omega arith) (sym c.if-not-has_entry.ensures) in
-    let some = passed_some h asked (i + 1) in
-    let all = ap (λ xs. length (filter h xs)) c.asked_sections-asked.ensures in
-    passes_stop (passed h asked i) 1 _ (omega (arith, one, some, all)) c.loop-section.invariant.passes c.in-Err.ensures.passes
+    let one = passed_yes h all_sections i AddedEntries (omega arith) (sym c.if-not-is_there.ensures) in
+    let some = passed_some h all_sections (i + 1) in
+    passes_stop (passed h all_sections i) 1 _ (omega (arith, one, some)) c.loop-section.invariant.passes c.in-Err.ensures.passes
 
 pub returns-in-Err-clause-writes : goal.returns-in-Err-clause-writes
 unfolding sections_text
 returns-in-Err-clause-writes g c old new told_old told_new =
-    let h = has_entry c.args.plan.now.finding.now.counts in
-    let asked = c.asked_sections-asked.result.now in
+    let h = is_there c.args.plan.now.task.now.options c.args.plan.now.finding.now.counts in
     let i = c.loop-section.section-index in
     let same = c.loop-section.invariant.passes.sources.same in
     let f = section_text c.args.plan.now.task.now.options (pass_of old new) in
-    subst (λ xs. WritesPart (flat_map f (filter h xs)) (on_sheet g.W.Sink c.args.out.now c.args.pen.now)
-    (on_sheet g.W.Sink c.section_pass.new.out c.section_pass.new.pen)) c.asked_sections-asked.ensures
-    (writing_part (flat_map f (filter h (drop (i + 1) asked))) (rest_yes h f asked i AddedEntries (omega arith) (sym c.if-not-has_entry.ensures))
+    writing_part (flat_map f (filter h (drop (i + 1) all_sections))) (rest_yes h f all_sections i AddedEntries (omega arith) (sym c.if-not-is_there.ensures))
     (c.loop-section.invariant.writes old new told_old told_new)
-    (c.in-Err.ensures.writes old new (ap (λ bytes. bytes Old) same ∙ told_old) (ap (λ bytes. bytes New) same ∙ told_new)))
+    (c.in-Err.ensures.writes old new (ap (λ bytes. bytes Old) same ∙ told_old) (ap (λ bytes. bytes New) same ∙ told_new))
 
 pub returns-in-Err-clause-pen : goal.returns-in-Err-clause-pen
 returns-in-Err-clause-pen g c = pen_then c.loop-section.invariant.some c.in-Err.ensures.pen
 
 pub returns-clause-passes : goal.returns-clause-passes
 returns-clause-passes g c =
-    let h = has_entry c.args.plan.now.finding.now.counts in
-    let asked = c.asked_sections-asked.result.now in
+    let h = is_there c.args.plan.now.task.now.options c.args.plan.now.finding.now.counts in
     let i = c.loop-section.section-index in
-    passes_same (passed h asked i) _ (ap (λ xs. length (filter h xs)) (sym c.asked_sections-asked.ensures) ∙ sym (passed_all h asked i (omega arith)))
+    passes_same (passed h all_sections i) _ (sym (passed_all h all_sections i (omega arith)))
     c.loop-section.invariant.passes
 
 pub returns-clause-writes : goal.returns-clause-writes
 unfolding sections_text
 returns-clause-writes g c old new told_old told_new =
-    let h = has_entry c.args.plan.now.finding.now.counts in
-    let asked = c.asked_sections-asked.result.now in
+    let h = is_there c.args.plan.now.task.now.options c.args.plan.now.finding.now.counts in
     let i = c.loop-section.section-index in
     let f = section_text c.args.plan.now.task.now.options (pass_of old new) in
-    subst (λ xs. Wrote (flat_map f (filter h xs)) (on_sheet g.W.Sink c.args.out.now c.args.pen.now)
-    (on_sheet g.W.Sink c.loop-section.out c.loop-section.pen)) c.asked_sections-asked.ensures
-    (writing_done (rest_end h f asked i (omega arith)) (c.loop-section.invariant.writes old new told_old told_new))
+    writing_done (rest_end h f all_sections i (omega arith)) (c.loop-section.invariant.writes old new told_old told_new)
 
 pub returns-clause-pen : goal.returns-clause-pen
 returns-clause-pen g c = record { some = c.loop-section.invariant.some; writes_on = c.loop-section.invariant.writes_on; written = tt }
 
 pub loop-section-preserved : goal.loop-section-preserved
 loop-section-preserved g c =
-    let h = has_entry c.args.plan.now.finding.now.counts in
-    let asked = c.asked_sections-asked.result.now in
+    let h = is_there c.args.plan.now.task.now.options c.args.plan.now.finding.now.counts in
     let i = c.loop-section.section-index in
     let same = c.loop-section.invariant.passes.sources.same in
-    let is = sym c.if-not-has_entry.ensures in
+    let is = sym c.if-not-is_there.ensures in
     let some = some_more c.loop-section.invariant.some c.in-Ok.ensures.pen.some in
     record {
-      passes = passes_then (passed h asked i) 1 _ (passed_yes h asked i AddedEntries (omega arith) is) c.loop-section.invariant.passes c.in-Ok.ensures.passes;
+      passes = passes_then (passed h all_sections i) 1 _ (passed_yes h all_sections i AddedEntries (omega arith) is) c.loop-section.invariant.passes c.in-Ok.ensures.passes;
       writes_on = c.in-Ok.ensures.pen.writes_on;
-      writes = λ old new told_old told_new. writing_more (rest_yes h (section_text c.args.plan.now.task.now.options (pass_of old new)) asked i AddedEntries (omega arith) is)
+      writes = λ old new told_old told_new. writing_more (rest_yes h (section_text c.args.plan.now.task.now.options (pass_of old new)) all_sections i AddedEntries (omega arith) is)
           (c.loop-section.invariant.writes old new told_old told_new)
           (c.in-Ok.ensures.writes old new (ap (λ bytes. bytes Old) same ∙ told_old) (ap (λ bytes. bytes New) same ∙ told_new));
       some = some;
       first = first_some (reaches c.args.plan.now.task.now.options.level DatabaseAttributes)
-          (λ below. let none = none_asked c.args.plan.now.task.now.options below in let all = ap length c.asked_sections-asked.ensures in absurd (omega (arith, none, all)))
+          (λ below. let there = sym is ∙ none_there c.args.plan.now.task.now.options c.args.plan.now.finding.now.counts (get_or all_sections i AddedEntries) below in cc)
           some;
     }
 
-pub loop-section-preserved-then-not-has_entry : goal.loop-section-preserved-then-not-has_entry
-loop-section-preserved-then-not-has_entry g c =
-    let h = has_entry c.args.plan.now.finding.now.counts in
-    let asked = c.asked_sections-asked.result.now in
+pub loop-section-preserved-then-not-is_there : goal.loop-section-preserved-then-not-is_there
+loop-section-preserved-then-not-is_there g c =
+    let h = is_there c.args.plan.now.task.now.options c.args.plan.now.finding.now.counts in
     let i = c.loop-section.section-index in
     let before = c.loop-section.invariant in
-    let is = sym c.if-not-has_entry.ensures in
+    let is = sym c.if-not-is_there.ensures in
     record {
-      passes = passes_same (passed h asked i) _ (passed_no h asked i AddedEntries (omega arith) is) before.passes;
+      passes = passes_same (passed h all_sections i) _ (passed_no h all_sections i AddedEntries (omega arith) is) before.passes;
       writes_on = before.writes_on;
-      writes = λ old new told_old told_new. writing_as (rest_no h (section_text c.args.plan.now.task.now.options (pass_of old new)) asked i AddedEntries (omega arith) is) (before.writes old new told_old told_new);
+      writes = λ old new told_old told_new. writing_as (rest_no h (section_text c.args.plan.now.task.now.options (pass_of old new)) all_sections i AddedEntries (omega arith) is) (before.writes old new told_old told_new);
       some = before.some;
       first = before.first;
     }
