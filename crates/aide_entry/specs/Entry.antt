@@ -18,7 +18,8 @@ use Rattle.aide_entry.specs.Values.{value_of, is_field, fault_of_form}
 use Rattle.aide_entry.specs.declared.column.Column.{Column}
 use Rattle.aide_entry.specs.declared.column.Column.TheVariants.{Name, Bits, Of, Skipped}
 use Rattle.aide_entry.specs.declared.fault_kind.DbFaultKind.{DbFaultKind}
-use Rattle.aide_entry.specs.declared.fault_kind.DbFaultKind.TheVariants.{FieldCount, BadName, OutOfOrder}
+use Rattle.aide_entry.specs.declared.fault_kind.DbFaultKind.TheVariants.{FieldCount, BadName}
+use Rattle.aide_entry.specs.declared.fault_kind.DbFaultKind.TheVariants.{OutOfOrder}
 use Rattle.aide_entry.specs.declared.fault_kind.DbFaultKind.TheVariants.{BadNumber}
 
 -- the field with the path, as it is written

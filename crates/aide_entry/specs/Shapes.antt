@@ -11,10 +11,12 @@ use Rattle.aide_entry.specs.Values.{time_of, digest_of, is_nought}
 use Rattle.aide_entry.specs.declared.column.Column.{Column}
 use Rattle.aide_entry.specs.declared.column.Column.TheVariants.{Name, Bits, Of, Skipped}
 use Rattle.aide_entry.specs.declared.shape.Shape.{Shape}
-use Rattle.aide_entry.specs.declared.shape.Shape.TheVariants.{Free, Octal, Signed, Unsigned, Seconds}
+use Rattle.aide_entry.specs.declared.shape.Shape.TheVariants.{Free, Octal, Signed, Unsigned}
+use Rattle.aide_entry.specs.declared.shape.Shape.TheVariants.{Seconds}
 use Rattle.aide_entry.specs.declared.shape.Shape.TheVariants.{Encoded}
 use Rattle.aide_entry.specs.declared.fault_kind.DbFaultKind.{DbFaultKind}
-use Rattle.aide_entry.specs.declared.fault_kind.DbFaultKind.TheVariants.{BadNumber, BadTime, BadDigest}
+use Rattle.aide_entry.specs.declared.fault_kind.DbFaultKind.TheVariants.{BadNumber, BadTime}
+use Rattle.aide_entry.specs.declared.fault_kind.DbFaultKind.TheVariants.{BadDigest}
 
 -- what a field of this form has to be
 abbrev pub shape_of_form : Form → Shape

@@ -19,7 +19,8 @@ use Rattle.aide_entry.specs.Attributes.{digest_value, opaque_value}
 use Rattle.aide_entry.specs.Text.{is_filled}
 use Rattle.aide_entry.specs.Numbers.{is_digit, mode_of, number_of}
 use Rattle.aide_entry.specs.declared.fault_kind.DbFaultKind.{DbFaultKind}
-use Rattle.aide_entry.specs.declared.fault_kind.DbFaultKind.TheVariants.{BadNumber, BadTime, BadDigest}
+use Rattle.aide_entry.specs.declared.fault_kind.DbFaultKind.TheVariants.{BadNumber, BadTime}
+use Rattle.aide_entry.specs.declared.fault_kind.DbFaultKind.TheVariants.{BadDigest}
 
 -- the field `0`, which says that there is no value
 abbrev pub is_nought : List ℕ → Bool

@@ -68,7 +68,8 @@ impl<'a> View<'a> {
     ghost use Rattle.std.specs.Option.{option_copied};
     ghost use Rattle.percent_encoding.specs.Iter.{decoded_bytes};
     ghost use Rattle.aide_entry.specs.View.{entry_in, name_in};
-    ghost use Rattle.aide_entry.specs.Attributes.{type_in, number_in, link_in, digest_in, opaque_in};
+    ghost use Rattle.aide_entry.specs.Attributes.{type_in, number_in, link_in, digest_in};
+    ghost use Rattle.aide_entry.specs.Attributes.{opaque_in};
     ghost use Rattle.aide_entry.specs.Entry.{field_of};
     ghost use Rattle.aide_entry.specs.Places.{bits_in};
     ghost use Rattle.aide_entry.specs.Lent.{IsDigest, lent_link};
