@@ -1,17 +1,17 @@
--- What is left of a reel after one more block, and what two readings take.
+-- What is left of a reel after one more chunk, and what two readings take.
 use Rattle.std.specs.Prelude.{◌≡◌, true}
-use Rattle.aide_db.specs.BlockReaderView.{BlockReaderView}
-use Rattle.aide_db.specs.NextBlock.{Gives}
+use Rattle.aide_db.specs.ChunkReaderView.{ChunkReaderView}
+use Rattle.aide_db.specs.NextChunk.{Gives}
 use Rattle.aide_db.specs.Keeping.{TellsOn}
 use Rattle.aide_db.specs.Told.{told, tells}
 use Rattle.aide_db.specs.declared.reel.Reel.{Ghosts as Reels}
 use Rattle.aide_db.proofs.PieceLemmas.{gives_more, gives_none}
 use Rattle.aide_db.proofs.TakesLemmas.{takes_more}
 
-pub tells_none : {R : Type 0} (r : Reels R) (a : BlockReaderView R) → TellsOn r a a
+pub tells_none : {R : Type 0} (r : Reels R) (a : ChunkReaderView R) → TellsOn r a a
 tells_none r a = record { goes_on = λ t. t; gives = λ t. gives_none (told (r.to_come a.reel)) a.hash }
 
-pub tells_more : {R : Type 0} {r : Reels R} {a b c : BlockReaderView R} → TellsOn r a b
+pub tells_more : {R : Type 0} {r : Reels R} {a b c : ChunkReaderView R} → TellsOn r a b
     → (tells (r.to_come b.reel) ≡ true → tells (r.to_come c.reel) ≡ true)
     → (tells (r.to_come b.reel) ≡ true → Gives (told (r.to_come b.reel)) (told (r.to_come c.reel)) b.hash c.hash)
     → TellsOn r a c

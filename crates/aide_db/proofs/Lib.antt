@@ -2,7 +2,7 @@ mod DatabaseExamples
 mod ValueExamples
 mod FaultOrderExamples
 pub mod LinesLemmas
-pub mod BlockReaderLemmas
+pub mod ChunkReaderLemmas
 pub mod HashLemmas
 pub mod PieceLemmas
 pub mod Front

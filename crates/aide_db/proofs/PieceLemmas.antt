@@ -1,4 +1,4 @@
--- The first piece of a line, by the place of its newline.
+-- The first piece of a line, by the index of its newline.
 use Rattle.std.proofs.Common.{◌≡◌, ℕ, ◌+◌, ◌<◌, ◌≤◌, List, [], ◌∷◌, ◌++◌, length, take, drop, refl, sym, ap, ◌∙◌, subst}
 use Rattle.std.proofs.Common.{true, false, Bool, arith, get_or, None, Some, inl, inr}
 use Rattle.std.specs.Prelude.{min, ◌==◌}
@@ -13,7 +13,7 @@ use Rattle.sha2.specs.declared.Sha256.{Sha256}
 use Rattle.std.proofs.lemmas.List.{length-append}
 use Rattle.std.proofs.lemmas.List.Elements.{All-append}
 use Rattle.aide_db.specs.TakeLine.{HasNoNewline, HaveBegun, Begins}
-use Rattle.aide_db.specs.NextBlock.{Gives}
+use Rattle.aide_db.specs.NextChunk.{Gives}
 use Rattle.aide_db.specs.declared.limits.Limits.{Limits}
 use Rattle.aide_db.specs.Piece.{IsPiece}
 
@@ -21,7 +21,7 @@ not_true : (b : Bool) → (b ≡ true → ⊥) → b ≡ false
 not_true true n = absurd (n refl)
 not_true false n = refl
 
--- the bytes before a place, none of them a newline
+-- the bytes before an index, none of them a newline
 plain_front : (xs : List ℕ) (n : ℕ) → n ≤ length xs → ((k : ℕ) → k < n → is_newline (get_or xs k 0) ≡ true → ⊥)
     → HasNoNewline (take n xs)
 plain_front xs n le none = λ k d lt.

@@ -1,14 +1,14 @@
--- What private calls keep of a cursor, its blocks and its desk.
+-- What private calls keep of a cursor, its chunks and its desk.
 use Rattle.std.specs.Prelude.{ℕ, ◌≡◌, ◌≤◌, ◌<◌, ◌+◌, ◌^◌, true, false, List, length, Result, IfErr}
 use Rattle.aide_db.specs.Again.{StageAfter, StageAfterLine}
-use Rattle.aide_db.specs.BlockReaderView.{BlockReaderView}
+use Rattle.aide_db.specs.ChunkReaderView.{ChunkReaderView}
 use Rattle.aide_db.specs.CursorView.{CursorView}
 use Rattle.aide_db.specs.Desk.{columns_of_side, list_of}
 use Rattle.aide_db.specs.DeskView.{DeskView}
 use Rattle.aide_db.specs.Holds.{IsDone}
 use Rattle.aide_db.specs.Kept.{OwnAfter, UsesMore, UsesTaken, IsNoRecord, peak_limit}
 use Rattle.aide_db.specs.Memory.{GoesOn, HasMemory, wants_memory}
-use Rattle.aide_db.specs.NextBlock.{Gives}
+use Rattle.aide_db.specs.NextChunk.{Gives}
 use Rattle.aide_db.specs.Side.{other_side}
 use Rattle.aide_db.specs.Takes.{SpentAnswer, SpentAt, SpentTaken}
 use Rattle.aide_db.specs.Told.{told, tells}
@@ -20,7 +20,7 @@ use Rattle.aide_db.specs.declared.stage.Progress.{Progress}
 use Rattle.aide_db.specs.declared.step.Step.{Step}
 use Rattle.aide_db.specs.declared.take_line.Taken.{Taken}
 
--- ---- blocks
+-- ---- chunks
 
 -- The byte limit holds for what was used of a database and for what is ahead.
 pub record IsWithinLimit (limits : Limits) (used : ℕ) (ahead : List ℕ) : Type 0 where
@@ -32,7 +32,7 @@ pub record IsWithinLimit (limits : Limits) (used : ℕ) (ahead : List ℕ) : Typ
   pub bytes : limits.bytes ≤ 2 ^ 60
 
 -- What reading leaves of a reel that tells its bytes.
-pub record TellsOn {R : Type 0} (r : Reels R) (a b : BlockReaderView R) : Type 0 where
+pub record TellsOn {R : Type 0} (r : Reels R) (a b : ChunkReaderView R) : Type 0 where
   -- the reel still tells them
   pub goes_on : tells (r.to_come a.reel) ≡ true → tells (r.to_come b.reel) ≡ true
   -- some or none of the first ones came, and they were hashed

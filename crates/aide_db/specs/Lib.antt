@@ -20,8 +20,8 @@ pub mod Drain
 pub mod Piece
 pub mod Hashed
 pub mod Accept
-pub mod BlockReaderView
-pub mod NextBlock
+pub mod ChunkReaderView
+pub mod NextChunk
 pub mod Takes
 pub mod ReaderView
 pub mod Told

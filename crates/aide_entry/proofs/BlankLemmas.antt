@@ -45,7 +45,7 @@ plain_all line from base end bits plain each none k low lt =
           subst (λ (n : ℕ). is_blank (get_or line n 0) ≡ false) sum (each (k - base) (omega (arith, lt, behind)) (omega (arith, low, behind)) (ap (λ n. bit_at n (k - base)) none ∙ bit_at-zero (k - base)))
     ]
 
--- a number whose bits are all below a place is below that power of two
+-- a number whose bits are all below an index is below that power of two
 pub below_from_bits : (n k : ℕ) → ((i : ℕ) → bit_at n i ≡ 1 → i < k) → n < 2 ^ k
 below_from_bits n k h =
     let q = n / 2 ^ k in
@@ -63,18 +63,18 @@ below_from_bits n k h =
     omega (arith, rest, small)
 
 -- a bit of two numbers, the second of them shifted, is one of the first or stands for one of the second
-bit_of_either : (places a b shifted whole : ℕ) → ((k : ℕ) → bit_at shifted (k + places) ≡ bit_at b k)
-    → ((k : ℕ) → k < places → bit_at shifted k ≡ 0) → ((k : ℕ) → bit_at whole k ≡ max (bit_at a k) (bit_at shifted k))
-    → (k : ℕ) → bit_at whole k ≡ 1 → (bit_at a k ≡ 1) ⊎ ((places ≤ k) × (bit_at b (k - places) ≡ 1))
-bit_of_either places a b shifted whole each gone both k one =
+bit_of_either : (distance a b shifted whole : ℕ) → ((k : ℕ) → bit_at shifted (k + distance) ≡ bit_at b k)
+    → ((k : ℕ) → k < distance → bit_at shifted k ≡ 0) → ((k : ℕ) → bit_at whole k ≡ max (bit_at a k) (bit_at shifted k))
+    → (k : ℕ) → bit_at whole k ≡ 1 → (bit_at a k ≡ 1) ⊎ ((distance ≤ k) × (bit_at b (k - distance) ≡ 1))
+bit_of_either distance a b shifted whole each gone both k one =
     elim (cases_lt (bit_at a k) 1) [
       | inl none ↦
           let high : bit_at shifted k ≡ 1 = omega (arith, both k, one, none) in
-          elim (cases_lt k places) [
+          elim (cases_lt k distance) [
             | inl under ↦ absurd (omega (arith, gone k under, high))
             | inr over ↦
-                let sum : k - places + places ≡ k = omega (arith, over) in
-                inr (over, sym (each (k - places)) ∙ ap (λ j. bit_at shifted j) sum ∙ high)
+                let sum : k - distance + distance ≡ k = omega (arith, over) in
+                inr (over, sym (each (k - distance)) ∙ ap (λ j. bit_at shifted j) sum ∙ high)
           ]
       | inr set ↦ inl (omega (arith, set, bit_at-lt a k))
     ]

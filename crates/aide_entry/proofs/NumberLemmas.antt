@@ -170,7 +170,7 @@ digits_behind base ds first =
     ap (λ xs. list_all (is_digit base) xs) (sym (take-append-drop 4 ds)) ∙ list_all-append (is_digit base) (take 4 ds) (drop 4 ds)
     ∙ ap (λ b. b && list_all (is_digit base) (drop 4 ds)) first
 
--- what is no digit behind a place is none of the whole
+-- what is no digit behind an index is none of the whole
 none_behind : (base : ℕ) (ds : List ℕ) (i : ℕ) → list_all (is_digit base) (drop i ds) ≡ false → list_all (is_digit base) ds ≡ false
 none_behind base ds zero h = h
 none_behind base [] (suc i) h = h
@@ -179,7 +179,7 @@ none_behind base (d ∷ ds) (suc i) h = elim (is_digit base d) as (λ b. (b && l
   | false ↦ refl
 ]
 
--- where those from a place on tell of all, those from an earlier place on do so too
+-- where those from an index on tell of all, those from an earlier index on do so too
 pub digits_from : (base : ℕ) (ds : List ℕ) (i j : ℕ) → i ≤ j → list_all (is_digit base) ds ≡ list_all (is_digit base) (drop j ds)
     → list_all (is_digit base) (drop i ds) ≡ list_all (is_digit base) ds
 digits_from base ds i j le same =

@@ -43,10 +43,10 @@ pub span_more : (line rest behind more : List ℕ) (ps : List Span) (at skip len
     → len ≤ length behind → ((k : ℕ) → k < len → is_blank (get_or behind k 0) ≡ false)
     → (len < length behind → is_blank (get_or behind len 0) ≡ true) → (len ≡ 0 → ⊥)
     → (fields_at line (ps ++ record { start = at + skip; len = len } ∷ []) ++ fields more ≡ fields line) × (more ≡ drop (at + skip + len) line) × (fields rest ≡ take len behind ∷ fields more)
-span_more line rest behind more ps at skip len found place e f blanks stops le each ends some =
+span_more line rest behind more ps at skip len found position e f blanks stops le each ends some =
     let lt : skip < length rest = omega (arith, some, ap length e, length-drop skip rest) in
     let cut : fields rest ≡ take len behind ∷ fields more = (field_first_parts rest behind (take len behind) more skip len e refl f lt blanks (stops lt) le each ends).0 in
-    let here : behind ≡ drop (at + skip) line = e ∙ (ap (drop skip) place ∙ drop-drop skip at line) in
+    let here : behind ≡ drop (at + skip) line = e ∙ (ap (drop skip) position ∙ drop-drop skip at line) in
     let span : Span = record { start = at + skip; len = len } in
     let it : field_at line span ≡ take len behind = ap (take len) (sym here) in (
       ap (λ fs. fs ++ fields more) (map-append (field_at line) ps (span ∷ []))

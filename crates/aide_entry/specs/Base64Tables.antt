@@ -8,5 +8,5 @@ use Rattle.base64.specs.GeneralPurpose.{decode_of, decode_slice_of, decoded_byte
 unfoldable pub IsStandard : GeneralPurpose → Type 0
 IsStandard engine = ((text : List ℕ) → decode_of engine text ≡ decode_of standard text)
     × ((text : List ℕ) → decoded_bytes_of engine text ≡ decoded_bytes_of standard text)
-    × ((text : List ℕ) (room : ℕ)
-    → decode_slice_of engine text room ≡ decode_slice_of standard text room)
+    × ((text : List ℕ) (space : ℕ)
+    → decode_slice_of engine text space ≡ decode_slice_of standard text space)

@@ -9,8 +9,8 @@ use Rattle.aide_entry.specs.Attributes.{number_of_type, same_link}
 
 -- The decoded bytes are at the front of the buffer. If no count is returned, there are none, or they do not fit.
 abbrev pub IsDecoded : Option (List ℕ) → ℕ → Option ℕ → List ℕ → Type 0
-IsDecoded decoded room None buffer = (bytes : List ℕ) → decoded ≡ Some bytes → room < length bytes
-IsDecoded decoded room (Some n) buffer = (n ≤ room) × (decoded ≡ Some (take n buffer))
+IsDecoded decoded space None buffer = (bytes : List ℕ) → decoded ≡ Some bytes → space < length bytes
+IsDecoded decoded space (Some n) buffer = (n ≤ space) × (decoded ≡ Some (take n buffer))
 
 -- the digest is at the front of the buffer, if there is one
 abbrev pub IsDigest : Option (List ℕ) → Option ℕ → List ℕ → Type 0

@@ -9,7 +9,7 @@ pub mod Base64Tables
 pub mod Entry
 pub mod Codes
 pub mod Columns
-pub mod Places
+pub mod FirstColumns
 pub mod Symbols
 pub mod Cause
 pub mod Skipped

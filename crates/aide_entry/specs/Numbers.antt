@@ -9,7 +9,7 @@ use Rattle.aide_entry.specs.Text.{is_filled}
 abbrev pub is_digit : ℕ → ℕ → Bool
 is_digit base byte = nat_le 48 byte && nat_lt byte (48 + base)
 
--- the number that digits write, each counted by its place
+-- the number that digits write, each counted by its position
 abbrev pub positional : ℕ → List ℕ → ℕ
 positional base [] = 0
 positional base (digit ∷ digits) = (digit - 48) * base ^ length digits + positional base digits

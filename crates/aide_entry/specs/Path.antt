@@ -14,10 +14,10 @@ pieces path = slice_split is_slash path
 unfoldable pub path_cmp : List ℕ → List ℕ → Ordering
 path_cmp x y = slice_cmp (slice_cmp nat_cmp) (pieces x) (pieces y)
 
--- the place of a byte in the order of paths; the slash comes before every other byte
+-- the rank of a byte in the order of paths; the slash comes before every other byte
 abbrev pub rank_of : ℕ → ℕ
 rank_of byte = if byte == 47 then 0 else byte + 1
 
--- Neither of the two bytes before a place is the first byte of an escape, so no escape reaches over the place.
+-- Neither of the two bytes before an index is the first byte of an escape, so no escape reaches over it.
 abbrev pub IsBetweenEscapes : List ℕ → ℕ → Type 0
 IsBetweenEscapes text at = (k : ℕ) → k < at → at ≤ k + 2 → (slice_index text k == 37) ≡ false

@@ -41,7 +41,7 @@ impl Base64Tables {
         }
     }
 
-    /// Decodes a field of at most 44 bytes into the front of a buffer. The buffer has room for every such field.
+    /// Decodes a field of at most 44 bytes into the front of a buffer. The buffer has space for every such field.
     pub(crate) fn decode_short(
         &self,
         field: &[u8],

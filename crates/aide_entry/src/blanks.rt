@@ -34,7 +34,7 @@ fn high_lanes(v: u8x32) -> u64
     v.simd_ge(u8x32::splat(128)).to_bitmask()
 }
 
-/// Finds the blanks among 32 bytes: bit k is set if the byte k places after `at` is blank.
+/// Finds the blanks among 32 bytes: bit k is set if the byte at `at` + k is blank.
 pub fn blanks_at(line: &[u8], at: usize) -> u64
     requires { at + 32 ≤ length line.now }
     ensures each { (k : ℕ) → k < 32 → (bit_at result k ≡ 1)
@@ -46,8 +46,8 @@ pub fn blanks_at(line: &[u8], at: usize) -> u64
     high_lanes(either)
 }
 
-/// Finds the blanks among the 32 bytes from `at` on and the 32 bytes from `later` on: bit k is set if the byte k places
-/// after `at` is blank. The two runs of bytes may overlap.
+/// Finds the blanks among the 32 bytes from `at` on and the 32 bytes from `later` on: bit k is set if the byte at
+/// `at` + k is blank. The two runs of bytes may overlap.
 pub fn blanks_of_both(line: &[u8], at: usize, later: usize) -> u64
     requires order { at ≤ later }
     requires near { later ≤ at + 32 }
@@ -60,14 +60,14 @@ pub fn blanks_of_both(line: &[u8], at: usize, later: usize) -> u64
     bits_either(blanks_at(line, at), behind)
 }
 
-/// Moves bits up by this many places. All of them are among the lowest 32 before.
-fn bits_shifted(bits: u64, places: usize) -> u64
-    requires few { places ≤ 32 }
+/// Moves bits up by this distance. All of them are among the lowest 32 before.
+fn bits_shifted(bits: u64, distance: usize) -> u64
+    requires few { distance ≤ 32 }
     requires low { (k : ℕ) → bit_at bits k ≡ 1 → k < 32 }
-    ensures each { (k : ℕ) → bit_at result (k + places) ≡ bit_at bits k }
-    ensures gone { (k : ℕ) → k < places → bit_at result k ≡ 0 }
+    ensures each { (k : ℕ) → bit_at result (k + distance) ≡ bit_at bits k }
+    ensures gone { (k : ℕ) → k < distance → bit_at result k ≡ 0 }
 {
-    bits << places
+    bits << distance
 }
 
 /// Returns the bits that are set in one argument or the other.
@@ -77,7 +77,7 @@ fn bits_either(a: u64, b: u64) -> u64
     a | b
 }
 
-/// Returns the place of the lowest bit.
+/// Returns the index of the lowest bit.
 pub fn lowest_bit(bits: u64) -> usize
     requires { bits ≢ 0 }
     ensures bound { result < 64 }
@@ -88,7 +88,7 @@ pub fn lowest_bit(bits: u64) -> usize
 }
 
 /// Returns the bits without the lowest one. It is found without a shift, so a loop over the bits need not wait for its
-/// place.
+/// index.
 pub fn without_lowest(bits: u64) -> u64
     requires { bits ≢ 0 }
     ensures smaller { result < bits }
@@ -100,12 +100,12 @@ pub fn without_lowest(bits: u64) -> u64
     bits & (bits - 1)
 }
 
-/// Returns the bits from a place on.
-pub fn bits_from(bits: u64, place: usize) -> u64
-    requires { place < 64 }
-    ensures kept { (k : ℕ) → place ≤ k → bit_at result k ≡ bit_at bits k }
-    ensures gone { (k : ℕ) → k < place → bit_at result k ≡ 0 }
+/// Returns the bits from an index on.
+pub fn bits_from(bits: u64, index: usize) -> u64
+    requires { index < 64 }
+    ensures kept { (k : ℕ) → index ≤ k → bit_at result k ≡ bit_at bits k }
+    ensures gone { (k : ℕ) → k < index → bit_at result k ≡ 0 }
 {
-    let high = bits >> place;
-    high << place
+    let high = bits >> index;
+    high << index
 }

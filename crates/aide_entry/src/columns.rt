@@ -3,7 +3,7 @@ ghost use Rattle.std.specs.Prelude.{◌≡◌, ◌+◌, ◌≤◌, [], ◌∷◌
 ghost use Rattle.std.specs.Prelude.{All};
 ghost use Rattle.std.specs.Prelude.{ℕ, List, None, IfNone, IfSome, drop};
 ghost use Rattle.aide_entry.specs.Fields.{is_column, field_under};
-ghost use Rattle.aide_entry.specs.Places.{ArePlaces};
+ghost use Rattle.aide_entry.specs.FirstColumns.{AreFirstColumns};
 ghost use Rattle.aide_entry.specs.Spans.{first_in};
 ghost use Rattle.aide_entry.specs.declared.column.Column.{Column};
 ghost use Rattle.aide_entry.specs.Skipped.{skipped_in};
@@ -13,14 +13,15 @@ ghost use Rattle.aide_entry.specs.Shapes.{shape_of, IsShort};
 use crate::column::{Column, code_of, is_column};
 use crate::shape::{Shape, shape_of};
 
-/// Notes the place of an added column, if it is the first one of its kind.
-fn note_place(places: &mut [u8; 64], column: Column, place: u8)
-    ensures { (columns : List Column) → place ≡ length columns + 1 → ArePlaces places.old columns
-        → ArePlaces places.new (columns ++ column ∷ []) }
+/// Notes the index of an added column, plus 1, if it is the first one of its kind.
+fn note_first(firsts: &mut [u8; 64], column: Column, first: u8)
+    ensures { (columns : List Column) → first ≡ length columns + 1
+        → AreFirstColumns firsts.old columns
+        → AreFirstColumns firsts.new (columns ++ column ∷ []) }
 {
     let code = code_of(column) as usize;
-    if places[code] == 0 {
-        places[code] = place;
+    if firsts[code] == 0 {
+        firsts[code] = first;
     }
 }
 
@@ -32,14 +33,15 @@ pub struct Columns {
     codes: [u8; 64],
     // what the fields of each column have to be, since each line asks for it
     shapes: [Shape; 64],
-    // for the number of each column, the place of the first column of this kind, since each entry looks up fields
-    places: [u8; 64],
+    // for the number of each column, the index of the first column of this kind, plus 1, or 0 if there is none, since
+    // each entry looks up fields
+    firsts: [u8; 64],
     count: u8,
     ghost few: { count ≤ 64 },
     ghost numbers: { take count codes ≡ map code_of (take count kinds) },
     ghost shaped: { take count shapes ≡ map shape_of (take count kinds) },
     ghost short: { All IsShort (take count shapes) },
-    ghost placed: { ArePlaces places (take count kinds) },
+    ghost placed: { AreFirstColumns firsts (take count kinds) },
 }
 
 impl Columns {
@@ -53,7 +55,7 @@ impl Columns {
             kinds: [Column::Skipped; 64],
             codes: [0; 64],
             shapes: [Shape::Free; 64],
-            places: [0; 64],
+            firsts: [0; 64],
             count: 0,
         }
     }
@@ -85,11 +87,11 @@ impl Columns {
             → field_under (is_column wanted) (columns_in self.now) fields
             ≡ first_in (drop index fields)) }
     {
-        let place = self.places[code_of(wanted) as usize];
-        if place == 0 {
+        let first = self.firsts[code_of(wanted) as usize];
+        if first == 0 {
             None
         } else {
-            Some(place as usize - 1)
+            Some(first as usize - 1)
         }
     }
 
@@ -136,7 +138,7 @@ impl Columns {
         self.codes[self.count as usize] = code_of(column);
         self.shapes[self.count as usize] = shape_of(column);
         self.count += 1;
-        note_place(&mut self.places, column, self.count);
+        note_first(&mut self.firsts, column, self.count);
         true
     }
 }

@@ -2,7 +2,7 @@
 ghost use Rattle.std.specs.Prelude.{◌≡◌, is_some, true};
 ghost use Rattle.aide_entry.specs.Path.{path_cmp};
 ghost use Rattle.aide_entry.specs.Columns.{columns_in};
-ghost use Rattle.aide_entry.specs.Places.{bits_in};
+ghost use Rattle.aide_entry.specs.FirstColumns.{bits_in};
 ghost use Rattle.aide_entry.specs.Values.{value_of, is_field};
 ghost use Rattle.aide_entry.specs.View.{entry_in};
 ghost use Rattle.aide_entry.specs.Attributes.{number_order, is_different, sides_between};

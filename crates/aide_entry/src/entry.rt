@@ -8,7 +8,7 @@ ghost use Rattle.aide_entry.specs.Columns.{columns_in};
 ghost use Rattle.aide_entry.specs.EntryLines.{IsEntryLine, IsBefore};
 ghost use Rattle.aide_entry.specs.Entry.{name_of, path_of, is_path, has_entry, first_bad, follows};
 ghost use Rattle.aide_entry.specs.Entry.{entry_fault};
-ghost use Rattle.aide_entry.specs.Places.{bits_in, is_set};
+ghost use Rattle.aide_entry.specs.FirstColumns.{bits_in, is_set};
 ghost use Rattle.aide_entry.specs.Cause.{IsOfText};
 ghost use Rattle.aide_entry.specs.Fields.{is_column, field_under};
 ghost use Rattle.aide_entry.specs.Shapes.{IsShort, first_misshapen_from};

@@ -10,14 +10,14 @@ use crate::decoded::Decoded;
 use percent_encoding::percent_decode;
 use std::cmp::Ordering;
 
-/// Returns the place of a byte in the order of paths. A slash comes first.
+/// Returns the rank of a byte in the order of paths. A slash comes first.
 fn rank(byte: u8) -> u16
     ensures { result ≡ rank_of byte }
 {
     if byte == b'/' { 0 } else { u16::from(byte) + 1 }
 }
 
-/// Compares two paths by the places of their bytes.
+/// Compares two paths by the ranks of their bytes.
 fn cmp_ranks(x: Decoded<'_>, y: Decoded<'_>) -> Ordering
     ensures { result ≡ slice_cmp nat_cmp (map rank_of (decoded_bytes x.entry))
         (map rank_of (decoded_bytes y.entry)) }
@@ -92,7 +92,7 @@ fn equal_front(x: &[u8], y: &[u8]) -> usize
     count
 }
 
-/// Returns whether no escape reaches over a place: neither of the two bytes before it is `%`.
+/// Returns whether no escape reaches over an index: neither of the two bytes before it is `%`.
 fn is_between_escapes(text: &[u8], at: usize) -> bool
     requires { at ≤ length text.now }
     ensures between { result ≡ true → IsBetweenEscapes text.now at }

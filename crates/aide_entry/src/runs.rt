@@ -143,7 +143,7 @@ fn runs_among(
     Some(found)
 }
 
-/// Returns where to look at 64 bytes that include the place `base`: where their first 32 bytes begin, and where their
+/// Returns where to look at 64 bytes that include the index `base`: where their first 32 bytes begin, and where their
 /// last 32 begin. The last bytes of a line are looked at together with some of those before them. If the line is
 /// shorter than 64 bytes, the two halves overlap.
 fn window_of(len: usize, base: usize) -> (usize, usize)

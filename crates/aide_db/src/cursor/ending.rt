@@ -45,7 +45,7 @@ impl<R: Reel> Cursor<R> {
             return Ok(Step::End);
         }
         match drain(
-            &mut self.blocks,
+            &mut self.chunks,
             self.limits,
             &mut self.used,
             &mut self.line,

@@ -7,7 +7,7 @@ use Rattle.aide_entry.proofs.blanks.bits_from.Goals as goal
 pub returns-clause-kept : goal.returns-clause-kept
 returns-clause-kept c k le =
     let n = c.args.bits in
-    let s = c.args.place in
+    let s = c.args.index in
     let q = n / 2 ^ s in
     let sum : q * 2 ^ s + n % 2 ^ s ≡ n = div-add-mod' n (2 ^ s) in
     let plain : q * 2 ^ s % 18446744073709551616 ≡ q * 2 ^ s + 0 = omega (arith, sum, c.ranges.bits.fits) in
@@ -16,7 +16,7 @@ returns-clause-kept c k le =
 pub returns-clause-gone : goal.returns-clause-gone
 returns-clause-gone c k lt =
     let n = c.args.bits in
-    let s = c.args.place in
+    let s = c.args.index in
     let q = n / 2 ^ s in
     let sum : q * 2 ^ s + n % 2 ^ s ≡ n = div-add-mod' n (2 ^ s) in
     let plain : q * 2 ^ s % 18446744073709551616 ≡ q * 2 ^ s + 0 = omega (arith, sum, c.ranges.bits.fits) in

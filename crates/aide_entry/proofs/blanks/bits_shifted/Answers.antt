@@ -6,23 +6,23 @@ use Rattle.aide_entry.proofs.BlankLemmas.{below_from_bits}
 use Rattle.aide_entry.proofs.blanks.bits_shifted.Goals as goal
 
 -- no bit is shifted out
-fits : (bits places : ℕ) → ((k : ℕ) → bit_at bits k ≡ 1 → k < 32) → places ≤ 32
-    → bits * 2 ^ places % 18446744073709551616 ≡ bits * 2 ^ places + 0
-fits bits places low few =
+fits : (bits distance : ℕ) → ((k : ℕ) → bit_at bits k ≡ 1 → k < 32) → distance ≤ 32
+    → bits * 2 ^ distance % 18446744073709551616 ≡ bits * 2 ^ distance + 0
+fits bits distance low few =
     let small = below_from_bits bits 32 low in
-    let power : 2 ^ places ≤ 2 ^ 32 = pow_mono few in
-    let product : bits * 2 ^ places ≤ 4294967295 * 4294967296 = mul-le bits (2 ^ places) 4294967295 4294967296 (omega (arith, small)) power in
+    let power : 2 ^ distance ≤ 2 ^ 32 = pow_mono few in
+    let product : bits * 2 ^ distance ≤ 4294967295 * 4294967296 = mul-le bits (2 ^ distance) 4294967295 4294967296 (omega (arith, small)) power in
     omega (arith, product)
 
 pub returns-clause-each : goal.returns-clause-each
 returns-clause-each c k =
     let bits = c.args.bits in
-    let places = c.args.places in
-    let back : k + places - places ≡ k = omega arith in
-    ap (λ (m : ℕ). bit_at m (k + places)) (fits bits places c.requires.low c.requires.few)
-    ∙ bit_at_cat_high bits places 0 (k + places) (pow_pos places) (omega arith) ∙ ap (λ (j : ℕ). bit_at bits j) back
+    let distance = c.args.distance in
+    let back : k + distance - distance ≡ k = omega arith in
+    ap (λ (m : ℕ). bit_at m (k + distance)) (fits bits distance c.requires.low c.requires.few)
+    ∙ bit_at_cat_high bits distance 0 (k + distance) (pow_pos distance) (omega arith) ∙ ap (λ (j : ℕ). bit_at bits j) back
 
 pub returns-clause-gone : goal.returns-clause-gone
 returns-clause-gone c k lt =
-    ap (λ (m : ℕ). bit_at m k) (fits c.args.bits c.args.places c.requires.low c.requires.few)
-    ∙ bit_at_cat_low c.args.bits c.args.places 0 k lt ∙ bit_at-zero k
+    ap (λ (m : ℕ). bit_at m k) (fits c.args.bits c.args.distance c.requires.low c.requires.few)
+    ∙ bit_at_cat_low c.args.bits c.args.distance 0 k lt ∙ bit_at-zero k

@@ -16,7 +16,7 @@ columns-preserved c = record {
     | then-not-is_nought+in-Some w ↦ rw w.time-is w.in-Some.ensures.some.1
     | else-not-is_nought w ↦ rw w.time-is c.columns.invariant.time
   ];
-  place = omega (arith, c.columns-test.true);
+  position = omega (arith, c.columns-test.true);
 }
 
 pub returns-clause-same : goal.returns-clause-same

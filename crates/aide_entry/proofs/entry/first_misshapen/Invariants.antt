@@ -9,7 +9,7 @@ abbrev pub invariant-columns : goal.invariant-columns
 invariant-columns l = record {
   same : first_misshapen_from (l.index + 1) (zip (drop l.index l.shapes) (fields_at l.line (drop l.index l.spans))) ≡ first_misshapen_from 1 (zip l.shapes (fields_at l.line l.spans));
   time : IsTimeOrNothing l.time;
-  place : l.index ≤ l.count;
+  position : l.index ≤ l.count;
 }
 
 abbrev pub decreases-columns : goal.decreases-columns

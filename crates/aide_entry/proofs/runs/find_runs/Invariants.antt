@@ -3,7 +3,7 @@ use Rattle.aide_entry.specs.Text.{fields, is_blank}
 use Rattle.aide_entry.specs.Spans.{fields_at}
 use Rattle.aide_entry.proofs.runs.find_runs.Given as goal
 
--- no blank stands between the place where a run begins and the next bytes
+-- no blank stands between the index where a run begins and the next bytes
 abbrev pub invariant-windows : goal.invariant-windows
 invariant-windows l = record {
   found : fields_at l.line (take l.found.count l.spanned) ++ fields (drop l.found.begin l.line) ≡ fields l.line;

@@ -4,7 +4,7 @@ use Rattle.aide_entry.specs.Text.{fields, is_blank}
 use Rattle.aide_entry.specs.Spans.{fields_at}
 use Rattle.aide_entry.proofs.runs.runs_among.Given as goal
 
--- the bits that are left stand for the blanks from the place on where a run begins
+-- the bits that are left stand for the blanks from the index on where a run begins
 abbrev pub invariant-bits : goal.invariant-bits
 invariant-bits l = record {
   found : fields_at l.line (take l.found.count l.spanned) ++ fields (drop l.found.begin l.line) ≡ fields l.line;

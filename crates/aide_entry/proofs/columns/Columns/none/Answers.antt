@@ -1,4 +1,4 @@
-use Rattle.aide_entry.proofs.PlaceLemmas.{none_placed}
+use Rattle.aide_entry.proofs.FirstColumnLemmas.{none_placed}
 use Rattle.aide_entry.proofs.columns.Columns.none.Goals as goal
 
 pub invariant_of-result-clause-placed : goal.invariant_of-result-clause-placed

@@ -3,9 +3,9 @@ use Rattle.std.proofs.lemmas.List.{take_more_set, length-take-le}
 use Rattle.std.proofs.lemmas.List.Elements.{All-push}
 use Rattle.std.specs.List.{All}
 use Rattle.aide_entry.specs.Codes.{code_of}
-use Rattle.aide_entry.specs.Places.{ArePlaces}
+use Rattle.aide_entry.specs.FirstColumns.{AreFirstColumns}
 use Rattle.aide_entry.specs.Shapes.{shape_of, IsShort}
-use Rattle.aide_entry.proofs.PlaceLemmas.{pushed_map}
+use Rattle.aide_entry.proofs.FirstColumnLemmas.{pushed_map}
 use Rattle.aide_entry.proofs.columns.Columns.push.Goals as goal
 
 pub invariant_of-self-clause-numbers : goal.invariant_of-self-clause-numbers
@@ -19,8 +19,8 @@ invariant_of-self-clause-shaped c =
 pub invariant_of-self-clause-placed : goal.invariant_of-self-clause-placed
 invariant_of-self-clause-placed c =
     let size : length (take c.args.self.now.count c.args.self.now.kinds) ≡ c.args.self.now.count = length-take-le c.args.self.now.count c.args.self.now.kinds (omega (arith, c.args.self.now.few)) in
-    subst (ArePlaces c.note_place.new.places) (sym (take_more_set c.args.self.now.kinds c.args.self.now.count c.args.column (omega (arith, c.args.self.now.few))))
-    (c.note_place.ensures (take c.args.self.now.count c.args.self.now.kinds) (omega (arith, size)) c.args.self.now.placed)
+    subst (AreFirstColumns c.note_first.new.firsts) (sym (take_more_set c.args.self.now.kinds c.args.self.now.count c.args.column (omega (arith, c.args.self.now.few))))
+    (c.note_first.ensures (take c.args.self.now.count c.args.self.now.kinds) (omega (arith, size)) c.args.self.now.placed)
 
 pub invariant_of-self-clause-short : goal.invariant_of-self-clause-short
 invariant_of-self-clause-short c =

@@ -7,7 +7,7 @@ use Rattle.aide_entry.proofs.spans.Spans.find_behind.Given as goal
 abbrev pub invariant-fields : goal.invariant-fields
 invariant-fields l = record {
   found : fields_at l.line (spans_in l.self) ++ fields l.rest ≡ fields l.line;
-  place : l.rest ≡ drop l.at l.line;
+  position : l.rest ≡ drop l.at l.line;
   sum : l.at + length l.rest ≡ length l.line;
   small : length l.line < 2 ^ 32;
 }

@@ -1,20 +1,20 @@
-//! A reel that is read in blocks.
+//! A reel that is read in chunks.
 ghost use Rattle.sha2.specs.Hashers.{Holds256};
 ghost use Rattle.sha2.specs.Sha256.{sha256};
 ghost use Rattle.std.specs.Prelude.{ℕ, List, true, [], ◌++◌, Some, drop, length, IfOk, OnErr, OnOk};
 ghost use Rattle.std.specs.Prelude.{◌≡◌, ◌<◌, ◌≤◌, ◌==◌, IsSome};
-ghost use Rattle.aide_db.specs.NextBlock.{IsFilled, IsLeft, Gives, IsAhead, IsBlockFront};
-ghost use Rattle.aide_db.specs.NextBlock.{after_filled};
+ghost use Rattle.aide_db.specs.NextChunk.{IsFilled, IsLeft, Gives, IsAhead, IsChunkFront};
+ghost use Rattle.aide_db.specs.NextChunk.{after_filled};
 ghost use Rattle.aide_db.specs.Count.{one_more};
 ghost use Rattle.aide_db.specs.Told.{told, tells};
-ghost use Rattle.aide_db.specs.BlockReaderView.{BlockReaderView, left_in};
+ghost use Rattle.aide_db.specs.ChunkReaderView.{ChunkReaderView, left_in};
 
 use crate::fault::DeviceFault;
 use crate::reel::Reel;
 use sha2::{Digest, Sha256};
 use std::marker::Model;
 
-/// The outcome of asking for a block.
+/// The outcome of asking for a chunk.
 #[derive(Clone, Copy)]
 pub enum Filled {
     /// Some bytes are ahead now.
@@ -25,41 +25,41 @@ pub enum Filled {
     Failed,
 }
 
-/// A reel, and the last block that it gave. Contracts see the reel, the bytes of that block that were not used yet, and
+/// A reel, and the last chunk that it gave. Contracts see the reel, the bytes of that chunk that were not used yet, and
 /// the hash of all bytes that the reel gave.
-pub struct BlockReader<R: Reel> {
+pub struct ChunkReader<R: Reel> {
     reel: R,
-    block: [u8; 4096],
+    chunk: [u8; 4096],
     start: usize,
     end: usize,
     hash: Sha256,
 }
 
-impl<R: Reel> Model for BlockReader<R> {
+impl<R: Reel> Model for ChunkReader<R> {
     ghost use Rattle.std.specs.Prelude.{◌≤◌, ◌-◌, take, drop};
-    ghost use Rattle.aide_db.specs.BlockReaderView.{BlockReaderView};
+    ghost use Rattle.aide_db.specs.ChunkReaderView.{ChunkReaderView};
 
-    ghost Value = { BlockReaderView R };
+    ghost Value = { ChunkReaderView R };
 
     ghost view = { λ b. record {
       reel = b.reel;
-      ahead = take (b.end - b.start) (drop b.start b.block);
+      ahead = take (b.end - b.start) (drop b.start b.chunk);
       hash = b.hash;
     } };
 
     ghost invariant = { λ b. (b.start ≤ b.end) × (b.end ≤ 4096) };
 }
 
-impl<R: Reel> BlockReader<R> {
+impl<R: Reel> ChunkReader<R> {
     /// Returns a reader over a reel. The reel has not been asked for a byte yet.
-    pub fn new(reel: R) -> BlockReader<R>
+    pub fn new(reel: R) -> ChunkReader<R>
         ensures reel { result.reel ≡ reel }
         ensures ahead { result.ahead ≡ [] }
         ensures hash { Holds256 result.hash [] }
     {
-        BlockReader {
+        ChunkReader {
             reel,
-            block: [0; 4096],
+            chunk: [0; 4096],
             start: 0,
             end: 0,
             hash: Sha256::new(),
@@ -70,9 +70,9 @@ impl<R: Reel> BlockReader<R> {
     pub fn into_reel(self) -> R
         ensures { result ≡ self.reel }
     {
-        let BlockReader {
+        let ChunkReader {
             reel,
-            block: _,
+            chunk: _,
             start: _,
             end: _,
             hash: _,
@@ -85,7 +85,7 @@ impl<R: Reel> BlockReader<R> {
         ensures same { result.now ≡ self.now.ahead }
         ensures small { length result.now ≤ 4096 }
     {
-        &self.block[self.start..self.end]
+        &self.chunk[self.start..self.end]
     }
 
     /// Returns the SHA-256 of all bytes that the reel gave.
@@ -131,7 +131,7 @@ impl<R: Reel> BlockReader<R> {
         self.fill(most)
     }
 
-    /// Asks the reel for the next block, of at most `most` bytes.
+    /// Asks the reel for the next chunk, of at most `most` bytes.
     fn fill(&mut self, most: u64) -> Filled
         requires used { self.old.ahead ≡ [] }
         requires some { 0 < most }
@@ -150,26 +150,26 @@ impl<R: Reel> BlockReader<R> {
         let size = if most < 4096 { most as usize } else { 4096 };
         self.start = 0;
         self.end = 0;
-        match take_front(&mut self.reel, &mut self.block, size) {
+        match take_front(&mut self.reel, &mut self.chunk, size) {
             Err(_) => Filled::Failed,
             Ok(0) => Filled::Nothing,
             Ok(count) => {
                 self.end = count;
-                self.hash.update(&self.block[..count]);
+                self.hash.update(&self.chunk[..count]);
                 Filled::Some
             }
         }
     }
 }
 
-/// Takes at most `size` bytes from a reel into the front of a block. Returns how many it took.
-fn take_front<R: Reel>(reel: &mut R, block: &mut [u8], size: usize) -> Result<usize, DeviceFault>
+/// Takes at most `size` bytes from a reel into the front of a chunk. Returns how many it took.
+fn take_front<R: Reel>(reel: &mut R, chunk: &mut [u8], size: usize) -> Result<usize, DeviceFault>
     requires some { 0 < size }
-    requires room { size ≤ length block.old }
-    ensures length { length block.new ≡ length block.old }
+    requires space { size ≤ length chunk.old }
+    ensures length { length chunk.new ≡ length chunk.old }
     ensures most { IfOk result (λ count. count ≤ size) }
     ensures front { IfOk result (λ count. tells (R.to_come reel.old) ≡ true
-        → IsBlockFront count block.new (told (R.to_come reel.old)) (told (R.to_come reel.new))) }
+        → IsChunkFront count chunk.new (told (R.to_come reel.old)) (told (R.to_come reel.new))) }
     ensures end { IfOk result (λ count. count ≡ 0 → tells (R.to_come reel.old) ≡ true
         → told (R.to_come reel.old) ≡ []) }
     ensures kept { OnErr result (tells (R.to_come reel.old) ≡ true
@@ -178,5 +178,5 @@ fn take_front<R: Reel>(reel: &mut R, block: &mut [u8], size: usize) -> Result<us
     ensures fault { OnErr result (R.failures reel.new ≡ one_more (R.failures reel.old)) }
     ensures ok { OnOk result (R.failures reel.new ≡ R.failures reel.old) }
 {
-    reel.read(&mut block[..size])
+    reel.read(&mut chunk[..size])
 }

@@ -1,13 +1,13 @@
--- The outcome of asking a reel for the next block.
+-- The outcome of asking a reel for the next chunk.
 use Rattle.std.specs.Prelude.{ℕ, ◌≡◌, true, List, [], ◌++◌, take}
 use Rattle.aide_entry.specs.Text.{is_filled}
 use Rattle.sha2.specs.Hashers.{Holds256}
 use Rattle.sha2.specs.declared.Sha256.{Sha256}
 use Rattle.aide_db.specs.Count.{one_more}
-use Rattle.aide_db.specs.declared.block_reader.Filled.{Filled}
-use Rattle.aide_db.specs.declared.block_reader.Filled.TheVariants.{Some, Nothing, Failed}
+use Rattle.aide_db.specs.declared.chunk_reader.Filled.{Filled}
+use Rattle.aide_db.specs.declared.chunk_reader.Filled.TheVariants.{Some, Nothing, Failed}
 
--- A block was read, and the bytes that are left follow it. Or no block was read: at the end of the bytes, or because
+-- A chunk was read, and the bytes that are left follow it. Or no chunk was read: at the end of the bytes, or because
 -- the reel failed.
 abbrev pub IsFilled : List ℕ → List ℕ → List ℕ → Filled → Type 0
 IsFilled bytes left ahead Some = bytes ≡ ahead ++ left
@@ -20,15 +20,15 @@ IsAhead ahead Some = is_filled ahead ≡ true
 IsAhead ahead Nothing = ahead ≡ []
 IsAhead ahead Failed = ahead ≡ []
 
--- the count of failures after asking for a block
+-- the count of failures after asking for a chunk
 abbrev pub after_filled : Filled → ℕ → ℕ
 after_filled Some n = n
 after_filled Nothing n = n
 after_filled Failed n = one_more n
 
--- this many bytes have come, and they are at the front of the block
-abbrev pub IsBlockFront : ℕ → List ℕ → List ℕ → List ℕ → Type 0
-IsBlockFront count block bytes left = bytes ≡ take count block ++ left
+-- this many bytes have come, and they are at the front of the chunk
+abbrev pub IsChunkFront : ℕ → List ℕ → List ℕ → List ℕ → Type 0
+IsChunkFront count chunk bytes left = bytes ≡ take count chunk ++ left
 
 -- The bytes still to use stay the same. If there was no byte, none is left.
 abbrev pub IsLeft : List ℕ → List ℕ → Filled → Type 0

@@ -1,4 +1,4 @@
--- The place of the first column of a kind, and the number in the field of bits.
+-- Where the first column of a kind is, and the number in the field of bits.
 use Rattle.std.specs.Prelude.{ℕ, zero, suc, ◌==◌, Bool, true, if◌then◌else◌, Option, Some, None}
 use Rattle.std.specs.Prelude.{unwrap_or}
 use Rattle.std.specs.Prelude.{List, [], ◌∷◌, drop, slice_index, ◌≡◌}
@@ -10,25 +10,26 @@ use Rattle.aide_entry.specs.Spans.{first_in}
 use Rattle.aide_entry.specs.Text.{fields}
 use Rattle.aide_entry.specs.declared.column.Column.{Column}
 
--- the same place if one more column comes before it; 0 stays 0
+-- the same if one more column comes before it; 0 stays 0
 abbrev pub one_behind : ℕ → ℕ
 one_behind zero = 0
 one_behind (suc index) = suc (suc index)
 
 -- the index of the first column that passes the test, plus 1, or 0 if no column does
-abbrev pub place_of : (Column → Bool) → List Column → ℕ
-place_of test [] = 0
-place_of test (column ∷ columns) = if test column then 1 else one_behind (place_of test columns)
+abbrev pub first_column : (Column → Bool) → List Column → ℕ
+first_column test [] = 0
+first_column test (column ∷ columns) =
+    if test column then 1 else one_behind (first_column test columns)
 
--- the places of columns, by their numbers
-abbrev pub ArePlaces : List ℕ → List Column → Type 0
-ArePlaces places columns = (wanted : Column)
-    → slice_index places (code_of wanted) ≡ place_of (is_column wanted) columns
+-- for each column, by its number, where the first column of its kind is
+abbrev pub AreFirstColumns : List ℕ → List Column → Type 0
+AreFirstColumns firsts columns = (wanted : Column)
+    → slice_index firsts (code_of wanted) ≡ first_column (is_column wanted) columns
 
--- the field at a place, or none at the place 0
-abbrev pub field_at_place : ℕ → List (List ℕ) → Option (List ℕ)
-field_at_place zero fields = None
-field_at_place (suc index) fields = first_in (drop index fields)
+-- the field under the first column of a kind, or none if there is no such column
+abbrev pub field_at_first : ℕ → List (List ℕ) → Option (List ℕ)
+field_at_first zero fields = None
+field_at_first (suc index) fields = first_in (drop index fields)
 
 -- the number in a field of bits, or 0 if the field is not a number
 abbrev pub bits_said : Option (List ℕ) → Option ℕ

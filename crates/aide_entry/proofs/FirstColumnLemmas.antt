@@ -7,7 +7,7 @@ use Rattle.aide_attr.specs.Attr.{number}
 use Rattle.aide_entry.specs.Codes.{code_of}
 use Rattle.aide_entry.specs.Entry.{is_on}
 use Rattle.aide_entry.specs.Fields.{field_under, is_column}
-use Rattle.aide_entry.specs.Places.{ArePlaces, place_of, one_behind, field_at_place, bits_said, is_set}
+use Rattle.aide_entry.specs.FirstColumns.{AreFirstColumns, first_column, one_behind, field_at_first, bits_said, is_set}
 use Rattle.aide_entry.specs.Spans.{first_in}
 use Rattle.aide_entry.specs.declared.column.Column.{Column}
 use Rattle.aide_entry.specs.declared.column.Column.TheVariants.{Name, Bits, Of, Skipped}
@@ -43,45 +43,45 @@ other (Of a) Name ne = refl
 other (Of a) Bits ne = refl
 other (Of a) Skipped ne = refl
 
--- ---- what stands at a place
+-- ---- what stands under the first column of a kind
 
-nothing_at : (place : ℕ) → None ≡ field_at_place place []
+nothing_at : (first : ℕ) → None ≡ field_at_first first []
 nothing_at zero = refl
 nothing_at (suc index) = sym (ap first_in (drop_all {X = List ℕ} index [] (omega arith)))
 
-behind : (place : ℕ) (field : List ℕ) (fields : List (List ℕ))
-    → field_at_place place fields ≡ field_at_place (one_behind place) (field ∷ fields)
+behind : (first : ℕ) (field : List ℕ) (fields : List (List ℕ))
+    → field_at_first first fields ≡ field_at_first (one_behind first) (field ∷ fields)
 behind zero field fields = refl
 behind (suc index) field fields = refl
 
 field_placed : (test : Column → Bool) (cs : List Column) (fields : List (List ℕ))
-    → field_under test cs fields ≡ field_at_place (place_of test cs) fields
+    → field_under test cs fields ≡ field_at_first (first_column test cs) fields
 field_placed test [] fields = refl
-field_placed test (c ∷ cs) [] = nothing_at (place_of test (c ∷ cs))
+field_placed test (c ∷ cs) [] = nothing_at (first_column test (c ∷ cs))
 field_placed test (c ∷ cs) (field ∷ fields) = by_test (test c) (field_placed test cs fields)
   where
-    by_test : (b : Bool) → field_under test cs fields ≡ field_at_place (place_of test cs) fields
+    by_test : (b : Bool) → field_under test cs fields ≡ field_at_first (first_column test cs) fields
         → (if b then Some field else field_under test cs fields)
-        ≡ field_at_place (if b then 1 else one_behind (place_of test cs)) (field ∷ fields)
+        ≡ field_at_first (if b then 1 else one_behind (first_column test cs)) (field ∷ fields)
     by_test true more = refl
-    by_test false more = more ∙ behind (place_of test cs) field fields
+    by_test false more = more ∙ behind (first_column test cs) field fields
 
 -- ---- a column more
 
--- the place, where a column at this index is added
+-- where the first one is, once a column at this index is added
 after : ℕ → Bool → ℕ → ℕ
 after zero true index = suc index
 after zero false index = 0
-after (suc place) b index = suc place
+after (suc first) b index = suc first
 
-after_behind : (place : ℕ) (b : Bool) (index : ℕ) → one_behind (after place b index) ≡ after (one_behind place) b (suc index)
+after_behind : (first : ℕ) (b : Bool) (index : ℕ) → one_behind (after first b index) ≡ after (one_behind first) b (suc index)
 unfolding after
 after_behind zero true index = refl
 after_behind zero false index = refl
-after_behind (suc place) b index = refl
+after_behind (suc first) b index = refl
 
 placed_more : (test : Column → Bool) (cs : List Column) (c : Column)
-    → place_of test (cs ++ c ∷ []) ≡ after (place_of test cs) (test c) (length cs)
+    → first_column test (cs ++ c ∷ []) ≡ after (first_column test cs) (test c) (length cs)
 unfolding after
 placed_more test [] c = by_test (test c)
   where
@@ -90,55 +90,55 @@ placed_more test [] c = by_test (test c)
     by_test false = refl
 placed_more test (x ∷ cs) c = by_test (test x) (placed_more test cs c)
   where
-    by_test : (b : Bool) → place_of test (cs ++ c ∷ []) ≡ after (place_of test cs) (test c) (length cs)
-        → (if b then 1 else one_behind (place_of test (cs ++ c ∷ [])))
-        ≡ after (if b then 1 else one_behind (place_of test cs)) (test c) (suc (length cs))
+    by_test : (b : Bool) → first_column test (cs ++ c ∷ []) ≡ after (first_column test cs) (test c) (length cs)
+        → (if b then 1 else one_behind (first_column test (cs ++ c ∷ [])))
+        ≡ after (if b then 1 else one_behind (first_column test cs)) (test c) (suc (length cs))
     by_test true more = refl
-    by_test false more = ap one_behind more ∙ after_behind (place_of test cs) (test c) (length cs)
+    by_test false more = ap one_behind more ∙ after_behind (first_column test cs) (test c) (length cs)
 
--- nothing has a place at first
-pub none_placed : ArePlaces (replicate 64 0) []
+-- without columns there is none
+pub none_placed : AreFirstColumns (replicate 64 0) []
 none_placed wanted = get_or-replicate 64 (code_of wanted) 0 0 (code_small wanted)
 
-module _ (places : List ℕ) (cs : List Column) (c : Column) (are : ArePlaces places cs) where
+module _ (firsts : List ℕ) (cs : List Column) (c : Column) (are : AreFirstColumns firsts cs) where
   other_placed : (wanted : Column) → code_of wanted ≢ code_of c
-      → get_or places (code_of wanted) 0 ≡ place_of (is_column wanted) (cs ++ c ∷ [])
+      → get_or firsts (code_of wanted) 0 ≡ first_column (is_column wanted) (cs ++ c ∷ [])
   unfolding after
   other_placed wanted ne =
-      are wanted ∙ sym (placed_more (is_column wanted) cs c ∙ rw (other wanted c ne) (kept (place_of (is_column wanted) cs)))
+      are wanted ∙ sym (placed_more (is_column wanted) cs c ∙ rw (other wanted c ne) (kept (first_column (is_column wanted) cs)))
     where
-      kept : (place : ℕ) → after place false (length cs) ≡ place
+      kept : (first : ℕ) → after first false (length cs) ≡ first
       kept zero = refl
-      kept (suc place) = refl
+      kept (suc first) = refl
 
   -- the first column of its kind is added
-  pub first_placed : (place : ℕ) → length places ≡ 64 → place ≡ length cs + 1 → get_or places (code_of c) 0 ≡ 0
-      → ArePlaces (set places (code_of c) place) (cs ++ c ∷ [])
+  pub first_placed : (first : ℕ) → length firsts ≡ 64 → first ≡ length cs + 1 → get_or firsts (code_of c) 0 ≡ 0
+      → AreFirstColumns (set firsts (code_of c) first) (cs ++ c ∷ [])
   unfolding after
-  first_placed place long is none wanted = elim (cases_eq (code_of wanted) (code_of c)) [
+  first_placed first long is none wanted = elim (cases_eq (code_of wanted) (code_of c)) [
     | inl e ↦
         let same : wanted ≡ c = column_is wanted c e in
-        let lt : code_of c < length places = omega (arith, code_small c) in
-        let zero_there : place_of (is_column c) cs ≡ 0 = sym (are c) ∙ none in
-        rw same (get_or-set_same places (code_of c) place 0 lt
-        ∙ sym (placed_more (is_column c) cs c ∙ rw (zero_there, itself c) (let s : suc (length cs) ≡ place = omega (arith, is) in s)))
-    | inr ne ↦ get_or-set_other places (code_of c) (code_of wanted) place 0 ne ∙ other_placed wanted ne
+        let lt : code_of c < length firsts = omega (arith, code_small c) in
+        let zero_there : first_column (is_column c) cs ≡ 0 = sym (are c) ∙ none in
+        rw same (get_or-set_same firsts (code_of c) first 0 lt
+        ∙ sym (placed_more (is_column c) cs c ∙ rw (zero_there, itself c) (let s : suc (length cs) ≡ first = omega (arith, is) in s)))
+    | inr ne ↦ get_or-set_other firsts (code_of c) (code_of wanted) first 0 ne ∙ other_placed wanted ne
   ]
 
   -- a further column of its kind is added
-  pub again_placed : (get_or places (code_of c) 0 ≡ 0 → ⊥) → ArePlaces places (cs ++ c ∷ [])
+  pub again_placed : (get_or firsts (code_of c) 0 ≡ 0 → ⊥) → AreFirstColumns firsts (cs ++ c ∷ [])
   unfolding after
   again_placed some wanted = elim (cases_eq (code_of wanted) (code_of c)) [
     | inl e ↦
         let same : wanted ≡ c = column_is wanted c e in
-        are wanted ∙ sym (placed_more (is_column wanted) cs c ∙ there (place_of (is_column wanted) cs) (is_column wanted c)
-        (λ none. some (ap (λ w. get_or places (code_of w) 0) (sym same) ∙ are wanted ∙ none)))
+        are wanted ∙ sym (placed_more (is_column wanted) cs c ∙ there (first_column (is_column wanted) cs) (is_column wanted c)
+        (λ none. some (ap (λ w. get_or firsts (code_of w) 0) (sym same) ∙ are wanted ∙ none)))
     | inr ne ↦ other_placed wanted ne
   ]
     where
-      there : (place : ℕ) (b : Bool) → (place ≡ 0 → ⊥) → after place b (length cs) ≡ place
+      there : (first : ℕ) (b : Bool) → (first ≡ 0 → ⊥) → after first b (length cs) ≡ first
       there zero b h = absurd (h refl)
-      there (suc place) b h = refl
+      there (suc first) b h = refl
 
 -- a function of each column, kept beside the first ones
 pub pushed_map : {A B : Type 0} (f : A → B) (xs : List B) (kinds : List A) (count : ℕ) (x : B) (c : A) → count < length xs
@@ -150,23 +150,23 @@ pushed_map f xs kinds count x c lt less is same =
 
 -- ---- what is looked up
 
-at_place : (place : ℕ) (fields : List (List ℕ)) → (place ≡ 0 → ⊥)
-    → field_at_place place fields ≡ first_in (drop (place - 1) fields)
-at_place zero fields some = absurd (some refl)
-at_place (suc index) fields some = let e : suc index - 1 ≡ index = omega arith in rw e refl
+at_first : (first : ℕ) (fields : List (List ℕ)) → (first ≡ 0 → ⊥)
+    → field_at_first first fields ≡ first_in (drop (first - 1) fields)
+at_first zero fields some = absurd (some refl)
+at_first (suc index) fields some = let e : suc index - 1 ≡ index = omega arith in rw e refl
 
-module _ (places : List ℕ) (cs : List Column) (wanted : Column) (code : ℕ) (is : code ≡ code_of wanted) (are : ArePlaces places cs) where
-  place_is : get_or places code 0 ≡ place_of (is_column wanted) cs
-  place_is = ap (λ k. get_or places k 0) is ∙ are wanted
+module _ (firsts : List ℕ) (cs : List Column) (wanted : Column) (code : ℕ) (is : code ≡ code_of wanted) (are : AreFirstColumns firsts cs) where
+  first_is : get_or firsts code 0 ≡ first_column (is_column wanted) cs
+  first_is = ap (λ k. get_or firsts k 0) is ∙ are wanted
 
-  pub none_found : get_or places code 0 ≡ 0 → (fields : List (List ℕ)) → field_under (is_column wanted) cs fields ≡ None
+  pub none_found : get_or firsts code 0 ≡ 0 → (fields : List (List ℕ)) → field_under (is_column wanted) cs fields ≡ None
   none_found none fields =
-      field_placed (is_column wanted) cs fields ∙ ap (λ p. field_at_place p fields) (sym place_is ∙ none)
+      field_placed (is_column wanted) cs fields ∙ ap (λ p. field_at_first p fields) (sym first_is ∙ none)
 
-  pub some_found : (get_or places code 0 ≡ 0 → ⊥) → (fields : List (List ℕ))
-      → field_under (is_column wanted) cs fields ≡ first_in (drop (get_or places code 0 - 1) fields)
+  pub some_found : (get_or firsts code 0 ≡ 0 → ⊥) → (fields : List (List ℕ))
+      → field_under (is_column wanted) cs fields ≡ first_in (drop (get_or firsts code 0 - 1) fields)
   some_found some fields =
-      field_placed (is_column wanted) cs fields ∙ ap (λ p. field_at_place p fields) (sym place_is) ∙ at_place (get_or places code 0) fields some
+      field_placed (is_column wanted) cs fields ∙ ap (λ p. field_at_first p fields) (sym first_is) ∙ at_first (get_or firsts code 0) fields some
 
 -- ---- bits
 
