@@ -18,7 +18,7 @@ import subprocess
 import sys
 import tempfile
 
-PLACES = "YlZbpugamcinHAXSEC"
+SLOTS = "YlZbpugamcinHAXSEC"
 GROUPS = ["p+ftype+u+g+s+m+sha256+xattrs+acl", "p+u+s+i+n+md5", "ftype+p+l+s+b+m+c+sha256+sha512+xattrs+e2fsattrs"]
 NAMES = ["p", "ftype", "u", "g", "s", "b", "m", "c", "i", "n", "l", "md5", "sha256", "sha512", "acl", "xattrs", "e2fsattrs"]
 LEVELS = ["list_entries", "changed_attributes", "added_removed_attributes", "added_removed_entries"]
@@ -116,19 +116,19 @@ class Tally:
         print("NOT LISTED:", *what)
 
 
-def letter_is_told(place, theirs, ours, ignored, removed, kind):
+def letter_is_told(slot, theirs, ours, ignored, removed, kind):
     """Why a letter may differ, by docs/DIFFERENCES.md, or None."""
-    if place == "Y" and ours == "!":
+    if slot == "Y" and ours == "!":
         return "another type begins with !"
-    if place in "XEA" and ours in "+-:" and theirs in "XEA:.":
+    if slot in "XEA" and ours in "+-:" and theirs in "XEA:.":
         return "a first or last extended attribute, flag or list"
     if ours in " ." and theirs in " .":
         return "two empty values"
-    if place in ignored and theirs == ":":
+    if slot in ignored and theirs == ":":
         return "an ignored attribute that did not change"
-    if place in ignored and ours == ":":
+    if slot in ignored and ours == ":":
         return "a forced attribute that is ignored"
-    if place == "Z" and "s" in removed and (theirs, ours) == (">", "<"):
+    if slot == "Z" and "s" in removed and (theirs, ours) == (">", "<"):
         return "a file that shrank, removed sizes ignored"
     if kind == "one side only":
         return kind
@@ -151,9 +151,9 @@ def compare_entry(path, theirs, ours, chosen, partial, tally, label):
         return tally.tell("reported by AIDE only: X, E, or p for a type that is ignored")
     if theirs is None or ours is None:
         return tally.fail(label, path, "AIDE:", theirs, "here:", ours)
-    for place, their, our in zip(PLACES, theirs, ours):
+    for slot, their, our in zip(SLOTS, theirs, ours):
         if their != our:
-            why = letter_is_told(place, their, our, ignored, removed, kind)
+            why = letter_is_told(slot, their, our, ignored, removed, kind)
             if why is None:
                 return tally.fail(label, path, "AIDE:", repr(theirs), "here:", repr(ours))
             tally.tell(why)

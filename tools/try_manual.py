@@ -21,7 +21,7 @@ from definitions.configuration import LEVELS
 HERE = os.path.dirname(os.path.dirname(os.path.abspath(__file__)))
 PAGE = os.path.join(HERE, "man", "aide-compare.1")
 CONF_PAGE = os.path.join(HERE, "man", "aide-compare.conf.5")
-PLACES = "YlZbpugamcinHAXSEC"
+SLOTS = "YlZbpugamcinHAXSEC"
 # Pages of other programs that the pages name.
 OTHER_PAGES = [
     "man1/aide.1", "man1/gzip.1", "man1/logger.1", "man1/lsattr.1", "man1/ssh.1",
@@ -247,13 +247,13 @@ def try_attribute(trial, row):
     status, output, errors = trial.compare(*databases)
     shown = [line for line in output.split("\n") if line.endswith(": /f") and len(line) == 22]
     wanted = {"Y": "!", "Z": ">"}.get(letter, letter)
-    place = PLACES.index(letter)
+    slot = SLOTS.index(letter)
     trial.check(
-        status == 4 and errors == "" and len(shown) == 1 and shown[0][place] == wanted,
+        status == 4 and errors == "" and len(shown) == 1 and shown[0][slot] == wanted,
         "letter of " + name,
         (status, output),
     )
-    others = [shown[0][i] for i in range(1, 18) if i != place] if shown else []
+    others = [shown[0][i] for i in range(1, 18) if i != slot] if shown else []
     trial.check(set(others) <= {" "}, "the other letters beside " + name, shown)
     trial.check("\n  %-10s: " % detail in output, "detail name of " + name, output)
     status, output, errors = trial.compare(*databases, options="report_ignore_changed_attrs=%s\n" % name)
@@ -268,7 +268,7 @@ def try_attribute(trial, row):
 
 def try_attributes(trial, page):
     rows = attributes_of(page)
-    trial.check(len(rows) == 33 and {row[3] for row in rows} == set(PLACES), "attributes of the page", len(rows))
+    trial.check(len(rows) == 33 and {row[3] for row in rows} == set(SLOTS), "attributes of the page", len(rows))
     for row in rows:
         try_attribute(trial, row)
     columns = sorted({row[1] for row in rows})

@@ -2,7 +2,7 @@
 import re
 from collections import namedtuple
 
-Attribute = namedtuple('Attribute', 'name detail column bit place form')
+Attribute = namedtuple('Attribute', 'name detail column bit slot form')
 
 # The forms of fields: 'type' and 'perm' (octal), 'number', 'time', 'link', 'opaque', or a digest's least and greatest
 # length.
@@ -50,7 +50,7 @@ GROUPS = {
     'L': frozenset(['p', 'ftype', 'i', 'l', 'n', 'u', 'g']) | EXTENDED,
     'R': frozenset(['p', 'ftype', 'i', 'l', 'n', 'u', 'g', 's', 'm', 'c', 'md5']) | EXTENDED,
     '>': frozenset(['p', 'ftype', 'l', 'u', 'g', 'i', 'n']) | EXTENDED,
-    'H': frozenset(attribute.name for attribute in ATTRIBUTES if attribute.place == 'H'),
+    'H': frozenset(attribute.name for attribute in ATTRIBUTES if attribute.slot == 'H'),
 }
 
 NAME = re.compile(rb'[A-Za-z0-9_>]+')

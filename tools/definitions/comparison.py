@@ -6,7 +6,7 @@ from .configuration import LEVELS
 from .database import order_of
 from .fields import FILE_TYPES
 
-PLACES = 'YlZbpugamcinHAXSEC'
+SLOTS = 'YlZbpugamcinHAXSEC'
 
 Change = namedtuple('Change', 'path old new')
 
@@ -72,12 +72,12 @@ def title_of(change):
     return FILE_TYPES.get(type_of(change), ('?', 'Entry'))[1]
 
 
-def sign_of(place, old, new, settings):
-    """The letter of a place for a changed entry: the first case that holds for an attribute of the place."""
-    here = {attribute.name for attribute in ATTRIBUTES if attribute.place == place}
+def sign_of(slot, old, new, settings):
+    """The letter of a slot for a changed entry: the first case that holds for an attribute of the slot."""
+    here = {attribute.name for attribute in ATTRIBUTES if attribute.slot == slot}
     changed, added, removed = (names & here for names in (changed_in(old, new), added_in(old, new), added_in(new, old)))
     if changed - settings['report_ignore_changed_attrs']:
-        return place if place != 'Z' else '<' if new['s'] < old['s'] else '>'
+        return slot if slot != 'Z' else '<' if new['s'] < old['s'] else '>'
     if added - settings['report_ignore_added_attrs']:
         return '+'
     if removed - settings['report_ignore_removed_attrs']:
@@ -85,7 +85,7 @@ def sign_of(place, old, new, settings):
     if changed or added or removed:
         return ':'
     if here & old.keys() & new.keys():
-        return '=' if place == 'Z' else '.'
+        return '=' if slot == 'Z' else '.'
     return ' '
 
 
@@ -94,4 +94,4 @@ def summary_of(change, settings):
     if change.old is None or change.new is None:
         return letter_of(change) + 17 * ('+' if change.old is None else '-')
     first = '!' if 'ftype' in changed_in(change.old, change.new) else letter_of(change)
-    return first + ''.join(sign_of(place, change.old, change.new, settings) for place in PLACES[1:])
+    return first + ''.join(sign_of(slot, change.old, change.new, settings) for slot in SLOTS[1:])
