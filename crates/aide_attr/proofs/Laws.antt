@@ -1,7 +1,8 @@
 -- Laws of the definitions, which hold of any sets and any groups.
 use Rattle.std.proofs.Common.{ℕ, ◌≡◌, ◌∙◌, true, false, List, [], ◌∷◌, Option, Some, refl, sym, ap, get_or}
-use Rattle.std.specs.Prelude.{find, map, nat_eq, unwrap_or}
+use Rattle.std.specs.Prelude.{find, length, map, nat_eq, unwrap_or}
 use Rattle.std.specs.Cmp.Lexicographic.{pointwise}
+use Rattle.std.specs.List.{range_with_len}
 use Rattle.aide_attr.specs.Attr.{all_attrs, row, row_of, name_of, detail_name_of, column_of, holder_of, attr_named}
 use Rattle.aide_attr.specs.Attr.{attr_of_column}
 use Rattle.aide_attr.specs.declared.attr.Attr.{Attr}
@@ -47,7 +48,7 @@ level_at_its_rank level.Minimal other = refl
 level_at_its_rank _ other = refl
 
 -- and no other one
-pub levels_in_order : map rank all_levels ≡ 0 ∷ 1 ∷ 2 ∷ 3 ∷ 4 ∷ 5 ∷ 6 ∷ []
+pub levels_in_order : map rank all_levels ≡ range_with_len 0 (length all_levels)
 levels_in_order = refl
 
 -- the name of each attribute names it

@@ -1,3 +1,4 @@
 pub mod Sending
 pub mod Sheets
 pub mod Pieces
+pub mod Laws
