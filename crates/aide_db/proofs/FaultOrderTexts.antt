@@ -1,10 +1,9 @@
 -- The first fault of a text is the first in the order that its line has.
-use Rattle.std.proofs.Common.{◌≡◌, ℕ, ◌+◌, List, [], ◌∷◌, ◌++◌, refl, sym, ap, ◌∙◌, subst, true, false, cond, Bool}
+use Rattle.std.proofs.Common.{◌≡◌, ℕ, ◌+◌, List, [], ◌∷◌, ◌++◌, refl, sym, ap, ◌∙◌, subst, true, false}
 use Rattle.std.proofs.Common.{Some, None, append_assoc, append-nil, inl, inr}
-use Rattle.std.specs.Prelude.{find, All, ◌⊎◌, ◌↔◌}
+use Rattle.std.specs.Prelude.{find, ◌⊎◌, ◌↔◌}
 use Rattle.std.specs.List.{list_any}
 use Rattle.std.proofs.lemmas.Bool.{or_parts}
-use Rattle.std.proofs.lemmas.List.Elements.{All-nil, All-cons, All-head, All-tail}
 use Rattle.aide_entry.specs.Lines.{is_end}
 use Rattle.aide_db.specs.Database.{fault_of, IsFront, IsFirstFault, IsAtLine, IsAtCut, IsAtEnd}
 use Rattle.aide_db.specs.FaultOrder.{fault_order, has_fault, HasNoneOf, IsFirstOfLine, HasFaultyLine}
@@ -15,47 +14,7 @@ use Rattle.aide_db.proofs.Front.{open_more, bad_line}
 use Rattle.aide_db.proofs.FirstFault.{front_less}
 use Rattle.aide_db.proofs.FaultExists.{open_nil}
 use Rattle.aide_db.proofs.FaultOrderLemmas.{first_of_open, none_after_end, has_after_end}
-
--- ---- the first that passes a test
-
--- an element that passes, and none before it does
-record IsFirst {X : Type 0} (p : X → Bool) (xs : List X) (x : X) : Type 0 where
-  earlier : List X
-  later : List X
-  order : xs ≡ earlier ++ x ∷ later
-  has : p x ≡ true
-  first : All (λ y. p y ≡ false) earlier
-
-found_first : {X : Type 0} (p : X → Bool) (xs : List X) (x : X) → find p xs ≡ Some x → IsFirst p xs x
-found_first p [] x e = cc
-found_first p (y ∷ ys) x e =
-    elim (p y) as (λ b. p y ≡ b → cond b (Some y) (find p ys) ≡ Some x → IsFirst p (y ∷ ys) x) [
-      | true ↦ λ h f.
-          let same : y ≡ x = cc in
-          record { earlier = []; later = ys; order = ap (λ z. z ∷ ys) same; has = ap p (sym same) ∙ h; first = All-nil _ }
-      | false ↦ λ h f.
-          let rest = found_first p ys x f in
-          record { earlier = y ∷ rest.earlier; later = rest.later; order = ap (λ zs. y ∷ zs) rest.order; has = rest.has; first = All-cons (λ z. p z ≡ false) y rest.earlier h rest.first }
-    ] refl e
-
-first_found : {X : Type 0} (p : X → Bool) (xs zs : List X) (x : X) → p x ≡ true → All (λ y. p y ≡ false) xs
-    → find p (xs ++ x ∷ zs) ≡ Some x
-first_found p [] zs x has first = rw has refl
-first_found p (y ∷ ys) zs x has first =
-    rw (All-head (λ z. p z ≡ false) y ys first, first_found p ys zs x has (All-tail (λ z. p z ≡ false) y ys first)) refl
-
-none_passes : {X : Type 0} (p : X → Bool) (xs : List X) → find p xs ≡ None → All (λ y. p y ≡ false) xs
-none_passes p [] e = All-nil _
-none_passes p (y ∷ ys) e =
-    elim (p y) as (λ b. p y ≡ b → cond b (Some y) (find p ys) ≡ None → All (λ z. p z ≡ false) (y ∷ ys)) [
-      | true ↦ λ h f. cc
-      | false ↦ λ h f. All-cons (λ z. p z ≡ false) y ys h (none_passes p ys f)
-    ] refl e
-
-passes_none : {X : Type 0} (p : X → Bool) (xs : List X) → All (λ y. p y ≡ false) xs → find p xs ≡ None
-passes_none p [] h = refl
-passes_none p (y ∷ ys) h =
-    rw (All-head (λ z. p z ≡ false) y ys h, passes_none p ys (All-tail (λ z. p z ≡ false) y ys h)) refl
+use Rattle.aide_attr.proofs.FindLemmas.{found_first, first_found, none_passes, passes_none}
 
 -- ---- the first lines of a database
 
