@@ -189,20 +189,20 @@ def try_without_script(browser, path, pictures, tally):
 
 def try_large(browser, program, count, folder, tally):
     """The time that a large page takes to be there, and to answer a filter."""
-    def place(name):
+    def path_in(name):
         return os.path.join(folder, name)
     write_databases(folder, count)
-    write(place('conf'), b'database_in=file:%s\ndatabase_new=file:%s\n' % (place('old').encode(), place('new').encode()))
-    for words, source, target in (([program, '-E', '-c', place('conf')], 'conf', 'report'), ([JSON], 'report', 'lines'),
+    write(path_in('conf'), b'database_in=file:%s\ndatabase_new=file:%s\n' % (path_in('old').encode(), path_in('new').encode()))
+    for words, source, target in (([program, '-E', '-c', path_in('conf')], 'conf', 'report'), ([JSON], 'report', 'lines'),
                                   ([HTML], 'lines', 'large.html')):
-        measured(words, place(source), place(target))
-    seconds = browser.open(place('large.html'))
+        measured(words, path_in(source), path_in(target))
+    seconds = browser.open(path_in('large.html'))
     tally.add('a large page', wait_for(browser, SHOWN, 100))
     answer = browser.value("(() => { const began = performance.now(); document.querySelector('#kinds button').click(); "
                            "return performance.now() - began; })()")
     memory = browser.value('performance.memory.usedJSHeapSize')
     print('%d changes: %.1f MB, loaded and shown in %.1f s, %.0f MB of the script, a filter answers in %.0f ms' % (
-        count, os.path.getsize(place('large.html')) / 1e6, seconds, memory / 1e6, answer))
+        count, os.path.getsize(path_in('large.html')) / 1e6, seconds, memory / 1e6, answer))
     tally.add('no fault of a large page', browser.faults)
 
 

@@ -73,7 +73,7 @@ def set_of_name(name, defined):
 
 
 def expression_fault(text, defined):
-    """The kind of the first fault of an expression, or None; of two at one place the bad byte counts."""
+    """The kind of the first fault of an expression, or None; of two at one byte the bad byte counts."""
     good = BEGINNING.match(text).end()
     faults = []
     if good < len(text) or not EXPRESSION.fullmatch(text):

@@ -58,10 +58,10 @@ def enclosing(marks):
     marks = [mark for mark in marks if mark.block]
     blocks = ''.join(mark.block for mark in marks)
     around = []
-    for place, mark in enumerate(marks):
-        behind = range(place + 1, len(marks))
-        if mark.block == 'O' and not any(blocks[end] == 'C' and is_balanced(blocks[place:end + 1]) for end in behind):
-            divided = any(blocks[middle] == 'D' and is_balanced(blocks[place + 1:middle]) for middle in behind)
+    for index, mark in enumerate(marks):
+        behind = range(index + 1, len(marks))
+        if mark.block == 'O' and not any(blocks[end] == 'C' and is_balanced(blocks[index:end + 1]) for end in behind):
+            divided = any(blocks[middle] == 'D' and is_balanced(blocks[index + 1:middle]) for middle in behind)
             around.append((mark, divided))
     return around
 
@@ -265,7 +265,7 @@ def marks_of(texts):
 def settings_of(marks):
     """The last assignment of each option; of those of the report the last before the first report to standard output."""
     said = [mark.says[1:] for mark in marks if mark.says and mark.says[0] == 'option']
-    ends = [place for place, option in enumerate(said) if option == ('report_url', 'stdout')]
+    ends = [index for index, option in enumerate(said) if option == ('report_url', 'stdout')]
     before = said[:ends[0]] if ends else said
     settings = {**DEFAULTS, 'database_in': None, 'database_new': None}
     settings.update((name, value) for name, value in before if name in DEFAULTS)

@@ -24,7 +24,7 @@ def parts_of(lines):
     """The first line, the second one, the lines up to the end line, and the end line, as far as they are there."""
     read = [(number, fields_of(line)) for number, line in enumerate(lines, 1)]
     read = [(number, fields) for number, fields in read if fields and not fields[0].startswith(b'#')]
-    ends = [place for place in range(2, len(read)) if read[place][1][0] == b'@@end_db'] + [len(read)]
+    ends = [index for index in range(2, len(read)) if read[index][1][0] == b'@@end_db'] + [len(read)]
     return Parts(read[:1], read[1:2], read[2:ends[0]], read[ends[0]:][:1])
 
 
@@ -56,7 +56,7 @@ def shape_fault(columns, fields):
 
 def column_fault(columns, fields):
     """The kind and the column of the first field without a meaning."""
-    for place, (column, field) in enumerate(zip(columns, fields), 1):
+    for number, (column, field) in enumerate(zip(columns, fields), 1):
         try:
             if column == b'attr':
                 number_of(field, 0)
@@ -64,18 +64,18 @@ def column_fault(columns, fields):
                 if attribute.column.encode() == column:
                     values_of(attribute, field, None)
         except Meaningless as meaningless:
-            return str(meaningless), place
+            return str(meaningless), number
     return None
 
 
 def entry_faults(columns, entries):
     """The first fault of the entries, as a list."""
     shapes = [(number, shape_fault(columns, fields)) for number, fields in entries]
-    whole = next((place for place, shape in enumerate(shapes) if shape[1]), len(entries))
+    whole = next((index for index, shape in enumerate(shapes) if shape[1]), len(entries))
     orders = [order_of(path_of(columns, fields)) for _, fields in entries[:whole]]
     greatest = list(accumulate(orders, max))
-    for place, (number, fields) in enumerate(entries[:whole]):
-        if place and not greatest[place - 1] < orders[place]:
+    for index, (number, fields) in enumerate(entries[:whole]):
+        if index and not greatest[index - 1] < orders[index]:
             return [Fault(number, 'OutOfOrder', None)]
         fault = column_fault(columns, fields)
         if fault:
@@ -135,4 +135,4 @@ def database_of(text):
     parts = parts_of(lines_of(text))
     columns = parts.spec[0][1][1:]
     entries = {path_of(columns, fields): entry_of(columns, fields) for _, fields in parts.entries}
-    return Database(entries, [place for place, column in enumerate(columns, 1) if column not in KNOWN])
+    return Database(entries, [number for number, column in enumerate(columns, 1) if column not in KNOWN])

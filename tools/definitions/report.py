@@ -40,9 +40,9 @@ def attribute_lines(attribute, change, settings):
     """The lines of an attribute in the details: pieces of the old value beside pieces of the new one."""
     old, new = (pieces_of(value_text(attribute, entry, settings)) for entry in (change.old, change.new))
     lines = []
-    for place in range(max(len(old), len(new), 1)):
-        label = b'  ' + attribute.detail.encode().ljust(NAME_WIDTH) + b': ' if place == 0 else b' ' * 14
-        left, right = (b''.join(pieces[place:place + 1]) for pieces in (old, new))
+    for index in range(max(len(old), len(new), 1)):
+        label = b'  ' + attribute.detail.encode().ljust(NAME_WIDTH) + b': ' if index == 0 else b' ' * 14
+        left, right = (b''.join(pieces[index:index + 1]) for pieces in (old, new))
         lines.append(label + left.ljust(PIECE_WIDTH) + b' | ' + right)
     return lines
 
@@ -92,8 +92,8 @@ def databases(texts, settings):
     lines = titled(b'The attributes of the databases:') + [b'']
     for label, path, text in zip((b'Old', b'New'), (settings['database_in'], settings['database_new']), texts):
         lines.append(label + b' database: ' + printed(path))
-        for place, piece in enumerate(pieces_of(digest_text(hashlib.sha256(text).digest(), settings))):
-            lines.append((b'  SHA256    : ' if place == 0 else b' ' * 14) + piece)
+        for index, piece in enumerate(pieces_of(digest_text(hashlib.sha256(text).digest(), settings))):
+            lines.append((b'  SHA256    : ' if index == 0 else b' ' * 14) + piece)
     return lines
 
 

@@ -39,13 +39,13 @@ def option_of(word):
         name = name.decode('latin-1')
         return ([name], value if sign else None) if name in OPTIONS.values() else ([], None)
     names = []
-    for place in range(1, len(word)):
-        letter = chr(word[place])
+    for index in range(1, len(word)):
+        letter = chr(word[index])
         if letter not in OPTIONS:
             return [], None
         names.append(OPTIONS[letter])
         if OPTIONS[letter] not in FLAGS:
-            value = word[place + 1:]
+            value = word[index + 1:]
             return names, (value[1:] if value.startswith(b'=') else value) if value else None
     return names, None
 

@@ -22,4 +22,4 @@ def printed(name):
 
 def pieces_of(text):
     """A text cut into pieces of 32 bytes, the last one shorter."""
-    return [text[place:place + 32] for place in range(0, len(text), 32)]
+    return [text[index:index + 32] for index in range(0, len(text), 32)]

@@ -3,7 +3,7 @@ import os
 import re
 import shutil
 
-from installing.places import DOCUMENTS
+from installing.targets import DOCUMENTS
 from installing.trial import HERE, texts, tree
 
 # The paths below a prefix that the installed texts name.
@@ -154,7 +154,7 @@ def try_cron(trial):
 
 
 def try_version(trial):
-    """VERSION is the one place: what else has a version agrees with it."""
+    """Whatever else names a version agrees with VERSION."""
     trial.check(re.match(r"\d+\.\d+\.\d+$", trial.version), "the form of VERSION", trial.version)
     with open(os.path.join(HERE, "CHANGELOG.md")) as file:
         parts = re.findall(r"^## (\S+)", file.read(), re.M)

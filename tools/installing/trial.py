@@ -95,9 +95,9 @@ class Trial:
 def tree(folder):
     """Every path below a folder: its permissions, with its bytes if it is a file."""
     found = {}
-    for place, folders, files in os.walk(folder):
+    for above, folders, files in os.walk(folder):
         for name in folders + files:
-            path = os.path.join(place, name)
+            path = os.path.join(above, name)
             mode = stat.S_IMODE(os.lstat(path).st_mode)
             if os.path.isdir(path):
                 found[os.path.relpath(path, folder)] = (mode, None)

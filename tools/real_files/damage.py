@@ -26,22 +26,22 @@ OPTIONS = b'report_level=added_removed_entries\n'
 
 
 def changed_bytes(text):
-    for place in range(len(text)):
+    for index in range(len(text)):
         for byte in BYTES:
-            if text[place] != byte:
-                yield text[:place] + bytes([byte]) + text[place + 1:]
+            if text[index] != byte:
+                yield text[:index] + bytes([byte]) + text[index + 1:]
 
 
 def inserted_bytes(text):
-    return (text[:place] + bytes([byte]) + text[place:] for place in range(len(text) + 1) for byte in b'\n 0')
+    return (text[:index] + bytes([byte]) + text[index:] for index in range(len(text) + 1) for byte in b'\n 0')
 
 
 def cuts(text):
-    return (text[:place] for place in range(len(text) + 1))
+    return (text[:index] for index in range(len(text) + 1))
 
 
 def taken_out(text):
-    return (text[:place] + text[place + 1:] for place in range(len(text)))
+    return (text[:index] + text[index + 1:] for index in range(len(text)))
 
 
 def joined(lines):
@@ -50,12 +50,12 @@ def joined(lines):
 
 def doubled_lines(text):
     lines = text.split(b'\n')
-    return (joined(lines[:place] + [lines[place]] + lines[place:]) for place in range(len(lines)))
+    return (joined(lines[:index] + [lines[index]] + lines[index:]) for index in range(len(lines)))
 
 
 def dropped_lines(text):
     lines = text.split(b'\n')
-    return (joined(lines[:place] + lines[place + 1:]) for place in range(len(lines)))
+    return (joined(lines[:index] + lines[index + 1:]) for index in range(len(lines)))
 
 
 def exchanged_lines(text):

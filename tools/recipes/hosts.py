@@ -172,10 +172,10 @@ def try_first(trial):
 def try_stale(trial):
     """A host whose AIDE does not run any more sends the same bytes for ever."""
     put_host(trial, "stale", OLD)
-    place = trial.path(STORE + "/hosts/stale/aide.db.new")
+    kept = trial.path(STORE + "/hosts/stale/aide.db.new")
     words = [tool(trial, "fetch-host"), "stale"], [tool(trial, "compare-host"), "stale"]
     trial.check([trial.run(each)[0] for each in words] == [0, 0], "a fresh database")
-    os.utime(place, (time.time() - 51 * 3600,) * 2)
+    os.utime(kept, (time.time() - 51 * 3600,) * 2)
     got = [trial.run(each) for each in words]
     trial.check([each[0] for each in got] == [0, 18] and "same database" in got[1][2], "the same bytes for 51 hours", got)
     trial.check("\nstatus=18\n" in "\n" + trial.read(STORE + "/states/stale"), "the state says so too")

@@ -24,11 +24,11 @@ class Openings:
     def of(self, name):
         if self.number < 0:
             return None
-        events, place, count = os.read(self.number, 1 << 20), 0, 0
-        while place < len(events):
-            _, _, _, size = struct.unpack_from("iIII", events, place)
-            count += events[place + 16 : place + 16 + size].rstrip(b"\0") == name.encode()
-            place += 16 + size
+        events, start, count = os.read(self.number, 1 << 20), 0, 0
+        while start < len(events):
+            _, _, _, size = struct.unpack_from("iIII", events, start)
+            count += events[start + 16 : start + 16 + size].rstrip(b"\0") == name.encode()
+            start += 16 + size
         os.close(self.number)
         return count
 

@@ -166,17 +166,17 @@ class Trial:
         for folder in folders:
             for path, _, names in os.walk(self.root + folder):
                 for each in names:
-                    place = os.path.join(path, each)
-                    self.check(os.stat(place).st_mode & 0o077 == 0 or self.is_shut(place), name + ": mode", place)
+                    file = os.path.join(path, each)
+                    self.check(os.stat(file).st_mode & 0o077 == 0 or self.is_shut(file), name + ": mode", file)
                     if os.geteuid() == 0:
-                        got = self.run(["cat", place], rights=NOBODY)
-                        self.check(got[0] != 0 and not got[1], name + ": another user", place)
+                        got = self.run(["cat", file], rights=NOBODY)
+                        self.check(got[0] != 0 and not got[1], name + ": another user", file)
 
-    def is_shut(self, place):
+    def is_shut(self, path):
         """A folder above a file, below the root, lets nobody but its owner in."""
-        place = os.path.dirname(place)
-        while place != self.root:
-            if os.stat(place).st_mode & 0o077 == 0:
+        path = os.path.dirname(path)
+        while path != self.root:
+            if os.stat(path).st_mode & 0o077 == 0:
                 return True
-            place = os.path.dirname(place)
+            path = os.path.dirname(path)
         return False

@@ -28,7 +28,7 @@ class Browser:
             [command, '--headless=new', '--no-sandbox', '--disable-gpu', '--hide-scrollbars', '--remote-debugging-pipe',
              '--no-first-run', '--user-data-dir=' + self.folder, 'about:blank'], stdin=subprocess.DEVNULL,
             stdout=subprocess.DEVNULL, stderr=subprocess.DEVNULL, close_fds=False,
-            preexec_fn=lambda: [os.dup2(end, place) for place, end in enumerate(inner, 3)])
+            preexec_fn=lambda: [os.dup2(end, number) for number, end in enumerate(inner, 3)])
         for end in [inner_read, inner_write] + inner:
             os.close(end)
         self.write, self.read, self.session = write, read, None

@@ -52,18 +52,18 @@ def measured(words, source, target):
 def try_large(program, count, tally):
     """Measures the way from two databases to a page. The time of the processor counts: other work may share it."""
     with tempfile.TemporaryDirectory() as folder:
-        def place(name):
+        def path_in(name):
             return os.path.join(folder, name)
         write_databases(folder, count)
-        with open(place('conf'), 'w') as file:
-            file.write('database_in=file:%s\ndatabase_new=file:%s\n' % (place('old'), place('new')))
+        with open(path_in('conf'), 'w') as file:
+            file.write('database_in=file:%s\ndatabase_new=file:%s\n' % (path_in('old'), path_in('new')))
             file.write('report_level=added_removed_entries\n')
         for label, words, source, target in (
-                ('aide', [program, '-E', '-c', place('conf')], 'conf', 'report'),
+                ('aide', [program, '-E', '-c', path_in('conf')], 'conf', 'report'),
                 ('aide-compare-json', [JSON], 'report', 'lines'), ('aide-compare-html', [HTML], 'lines', 'page'),
                 ('aide-compare-html --plain', [HTML, '--plain'], 'lines', 'plain')):
-            status, clock, seconds, megabytes = measured(words, place(source), place(target))
-            size = os.path.getsize(place(target)) / 1e6
+            status, clock, seconds, megabytes = measured(words, path_in(source), path_in(target))
+            size = os.path.getsize(path_in(target)) / 1e6
             print('%s: %.1f s by the clock, %.1f s of the processor, at most %.0f MB of memory, %.1f MB written' % (
                 label, clock, seconds, megabytes, size), flush=True)
             tally.add(label, ['status %d, %.1f s, %.0f MB' % (status, seconds, megabytes)]

@@ -18,7 +18,7 @@ DIRECTIONS = re.compile('[\u061c\u200b-\u200f\u2028-\u202e\u2060-\u206f\ufeff\ud
 def bytes_shown(text):
     """The bytes that a page shows as a text."""
     parts = ESCAPE.split(text)
-    return b''.join(bytes([int(part, 8)]) if place % 2 else part.encode() for place, part in enumerate(parts))
+    return b''.join(bytes([int(part, 8)]) if index % 2 else part.encode() for index, part in enumerate(parts))
 
 
 class Page(HTMLParser):
@@ -127,7 +127,7 @@ def page_faults(text, objects, is_plain):
 
 def luminance(colour):
     """How light a colour such as #57606a is, from 0 to 1, as the guidelines for contrast have it."""
-    parts = [int(colour[place:place + 2], 16) / 255 for place in (1, 3, 5)]
+    parts = [int(colour[start:start + 2], 16) / 255 for start in (1, 3, 5)]
     red, green, blue = (part / 12.92 if part <= 0.03928 else ((part + 0.055) / 1.055) ** 2.4 for part in parts)
     return 0.2126 * red + 0.7152 * green + 0.0722 * blue
 

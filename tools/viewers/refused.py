@@ -75,7 +75,7 @@ REPORT_EDITS = {
     'an added entry that was removed': replaced(b'f+++++++++++++++++: /a', b'f-----------------: /a'),
     'a path without a slash': replaced(b'+: /a\n', b'+: a\n'),
     'a short summary string': replaced(b'f+++++++++++++++++: /a', b'f++++++++++++++++: /a'),
-    'a letter in another place': replaced(b'll   ', b'lp   '),
+    'a letter in another slot': replaced(b'll   ', b'lp   '),
     'one list without summary strings': replaced(b'f+++++++++++++++++: /', b'added: /', 2),
     'a control byte': replaced(b'+: /a\n', b'+: /a\x01\n'),
     'a tab': replaced(b'+: /a\n', b'+: /a\t\n'),

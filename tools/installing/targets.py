@@ -20,7 +20,7 @@ FOLDERS = {"contrib/bin": "bin", "contrib/lib/aide_compare": "lib/aide-compare/p
            "contrib/completions/fish": "share/fish/vendor_completions.d", "docs": DOCUMENTS}
 
 
-def place_of(path, mode):
+def target_of(path, mode):
     """Where a file of the repository is installed, below the prefix; nothing if it is not."""
     folder, name = os.path.split(path)
     if folder in FOLDERS:
@@ -41,30 +41,30 @@ def wanted_modes(source):
     wanted = {"bin/aide-compare": 0o755, MANIFEST: 0o644}
     for path, (mode, _) in files(tree(source)).items():
         mode = 0o755 if mode & 0o100 else 0o644
-        place = place_of(path, mode)
-        if place is not None:
-            wanted[place] = mode
+        target = target_of(path, mode)
+        if target is not None:
+            wanted[target] = mode
     return wanted
 
 
-def try_places(trial):
+def try_targets(trial):
     wanted = wanted_modes(trial.source)
-    for place in KNOWN:
-        trial.check(place in wanted, "a file to install: " + place)
+    for target in KNOWN:
+        trial.check(target in wanted, "a file to install: " + target)
     found = trial.installed("first")
     prefix = "usr/local/"
     given = {path[len(prefix):]: mode for path, (mode, _) in files(found).items()}
-    for place in sorted(set(wanted) | set(given)):
-        trial.check(wanted.get(place) == given.get(place), "installed with its mode: " + place,
-                    "wanted %s, given %s" % (show(wanted.get(place)), show(given.get(place))))
+    for target in sorted(set(wanted) | set(given)):
+        trial.check(wanted.get(target) == given.get(target), "installed with its mode: " + target,
+                    "wanted %s, given %s" % (show(wanted.get(target)), show(given.get(target))))
     for path, (mode, data) in sorted(found.items()):
         if data is None:
             trial.check(mode == 0o755, "the mode of the folder " + path, show(mode))
     with open(trial.program, "rb") as file:
         trial.check(found[prefix + "bin/aide-compare"][1] == file.read(), "the program is installed as it is")
-    for place, mode in sorted(wanted.items()):
-        if mode == 0o755 and place.startswith("bin/"):
-            trial.check(place[4:].startswith("aide-compare"), "the name of the command " + place)
+    for target, mode in sorted(wanted.items()):
+        if mode == 0o755 and target.startswith("bin/"):
+            trial.check(target[4:].startswith("aide-compare"), "the name of the command " + target)
 
 
 def show(mode):
@@ -94,9 +94,9 @@ def try_again(trial):
     source = trial.copy("changing")
     more = os.path.join(source, "contrib", "cron", "left out later")
     shutil.copy(os.path.join(source, "VERSION"), more)
-    place = os.path.join(folder, "usr/local", DOCUMENTS, "examples/cron/left out later")
+    target = os.path.join(folder, "usr/local", DOCUMENTS, "examples/cron/left out later")
     trial.install("--destdir", folder, "--program", trial.program, source=source)
-    trial.check(os.path.exists(place), "a further file of contrib is installed")
+    trial.check(os.path.exists(target), "a further file of contrib is installed")
     before = tree(folder)
     running = open(os.path.join(folder, "usr/local/bin/aide-compare"), "rb")
     done = trial.install("--destdir", folder, "--program", trial.program, source=source)
@@ -107,7 +107,7 @@ def try_again(trial):
         trial.check(len(running.read()) == old.st_size > 0, "a run of the old program keeps its file")
     os.remove(more)
     done = trial.install("--destdir", folder, "--program", trial.program, source=source)
-    trial.check(done[0] == 0 and not os.path.exists(place), "what is not in the repository any more is removed", done)
+    trial.check(done[0] == 0 and not os.path.exists(target), "what is not in the repository any more is removed", done)
     done = trial.install("--destdir", folder, "--uninstall", source=source)
     trial.check(done[0] == 0 and tree(folder) == {}, "nothing is left after three runs", sorted(tree(folder)))
 
