@@ -1,5 +1,5 @@
 -- The first fault of a text is the first in the order that its line has.
-use Rattle.std.proofs.Common.{◌≡◌, ℕ, ◌+◌, List, [], ◌∷◌, ◌++◌, refl, sym, ap, ◌∙◌, subst, true, false}
+use Rattle.std.proofs.Common.{◌≡◌, ℕ, List, [], ◌∷◌, ◌++◌, refl, sym, ap, ◌∙◌, subst, true, false}
 use Rattle.std.proofs.Common.{Some, None, append_assoc, append-nil, inl, inr}
 use Rattle.std.specs.Prelude.{find, ◌⊎◌, ◌↔◌}
 use Rattle.std.specs.List.{list_any}
