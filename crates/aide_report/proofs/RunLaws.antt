@@ -1,6 +1,6 @@
 -- What the contract of `run` says of two texts, drawn from its clause `over`. Each law has that clause as a premise.
 use Rattle.std.specs.Prelude.{◌≡◌, ◌≤◌, ℕ, List, Option, Some, Result, Ok, Err, false}
-use Rattle.std.proofs.Common.{◌+◌, inl, inr, refl, arith}
+use Rattle.std.proofs.Common.{inl, inr, refl, arith}
 use Rattle.aide_entry.specs.Cause.{is_outside}
 use Rattle.aide_db.specs.declared.fault.DbFault.{DbFault}
 use Rattle.aide_entry.specs.declared.fault_kind.DbFaultKind.{DbFaultKind}
