@@ -1,5 +1,5 @@
 -- Laws of the definitions, which hold of any sets and any groups.
-use Rattle.std.proofs.Common.{ℕ, ◌≡◌, ◌∙◌, true, false, List, [], ◌∷◌, Option, Some, refl, sym, ap, get_or}
+use Rattle.std.proofs.Common.{ℕ, ◌≡◌, ◌∙◌, true, false, List, Option, Some, refl, sym, ap, get_or}
 use Rattle.std.specs.Prelude.{find, length, map, nat_eq, unwrap_or}
 use Rattle.std.specs.Cmp.Lexicographic.{pointwise}
 use Rattle.std.specs.List.{range_with_len}

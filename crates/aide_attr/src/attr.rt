@@ -6,6 +6,7 @@ ghost use Rattle.aide_attr.specs.Attr.{slot_of, form_of};
 ghost use Rattle.aide_attr.specs.Attr.{most_bytes, longest_digest, most_bits, attr_named};
 ghost use Rattle.aide_attr.specs.Attr.{attr_of_column, holder_of};
 ghost use Rattle.aide_attr.specs.Byte.{letter};
+ghost use Rattle.aide_attr.specs.code.Row.{HasParts, IsRow};
 
 use crate::form::Form;
 
@@ -86,12 +87,7 @@ impl Row {
         slot: u8,
         form: Form,
     ) -> Row
-        ensures name { result.name.now ≡ name.now }
-        ensures detail_name { result.detail_name.now ≡ detail_name.now }
-        ensures column { result.column.now ≡ column.now }
-        ensures bit { result.bit ≡ bit }
-        ensures slot { result.slot ≡ slot }
-        ensures form { result.form ≡ form }
+        ensures { HasParts name.now detail_name.now column.now bit slot form result }
     {
         Row {
             name,
@@ -105,12 +101,8 @@ impl Row {
 
     /// Makes the row of a digest of at least `least` and at most `most` bytes. Its column has its name.
     fn digest(name: &'static [u8], detail_name: &'static [u8], least: u8, most: u8) -> Row
-        ensures name { result.name.now ≡ name.now }
-        ensures detail_name { result.detail_name.now ≡ detail_name.now }
-        ensures column { result.column.now ≡ name.now }
-        ensures bit { result.bit ≡ None }
-        ensures slot { result.slot ≡ letter (codes "H") }
-        ensures form { result.form ≡ Form.Digest least most }
+        ensures { HasParts name.now detail_name.now name.now None (letter (codes "H"))
+            (Form.Digest least most) result }
     {
         Row::new(
             name,
@@ -222,7 +214,7 @@ impl Attr {
     pub fn of_column(name: &[u8]) -> Option<Attr>
         ensures { result ≡ attr_of_column name.now }
     {
-        Attr::ALL.iter().copied().find(|a| a.column() == name)
+        Attr::ALL.iter().copied().find(|a| a.row().column == name)
     }
 
     /// Returns the index in the order, from 0.
@@ -238,19 +230,12 @@ impl Attr {
     pub(crate) fn named(name: &[u8]) -> Option<Attr>
         ensures { result ≡ attr_named name.now }
     {
-        Attr::ALL.iter().copied().find(|a| a.name() == name)
+        Attr::ALL.iter().copied().find(|a| a.row().name == name)
     }
 
     #[tactic(auto, unfolding(crate::specs::Attr::row_of, crate::specs::Attr::row))]
     fn row(self) -> Row
-        ensures name { result.name.now ≡ name_of self }
-        ensures detail_name { result.detail_name.now ≡ detail_name_of self }
-        ensures column { result.column.now ≡ column_of self }
-        ensures bit { result.bit ≡ bit_of self }
-        ensures small { IfSome result.bit (λ k. k < most_bits) }
-        ensures slot { result.slot ≡ slot_of self }
-        ensures form { result.form ≡ form_of self }
-        ensures short { most_bytes result.form ≤ longest_digest }
+        ensures { IsRow self result }
     {
         match self {
             Attr::Ftype => Row::new(b"ftype", b"Type", b"perm", None, b'Y', Form::Kind),
