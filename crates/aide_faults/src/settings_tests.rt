@@ -1,6 +1,6 @@
 //! Configurations: why they are refused, what they set, how large they may be, and what follows a failed allocation.
-use aide_conf::{ConfFault, ConfFaultKind, ConfText, Need, Settings};
-use std::alloc::Allocator;
+use aide_conf::{ConfFault, ConfFaultKind, ConfText, Need, Options, Settings};
+use std::alloc::{Allocator, Global};
 
 mod compared;
 mod counts;
@@ -11,9 +11,28 @@ mod plain;
 mod set;
 mod texts;
 
+/// What three texts give. It has no contract, so that the many facts about `Settings::read` are no part of the proofs
+/// of its callers.
+fn read<A: Allocator + Copy>(
+    alloc: A,
+    texts: [&[u8]; 3],
+    need: Need,
+) -> Result<Settings<A>, ConfFault> {
+    let [before, file, after] = texts;
+    Settings::read(alloc, before, file, after, need)
+}
+
+/// The options that three texts give, or their first fault.
+fn options_of(alloc: Global, texts: [&[u8]; 3], need: Need) -> Result<Options, ConfFault> {
+    match read(alloc, texts, need) {
+        Ok(settings) => Ok(settings.options()),
+        Err(fault) => Err(fault),
+    }
+}
+
 /// The first fault of a single text that is read to be checked.
-fn fault_of_file<A: Allocator + Copy>(alloc: A, file: &[u8]) -> Option<ConfFault> {
-    Settings::read(alloc, b"", file, b"", Need::Check).err()
+fn fault_of_file(alloc: Global, file: &[u8]) -> Option<ConfFault> {
+    options_of(alloc, [b"", file, b""], Need::Check).err()
 }
 
 /// A fault of the file.

@@ -1,8 +1,9 @@
 //! Random configurations with blocks and variables. The plain program reads them too, and must agree.
 ghost use Rattle.std.specs.Prelude.{◌<◌};
 
+use super::options_of;
 use super::plain::{Told, answer};
-use aide_conf::{ConfFault, Need, Settings};
+use aide_conf::{ConfFault, Need};
 use std::alloc::{AllocError, Global};
 use std::process::Abort;
 use std::str::from_utf8;
@@ -106,10 +107,10 @@ impl Dice {
 
     /// One of these lines.
     fn pick(&mut self, lines: &[&'static [u8]]) -> &'static [u8] {
-        let place = self.roll(64) as usize;
-        match lines.get(place) {
+        let index = self.roll(64) as usize;
+        match lines.get(index) {
             Some(line) => line,
-            None => lines.get(place / 2).copied().unwrap_or(b""),
+            None => lines.get(index / 2).copied().unwrap_or(b""),
         }
     }
 
@@ -136,22 +137,30 @@ impl Dice {
         Ok(())
     }
 
+    /// A line of a text, and how many blocks are open after it.
+    fn line(&mut self, open: u64) -> (&'static [u8], u64) {
+        match self.roll(32) {
+            0 => (self.pick(&HOSTILE), open),
+            1..12 => self.block_line(open),
+            _ => (self.pick(&LINES), open),
+        }
+    }
+
+    /// Adds a few lines. Returns how many blocks are open after them.
+    fn push_lines(&mut self, text: &mut Vec<u8>) -> Result<u64, AllocError> {
+        let mut open = 0u64;
+        for _ in 0..self.roll(9) {
+            let (line, now_open) = self.line(open);
+            self.push_line(text, line)?;
+            open = now_open;
+        }
+        Ok(open)
+    }
+
     /// A text of a few lines, whose blocks are mostly closed.
     fn text(&mut self, alloc: Global) -> Result<Vec<u8>, AllocError> {
         let mut text = Vec::new(alloc);
-        let mut open = 0u64;
-        for _ in 0..self.roll(9) {
-            let line = match self.roll(32) {
-                0 => self.pick(&HOSTILE),
-                1..12 => {
-                    let (line, now_open) = self.block_line(open);
-                    open = now_open;
-                    line
-                }
-                _ => self.pick(&LINES),
-            };
-            self.push_line(&mut text, line)?;
-        }
+        let open = self.push_lines(&mut text)?;
         if self.roll(12) > 0 {
             for _ in 0..open {
                 text.extend_from_slice(b"@@endif\n")?;
@@ -161,9 +170,9 @@ impl Dice {
     }
 }
 
-/// What the settings say.
-fn told_of(answer: Result<Settings, ConfFault>) -> Result<Told, ConfFault> {
-    let options = answer?.options();
+/// What the settings of three texts say.
+fn told_of(alloc: Global, texts: [&[u8]; 3], need: Need) -> Result<Told, ConfFault> {
+    let options = options_of(alloc, texts, need)?;
     Ok(Told {
         level: options.level,
         quiet: options.quiet,
@@ -172,15 +181,49 @@ fn told_of(answer: Result<Settings, ConfFault>) -> Result<Told, ConfFault> {
 
 /// Compares the two answers to three texts. Returns the number of the fault, or 0 if there is none.
 fn compare(rt: &impl Abort, alloc: Global, texts: [&[u8]; 3], need: Need) -> Result<u8, Fail> {
-    let [before, file, after] = texts;
     let wanted = answer(alloc, texts, need)?;
-    let given = told_of(Settings::read(alloc, before, file, after, need));
-    let lines = [before, file, after].map(|text| from_utf8(text).unwrap_or("not UTF-8"));
-    assert_eq!(rt; given, wanted, "{lines:?}");
+    let given = told_of(alloc, texts, need);
+    let lines = texts.map(|text| from_utf8(text).unwrap_or("not UTF-8"));
+    assert!(rt; given == wanted, "{given:?}, not {wanted:?}: {lines:?}");
     match wanted {
         Ok(_) => Ok(0),
         Err(fault) => Ok(fault.kind.number()),
     }
+}
+
+/// Counts the number of an answer.
+fn count(seen: &mut [u32], number: u8) {
+    if let Some(times) = seen.get_mut(number as usize) {
+        *times = times.saturating_add(1);
+    }
+}
+
+/// Compares the answers to three random texts, and counts their numbers.
+fn compare_next(
+    rt: &impl Abort,
+    alloc: Global,
+    dice: &mut Dice,
+    seen: &mut [u32],
+) -> Result<(), Fail> {
+    let before = dice.text(alloc)?;
+    let file = dice.text(alloc)?;
+    let after = dice.text(alloc)?;
+    let texts = [before.as_slice(), file.as_slice(), after.as_slice()];
+    count(seen, compare(rt, alloc, texts, Need::Check)?);
+    count(seen, compare(rt, alloc, texts, Need::Compare)?);
+    Ok(())
+}
+
+/// The numbers that random texts give: no fault, and each fault that their lines can have.
+const NUMBERS: [usize; 14] = [0, 1, 2, 3, 4, 5, 7, 8, 9, 10, 11, 15, 16, 17];
+
+/// How often the rarest of these numbers was counted.
+fn rarest(seen: &[u32]) -> u32 {
+    let mut least = u32::MAX;
+    for number in &NUMBERS {
+        least = least.min(seen.get(*number).copied().unwrap_or(0));
+    }
+    least
 }
 
 #[test]
@@ -188,20 +231,8 @@ fn random_texts(rt: HostRuntime) -> Result<(), Fail> {
     let mut dice = Dice { state: 1 };
     let mut seen = [0u32; 20];
     for _ in 0..3000 {
-        let before = dice.text(rt.alloc())?;
-        let file = dice.text(rt.alloc())?;
-        let after = dice.text(rt.alloc())?;
-        for need in [Need::Check, Need::Compare] {
-            let number = compare(&rt, rt.alloc(), [&before, &file, &after], need)?;
-            if let Some(count) = seen.get_mut(number as usize) {
-                *count = count.saturating_add(1);
-            }
-        }
+        compare_next(&rt, rt.alloc(), &mut dice, &mut seen)?;
     }
-    // No fault, and each fault that the lines can have.
-    for number in [0, 1, 2, 3, 4, 5, 7, 8, 9, 10, 11, 15, 16, 17] {
-        let count = seen.get(number).copied().unwrap_or(0);
-        assert!(rt; count >= 10, "{seen:?}");
-    }
+    assert!(rt; rarest(&seen) >= 10, "{seen:?}");
     Ok(())
 }

@@ -78,13 +78,13 @@ fn check_many(rt: &impl Abort, alloc: Global, many: &[u8], table: &[Many]) -> Re
         let mut text = Vec::from_slice(alloc, many)?;
         text.extend_from_slice(row.tail)?;
         let wanted = at(row.line, row.kind);
+        let given = fault_of_file(alloc, &text);
+        let plain = answer(alloc, [b"", &text, b""], Need::Check)?;
         assert!(rt;
-            fault_of_file(alloc, &text) == Some(wanted),
+            given == Some(wanted) && plain == Err(wanted),
             "{:?}",
             row.tail
         );
-        let plain = answer(alloc, [b"", &text, b""], Need::Check)?;
-        assert!(rt; plain == Err(wanted), "{:?}", row.tail);
     }
     Ok(())
 }

@@ -1,7 +1,8 @@
 //! Each allocation fails in turn while a configuration is read.
+use super::read;
 use crate::Refusing;
 use aide_attr::{Attr, AttrSet};
-use aide_conf::{ConfFaultKind, ConfText, Need, Options, Settings, Task};
+use aide_conf::{ConfFault, ConfFaultKind, ConfText, Need, Options, Task};
 use std::alloc::Allocator;
 use std::process::Abort;
 
@@ -42,10 +43,17 @@ fn has_options(options: Options, reading: &Reading<'_>) -> bool {
         && options.ignore.added == reading.added
 }
 
+/// The first fault of the three texts.
+fn fault_of<A: Allocator + Copy>(alloc: A, reading: &Reading<'_>) -> Option<ConfFault> {
+    match read(alloc, reading.texts, Need::Compare) {
+        Ok(_) => None,
+        Err(fault) => Some(fault),
+    }
+}
+
 /// Whether the three texts are read in full.
 fn is_read<A: Allocator + Copy>(alloc: A, reading: &Reading<'_>) -> bool {
-    let [before, file, after] = reading.texts;
-    match Settings::read(alloc, before, file, after, Need::Compare) {
+    match read(alloc, reading.texts, Need::Compare) {
         Ok(settings) => has_paths(settings.task(), reading)
             && has_options(settings.options(), reading),
         Err(_) => false,
@@ -61,19 +69,13 @@ fn refused_at<A: Allocator + Copy>(
     growth: u64,
 ) -> Option<Place> {
     let alloc = Refusing::new(alloc, growth);
-    let [before, file, after] = reading.texts;
-    match Settings::read(&alloc, before, file, after, Need::Compare) {
-        Ok(_) => {
-            assert!(rt; !alloc.has_refused(), "growth {growth} was refused");
-            None
-        }
-        Err(fault) => {
-            assert!(rt; alloc.has_refused());
-            assert_eq!(rt; fault.kind, ConfFaultKind::Memory);
-            assert!(rt; is_read(&alloc, reading), "after growth {growth}");
-            Some((number_of(fault.text), fault.line))
-        }
-    }
+    let Some(fault) = fault_of(&alloc, reading) else {
+        assert!(rt; !alloc.has_refused(), "growth {growth} was refused");
+        return None;
+    };
+    assert!(rt; alloc.has_refused() && fault.kind == ConfFaultKind::Memory);
+    assert!(rt; is_read(&alloc, reading), "after growth {growth}");
+    Some((number_of(fault.text), fault.line))
 }
 
 /// Refuses each allocation in turn. The reported places never go back. The places in `growing` are among them.
@@ -95,7 +97,7 @@ fn refuse_each<A: Allocator + Copy>(
             met = met.saturating_add(1);
         }
     }
-    assert_eq!(rt; growing.get(met), None, "after growths at {last:?}");
+    assert!(rt; growing.get(met).is_none(), "after growths at {last:?}");
 }
 
 #[test]

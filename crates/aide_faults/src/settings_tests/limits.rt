@@ -393,45 +393,41 @@ fn repeat(text: &mut Vec<u8>, piece: &[u8], times: u32) -> Result<(), AllocError
     Ok(())
 }
 
-/// Adds the text of a row.
-fn push_text(text: &mut Vec<u8>, row: Sound) -> Result<(), AllocError> {
+/// The text of a row after these lines.
+fn text_of(alloc: Global, before: &[u8], row: Sound) -> Result<Vec<u8>, AllocError> {
+    let mut text = Vec::from_slice(alloc, before)?;
     text.extend_from_slice(row.head)?;
-    repeat(text, row.piece, row.times)?;
-    repeat(text, b"x", row.more)?;
+    repeat(&mut text, row.piece, row.times)?;
+    repeat(&mut text, b"x", row.more)?;
     text.extend_from_slice(row.tail)?;
-    Ok(())
+    Ok(text)
+}
+
+/// The parts of a row's text.
+fn parts_of(row: &Long) -> Sound {
+    Sound {
+        head: row.head,
+        piece: row.piece,
+        times: row.times,
+        more: row.more,
+        tail: row.tail,
+    }
 }
 
 /// Each text has its fault after these lines, and the plain program finds the same fault.
 fn check_long(rt: &impl Abort, alloc: Global, before: &[u8], table: &[Long]) -> Result<(), Fail> {
     for row in table {
-        let Long {
-            head,
-            piece,
-            times,
-            more,
-            tail,
-            line,
-            kind,
-        } = *row;
-        let mut text = Vec::from_slice(alloc, before)?;
-        push_text(
-            &mut text,
-            Sound {
-                head,
-                piece,
-                times,
-                more,
-                tail,
-            },
-        )?;
-        let wanted = at(line, kind);
-        assert!(rt;
-            fault_of_file(alloc, &text) == Some(wanted),
-            "{head:?} {times} {more} {tail:?}"
-        );
+        let text = text_of(alloc, before, parts_of(row))?;
+        let wanted = at(row.line, row.kind);
+        let given = fault_of_file(alloc, &text);
         let plain = answer(alloc, [b"", &text, b""], Need::Check)?;
-        assert!(rt; plain == Err(wanted), "{head:?} {times} {more} {tail:?}");
+        assert!(rt;
+            given == Some(wanted) && plain == Err(wanted),
+            "{:?} {} {}: {given:?}",
+            row.head,
+            row.times,
+            row.more
+        );
     }
     Ok(())
 }
@@ -439,16 +435,15 @@ fn check_long(rt: &impl Abort, alloc: Global, before: &[u8], table: &[Long]) -> 
 /// Each text is read after these lines without a fault, also by the plain program.
 fn check_sound(rt: &impl Abort, alloc: Global, before: &[u8], table: &[Sound]) -> Result<(), Fail> {
     for row in table {
-        let mut text = Vec::from_slice(alloc, before)?;
-        push_text(&mut text, *row)?;
+        let text = text_of(alloc, before, *row)?;
+        let given = fault_of_file(alloc, &text);
+        let plain = answer(alloc, [b"", &text, b""], Need::Check)?;
         assert!(rt;
-            fault_of_file(alloc, &text).is_none(),
-            "{:?} {}",
+            given.is_none() && plain.is_ok(),
+            "{:?} {}: {given:?}",
             row.head,
             row.more
         );
-        let plain = answer(alloc, [b"", &text, b""], Need::Check)?;
-        assert!(rt; plain.is_ok(), "{:?} {}", row.head, row.more);
     }
     Ok(())
 }
@@ -459,13 +454,16 @@ fn depths_and_lengths(rt: HostRuntime) -> Result<(), Fail> {
     check_sound(&rt, rt.alloc(), b"", &SOUND)
 }
 
+/// Whether a text of this many equal lines has no fault.
+fn is_sound(alloc: Global, line: &[u8], times: u32) -> Result<bool, AllocError> {
+    let mut text = Vec::with_capacity(alloc, 4_194_304)?;
+    repeat(&mut text, line, times)?;
+    Ok(fault_of_file(alloc, &text).is_none())
+}
+
 #[test]
 fn a_long_text(rt: HostRuntime) -> Result<(), Fail> {
-    let mut text = Vec::with_capacity(rt.alloc(), 4_194_304)?;
-    repeat(&mut text, b"report_quiet=yes\n", 246_723)?;
-    assert!(rt; fault_of_file(rt.alloc(), &text).is_none());
-    text.clear();
-    repeat(&mut text, b"\n", 4_194_304)?;
-    assert!(rt; fault_of_file(rt.alloc(), &text).is_none());
+    assert!(rt; is_sound(rt.alloc(), b"report_quiet=yes\n", 246_723)?);
+    assert!(rt; is_sound(rt.alloc(), b"\n", 4_194_304)?);
     Ok(())
 }

@@ -10,29 +10,10 @@ use std::alloc::{AllocError, Global};
 use std::test::Fail;
 
 mod effect;
+mod form;
 
 use effect::{Effect, effect_of};
-
-/// What a line is, by its first bytes.
-#[derive(Clone, Copy)]
-enum Form<'a> {
-    /// An empty line or a comment.
-    Nothing,
-    /// The first line of a block: its variable, and whether the first part is used if the variable is defined.
-    Opens(&'a [u8], bool),
-    /// The first line of a block whose condition is malformed.
-    OpensOddly,
-    Divides,
-    Closes,
-    /// A definition: a variable, and its value as the line has it, not yet expanded.
-    Defines(&'a [u8], &'a [u8]),
-    /// A variable that is removed.
-    Removes(&'a [u8]),
-    /// A directive that is refused, and whether it is refused in an unused part too.
-    Refused(Kind, bool),
-    /// A line that is no directive.
-    Other,
-}
+use form::{Form, form_of, stripped};
 
 /// A line, and what it means after the lines before it.
 #[derive(Drop)]
@@ -60,81 +41,12 @@ pub(super) struct Told {
     pub(super) quiet: bool,
 }
 
-/// The bytes without the spaces and tabs around them.
-fn stripped(bytes: &[u8]) -> &[u8] {
-    let first = bytes
-        .iter()
-        .position(|byte| *byte != b' ' && *byte != b'\t');
-    let last = bytes
-        .iter()
-        .rposition(|byte| *byte != b' ' && *byte != b'\t');
-    match (first, last) {
-        (Some(first), Some(last)) => bytes.get(first..=last).unwrap_or(b""),
-        _ => b"",
-    }
-}
-
-/// The bytes before the first space or tab, and the bytes from there on.
-fn cut_at_blank(bytes: &[u8]) -> (&[u8], &[u8]) {
-    let blank = bytes
-        .iter()
-        .position(|byte| *byte == b' ' || *byte == b'\t');
-    match bytes.split_at_checked(blank.unwrap_or(bytes.len())) {
-        Some(parts) => parts,
-        None => (bytes, b""),
-    }
-}
-
 /// Whether a variable may have this name.
 fn is_variable(name: &[u8]) -> bool {
     let is_word = name
         .iter()
         .all(|byte| byte.is_ascii_alphanumeric() || *byte == b'_');
     is_word && !name.is_empty() && name.len() <= 64
-}
-
-/// The form of a line without blanks around it.
-fn form_of(line: &[u8]) -> Form<'_> {
-    if line.is_empty() || line.starts_with(b"#") {
-        return Form::Nothing;
-    }
-    match line.strip_prefix(b"@@") {
-        Some(rest) if !rest.starts_with(b"{") => {
-            let (word, rest) = cut_at_blank(rest);
-            directive(word, stripped(rest))
-        }
-        _ => Form::Other,
-    }
-}
-
-/// The form of a directive, by its word and what follows the word.
-fn directive<'a>(word: &[u8], rest: &'a [u8]) -> Form<'a> {
-    match word {
-        b"define" => {
-            let (name, value) = cut_at_blank(rest);
-            Form::Defines(name, stripped(value))
-        }
-        b"undef" => Form::Removes(rest),
-        b"ifdef" => Form::Opens(rest, true),
-        b"ifndef" => Form::Opens(rest, false),
-        b"if" => condition(rest),
-        b"else" => Form::Divides,
-        b"endif" => Form::Closes,
-        b"include" | b"x_include" => Form::Refused(Kind::LeftOut, false),
-        b"ifhost" | b"ifnhost" => Form::Refused(Kind::LeftOut, true),
-        _ => Form::Refused(Kind::BadDirective, word.starts_with(b"if")),
-    }
-}
-
-/// The form of `@@if` with this condition.
-fn condition(rest: &[u8]) -> Form<'_> {
-    let (first, rest) = cut_at_blank(rest);
-    let (second, name) = cut_at_blank(stripped(rest));
-    match (first, second) {
-        (b"defined", _) => Form::Opens(stripped(rest), true),
-        (b"not", b"defined") => Form::Opens(stripped(name), false),
-        _ => Form::OpensOddly,
-    }
 }
 
 /// The value that a variable has after these lines, if it is defined.
@@ -156,21 +68,36 @@ fn name_at(bytes: &[u8]) -> Option<&[u8]> {
     rest.get(..end)
 }
 
+/// Adds what the first of these bytes expands to after these lines: the value of a variable, or the byte. Returns how
+/// many further bytes belong to the name of the variable.
+fn push_expanded(
+    all: &mut Vec<u8>,
+    earlier: &[Mark<'_>],
+    bytes: &[u8],
+    byte: u8,
+) -> Result<usize, AllocError> {
+    match name_at(bytes) {
+        Some(name) => {
+            all.extend_from_slice(value_of(earlier, name).unwrap_or(b""))?;
+            Ok(name.len().saturating_add(3))
+        }
+        None => {
+            all.push(byte)?;
+            Ok(0)
+        }
+    }
+}
+
 /// What the bytes expand to after these lines.
 fn expand(alloc: Global, earlier: &[Mark<'_>], bytes: &[u8]) -> Result<Vec<u8>, AllocError> {
     let mut all = Vec::new(alloc);
     let mut of_the_name = 0usize;
-    for (place, byte) in bytes.iter().enumerate() {
+    for (index, byte) in bytes.iter().enumerate() {
         if of_the_name > 0 {
             of_the_name -= 1;
-            continue;
-        }
-        match name_at(bytes.get(place..).unwrap_or(b"")) {
-            Some(name) => {
-                all.extend_from_slice(value_of(earlier, name).unwrap_or(b""))?;
-                of_the_name = name.len().saturating_add(3);
-            }
-            None => all.push(*byte)?,
+        } else {
+            let rest = bytes.get(index..).unwrap_or(b"");
+            of_the_name = push_expanded(&mut all, earlier, rest, *byte)?;
         }
     }
     Ok(all)
@@ -215,8 +142,8 @@ fn chooses(before: &[Mark<'_>], lines: &[Mark<'_>]) -> bool {
 
 /// Whether the line after these lines is used. Its text begins with the line at `start`.
 fn is_used(earlier: &[Mark<'_>], start: usize) -> bool {
-    for place in start..earlier.len() {
-        if let Some((before, lines)) = earlier.split_at_checked(place) {
+    for index in start..earlier.len() {
+        if let Some((before, lines)) = earlier.split_at_checked(index) {
             if !chooses(before, lines) {
                 return false;
             }
@@ -229,8 +156,8 @@ fn is_used(earlier: &[Mark<'_>], start: usize) -> bool {
 fn around(lines: &[Mark<'_>]) -> (u64, Part) {
     let mut depth = 0u64;
     let mut innermost = Part::Outside;
-    for place in 0..lines.len() {
-        match part_behind(lines.get(place..).unwrap_or(&[])) {
+    for index in 0..lines.len() {
+        match part_behind(lines.get(index..).unwrap_or(&[])) {
             Part::Outside => {}
             part => {
                 depth = depth.saturating_add(1);
@@ -286,8 +213,8 @@ fn is_one_too_many(earlier: &[Mark<'_>], name: &[u8]) -> bool {
         return false;
     }
     let mut count = 0u64;
-    for (place, mark) in earlier.iter().enumerate() {
-        if stays_defined(mark, earlier.get(place.saturating_add(1)..).unwrap_or(&[])) {
+    for (index, mark) in earlier.iter().enumerate() {
+        if stays_defined(mark, earlier.get(index.saturating_add(1)..).unwrap_or(&[])) {
             count = count.saturating_add(1);
         }
     }
@@ -359,6 +286,24 @@ fn mark_of<'a>(
     })
 }
 
+/// Marks a line that follows the earlier ones. Its text begins with the line at `start`. Returns why the line is
+/// refused, or `None` if it is not.
+fn mark_line<'a>(
+    alloc: Global,
+    marks: &mut Vec<Mark<'a>>,
+    start: usize,
+    defined: &mut Defined,
+    line: &'a [u8],
+) -> Result<Option<Kind>, Fail> {
+    let mark = mark_of(alloc, marks, start, line)?;
+    let fault = fault_of(marks, start, defined, &mark);
+    if fault.is_none() {
+        defined.push(&mark)?;
+        marks.push(mark)?;
+    }
+    Ok(fault)
+}
+
 /// Marks the lines of a text, after the lines of the texts before it. The answer is the number of the first line with
 /// a fault, and the kind of the fault. Without a fault the number is the number of lines plus one.
 fn mark_text<'a>(
@@ -372,17 +317,12 @@ fn mark_text<'a>(
     if bytes.is_empty() {
         return Ok((number, None));
     }
-    for line in bytes
-        .strip_suffix(b"\n")
-        .unwrap_or(bytes)
-        .split(|byte| *byte == b'\n')
-    {
-        let mark = mark_of(alloc, marks, start, line)?;
-        if let Some(kind) = fault_of(marks, start, defined, &mark) {
-            return Ok((number, Some(kind)));
+    let lines = bytes.strip_suffix(b"\n").unwrap_or(bytes);
+    for line in lines.split(|byte| *byte == b'\n') {
+        let fault = mark_line(alloc, marks, start, defined, line)?;
+        if fault.is_some() {
+            return Ok((number, fault));
         }
-        defined.push(&mark)?;
-        marks.push(mark)?;
         number = number.saturating_add(1);
     }
     let (depth, _) = around(marks.get(start..).unwrap_or(&[]));

@@ -1,7 +1,8 @@
 //! What a file without a fault sets.
 use super::plain::{Told, answer};
+use super::{options_of, read};
 use aide_attr::{Attr, AttrSet, Level};
-use aide_conf::{Need, Options, Settings};
+use aide_conf::{Need, Options};
 use std::alloc::Global;
 use std::process::Abort;
 use std::test::Fail;
@@ -135,11 +136,11 @@ const FORCED: [Forcing; 7] = [
 
 /// The level and the quiet switch of a file.
 fn told(alloc: Global, file: &[u8]) -> Option<Told> {
-    match Settings::read(alloc, b"", file, b"", Need::Check) {
-        Ok(settings) => {
-            let Options { level, quiet, .. } = settings.options();
-            Some(Told { level, quiet })
-        }
+    match options_of(alloc, [b"", file, b""], Need::Check) {
+        Ok(options) => Some(Told {
+            level: options.level,
+            quiet: options.quiet,
+        }),
         Err(_) => None,
     }
 }
@@ -147,9 +148,9 @@ fn told(alloc: Global, file: &[u8]) -> Option<Told> {
 /// Each file sets these values, and the plain program gives the same answer.
 fn check_told(rt: &impl Abort, alloc: Global, table: &[&[u8]], wanted: Told) -> Result<(), Fail> {
     for file in table {
-        assert!(rt; told(alloc, file) == Some(wanted), "{file:?}");
+        let given = told(alloc, file);
         let plain = answer(alloc, [b"", file, b""], Need::Check)?;
-        assert!(rt; plain == Ok(wanted), "{file:?}");
+        assert!(rt; given == Some(wanted) && plain == Ok(wanted), "{file:?}");
     }
     Ok(())
 }
@@ -207,17 +208,14 @@ fn lines_that_are_passed_over(rt: HostRuntime) -> Result<(), Fail> {
 }
 
 /// The options of a file, or `None` if the file is refused.
-fn options_of(alloc: Global, file: &[u8]) -> Option<Options> {
-    match Settings::read(alloc, b"", file, b"", Need::Check) {
-        Ok(settings) => Some(settings.options()),
-        Err(_) => None,
-    }
+fn options_of_file(alloc: Global, file: &[u8]) -> Option<Options> {
+    options_of(alloc, [b"", file, b""], Need::Check).ok()
 }
 
 #[test]
 fn attributes_that_are_forced(rt: HostRuntime) {
     for row in &FORCED {
-        let force = options_of(rt.alloc(), row.file).map(|options| options.ignore.force);
+        let force = options_of_file(rt.alloc(), row.file).map(|options| options.ignore.force);
         assert!(rt; force == Some(AttrSet::of(row.force)), "{:?}", row.file);
     }
 }
@@ -249,11 +247,11 @@ fn are_defaults(options: Option<Options>) -> bool {
 #[test]
 fn each_option(rt: HostRuntime) -> Result<(), Fail> {
     assert!(rt; are_defaults(Some(Options::plain())));
-    assert!(rt; are_defaults(options_of(rt.alloc(), b"")));
+    assert!(rt; are_defaults(options_of_file(rt.alloc(), b"")));
     let all = b"report_grouped=no\nreport_summarize_changes=false\nreport_base16=true\n\
 report_ignore_added_attrs=p\nreport_ignore_removed_attrs=s\nreport_ignore_changed_attrs=m\nverbose=5"
         .as_slice();
-    let Some(given) = options_of(rt.alloc(), all) else {
+    let Some(given) = options_of_file(rt.alloc(), all) else {
         return Err(Fail::from("a good file was refused"));
     };
     assert!(rt; !given.grouped && !given.summarize && given.base16);
@@ -265,7 +263,7 @@ report_ignore_added_attrs=p\nreport_ignore_removed_attrs=s\nreport_ignore_change
 
 /// The database paths that a file and a text before it name.
 fn check_paths(rt: &impl Abort, alloc: Global, before: &[u8], file: &[u8], old: &str, new: &str) {
-    match Settings::read(alloc, before, file, b"", Need::Compare) {
+    match read(alloc, [before, file, b""], Need::Compare) {
         Ok(settings) => match settings.task() {
             Some(task) => assert!(rt; task.old_path == old && task.new_path == new, "{file:?}"),
             None => assert!(rt; false, "{file:?}"),
@@ -290,7 +288,7 @@ fn paths_of_databases(rt: HostRuntime) {
         "/var/lib/old.db",
         "/var/lib/new.db",
     );
-    match Settings::read(alloc, b"", b"database_in=file:/old", b"", Need::Check) {
+    match read(alloc, [b"", b"database_in=file:/old", b""], Need::Check) {
         Ok(settings) => assert!(rt; settings.task().is_none()),
         Err(_) => assert!(rt; false),
     }

@@ -1,7 +1,8 @@
 //! Blocks, variables and databases over the three texts.
+use super::options_of;
 use super::plain::{Told, answer};
 use aide_attr::Level;
-use aide_conf::{ConfFault, ConfFaultKind as Kind, ConfText, Need, Settings};
+use aide_conf::{ConfFault, ConfFaultKind as Kind, ConfText, Need};
 use std::alloc::Global;
 use std::process::Abort;
 use std::test::Fail;
@@ -229,20 +230,18 @@ const QUIET: [Quiet; 5] = [
 /// Each row of three texts has its fault, and the plain program finds the same fault.
 fn check_texts(rt: &impl Abort, alloc: Global, table: &[Texts]) -> Result<(), Fail> {
     for row in table {
-        let Texts {
-            before,
-            file,
-            after,
-            need,
-            text,
-            line,
-            kind,
-        } = *row;
-        let wanted = ConfFault { text, line, kind };
-        let given = Settings::read(alloc, before, file, after, need).err();
-        assert!(rt; given == Some(wanted), "{before:?} {file:?} {after:?}");
-        let plain = answer(alloc, [before, file, after], need)?;
-        assert!(rt; plain == Err(wanted), "{before:?} {file:?} {after:?}");
+        let texts = [row.before, row.file, row.after];
+        let wanted = ConfFault {
+            text: row.text,
+            line: row.line,
+            kind: row.kind,
+        };
+        let given = options_of(alloc, texts, row.need).err();
+        let plain = answer(alloc, texts, row.need)?;
+        assert!(rt;
+            given == Some(wanted) && plain == Err(wanted),
+            "{texts:?}: {given:?}"
+        );
     }
     Ok(())
 }
@@ -253,9 +252,9 @@ fn faults_of_three_texts(rt: HostRuntime) -> Result<(), Fail> {
 }
 
 /// Whether three texts set `report_quiet`.
-fn is_quiet(alloc: Global, before: &[u8], file: &[u8], after: &[u8]) -> bool {
-    match Settings::read(alloc, before, file, after, Need::Check) {
-        Ok(settings) => settings.options().quiet,
+fn is_quiet(alloc: Global, texts: [&[u8]; 3]) -> bool {
+    match options_of(alloc, texts, Need::Check) {
+        Ok(options) => options.quiet,
         Err(_) => false,
     }
 }
@@ -267,14 +266,10 @@ fn variables_of_an_earlier_text(rt: HostRuntime) -> Result<(), Fail> {
         quiet: true,
     };
     for row in &QUIET {
-        let Quiet {
-            before,
-            file,
-            after,
-        } = *row;
-        assert!(rt; is_quiet(rt.alloc(), before, file, after), "{file:?}");
-        let plain = answer(rt.alloc(), [before, file, after], Need::Check)?;
-        assert!(rt; plain == Ok(wanted), "{file:?}");
+        let texts = [row.before, row.file, row.after];
+        assert!(rt; is_quiet(rt.alloc(), texts), "{texts:?}");
+        let plain = answer(rt.alloc(), texts, Need::Check)?;
+        assert!(rt; plain == Ok(wanted), "{texts:?}");
     }
     Ok(())
 }
