@@ -5,10 +5,10 @@ ghost use Rattle.std.specs.Prelude.{◌≤◌, ◌<◌, ◌^◌};
 use crate::pace::PACES;
 use crate::{PlannedReel, Refusing};
 use aide_db::{Cursor, DbFault, DbFaultKind, Desk, Limits, Reel, Side, Step};
-use std::alloc::Allocator;
+use std::alloc::{Allocator, Global};
 use std::process::Abort;
 
-mod blocks;
+mod chunks;
 mod cut;
 mod differences;
 mod endless;
@@ -43,6 +43,28 @@ impl Wanted {
     }
 }
 
+/// A cursor at the start of a reel, under the limits of most tests.
+fn start<R: Reel, A: Allocator + Copy>(side: Side, reel: R, desk: &mut Desk<A>) -> Cursor<R> {
+    Cursor::start(side, reel, LIMITS, desk)
+}
+
+/// The next answer of a cursor. It has no contract, so that the many facts about `next` are no part of the proofs of
+/// its callers.
+fn step<R: Reel, A: Allocator + Copy>(
+    cursor: &mut Cursor<R>,
+    desk: &mut Desk<A>,
+) -> Result<Step, DbFault> {
+    cursor.next(desk)
+}
+
+/// The answer to the first entry of a text. The entry stays on the desk.
+fn first_of(desk: &mut Desk<Global>, side: Side, text: &[u8]) -> Result<Step, DbFault> {
+    let mut cursor = start(side, text, desk);
+    let answer = step(&mut cursor, desk);
+    cursor.into_reel();
+    answer
+}
+
 /// Reads a database to its end or its fault. Then asks again, for the same answer.
 fn read_whole<R: Reel, A: Allocator + Copy>(
     rt: &impl Abort,
@@ -55,16 +77,16 @@ fn read_whole<R: Reel, A: Allocator + Copy>(
 {
     let mut cursor = Cursor::start(Side::Old, reel, limits, desk);
     let mut entries = 0u64;
-    let mut answer = cursor.next(desk);
+    let mut answer = step(&mut cursor, desk);
     for _ in 0..limits.bytes {
         if answer != Ok(Step::Record) {
             break;
         }
         assert!(rt; desk.view(Side::Old).is_some());
         entries = entries.saturating_add(1);
-        answer = cursor.next(desk);
+        answer = step(&mut cursor, desk);
     }
-    assert!(rt; cursor.next(desk) == answer, "asked once more");
+    assert!(rt; step(&mut cursor, desk) == answer, "asked once more");
     assert!(rt; cursor.digest().is_some() == (answer == Ok(Step::End)));
     (entries, answer, cursor.into_reel())
 }

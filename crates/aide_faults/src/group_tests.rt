@@ -66,19 +66,30 @@ fn are_as_wanted<A: Allocator + Copy>(groups: &Groups<A>, definitions: u32) -> b
     (0..40).all(|name| groups.look(&name_of(name)) == wanted(name, definitions))
 }
 
+/// Makes a definition. If it runs out of memory, the groups are as they were before, and it is tried again. Returns
+/// whether it ran out of memory.
+fn define_one<A: Allocator + Copy>(
+    rt: &impl Abort,
+    groups: &mut Groups<A>,
+    definition: u32,
+) -> bool {
+    let name = name_of(definition % 40);
+    let first = groups.define(&name, set_of(definition));
+    if first.is_ok() {
+        return false;
+    }
+    assert!(rt; first == Err(GroupFault::Memory));
+    assert!(rt; are_as_wanted(groups, definition), "before {definition}");
+    assert!(rt; groups.define(&name, set_of(definition)) == Ok(()));
+    true
+}
+
 /// Makes 100 definitions of 40 names. A definition that runs out of memory is tried again. Returns how often that was.
 fn define_all<A: Allocator + Copy>(rt: &impl Abort, groups: &mut Groups<A>) -> u64 {
     let mut refused = 0u64;
     for definition in 0..100 {
-        let name = name_of(definition % 40);
-        match groups.define(&name, set_of(definition)) {
-            Ok(()) => {}
-            Err(fault) => {
-                assert!(rt; fault == GroupFault::Memory);
-                assert!(rt; are_as_wanted(groups, definition), "before {definition}");
-                assert!(rt; groups.define(&name, set_of(definition)) == Ok(()));
-                refused = refused.saturating_add(1);
-            }
+        if define_one(rt, groups, definition) {
+            refused = refused.saturating_add(1);
         }
     }
     assert!(rt; are_as_wanted(groups, 100));

@@ -8,7 +8,7 @@ pub struct Pace {
     ghost some: { 0 < most },
 }
 
-/// A few bytes at a time, and numbers of bytes near the size of a block.
+/// A few bytes at a time, and numbers of bytes near the size of a chunk.
 #[cfg(test)]
 pub(crate) const PACES: [Pace; 5] = [
     Pace { most: 1 },

@@ -1,4 +1,4 @@
-//! Reels that give few bytes at a time, fail at a chosen place once or for good, or never end.
+//! Reels that give few bytes at a time, fail after a chosen number of bytes once or for good, or never end.
 ghost use Rattle.std.specs.Prelude.{◌≡◌, Some, None, false, true};
 
 use crate::pace::Pace;

@@ -1,7 +1,7 @@
 //! Runs over devices that fail, change or move few bytes at a time, and on desks whose allocations fail.
 use crate::{Pace, PlannedSources, SidePlan};
 use aide_conf::{Need, Options, Settings, Task};
-use aide_db::{Desk, Limits, Sources};
+use aide_db::{Desk, Limits, Side, Sources};
 use aide_report::{Outcome, RunFault, Sink, run};
 use std::alloc::{Allocator, Global};
 use std::process::Abort;
@@ -89,6 +89,26 @@ fn options_of(rt: &impl Abort, alloc: Global, lines: &[u8]) -> Options {
             Options::plain()
         }
     }
+}
+
+/// The run gave this answer.
+fn assert_answer(
+    rt: &impl Abort,
+    answer: Result<Outcome, RunFault>,
+    wanted: Result<Outcome, RunFault>,
+) {
+    assert!(rt; answer == wanted, "{answer:?}, not {wanted:?}");
+}
+
+/// The run ended well.
+fn assert_well(rt: &impl Abort, answer: Result<Outcome, RunFault>) {
+    assert!(rt; answer.is_ok(), "{answer:?}");
+}
+
+/// The sides were opened this often.
+fn assert_openings(rt: &impl Abort, sources: &PlannedSources<'_>, old: u64, new: u64) {
+    let given = [sources.openings(Side::Old), sources.openings(Side::New)];
+    assert!(rt; given == [old, new], "{given:?}, not {old} and {new}");
 }
 
 /// A run over these sources.

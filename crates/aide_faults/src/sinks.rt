@@ -1,4 +1,4 @@
-//! Sinks that take few bytes at a time, or fail at a chosen place once or for good.
+//! Sinks that take few bytes at a time, or fail after a chosen number of bytes once or for good.
 ghost use Rattle.std.specs.Prelude.{◌≡◌, false, true};
 ghost use Rattle.aide_report.specs.Failures.{one_more};
 

@@ -132,40 +132,41 @@ fn cut_after_each_byte(rt: HostRuntime) {
     assert!(rt; tried == 84);
 }
 
-/// A range of places at which a reel fails, with the number of entries before the failure, and the line of the fault.
-struct Place {
+/// The least and the most bytes after which a reel fails, the number of entries before the failure, and the line of the
+/// fault.
+struct Failure {
     least: u64,
     most: u64,
     entries: u64,
     line: u64,
 }
 
-const PLACES: [Place; 5] = [
-    Place {
+const FAILURES: [Failure; 5] = [
+    Failure {
         least: 0,
         most: 10,
         entries: 0,
         line: 1,
     },
-    Place {
+    Failure {
         least: 11,
         most: 40,
         entries: 0,
         line: 2,
     },
-    Place {
+    Failure {
         least: 41,
         most: 57,
         entries: 0,
         line: 3,
     },
-    Place {
+    Failure {
         least: 58,
         most: 73,
         entries: 1,
         line: 4,
     },
-    Place {
+    Failure {
         least: 74,
         most: 82,
         entries: 2,
@@ -186,12 +187,12 @@ fn reel_of(pace: Pace, sound: u64, once: bool) -> PlannedReel<'static> {
 fn assert_fails<A: Allocator + Copy>(
     rt: &impl Abort,
     desk: &mut Desk<A>,
-    place: &Place,
+    row: &Failure,
     sound: u64,
 ) {
     let wanted = Err(DbFault {
         side: Side::Old,
-        line: place.line,
+        line: row.line,
         kind: Kind::Read,
     });
     for pace in &PACES {
@@ -199,7 +200,7 @@ fn assert_fails<A: Allocator + Copy>(
             let reel = reel_of(*pace, sound, once);
             let (entries, answer, reel) = read_whole(rt, reel, LIMITS, desk);
             assert!(rt;
-                entries == place.entries && answer == wanted,
+                entries == row.entries && answer == wanted,
                 "{pace:?}, after {sound}: {answer:?}"
             );
             assert!(rt; reel.failures() == 1);
@@ -210,9 +211,9 @@ fn assert_fails<A: Allocator + Copy>(
 #[test]
 fn a_reel_that_fails_at_each_byte(rt: HostRuntime) {
     let mut desk = Desk::new(rt.alloc());
-    for place in &PLACES {
-        for sound in place.least..place.most.saturating_add(1) {
-            assert_fails(&rt, &mut desk, place, sound);
+    for row in &FAILURES {
+        for sound in row.least..row.most.saturating_add(1) {
+            assert_fails(&rt, &mut desk, row, sound);
         }
     }
 }

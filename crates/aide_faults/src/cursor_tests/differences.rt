@@ -1,9 +1,9 @@
 //! Tests of how two entries of one path differ.
 
-use super::LIMITS;
+use super::first_of;
 use super::values::database;
 use aide_attr::{Attr, AttrSet, Delta, FileType};
-use aide_db::{Cursor, Desk, Side, cmp_names, delta_of};
+use aide_db::{Desk, Side, cmp_names, delta_of};
 use std::alloc::Global;
 use std::cmp::Ordering;
 use std::test::Fail;
@@ -11,12 +11,8 @@ use std::test::Fail;
 /// Returns how the first entries of two databases differ, if their paths are equal.
 fn delta(alloc: Global, old: &[u8], new: &[u8]) -> Option<Delta> {
     let mut desk = Desk::new(alloc);
-    let mut first = Cursor::start(Side::Old, old, LIMITS, &mut desk);
-    let mut second = Cursor::start(Side::New, new, LIMITS, &mut desk);
-    let _ = first.next(&mut desk);
-    let _ = second.next(&mut desk);
-    first.into_reel();
-    second.into_reel();
+    let _ = first_of(&mut desk, Side::Old, old);
+    let _ = first_of(&mut desk, Side::New, new);
     let (Some(before), Some(after)) = (desk.view(Side::Old), desk.view(Side::New)) else {
         return None;
     };
@@ -173,6 +169,15 @@ fn compares_fields_by_their_values(rt: HostRuntime) -> Result<(), Fail> {
     Ok(())
 }
 
+/// The attributes that are changed, those that only the old entry has, and those that only the new one has.
+fn sets_of(delta: &Delta) -> [AttrSet; 3] {
+    [
+        delta.changed,
+        delta.old.minus(delta.new),
+        delta.new.minus(delta.old),
+    ]
+}
+
 // One path in two spellings, and a type, a link name and a digest that are not the same.
 #[test]
 fn tells_what_changed(rt: HostRuntime) {
@@ -183,12 +188,11 @@ fn tells_what_changed(rt: HostRuntime) {
     let found = delta(rt.alloc(), old, new);
     assert!(rt; found.is_some());
     if let Some(delta) = found {
-        assert!(rt; delta.changed == AttrSet::of(Attr::Ftype).union(AttrSet::of(Attr::Lname)));
-        assert!(rt; delta.old.minus(delta.new) == AttrSet::of(Attr::Sha256));
-        assert!(rt; delta.new.minus(delta.old).is_empty());
+        let changed = AttrSet::of(Attr::Ftype).union(AttrSet::of(Attr::Lname));
+        assert!(rt; sets_of(&delta) == [changed, AttrSet::of(Attr::Sha256), AttrSet::empty()]);
         assert!(rt; delta.new.has(Attr::Perm) && delta.new.has(Attr::Mtime));
-        assert!(rt; delta.old_type == Some(FileType::File));
-        assert!(rt; delta.new_type == Some(FileType::Link));
+        let types = [delta.old_type, delta.new_type];
+        assert!(rt; types == [Some(FileType::File), Some(FileType::Link)]);
         assert!(rt; delta.size == Ordering::Equal);
     }
 }
@@ -197,13 +201,9 @@ fn tells_what_changed(rt: HostRuntime) {
 #[test]
 fn tells_a_further_digest(rt: HostRuntime) -> Result<(), Fail> {
     let old: &[u8] = b"@@begin_db\n@@db_spec name md5\n/a 1B2M2Y8AsgTpgAmY7PhCfg==\n@@end_db\n";
-    let mut new = Vec::from_slice(
-        rt.alloc(),
-        b"@@begin_db\n@@db_spec name md5 sha3_256\n/a 1B2M2Y8AsgTpgAmY7PhCfg== ",
-    )?;
-    new.extend_from_slice(b"47DEQpj8HBSa+/TImW+5JCeuQeRkm5NMpJWZG3hSuFU=")?;
-    new.extend_from_slice(b"\n@@end_db\n")?;
-    let found = delta(rt.alloc(), old, new.as_slice());
+    let new: &[u8] = b"@@begin_db\n@@db_spec name md5 sha3_256\n/a 1B2M2Y8AsgTpgAmY7PhCfg== \
+47DEQpj8HBSa+/TImW+5JCeuQeRkm5NMpJWZG3hSuFU=\n@@end_db\n";
+    let found = delta(rt.alloc(), old, new);
     assert!(rt; found.is_some());
     if let Some(delta) = found {
         assert!(rt; delta.old == AttrSet::of(Attr::Md5));

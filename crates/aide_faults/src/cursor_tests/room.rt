@@ -1,7 +1,9 @@
 //! Tests of what a desk holds, what it ever held, and the room that was reserved on it.
 
-use super::LIMITS;
-use aide_db::{Cursor, DbFaultKind, Desk, DeskFault, Limits, MemorySources, Side, Sources, Step};
+use super::{LIMITS, start, step};
+use aide_db::{
+    Cursor, DbFaultKind, Desk, DeskFault, Limits, MemorySources, Reel, Side, Sources, Step,
+};
 use std::alloc::Global;
 use std::process::Abort;
 use std::test::Fail;
@@ -14,12 +16,25 @@ const LINES_OF_30: &[u8] =
 const LINES_OF_30_AND_31: &[u8] =
     b"@@begin_db\n@@db_spec name size\n/aaaaaaaaaaaaaaaaaaaaaaaaaaa 1\n/bbbbbbbbbbbbbbbbbbbbbbbbbbbb 1\n@@end_db\n";
 
+/// The answers to a text of two entries.
+const TWO_ENTRIES: [Step; 3] = [Step::Record, Step::Record, Step::End];
+
+/// The cursor gives these answers next.
+fn assert_steps<R: Reel>(
+    rt: &impl Abort,
+    cursor: &mut Cursor<R>,
+    desk: &mut Desk<Global>,
+    wanted: &[Step],
+) {
+    for answer in wanted {
+        assert!(rt; step(cursor, desk) == Ok(*answer));
+    }
+}
+
 /// Reads a text of two entries to its end.
 fn read_side(rt: &impl Abort, desk: &mut Desk<Global>, side: Side) {
-    let mut cursor = Cursor::start(side, LINES_OF_30, LIMITS, desk);
-    assert!(rt; cursor.next(desk) == Ok(Step::Record));
-    assert!(rt; cursor.next(desk) == Ok(Step::Record));
-    assert!(rt; cursor.next(desk) == Ok(Step::End));
+    let mut cursor = start(side, LINES_OF_30, desk);
+    assert_steps(rt, &mut cursor, desk, &TWO_ENTRIES);
     cursor.into_reel();
 }
 
@@ -40,9 +55,7 @@ fn grows_beyond_its_room(rt: HostRuntime) -> Result<(), DeskFault> {
     let mut desk = Desk::reserved(rt.alloc(), 30)?;
     let limits = Limits { line: 31, ..LIMITS };
     let mut cursor = Cursor::start(Side::Old, LINES_OF_30_AND_31, limits, &mut desk);
-    assert!(rt; cursor.next(&mut desk) == Ok(Step::Record));
-    assert!(rt; cursor.next(&mut desk) == Ok(Step::Record));
-    assert!(rt; cursor.next(&mut desk) == Ok(Step::End));
+    assert_steps(&rt, &mut cursor, &mut desk, &TWO_ENTRIES);
     cursor.into_reel();
     assert!(rt; desk.room() == 30 && desk.held() == 31);
     Ok(())
@@ -53,8 +66,8 @@ fn refuses_a_line_beyond_the_limit(rt: HostRuntime) -> Result<(), DeskFault> {
     let mut desk = Desk::reserved(rt.alloc(), 30)?;
     let limits = Limits { line: 30, ..LIMITS };
     let mut cursor = Cursor::start(Side::Old, LINES_OF_30_AND_31, limits, &mut desk);
-    assert!(rt; cursor.next(&mut desk) == Ok(Step::Record));
-    match cursor.next(&mut desk) {
+    assert!(rt; step(&mut cursor, &mut desk) == Ok(Step::Record));
+    match step(&mut cursor, &mut desk) {
         Err(fault) => assert!(rt; fault.line == 4 && fault.kind == DbFaultKind::LineTooLong),
         Ok(_) => assert!(rt; false),
     }
@@ -70,13 +83,17 @@ fn gives_each_entry(rt: HostRuntime) -> Result<(), Fail> {
     let mut sources = MemorySources::new(text, b"");
     let reel = sources.open(Side::Old)?;
     let mut desk = Desk::new(rt.alloc());
-    let mut cursor = Cursor::start(Side::Old, reel, LIMITS, &mut desk);
+    let mut cursor = start(Side::Old, reel, &mut desk);
     assert!(rt; cursor.skipped() == 0);
-    assert!(rt; cursor.next(&mut desk) == Ok(Step::Record) && cursor.skipped() == 8);
+    assert_steps(&rt, &mut cursor, &mut desk, &[Step::Record]);
+    assert!(rt; cursor.skipped() == 8);
     assert!(rt; desk.view(Side::New).is_none() && desk.view(Side::Old).is_some());
-    assert!(rt; cursor.next(&mut desk) == Ok(Step::Record));
-    assert!(rt; cursor.next(&mut desk) == Ok(Step::End));
-    assert!(rt; cursor.next(&mut desk) == Ok(Step::End));
+    assert_steps(
+        &rt,
+        &mut cursor,
+        &mut desk,
+        &[Step::Record, Step::End, Step::End],
+    );
     assert!(rt; desk.held() == 10 && desk.peak() == 28);
     sources.close(cursor.into_reel());
     assert!(rt; sources.openings(Side::Old) == 1 && sources.openings(Side::New) == 0);

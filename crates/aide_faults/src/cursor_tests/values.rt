@@ -1,18 +1,21 @@
 //! Types, names, links and digests of an entry, and the attributes that it lacks.
-use super::LIMITS;
+use super::first_of;
+use crate::pieces::joined;
 use aide_attr::{Attr, FileType};
-use aide_db::{Cursor, DbFault, Decoded, Desk, Side, Step};
+use aide_db::{DbFault, Decoded, Desk, Side, Step};
 use std::alloc::{AllocError, Global};
 use std::test::Fail;
 
 /// A database of one entry with a path and one other field.
 pub(super) fn database(alloc: Global, column: &[u8], field: &[u8]) -> Result<Vec<u8>, AllocError> {
-    let mut text = Vec::from_slice(alloc, b"@@begin_db\n@@db_spec name ")?;
-    text.extend_from_slice(column)?;
-    text.extend_from_slice(b"\n/a ")?;
-    text.extend_from_slice(field)?;
-    text.extend_from_slice(b"\n@@end_db\n")?;
-    Ok(text)
+    let pieces: [&[u8]; 5] = [
+        b"@@begin_db\n@@db_spec name ",
+        column,
+        b"\n/a ",
+        field,
+        b"\n@@end_db\n",
+    ];
+    joined(alloc, &pieces)
 }
 
 /// The answer to the first entry line. The line stays on the desk.
@@ -23,10 +26,7 @@ pub(super) fn first(
     field: &[u8],
 ) -> Result<Result<Step, DbFault>, AllocError> {
     let text = database(alloc, column, field)?;
-    let mut cursor = Cursor::start(Side::Old, text.as_slice(), LIMITS, desk);
-    let answer = cursor.next(desk);
-    cursor.into_reel();
-    Ok(answer)
+    Ok(first_of(desk, Side::Old, &text))
 }
 
 /// Whether a text with escapes means these bytes.
@@ -266,24 +266,33 @@ const DIGESTS: [Digest; 10] = [
     },
 ];
 
+/// Puts the digest of the first entry into the buffer, if the entry has it. Returns how many bytes it has.
+fn digest_of(
+    alloc: Global,
+    desk: &mut Desk<Global>,
+    row: &Digest,
+    field: &[u8],
+    buffer: &mut [u8; 64],
+) -> Result<Option<usize>, Fail> {
+    if first(alloc, desk, row.column, field)? != Ok(Step::Record) {
+        return Err(Fail::from("no entry"));
+    }
+    match desk.view(Side::Old) {
+        Some(view) => Ok(view.digest(row.attr, buffer)),
+        None => Err(Fail::from("no view")),
+    }
+}
+
 #[test]
 fn digests(rt: HostRuntime) -> Result<(), Fail> {
     let mut desk = Desk::new(rt.alloc());
     for row in &DIGESTS {
-        let answer = first(rt.alloc(), &mut desk, row.column, row.field)?;
-        assert!(rt; answer == Ok(Step::Record), "{answer:?}");
         let mut buffer = [0; 64];
-        let length = desk
-            .view(Side::Old)
-            .and_then(|view| view.digest(row.attr, &mut buffer));
+        let length = digest_of(rt.alloc(), &mut desk, row, row.field, &mut buffer)?;
         assert!(rt; length == Some(row.length), "{:?}", row.field);
         let last = row.length.saturating_sub(1);
         assert!(rt; buffer.first() == Some(&row.first) && buffer.get(last) == Some(&row.last));
-        let answer = first(rt.alloc(), &mut desk, row.column, b"0")?;
-        assert!(rt; answer == Ok(Step::Record), "{answer:?}");
-        let none = desk
-            .view(Side::Old)
-            .and_then(|view| view.digest(row.attr, &mut buffer));
+        let none = digest_of(rt.alloc(), &mut desk, row, b"0", &mut buffer)?;
         assert!(rt; none.is_none(), "{:?}", row.column);
     }
     Ok(())
@@ -326,12 +335,9 @@ const NAMES: [Text; 6] = [
 fn names(rt: HostRuntime) -> Result<(), Fail> {
     let mut desk = Desk::new(rt.alloc());
     for row in &NAMES {
-        let mut text = Vec::from_slice(rt.alloc(), b"@@begin_db\n@@db_spec name acl\n")?;
-        text.extend_from_slice(row.field)?;
-        text.extend_from_slice(b" POSIX,0")?;
-        let mut cursor = Cursor::start(Side::Old, text.as_slice(), LIMITS, &mut desk);
-        assert!(rt; cursor.next(&mut desk) == Ok(Step::Record));
-        cursor.into_reel();
+        let pieces: [&[u8]; 3] = [b"@@begin_db\n@@db_spec name acl\n", row.field, b" POSIX,0"];
+        let text = joined(rt.alloc(), &pieces)?;
+        assert!(rt; first_of(&mut desk, Side::Old, &text) == Ok(Step::Record));
         if let Some(view) = desk.view(Side::Old) {
             let (field, path) = view.name();
             assert!(rt;
@@ -392,17 +398,29 @@ const LACKING: [Lacking; 6] = [
     },
 ];
 
+/// Whether the first entry has the attribute of its column. `None` means that there is no entry.
+fn has_attr(
+    alloc: Global,
+    desk: &mut Desk<Global>,
+    row: &Lacking,
+    field: &[u8],
+) -> Result<Option<bool>, AllocError> {
+    if first(alloc, desk, row.column, field)? != Ok(Step::Record) {
+        return Ok(None);
+    }
+    match desk.view(Side::Old) {
+        Some(view) => Ok(Some(view.attrs().has(row.attr))),
+        None => Ok(None),
+    }
+}
+
 #[test]
 fn attributes_that_an_entry_lacks(rt: HostRuntime) -> Result<(), Fail> {
     let mut desk = Desk::new(rt.alloc());
     for row in &LACKING {
-        let answer = first(rt.alloc(), &mut desk, row.column, row.without)?;
-        assert!(rt; answer == Ok(Step::Record), "{answer:?}");
-        let has = desk.view(Side::Old).map(|view| view.attrs().has(row.attr));
+        let has = has_attr(rt.alloc(), &mut desk, row, row.without)?;
         assert!(rt; has == Some(false), "{:?}", row.without);
-        let answer = first(rt.alloc(), &mut desk, row.column, row.with)?;
-        assert!(rt; answer == Ok(Step::Record), "{answer:?}");
-        let has = desk.view(Side::Old).map(|view| view.attrs().has(row.attr));
+        let has = has_attr(rt.alloc(), &mut desk, row, row.with)?;
         assert!(rt; has == Some(true), "{:?}", row.with);
     }
     Ok(())

@@ -1,4 +1,4 @@
-//! What expressions mean, and at which place a faulty one is refused.
+//! What expressions mean, and at which byte a faulty one is refused.
 use super::has_exactly;
 use aide_attr::{ExprFault, GroupFault, Groups};
 use std::alloc::Global;
@@ -134,7 +134,7 @@ const MEANINGS: [Meaning; 16] = [
     },
 ];
 
-/// A text that is refused, with the number of its refusal and the place of the faulty byte.
+/// A text that is refused, with the number of its refusal and the index of the faulty byte.
 struct Faulty {
     text: &'static [u8],
     number: u8,
@@ -234,7 +234,7 @@ fn defined(rt: &impl Abort, alloc: Global) -> Groups<Global> {
     groups
 }
 
-/// The refusal with this number at this place.
+/// The refusal with this number at the byte with this index.
 fn fault_of(number: u8, at: usize) -> ExprFault {
     if number == 1 {
         ExprFault::UnknownName { at }

@@ -1,5 +1,6 @@
 //! The digests of the databases in a report, beside those that the crate `sha2` computes of the same bytes.
-use super::{options_of, run_over};
+use super::{assert_well, options_of, run_over};
+use crate::pieces::joined;
 use aide_db::{Desk, MemorySources};
 use aide_report::MemorySink;
 use base64::engine::general_purpose::STANDARD;
@@ -9,7 +10,7 @@ use std::process::Abort;
 use std::test::Fail;
 
 /// How many bytes the old database has, and how many the new one. The numbers are about the borders of the blocks of
-/// SHA-256 and of those in which a database is read.
+/// SHA-256 and of the chunks in which a database is read.
 struct Sizes {
     old: usize,
     new: usize,
@@ -45,23 +46,24 @@ const SIZES: [Sizes; 10] = [
 
 /// The last part of a report: the databases with their digests in base 64.
 fn databases_of(alloc: Global, old: &[u8], new: &[u8]) -> Result<Vec<u8>, AllocError> {
-    let mut text = Vec::from_slice(alloc, b"Old database: /old\n")?;
-    push_digest(&mut text, old)?;
-    text.extend_from_slice(b"New database: /new\n")?;
-    push_digest(&mut text, new)?;
-    Ok(text)
+    let old_digest = digest_lines(alloc, old)?;
+    let new_digest = digest_lines(alloc, new)?;
+    let pieces: [&[u8]; 4] = [
+        b"Old database: /old\n",
+        &old_digest,
+        b"New database: /new\n",
+        &new_digest,
+    ];
+    joined(alloc, &pieces)
 }
 
-/// Adds the digest of a database, in two lines of at most 32 letters.
-fn push_digest(text: &mut Vec<u8>, database: &[u8]) -> Result<(), AllocError> {
+/// The digest of a database, in two lines of at most 32 letters.
+fn digest_lines(alloc: Global, database: &[u8]) -> Result<Vec<u8>, AllocError> {
     let mut letters = [b' '; 44];
     let _ = STANDARD.encode_slice(&Sha256::digest(database), &mut letters);
     let (first, second) = letters.as_slice().split_at(32);
-    text.extend_from_slice(b"  SHA256    : ")?;
-    text.extend_from_slice(first)?;
-    text.extend_from_slice(b"\n              ")?;
-    text.extend_from_slice(second)?;
-    text.extend_from_slice(b"\n")
+    let pieces: [&[u8]; 5] = [b"  SHA256    : ", first, b"\n              ", second, b"\n"];
+    joined(alloc, &pieces)
 }
 
 /// A sound database of this number of bytes. All behind its end line is no part of its entries.
@@ -83,7 +85,7 @@ fn assert_digests(
     let mut sources = MemorySources::new(old, new);
     let mut out = MemorySink::new(alloc);
     let answer = run_over(options, &mut desk, &mut sources, &mut out);
-    assert!(rt; answer.is_ok(), "{answer:?}");
+    assert_well(rt, answer);
     let wanted = databases_of(alloc, old, new)?;
     assert!(rt; out.bytes().ends_with(&wanted), "{} bytes", old.len());
     Ok(())

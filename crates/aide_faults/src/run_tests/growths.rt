@@ -1,8 +1,9 @@
 //! Runs in which each allocation fails in turn.
-use super::trial::{Trial, assert_serves, line_at};
-use super::{NEW, OLD, REPORT, SAME, options_of, pair, run_over};
+use super::trial::{Trial, assert_serves, database, line_at};
+use super::{NEW, OLD, REPORT, SAME, assert_answer, assert_well, options_of, pair, run_over};
 use crate::{Journal, NotedSources, Pace, PlannedSources, Refusing, SidePlan};
-use aide_db::{DbFault, DbFaultKind, Desk, Side};
+use aide_conf::Options;
+use aide_db::{DbFaultKind, Desk, Side};
 use aide_report::{MemorySink, RunFault};
 use std::alloc::Global;
 use std::process::Abort;
@@ -26,6 +27,13 @@ struct Refusals {
     late: u64,
 }
 
+/// The fault of a run that is out of memory at the byte that was given last.
+fn fault_at(trial: &Trial<'_>, journal: &Journal) -> RunFault {
+    let side = journal.last().unwrap_or(Side::Old);
+    let line = line_at(trial.text(side), journal.given(side) as usize);
+    database(side, line, DbFaultKind::Memory)
+}
+
 /// Refuses an allocation of a run, checks the side and the line that are reported, and runs on the same desk again.
 /// Returns how often the new side was opened, or `None` if there is no such allocation.
 fn refuse_one(rt: &impl Abort, alloc: Global, trial: &Trial<'_>, growth: u64) -> Option<u64> {
@@ -37,19 +45,12 @@ fn refuse_one(rt: &impl Abort, alloc: Global, trial: &Trial<'_>, growth: u64) ->
     let answer = run_over(trial.options, &mut desk, &mut sources, &mut out);
     let openings = sources.into_inner().openings(Side::New);
     if !refusing.has_refused() {
-        assert!(rt; answer.is_ok() && out.bytes() == trial.report);
+        assert_well(rt, answer);
+        assert!(rt; out.bytes() == trial.report);
         return None;
     }
-    let side = journal.last().unwrap_or(Side::Old);
-    let wanted = RunFault::Database(DbFault {
-        side,
-        line: line_at(trial.text(side), journal.given(side) as usize),
-        kind: DbFaultKind::Memory,
-    });
-    assert!(rt;
-        answer == Err(wanted),
-        "growth {growth}: {answer:?}, not {wanted:?}"
-    );
+    let wanted = fault_at(trial, &journal);
+    assert_answer(rt, answer, Err(wanted));
     assert!(rt; wanted.status() == 22 && trial.report.starts_with(out.bytes()));
     assert!(rt; openings > 2 || out.bytes().is_empty());
     assert_serves(rt, alloc, trial, &mut desk);
@@ -120,23 +121,39 @@ fn growths_of_the_counting_pass(rt: HostRuntime) -> Result<(), Fail> {
     Ok(())
 }
 
+/// Refuses an allocation of the sink, and checks the fault and the bytes that went out. Returns whether there is such
+/// an allocation. Without one the report is whole.
+fn refuse_sink(
+    rt: &impl Abort,
+    alloc: Global,
+    options: Options,
+    desk: &mut Desk<Global>,
+    growth: u64,
+) -> bool {
+    let refusing = Refusing::new(alloc, growth);
+    let mut out = MemorySink::new(&refusing);
+    let answer = run_over(options, desk, &mut plain_sources(), &mut out);
+    let sent = out.bytes();
+    if !refusing.has_refused() {
+        assert_well(rt, answer);
+        assert!(rt; sent == REPORT);
+        return false;
+    }
+    let written = sent.len() as u64;
+    assert_answer(rt, answer, Err(RunFault::Write { written }));
+    assert!(rt; REPORT.starts_with(sent));
+    true
+}
+
 #[test]
 fn each_growth_of_the_sink_refused_in_turn(rt: HostRuntime) {
     let options = options_of(&rt, rt.alloc(), b"");
     let mut desk = Desk::new(rt.alloc());
     let mut refusals = 0u64;
     for growth in 0..1000 {
-        let refusing = Refusing::new(rt.alloc(), growth);
-        let mut out = MemorySink::new(&refusing);
-        let mut sources = plain_sources();
-        let answer = run_over(options, &mut desk, &mut sources, &mut out);
-        if !refusing.has_refused() {
-            assert!(rt; answer.is_ok() && out.bytes() == REPORT);
+        if !refuse_sink(&rt, rt.alloc(), options, &mut desk, growth) {
             break;
         }
-        let written = out.bytes().len() as u64;
-        assert!(rt; answer == Err(RunFault::Write { written }), "{answer:?}");
-        assert!(rt; REPORT.starts_with(out.bytes()));
         refusals = refusals.saturating_add(1);
     }
     assert!(rt; refusals > 0 && refusals < 1000, "{refusals}");

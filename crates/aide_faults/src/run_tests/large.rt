@@ -1,5 +1,5 @@
 //! 200,000 entries on each side, and two runs over one desk.
-use super::{SAME, options_of, run_over};
+use super::{SAME, assert_answer, assert_well, options_of, run_over};
 use crate::pace::PACES;
 use crate::{PlannedSources, SidePlan};
 use aide_conf::Task;
@@ -80,7 +80,7 @@ fn as_many_entries_as_a_system_has(rt: HostRuntime) -> Result<(), Fail> {
         skipped_old: 0,
         skipped_new: 0,
     };
-    assert!(rt; answer == Ok(wanted), "{answer:?}");
+    assert_answer(&rt, answer, Ok(wanted));
     assert!(rt; desk.peak() == 90 && wanted.status() == 7);
     assert!(rt; sources.openings(Side::Old) == 6 && sources.openings(Side::New) == 6);
     // The head and the summary have seven lines, and the databases have eleven. Each list has five lines, and one
@@ -101,7 +101,8 @@ fn the_peak_of_two_runs_over_one_desk(rt: HostRuntime) {
         let mut sources = PlannedSources::new(old, old, *pace);
         let mut out = MemorySink::new(rt.alloc());
         let answer = run_over(options, &mut desk, &mut sources, &mut out);
-        assert!(rt; answer.is_ok() && out.bytes() == SAME);
+        assert_well(&rt, answer);
+        assert!(rt; out.bytes() == SAME);
         assert!(rt; desk.peak() == 90);
     }
 }

@@ -1,4 +1,5 @@
 //! A pair of databases with every form of field, and its report at each level.
+use crate::pieces::joined;
 use std::alloc::{AllocError, Allocator};
 
 pub(super) const OLD: &[u8] = b"@@begin_db\n\
@@ -204,11 +205,9 @@ pub(super) const LEVELS: [LevelRow; 7] = [
 impl LevelRow {
     /// The whole report.
     pub(super) fn report<A: Allocator + Copy>(&self, alloc: A) -> Result<Vec<u8, A>, AllocError> {
-        let mut report = Vec::from_slice(alloc, HEAD)?;
-        report.extend_from_slice(self.summary)?;
-        report.extend_from_slice(self.lists)?;
-        report.extend_from_slice(self.details)?;
-        report.extend_from_slice(self.databases)?;
-        Ok(report)
+        joined(
+            alloc,
+            &[HEAD, self.summary, self.lists, self.details, self.databases],
+        )
     }
 }

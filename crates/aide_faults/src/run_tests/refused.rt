@@ -210,11 +210,11 @@ pub(super) fn cut_and_damage(
     for side in &SIDES {
         let text = trial.text(*side);
         for bytes in 0..text.len() {
-            let (front, back) = text.split_at(bytes);
+            let (front, _) = text.split_at(bytes);
             change_side(rt, alloc, trial, *side, front);
             let mut damaged = Vec::from_slice(alloc, text)?;
-            if let (Some(place), Some(byte)) = (damaged.get_mut(bytes), back.first()) {
-                *place = *byte ^ 1;
+            if let Some(byte) = damaged.get_mut(bytes) {
+                *byte ^= 1;
             }
             change_side(rt, alloc, trial, *side, &damaged);
         }

@@ -15,9 +15,9 @@ const RULE: &[u8] = b"\n---------------------------------------------------\n";
 
 /// How many bytes of a text come before a part of it, or all bytes if it has no such part.
 fn bytes_before(text: &[u8], part: &[u8]) -> usize {
-    for place in 0..text.len() {
-        if text[place..].starts_with(part) {
-            return place;
+    for index in 0..text.len() {
+        if text[index..].starts_with(part) {
+            return index;
         }
     }
     text.len()

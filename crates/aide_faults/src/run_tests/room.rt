@@ -1,12 +1,14 @@
 //! Runs on a desk with room for the longest line. These runs need no other memory.
+ghost use Rattle.std.specs.Prelude.{◌≤◌};
+
 use super::trial::database;
-use super::{DIFFERENT, SAME, options_of, pair, run_over};
+use super::{DIFFERENT, SAME, assert_well, options_of, pair, run_over};
 use crate::{Pace, PlannedSources, Refusing, SidePlan};
 use aide_conf::Task;
-use aide_db::{DbFaultKind, Desk, DeskFault, Limits, Side};
-use aide_report::{WriteSink, run};
+use aide_db::{DbFaultKind, Desk, DeskFault, Limits, Side, Sources};
+use aide_report::{Outcome, RunFault, Sink, WriteSink, run};
 use arrayvec::ArrayVec;
-use std::alloc::Global;
+use std::alloc::{Allocator, Global};
 use std::process::Abort;
 use std::test::Fail;
 
@@ -58,29 +60,45 @@ const ROOMY: [Roomy; 5] = [
     },
 ];
 
+/// A run under a limit on lines.
+fn run_under<S: Sources, W: Sink, A: Allocator + Copy>(
+    line: u32,
+    task: &Task<'_>,
+    desk: &mut Desk<A>,
+    sources: &mut S,
+    out: &mut W,
+) -> Result<Outcome, RunFault>
+    requires { 14 ≤ line }
+{
+    let limits = Limits { line, bytes: 1000 };
+    run(task, limits, desk, sources, out)
+}
+
+/// The fault of a row whose old database has a line that is too long.
+fn fault_of(row: &Roomy) -> Option<RunFault> {
+    if row.report.is_empty() {
+        Some(database(Side::Old, 4, DbFaultKind::LineTooLong))
+    } else {
+        None
+    }
+}
+
 /// Runs on a desk with room for lines of 30 bytes, and checks the answer, the report and the peak.
 fn assert_roomy(rt: &impl Abort, alloc: Global, task: &Task<'_>, row: &Roomy) {
-    let limits = Limits {
-        line: row.line,
-        bytes: 1000,
-    };
     let refusing = Refusing::all_from(alloc, row.refused);
-    let desk = Desk::reserved(&refusing, 30);
-    assert!(rt; desk.is_ok() && limits.line >= 14);
-    if let (Ok(mut desk), true) = (desk, limits.line >= 14) {
-        assert!(rt; desk.room() == 30 && desk.held() == 0 && desk.peak() == 0);
-        let (old, new) = (SidePlan::plain(row.old), SidePlan::plain(TWO));
-        let mut sources = PlannedSources::new(old, new, Pace::new(4096));
-        let mut out = WriteSink::new(ArrayVec::<u8, 60>::new());
-        let answer = run(task, limits, &mut desk, &mut sources, &mut out);
-        let too_long = database(Side::Old, 4, DbFaultKind::LineTooLong);
-        assert!(rt;
-            answer.err() == row.report.is_empty().then_some(too_long),
-            "{answer:?}"
-        );
-        assert!(rt; desk.room() == 30 && (row.old != TWO || desk.peak() == 90));
-        assert!(rt; out.into_inner().as_slice() == row.report);
-    }
+    let Ok(mut desk) = Desk::reserved(&refusing, 30) else {
+        assert!(rt; false, "reserved");
+        return;
+    };
+    assert!(rt; desk.room() == 30 && desk.held() == 0 && desk.peak() == 0);
+    assert!(rt; row.line >= 14);
+    let mut out = WriteSink::new(ArrayVec::<u8, 60>::new());
+    let (old, new) = (SidePlan::plain(row.old), SidePlan::plain(TWO));
+    let mut sources = PlannedSources::new(old, new, Pace::new(4096));
+    let answer = run_under(row.line, task, &mut desk, &mut sources, &mut out);
+    assert!(rt; answer.err() == fault_of(row));
+    assert!(rt; desk.room() == 30 && (row.old != TWO || desk.peak() == 90));
+    assert!(rt; out.into_inner().as_slice() == row.report);
 }
 
 #[test]
@@ -107,7 +125,7 @@ fn no_growth_at_any_level(rt: HostRuntime) -> Result<(), Fail> {
         let mut sources = PlannedSources::new(old, new, Pace::new(7));
         let mut out = WriteSink::new(ArrayVec::<u8, 4096>::new());
         let answer = run_over(options, &mut desk, &mut sources, &mut out);
-        assert!(rt; answer.is_ok(), "{answer:?}");
+        assert_well(&rt, answer);
         let report = row.report(rt.alloc())?;
         assert!(rt; out.into_inner().as_slice() == report.as_slice());
     }

@@ -1,9 +1,9 @@
 //! A run over two sound databases, and its right answer.
 use super::trial::Trial;
-use super::{options_of, run_over};
+use super::{assert_answer, assert_openings, options_of, run_over};
 use crate::pace::PACES;
 use crate::{Pace, PlannedSources, SidePlan};
-use aide_db::{Desk, Side};
+use aide_db::Desk;
 use aide_report::{Outcome, RunFault, WriteSink};
 use std::alloc::{Allocator, Global};
 use std::io::{self, Error, ErrorKind, Write};
@@ -86,15 +86,8 @@ fn written_at(
     let mut sources = PlannedSources::new(old, SidePlan::plain(trial.new), pace);
     let mut out = WriteSink::new(CountingWriter::new(alloc, pace));
     let answer = run_over(trial.options, desk, &mut sources, &mut out);
-    assert!(rt;
-        out.into_inner().is_done_with(trial.report),
-        "{pace:?}: {answer:?}"
-    );
-    let openings = (sources.openings(Side::Old), sources.openings(Side::New));
-    assert!(rt;
-        openings == (trial.openings, trial.openings),
-        "{openings:?}"
-    );
+    assert!(rt; out.into_inner().is_done_with(trial.report), "{pace:?}");
+    assert_openings(rt, &sources, trial.openings, trial.openings);
     answer
 }
 
@@ -119,6 +112,6 @@ pub(super) fn assert_reported(rt: &impl Abort, alloc: Global, row: &Row) {
     let mut desk = Desk::new(alloc);
     for pace in &PACES {
         let answer = written_at(rt, alloc, &trial, &mut desk, *pace);
-        assert!(rt; answer == Ok(wanted), "{pace:?}: {answer:?}");
+        assert_answer(rt, answer, Ok(wanted));
     }
 }

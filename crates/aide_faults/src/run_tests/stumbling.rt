@@ -1,10 +1,10 @@
 //! A writer that fails once, or takes nothing once. All its other calls succeed.
 use super::refused::whole_trial;
 use super::reported::Titles;
-use super::run_over;
 use super::trial::Trial;
+use super::{assert_answer, assert_openings, run_over};
 use crate::{Pace, PlannedSources, SidePlan};
-use aide_db::{Desk, Side};
+use aide_db::Desk;
 use aide_report::{RunFault, WriteSink};
 use std::alloc::{Allocator, Global};
 use std::io::{self, Error, ErrorKind, Write};
@@ -100,12 +100,11 @@ fn assert_last<A: Allocator + Copy>(
     let mut out = WriteSink::new(writer);
     let answer = run_over(trial.options, &mut desk, &mut sources, &mut out);
     let written = front.len() as u64;
-    assert!(rt; answer == Err(RunFault::Write { written }), "{answer:?}");
+    assert_answer(rt, answer, Err(RunFault::Write { written }));
     assert!(rt; out.flushes() == 0);
     let writer = out.into_inner();
     assert!(rt; writer.bytes.as_slice() == front && writer.later == 0);
-    let given = (sources.openings(Side::Old), sources.openings(Side::New));
-    assert!(rt; given == (openings, openings), "{given:?} after {written}");
+    assert_openings(rt, &sources, openings, openings);
 }
 
 /// Lets the writer stumble at each byte of a report and at the flush.

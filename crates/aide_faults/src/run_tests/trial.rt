@@ -1,6 +1,6 @@
 //! A run over two databases in which something fails or changes, and then a good run over the same desk.
 use super::reported::overview_of;
-use super::run_over;
+use super::{assert_answer, assert_openings, assert_well, run_over};
 use crate::{Pace, PlannedSink, PlannedSources, SidePlan};
 use aide_conf::Options;
 use aide_db::{DbFault, DbFaultKind, Desk, Side};
@@ -97,25 +97,17 @@ pub(super) fn assert_stops(rt: &impl Abort, alloc: Global, trial: &Trial<'_>, wr
     let mut desk = Desk::new(alloc);
     let pace = Pace::new(4096);
     let mut sources = PlannedSources::new(wrong.old, wrong.new, pace);
-    let room = if wrong.old_openings > 2 { u64::MAX } else { 0 };
-    let mut out = PlannedSink::new(MemorySink::new(alloc), pace, room, room > 0);
+    let space = if wrong.old_openings > 2 { u64::MAX } else { 0 };
+    let mut out = PlannedSink::new(MemorySink::new(alloc), pace, space, space > 0);
     let answer = run_over(trial.options, &mut desk, &mut sources, &mut out);
-    assert!(rt;
-        answer == Err(wrong.fault),
-        "{answer:?} for {:?}",
-        wrong.fault
-    );
+    assert_answer(rt, answer, Err(wrong.fault));
     let sent = out.inner().bytes();
     assert!(rt; out.failures() == 0 && sources.failures() == failures_of(wrong.fault));
     assert!(rt;
         trial.may_have_sent(sent, wrong.fault, wrong.old_openings),
         "{sent:?}"
     );
-    let openings = (sources.openings(Side::Old), sources.openings(Side::New));
-    assert!(rt;
-        openings == (wrong.old_openings, wrong.new_openings),
-        "{openings:?}"
-    );
+    assert_openings(rt, &sources, wrong.old_openings, wrong.new_openings);
     assert_serves(rt, alloc, trial, &mut desk);
 }
 
@@ -130,13 +122,7 @@ pub(super) fn assert_serves<A: Allocator + Copy>(
     let mut sources = PlannedSources::new(old, SidePlan::plain(trial.new), Pace::new(4096));
     let mut out = MemorySink::new(alloc);
     let answer = run_over(trial.options, desk, &mut sources, &mut out);
-    assert!(rt;
-        answer.is_ok() && out.bytes() == trial.report,
-        "the same desk again: {answer:?}"
-    );
-    let openings = (sources.openings(Side::Old), sources.openings(Side::New));
-    assert!(rt;
-        openings == (trial.openings, trial.openings),
-        "{openings:?}"
-    );
+    assert_well(rt, answer);
+    assert!(rt; out.bytes() == trial.report, "the same desk again");
+    assert_openings(rt, &sources, trial.openings, trial.openings);
 }

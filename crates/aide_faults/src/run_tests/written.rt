@@ -1,11 +1,11 @@
-//! Sinks that fail at each byte or at a flush, once or for good, or that have little room.
+//! Sinks that fail at each byte or at a flush, once or for good, or that have little space.
 use super::refused::whole_trial;
 use super::reported::Titles;
 use super::trial::Trial;
-use super::{NEW, OLD, REPORT, options_of, run_over};
+use super::{NEW, OLD, REPORT, assert_answer, assert_openings, options_of, run_over};
 use crate::pace::PACES;
 use crate::{Pace, PlannedSink, PlannedSources, SidePlan};
-use aide_db::{Desk, Side};
+use aide_db::Desk;
 use aide_report::{MemorySink, RunFault, WriteSink};
 use arrayvec::ArrayVec;
 use std::alloc::Global;
@@ -28,27 +28,22 @@ fn assert_cut(
     let wanted = RunFault::Write {
         written: front.len() as u64,
     };
-    assert!(rt; answer == Err(wanted), "{answer:?}, not {wanted:?}");
+    assert_answer(rt, answer, Err(wanted));
     assert!(rt; wanted.status() == 18 && out.failures() == 1);
     assert!(rt; out.inner().bytes() == front);
-    let given = (sources.openings(Side::Old), sources.openings(Side::New));
-    assert!(rt;
-        given == (openings, openings),
-        "{given:?} after {} bytes",
-        front.len()
-    );
+    assert_openings(rt, &sources, openings, openings);
 }
 
 /// Cuts the report at each byte, and after the last byte by a flush that fails. The sink takes bytes at each pace, and
 /// fails for good.
 pub(super) fn cut_report(rt: &impl Abort, alloc: Global, trial: &Trial<'_>) {
     let titles = Titles::of(trial.report);
-    for room in 0..trial.report.len().saturating_add(1) {
-        let (front, _) = trial.report.split_at(room.min(trial.report.len()));
-        let openings = titles.openings_at(room);
+    for space in 0..trial.report.len().saturating_add(1) {
+        let (front, _) = trial.report.split_at(space.min(trial.report.len()));
+        let openings = titles.openings_at(space);
         for pace in &PACES {
             let inner = MemorySink::new(alloc);
-            let out = PlannedSink::new(inner, *pace, room as u64, false);
+            let out = PlannedSink::new(inner, *pace, space as u64, false);
             assert_cut(rt, alloc, trial, front, openings, out);
         }
     }
@@ -57,10 +52,10 @@ pub(super) fn cut_report(rt: &impl Abort, alloc: Global, trial: &Trial<'_>) {
 /// Cuts the report at each byte and at its flush by one failure. Nothing is tried again: that would succeed.
 pub(super) fn cut_once(rt: &impl Abort, alloc: Global, trial: &Trial<'_>) {
     let titles = Titles::of(trial.report);
-    for room in 0..trial.report.len().saturating_add(1) {
-        let (front, _) = trial.report.split_at(room.min(trial.report.len()));
-        let openings = titles.openings_at(room);
-        let out = PlannedSink::failing_once(MemorySink::new(alloc), Pace::new(7), room as u64);
+    for space in 0..trial.report.len().saturating_add(1) {
+        let (front, _) = trial.report.split_at(space.min(trial.report.len()));
+        let openings = titles.openings_at(space);
+        let out = PlannedSink::failing_once(MemorySink::new(alloc), Pace::new(7), space as u64);
         assert_cut(rt, alloc, trial, front, openings, out);
     }
 }
@@ -89,7 +84,7 @@ fn a_quiet_run_is_flushed_too(rt: HostRuntime) {
 }
 
 #[test]
-fn a_writer_without_room(rt: HostRuntime) {
+fn a_writer_without_space(rt: HostRuntime) {
     let options = options_of(&rt, rt.alloc(), b"");
     let mut desk = Desk::new(rt.alloc());
     let pace = Pace::new(4096);

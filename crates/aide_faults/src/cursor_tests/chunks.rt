@@ -1,8 +1,8 @@
-//! Reels that are asked for a block at a time.
+//! Reels that are asked for a chunk at a time.
 ghost use Rattle.std.specs.Prelude.{◌≡◌, Some};
 
-use super::{LIMITS, Wanted, assert_read, read_whole};
-use aide_db::{Cursor, DbFaultKind as Kind, Desk, DeviceFault, Limits, ReadReel, Reel, Side, Step};
+use super::{LIMITS, Wanted, assert_read, read_whole, start, step};
+use aide_db::{DbFaultKind as Kind, Desk, DeviceFault, Limits, ReadReel, Reel, Side, Step};
 use std::alloc::{AllocError, Global};
 use std::test::Fail;
 
@@ -149,9 +149,9 @@ const DIGEST: [u8; 32] = [
 fn digest_of_a_whole_database(rt: HostRuntime) -> Result<(), Fail> {
     let text = database_of(rt.alloc(), 10_000)?;
     let mut desk = Desk::new(rt.alloc());
-    let mut cursor = Cursor::start(Side::New, text.as_slice(), LIMITS, &mut desk);
-    assert!(rt; cursor.next(&mut desk) == Ok(Step::Record) && cursor.digest().is_none());
-    assert!(rt; cursor.next(&mut desk) == Ok(Step::End));
+    let mut cursor = start(Side::New, text.as_slice(), &mut desk);
+    assert!(rt; step(&mut cursor, &mut desk) == Ok(Step::Record) && cursor.digest().is_none());
+    assert!(rt; step(&mut cursor, &mut desk) == Ok(Step::End));
     assert!(rt; cursor.digest() == Some(DIGEST));
     cursor.into_reel();
     Ok(())
@@ -168,7 +168,7 @@ fn reads_of_a_reader(rt: HostRuntime) {
 }
 
 #[test]
-fn two_entries_out_of_order_about_the_border_of_a_block(rt: HostRuntime) -> Result<(), Fail> {
+fn two_entries_out_of_order_about_the_border_of_a_chunk(rt: HostRuntime) -> Result<(), Fail> {
     let mut desk = Desk::new(rt.alloc());
     let wanted = Wanted {
         entries: 1,

@@ -1,0 +1,14 @@
+//! Texts of several pieces.
+use std::alloc::{AllocError, Allocator};
+
+/// These pieces, one after another.
+pub(crate) fn joined<A: Allocator + Copy>(
+    alloc: A,
+    pieces: &[&[u8]],
+) -> Result<Vec<u8, A>, AllocError> {
+    let mut text = Vec::new(alloc);
+    for piece in pieces {
+        text.extend_from_slice(piece)?;
+    }
+    Ok(text)
+}
