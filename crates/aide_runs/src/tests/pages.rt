@@ -12,8 +12,8 @@ const FULL: &[u8] = b"aide: cannot write the report\n";
 /// The sink below a page: it keeps its bytes in a vector, and fails once or for good.
 type Below<'a> = PlannedSink<WriteSink<&'a mut Vec<u8>>>;
 
-/// Writes forty pieces of 1,000 bytes and flushes. The sink below takes these 40,000 bytes, and has no room for another
-/// piece.
+/// Writes forty pieces of 1,000 bytes and flushes. The sink below takes these 40,000 bytes, and has no space for
+/// another piece.
 fn write_pieces(rt: &impl Abort, alloc: Global, bytes: &mut Vec<u8>) -> Result<(), Memory> {
     let below: Below<'_> = PlannedSink::new(WriteSink::new(bytes), Pace::new(4096), 40_000, true);
     let mut page = PagedSink::new(alloc, below)?;
@@ -105,8 +105,9 @@ fn assert_stops(
     Ok(())
 }
 
-/// Places about the border of the first page and of what the sink takes at once, and in the last page.
-const PLACES: [usize; 12] = [
+/// After how many bytes the sink fails: about the border of the first page and of what the sink takes at once, and in
+/// the last page.
+const CUTS: [usize; 12] = [
     0, 1, 4095, 4096, 4097, 32_767, 32_768, 32_769, 36_864, 40_000, 50_000, 50_100,
 ];
 
@@ -114,7 +115,7 @@ const PLACES: [usize; 12] = [
 fn no_page_is_passed_on_again(rt: HostRuntime) -> Result<(), Fail> {
     let old = old_database(rt.alloc())?;
     let report = long_report(rt.alloc())?;
-    for sound in &PLACES {
+    for sound in &CUTS {
         let mut bytes = Vec::new(rt.alloc());
         assert_stops(&rt, rt.alloc(), &old, *sound, &mut bytes)?;
         let right = bytes.len() == *sound && report.starts_with(&bytes);
