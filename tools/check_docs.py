@@ -64,11 +64,11 @@ def tracked():
 
 def is_there(name, page):
     """Whether a page may name a file so: from the top, beside the page, from a crate, from a crate's src/."""
-    places = ["", os.path.dirname(page), "crates", "tools", "bench", "man", "contrib", "contrib/bin", "crates/*", "crates/*/src",
-              "crates/*/src/*", "crates/*/proofs", "crates/*/specs", "tools/*", "examples/*"]
+    folders = ["", os.path.dirname(page), "crates", "tools", "bench", "man", "contrib", "contrib/bin", "crates/*", "crates/*/src",
+               "crates/*/src/*", "crates/*/proofs", "crates/*/specs", "tools/*", "examples/*"]
     # tools/install puts the folders of contrib/ that are examples into examples/ beside the documents.
     installed = name.replace("examples/", "contrib/", 1)
-    return any(glob.glob(os.path.join(TOP, place, each)) for place in places for each in (name, installed))
+    return any(glob.glob(os.path.join(TOP, folder, each)) for folder in folders for each in (name, installed))
 
 
 def check_names(page, text, tally):

@@ -132,26 +132,26 @@ class Crate:
         return item.owner in self.types and (item.is_pub if item.trait is None else item.trait in traits)
 
     def edits(self):
-        """Each edit: its name and the places, as file and line, that it changes."""
+        """Each edit: its name and the lines, as file and number, that it changes."""
         folder = os.path.join(CRATES, self.name, "must-fail")
         for name in sorted(os.listdir(folder)) if os.path.isdir(folder) else []:
-            places, file = [], None
+            lines, file = [], None
             for line in read_lines(self.name, "must-fail", name):
                 word, _, rest = line.partition(": ")
                 if word == "file":
                     file = rest
                 elif word == "old":
-                    places += [(file, at) for at, code in enumerate(self.texts[file]) if rest.strip() in code]
-            yield name[: -len(".edit")], places
+                    lines += [(file, at) for at, code in enumerate(self.texts[file]) if rest.strip() in code]
+            yield name[: -len(".edit")], lines
 
     def edits_of_items(self):
         """The names of the edits of each item, and the edits that belong to none."""
         of_item, stray = {}, []
-        for name, places in self.edits():
+        for name, lines in self.edits():
             changed = {
                 id(item)
                 for file, item in self.items
-                if any(file == place and item.first <= at < item.last for place, at in places)
+                if any(file == source and item.first <= at < item.last for source, at in lines)
             }
             for item in changed:
                 of_item.setdefault(item, []).append(name)

@@ -1,5 +1,6 @@
 #!/usr/bin/env python3
-"""Checks the layout of every crate: cycles of modules, wide contracts, long argument lists, long lines, long files.
+"""Checks the layout of every crate: cycles of modules, wide contracts, long argument lists, long lines, long files,
+and imports on more lines than they need.
 
 Each finding fails unless docs/DECISIONS.md has a row for it in the table under the heading "Exceptions of the house".
 A row that matches no finding fails too, so the table stays as short as it can be. A row about lines or files may name
@@ -10,6 +11,7 @@ a folder. The rules:
   arguments  a function has at most 6 arguments, `self` included
   column     a line of src/ or specs/ has at most 100 characters, a line of comment at most 120
   length     a file of src/ or specs/ has at most 350 lines
+  imports    the names that a head of a file imports from one module for its proofs are on as few lines as they need
 
 The last line is 'N passed, M failed': each crate counts once for each rule. The status is 1 if something failed or if
 no crate was found.
@@ -21,13 +23,14 @@ import re
 import sys
 
 HEADING = "Exceptions of the house"
-RULES = ("cycle", "ensures", "arguments", "column", "length")
+RULES = ("cycle", "ensures", "arguments", "column", "length", "imports")
 MOST_ENSURES = 8
 MOST_ARGUMENTS = 6
 MOST_COLUMNS = 100
 MOST_COMMENT_COLUMNS = 120
 MOST_LINES = 350
 
+IMPORT = re.compile(r"(\s*)((?:ghost )?use )(\S+)\.\{(.*)\}(;?)")
 SKIPPED = re.compile(
     r"""//[^\n]*|/\*.*?\*/|b?"(?:\\.|[^"\\])*"|b?'(?:\\.[^']*|[^'\\\n])'""", re.S)
 OPENING, CLOSING = "([{", ")]}"
@@ -39,25 +42,25 @@ def blanked(text):
 
 
 def end_of(text, start):
-    """The place after the bracket that closes the one at `start`."""
+    """The index after the bracket that closes the one at `start`."""
     depth = 0
-    for place in range(start, len(text)):
-        if text[place] in OPENING:
+    for index in range(start, len(text)):
+        if text[index] in OPENING:
             depth += 1
-        elif text[place] in CLOSING:
+        elif text[index] in CLOSING:
             depth -= 1
             if depth == 0:
-                return place + 1
+                return index + 1
     raise ValueError("a bracket is not closed")
 
 
 def count_arguments(inside):
     """How many arguments stand between the brackets of a function."""
     depth, count, filled = 0, 0, False
-    for place, letter in enumerate(inside):
+    for index, letter in enumerate(inside):
         if letter in OPENING or letter == "<":
             depth += 1
-        elif letter in CLOSING or (letter == ">" and inside[place - 1] not in "-="):
+        elif letter in CLOSING or (letter == ">" and inside[index - 1] not in "-="):
             depth -= 1
         if letter == "," and depth == 0:
             count, filled = count + filled, False
@@ -73,15 +76,15 @@ def functions_of(text):
         opened = text.find("(", found.end())
         if opened < 0:
             continue
-        place = end_of(text, opened)
-        arguments = count_arguments(text[opened + 1:place - 1])
+        index = end_of(text, opened)
+        arguments = count_arguments(text[opened + 1:index - 1])
         ensures = 0
         while True:
-            step = re.compile(r"\b(requires|ensures)\b|[{;]").search(text, place)
+            step = re.compile(r"\b(requires|ensures)\b|[{;]").search(text, index)
             if step is None or step.group(1) is None:
                 break
             ensures += step.group(1) == "ensures"
-            place = end_of(text, text.index("{", step.end()))
+            index = end_of(text, text.index("{", step.end()))
         yield found.group(1), arguments, ensures
 
 
@@ -122,32 +125,32 @@ def imports_of(modules):
     """For each module the modules that it uses. A name that the root passes on counts for the module it comes from."""
     passed_on = {}
     for path in split_uses(modules.get((), "")):
-        place = tuple(path[1:] if path[0] in ("crate", "self") else path)
-        if place[:1] in modules:
-            passed_on[place[-1]] = longest(modules, place)
+        inner = tuple(path[1:] if path[0] in ("crate", "self") else path)
+        if inner[:1] in modules:
+            passed_on[inner[-1]] = longest(modules, inner)
     graph = {}
     for module, text in modules.items():
         used = set()
         for path in split_uses(text):
             if path[0] == "crate":
-                place = tuple(path[1:])
+                inner = tuple(path[1:])
             elif path[0] == "super":
                 climbed = sum(1 for word in path if word == "super")
-                place = module[:len(module) - climbed] + tuple(path[climbed:])
+                inner = module[:len(module) - climbed] + tuple(path[climbed:])
             else:
                 continue
-            target = longest(modules, place) or passed_on.get(place[0] if place else "", ())
+            target = longest(modules, inner) or passed_on.get(inner[0] if inner else "", ())
             if target and target != module:
                 used.add(target)
         graph[module] = used
     return graph
 
 
-def longest(modules, place):
+def longest(modules, path):
     """The longest beginning of a path that is a module."""
-    for length in range(len(place), 0, -1):
-        if place[:length] in modules:
-            return place[:length]
+    for length in range(len(path), 0, -1):
+        if path[:length] in modules:
+            return path[:length]
     return ()
 
 
@@ -175,31 +178,68 @@ def named(module):
 
 
 def findings_of(crate):
-    """What breaks a rule in a crate: for each rule the places, each with what was found there."""
+    """What breaks a rule in a crate: for each rule where it is broken, with what was found there."""
     found = collections.defaultdict(dict)
     source = crate / "src"
     texts = {file: file.read_text(encoding="utf-8") for file in sorted(source.rglob("*.rt"))}
     modules = {module_of(source, file): text for file, text in texts.items()}
     for knot in cycles_of(imports_of(modules)):
-        place = crate.name + ": " + ", ".join(named(module) for module in knot)
-        found["cycle"][place] = f"{len(knot)} modules"
+        where = crate.name + ": " + ", ".join(named(module) for module in knot)
+        found["cycle"][where] = f"{len(knot)} modules"
     for file, text in texts.items():
         module = named((crate.name,) + module_of(source, file))
         for name, arguments, ensures in functions_of(text):
-            place = f"{module}::{name}"
+            where = f"{module}::{name}"
             if ensures > MOST_ENSURES:
-                found["ensures"][place] = f"{ensures} ensures"
+                found["ensures"][where] = f"{ensures} ensures"
             if arguments > MOST_ARGUMENTS:
-                found["arguments"][place] = f"{arguments} arguments"
+                found["arguments"][where] = f"{arguments} arguments"
     for file in list(texts) + sorted((crate / "specs").rglob("*.antt")):
         lines = file.read_text(encoding="utf-8").splitlines()
-        place = str(file.relative_to(crate.parent))
+        where = str(file.relative_to(crate.parent))
         wide = [str(number) for number, line in enumerate(lines, 1) if len(line) > width_of(line)]
         if wide:
-            found["column"][place] = "lines " + ", ".join(wide)
+            found["column"][where] = "lines " + ", ".join(wide)
         if len(lines) > MOST_LINES:
-            found["length"][place] = f"{len(lines)} lines"
+            found["length"][where] = f"{len(lines)} lines"
+    for file in [*texts, *sorted((crate / "specs").rglob("*.antt")), *sorted((crate / "proofs").rglob("*.antt"))]:
+        spread = spread_imports(file.read_text(encoding="utf-8").splitlines())
+        if spread:
+            found["imports"][str(file.relative_to(crate.parent))] = "lines " + ", ".join(spread)
     return found
+
+
+def heads_of(lines):
+    """The imports that follow one another with the same indent: for each module the lines that name it."""
+    head, last = {}, None
+    for number, line in enumerate(lines, 1):
+        found = IMPORT.fullmatch(line)
+        if head and not (found and found.group(1) == last):
+            yield head
+            head = {}
+        if found:
+            last = found.group(1)
+            head.setdefault(found.group(3), []).append((number, found))
+    if head:
+        yield head
+
+
+def lines_needed(imports):
+    """How many lines of the usual width the names of these imports of one module need, in their order."""
+    indent, use, module, _, end = imports[0].groups()
+    room = MOST_COLUMNS - len(f"{indent}{use}{module}.{{}}{end}")
+    count, filled = 0, room
+    for name in (name.strip() for found in imports for name in found.group(4).split(",")):
+        filled += len(", ") + len(name)
+        if filled > room:
+            count, filled = count + 1, len(name)
+    return count
+
+
+def spread_imports(lines):
+    """The first line of each module in a head whose names would fit on fewer lines."""
+    return [str(imports[0][0]) for head in heads_of(lines) for imports in head.values()
+            if lines_needed([found for _, found in imports]) < len(imports)]
 
 
 def width_of(line):
@@ -209,7 +249,7 @@ def width_of(line):
 
 
 def exceptions_of(page):
-    """The rows of the table: a rule and a place, each with its reason."""
+    """The rows of the table: the reason for each rule and where it is broken."""
     rows, inside = {}, False
     for number, line in enumerate(page.read_text(encoding="utf-8").splitlines(), 1):
         if line.startswith("## "):
@@ -218,19 +258,19 @@ def exceptions_of(page):
         if not inside or not line.startswith("|") or cells[0] in ("Rule", "") or set(cells[0]) == {"-"}:
             continue
         if len(cells) != 3 or cells[0] not in RULES or not cells[2]:
-            sys.exit(f"house.py: {page}:{number}: a row has a rule, a place and a reason")
+            sys.exit(f"house.py: {page}:{number}: a row says the rule, where it is broken, and the reason")
         rows[(cells[0], cells[1])] = cells[2]
     return rows
 
 
-def crate_of(place):
+def crate_of(where):
     """The crate that a row is about."""
-    return re.split(r"[:/]", place, maxsplit=1)[0]
+    return re.split(r"[:/]", where, maxsplit=1)[0]
 
 
-def covers(row, place):
-    """Whether a row is about this place: the place itself, or a folder that it is in."""
-    return place == row or place.startswith(row + "/")
+def covers(row, where):
+    """Whether a row is about this finding, or about a folder that it is in."""
+    return where == row or where.startswith(row + "/")
 
 
 def main():
@@ -248,8 +288,8 @@ def main():
     if options.rows:
         for rules in found.values():
             for rule in RULES:
-                for place, what in rules[rule].items():
-                    print(f"| {rule} | `{place}` | {what} |")
+                for where, what in rules[rule].items():
+                    print(f"| {rule} | `{where}` | {what} |")
         return 0
     page = options.root / "docs" / "DECISIONS.md"
     if not page.is_file():
@@ -257,19 +297,19 @@ def main():
         return 1
     excused = exceptions_of(page)
     passed = failed = 0
-    for rule, place in excused:
-        if crate_of(place) not in found:
-            print(f"{rule}: {place}: {page.name} has a row for it, but there is no such crate")
+    for rule, where in excused:
+        if crate_of(where) not in found:
+            print(f"{rule}: {where}: {page.name} has a row for it, but there is no such crate")
             failed += 1
     for crate, rules in found.items():
         for rule in RULES:
             rows = [row for kind, row in excused if kind == rule and crate_of(row) == crate]
-            new = [place for place in rules[rule] if not any(covers(row, place) for row in rows)]
-            idle = [row for row in rows if not any(covers(row, place) for place in rules[rule])]
-            for place in new:
-                print(f"{rule}: {place}: {rules[rule][place]}")
-            for place in idle:
-                print(f"{rule}: {place}: {page.name} has a row for it, but nothing was found there")
+            new = [where for where in rules[rule] if not any(covers(row, where) for row in rows)]
+            idle = [row for row in rows if not any(covers(row, where) for where in rules[rule])]
+            for where in new:
+                print(f"{rule}: {where}: {rules[rule][where]}")
+            for where in idle:
+                print(f"{rule}: {where}: {page.name} has a row for it, but nothing was found there")
             passed += not (new or idle)
             failed += bool(new or idle)
     print(f"{passed} passed, {failed} failed")

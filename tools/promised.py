@@ -56,11 +56,11 @@ def all_definitions(names):
     files, again = {}, {}
     for crate in names:
         folder = os.path.join(TOP, "crates", crate, "specs")
-        for place, _, inside in os.walk(folder):
+        for path, _, inside in os.walk(folder):
             for file in inside:
-                with open(os.path.join(place, file), encoding="utf-8") as opened:
+                with open(os.path.join(path, file), encoding="utf-8") as opened:
                     text = opened.read()
-                name = os.path.relpath(os.path.join(place, file), folder)[: -len(".antt")].replace(os.sep, ".")
+                name = os.path.relpath(os.path.join(path, file), folder)[: -len(".antt")].replace(os.sep, ".")
                 if name == "Lib":
                     for other, where in REEXPORT.findall(text):
                         again[crate, where.split(".")[-1]] = (other, where)
@@ -121,10 +121,10 @@ def met(names):
 
     for crate in names:
         public = public_names(crate)
-        for place, _, inside in os.walk(os.path.join(TOP, "crates", crate, "src")):
+        for path, _, inside in os.walk(os.path.join(TOP, "crates", crate, "src")):
             for file in inside:
-                if file.endswith(".rt") and "tests" not in os.path.relpath(place, TOP) and file != "tests.rt":
-                    with open(os.path.join(place, file), encoding="utf-8") as opened:
+                if file.endswith(".rt") and "tests" not in os.path.relpath(path, TOP) and file != "tests.rt":
+                    with open(os.path.join(path, file), encoding="utf-8") as opened:
                         text = opened.read()
                     note(WORD.findall(public_contracts(text, public)), imports_of(text))
     while waiting:

@@ -28,7 +28,7 @@ LETTERS.update(md5="H", sha256="H", sha512="H", acl="A", xattrs="X", e2fsattrs="
 
 def change(tree, chance):
     """One random operation on the files of a tree."""
-    paths = [os.path.join(place, name) for place, folders, files in os.walk(tree) for name in folders + files]
+    paths = [os.path.join(path, name) for path, folders, files in os.walk(tree) for name in folders + files]
     fresh = os.path.join(tree, chance.choice(["", "sub", "sub/deep"]), "new%d" % chance.randrange(10**6))
     if not os.path.isdir(os.path.dirname(fresh)):
         os.makedirs(os.path.dirname(fresh), exist_ok=True)

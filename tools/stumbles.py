@@ -45,14 +45,14 @@ def sessions(folder):
              'columns that are skipped': (SKIPPING, SKIPPING, b''), 'an old database that is cut': (OLD[:60], NEW, b''),
              'a new database that is cut': (OLD, NEW[:60], b''), 'a bad configuration': (OLD, NEW, b'nonsense')}
     for number, (label, (old, new, options)) in enumerate(texts.items()):
-        place = Folder()
-        place.path = os.path.join(folder, b'%d' % number)
-        os.mkdir(place.path)
-        place.pair(old, new, options)
-        with open(place.at('conf'), 'rb') as file:
-            yield label, place.words(), (file.read(), old, new)
+        files = Folder()
+        files.path = os.path.join(folder, b'%d' % number)
+        os.mkdir(files.path)
+        files.pair(old, new, options)
+        with open(files.at('conf'), 'rb') as file:
+            yield label, files.words(), (file.read(), old, new)
         if not number:
-            yield 'a check of the configuration', [b'-D', b'-c', place.at('conf')], (b'', b'', b'')
+            yield 'a check of the configuration', [b'-D', b'-c', files.at('conf')], (b'', b'', b'')
     yield 'a usage error', [b'-E'], (b'', b'', b'')
 
 
@@ -61,19 +61,19 @@ def opened_as(number):
     return 0 if number == 1 else 1 + number % 2
 
 
-def file_of(calls, place):
-    """Which file the call at a place reads, and how many of its bytes were read since it was opened."""
+def file_of(calls, index):
+    """Which file the call at an index reads, and how many of its bytes were read since it was opened."""
     opened, taken = 0, 0
-    for number, call in enumerate(calls[:place]):
-        if call.kind == OPEN and call.result == calls[place].descriptor:
+    for number, call in enumerate(calls[:index]):
+        if call.kind == OPEN and call.result == calls[index].descriptor:
             opened, taken = sum(1 for before in calls[:number + 1] if before.kind == OPEN), 0
-        if call.kind == READ and call.descriptor == calls[place].descriptor:
+        if call.kind == READ and call.descriptor == calls[index].descriptor:
             taken += call.result
     return opened_as(opened), taken
 
 
-def written_before(calls, place, descriptor):
-    return sum(call.result for call in calls[:place] if call.kind == WRITE and call.descriptor == descriptor)
+def written_before(calls, index, descriptor):
+    return sum(call.result for call in calls[:index] if call.kind == WRITE and call.descriptor == descriptor)
 
 
 def config_of(session):
@@ -97,17 +97,17 @@ def unread(session, file, taken):
 def answer_where(session, kind, number, way):
     """What is wanted where the call of a kind with a number goes wrong in a way."""
     calls, whole = session.calls, session.whole
-    place = [place for place, call in enumerate(calls) if call.kind == kind][number - 1]
-    front = whole.output[:written_before(calls, place, OUTPUT)]
+    index = [index for index, call in enumerate(calls) if call.kind == kind][number - 1]
+    front = whole.output[:written_before(calls, index, OUTPUT)]
     if kind == OPEN:
         return unopened(session, opened_as(number))._replace(output=front)
     if kind == CLOSE or way == IS_SHORT:
         return whole
     if kind == READ:
-        return unread(session, *file_of(calls, place))._replace(output=front)
-    if calls[place].descriptor == OUTPUT:
+        return unread(session, *file_of(calls, index))._replace(output=front)
+    if calls[index].descriptor == OUTPUT:
         return Answer(front, NOT_WRITTEN, BAD_DEVICE)
-    lost = written_before(calls, place, ERRORS)
+    lost = written_before(calls, index, ERRORS)
     return whole._replace(errors=whole.errors[:lost])
 
 

@@ -9,11 +9,10 @@ use Rattle.std.specs.Ordering.{nat_cmp, match_ordering, is_lt, is_eq, eq_by_cmp}
 use Rattle.std.specs.FinMap.Entries.{below_all, by_order, find-put}
 use Rattle.std.specs.List.{AllByRecursion}
 use Rattle.std.specs.List.Sorted.{IsStrictlySortedBy}
-use Rattle.std.specs.FinMap.{IsAntisymmetric, from_entries, from_sorted, empty, get, find, put, insert, remove, len}
-use Rattle.std.specs.FinMap.{entries, is_sorted, same_map}
-use Rattle.std.specs.FinMap.{get-from_entries, get-from_sorted, get-entries, get-empty, get-insert, get-remove}
-use Rattle.std.specs.FinMap.{entries_sorted, entries-from_sorted}
-use Rattle.std.specs.FinMap.{len-entries}
+use Rattle.std.specs.FinMap.{IsAntisymmetric, from_entries, from_sorted, empty, get, find, put}
+use Rattle.std.specs.FinMap.{insert, remove, len, entries, is_sorted, same_map, get-from_entries}
+use Rattle.std.specs.FinMap.{get-from_sorted, get-entries, get-empty, get-insert, get-remove}
+use Rattle.std.specs.FinMap.{entries_sorted, entries-from_sorted, len-entries}
 use Rattle.std.specs.FinMap.{slice_cmp-IsAntisymmetric, nat_cmp-IsAntisymmetric}
 use Rattle.std.specs.BTreeMap.{is_at, insert_entry}
 use Rattle.std.specs.Map.{lookup, keys_of, KeepsOthers}

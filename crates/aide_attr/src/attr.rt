@@ -2,9 +2,8 @@
 
 ghost use Rattle.std.specs.Prelude.{◌≡◌, ◌<◌, ◌≤◌, IfSome, None, codes};
 ghost use Rattle.aide_attr.specs.Attr.{number, row_of, name_of, detail_name_of, column_of, bit_of};
-ghost use Rattle.aide_attr.specs.Attr.{slot_of, form_of};
-ghost use Rattle.aide_attr.specs.Attr.{most_bytes, longest_digest, most_bits, attr_named};
-ghost use Rattle.aide_attr.specs.Attr.{attr_of_column, holder_of};
+ghost use Rattle.aide_attr.specs.Attr.{slot_of, form_of, most_bytes, longest_digest, most_bits};
+ghost use Rattle.aide_attr.specs.Attr.{attr_named, attr_of_column, holder_of};
 ghost use Rattle.aide_attr.specs.Byte.{letter};
 ghost use Rattle.aide_attr.specs.code.Row.{HasParts, IsRow};
 

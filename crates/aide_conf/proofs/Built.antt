@@ -23,9 +23,8 @@ use Rattle.aide_conf.specs.declared.options.AttrList.{AttrList}
 use Rattle.aide_conf.specs.declared.builder.SettingsBuilder.{SettingsBuilder}
 use Rattle.aide_conf.specs.Effect.{Effect, NamesDatabase, EndsOptions, DefinesGroup, DefinesVariable, DropsVariable}
 use Rattle.aide_conf.specs.Effect.{same}
-use Rattle.aide_conf.specs.Marks.{Marked, says, names_given}
+use Rattle.aide_conf.specs.Marks.{Marked, says, names_given, add_name, is_name}
 use Rattle.aide_conf.specs.MarkedGroups.{set_meant, meaning_after, group, group_in, group_names}
-use Rattle.aide_conf.specs.Marks.{add_name, is_name}
 use Rattle.aide_conf.specs.MarkedGroups.{group_name_of, is_too_many}
 use Rattle.aide_conf.specs.MarkedPaths.{path_in, path_by, path_set}
 use Rattle.aide_conf.specs.MarkedVariables.{variable_by, variable_name_of}

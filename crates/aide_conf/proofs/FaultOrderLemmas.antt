@@ -33,12 +33,10 @@ use Rattle.aide_conf.specs.declared.directive.Directive.TheVariants.{IfOther, El
 use Rattle.aide_conf.specs.declared.directive.Directive.TheVariants.{Unknown}
 use Rattle.aide_conf.specs.Directive.{directive_of, directive_effect, line_effect}
 use Rattle.aide_conf.specs.Marks.{Marked, says, line_says}
-use Rattle.aide_conf.specs.MarkedGroups.{expression_in}
+use Rattle.aide_conf.specs.MarkedGroups.{expression_in, meaning_after, is_too_many, IsJudgedWell}
 use Rattle.aide_conf.specs.PlaceFault.{verdict_fault, fault_unless, line_fault, end_fault}
-use Rattle.aide_conf.specs.MarkedGroups.{meaning_after, is_too_many}
 use Rattle.aide_conf.specs.MarkedVariables.{is_one_variable_more}
 use Rattle.aide_conf.specs.PlaceFault.{place_fault, fault_at}
-use Rattle.aide_conf.specs.MarkedGroups.{IsJudgedWell}
 use Rattle.aide_conf.specs.RightMarks.{IsMarkedWell}
 use Rattle.aide_conf.specs.FaultOrder.{fault_order, has_fault, place_has, line_has, is_wrong, assignment_of}
 use Rattle.aide_conf.specs.FaultOrder.{assignment_in, assignment_by, assignment_to, Assignment, Silent, has_bad_group}

@@ -10,12 +10,10 @@ use Rattle.aide_conf.specs.declared.option_kind.Side.TheVariants.{Old, New}
 use Rattle.aide_conf.specs.declared.task.Need.TheVariants.{Compare}
 use Rattle.aide_conf.specs.ReadResult.{ReadsAs}
 use Rattle.aide_conf.specs.Cutting.{Place, places_from, places_of, lines_of}
-use Rattle.aide_conf.specs.Marks.{Marked, line_says}
+use Rattle.aide_conf.specs.Marks.{Marked, line_says, says}
 use Rattle.aide_conf.specs.MarkedPaths.{path_by, path_in, path_set}
-use Rattle.aide_conf.specs.PlaceFault.{end_fault, fault_at, missing}
+use Rattle.aide_conf.specs.PlaceFault.{end_fault, fault_at, missing, place_fault}
 use Rattle.aide_conf.specs.RightMarks.{AreSound}
-use Rattle.aide_conf.specs.Marks.{says}
-use Rattle.aide_conf.specs.PlaceFault.{place_fault}
 use Rattle.aide_conf.specs.Settings.{Configured}
 use Rattle.aide_conf.proofs.Steps.{last_given-same}
 

@@ -31,13 +31,11 @@ use Rattle.aide_conf.specs.Expansion.{plain}
 use Rattle.aide_conf.specs.code.Replacing.{expansion_after}
 use Rattle.aide_conf.specs.Marks.{Marked, says}
 use Rattle.aide_conf.specs.MarkedBlocks.{seen, seen_in, is_text}
-use Rattle.aide_conf.specs.MarkedGroups.{meaning_after}
+use Rattle.aide_conf.specs.MarkedGroups.{meaning_after, IsJudgedWell, expression_in}
 use Rattle.aide_conf.specs.MarkedVariables.{value, is_defined}
-use Rattle.aide_conf.specs.RightMarks.{Grows}
+use Rattle.aide_conf.specs.RightMarks.{Grows, IsMarkedWell}
 use Rattle.aide_conf.specs.MarkedPaths.{path_set}
 use Rattle.aide_conf.specs.PlaceFault.{line_fault, fault_at, end_fault, end_block_fault, missing}
-use Rattle.aide_conf.specs.RightMarks.{IsMarkedWell}
-use Rattle.aide_conf.specs.MarkedGroups.{IsJudgedWell, expression_in}
 use Rattle.aide_conf.specs.code.Builder.{IsBuiltFrom, TakesOne, TakesEffect, fault_of, place_at, text_at}
 use Rattle.aide_conf.proofs.StackLemmas.{used_right, depth_right, divided_right, single_next, opens_next, divides_next}
 use Rattle.aide_conf.proofs.StackLemmas.{closes_next}

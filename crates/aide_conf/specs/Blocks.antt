@@ -1,7 +1,6 @@
 -- Blocks of lines: which lines enclose a line, in which part of a block it is, and how deep it is
 -- nested.
-use Rattle.std.specs.Prelude.{ℕ, ◌≡◌, Bool, true, false, List, [], ◌∷◌, ◌++◌, length}
-use Rattle.std.specs.Prelude.{◌<◌, ◌⊎◌, ◌↔◌}
+use Rattle.std.specs.Prelude.{ℕ, ◌≡◌, Bool, true, false, List, [], ◌∷◌, ◌++◌, length, ◌<◌, ◌⊎◌, ◌↔◌}
 
 -- what a line does to the blocks of its text
 pub data BlockRole : Type 0 where

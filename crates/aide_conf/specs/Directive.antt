@@ -11,9 +11,8 @@ use Rattle.aide_conf.specs.declared.fault.ConfFaultKind.TheVariants.{BadDirectiv
 use Rattle.aide_conf.specs.declared.fault.ConfFaultKind.TheVariants.{LineTooLong, ValueTooLong}
 use Rattle.aide_conf.specs.Cutting.{is_blank, strip, bytes_before, bytes_after}
 use Rattle.aide_conf.specs.Effect.{same, begins, is_directive, is_omitted, is_skipped}
-use Rattle.aide_conf.specs.Effect.{expanded_effect}
-use Rattle.aide_conf.specs.Effect.{Effect, Nothing, Faulty, DefinesVariable, DropsVariable}
-use Rattle.aide_conf.specs.Effect.{OpensBlock, DividesBlock, ClosesBlock}
+use Rattle.aide_conf.specs.Effect.{expanded_effect, Effect, Nothing, Faulty, DefinesVariable}
+use Rattle.aide_conf.specs.Effect.{DropsVariable, OpensBlock, DividesBlock, ClosesBlock}
 use Rattle.aide_conf.specs.Blocks.{BlockRole, Opens, Divides, Closes, Single}
 use Rattle.aide_conf.specs.Limits.{longest_line, longest_value, deepest}
 

@@ -1,8 +1,7 @@
 -- What can be wrong with a place of a configuration, one fault at a time, and which fault of a place is reported.
 use Rattle.std.specs.Prelude.{ℕ, ◌≡◌, ◌==◌, nat_lt, nat_le, Bool, true, false, not, ◌&&◌, ◌||◌}
-use Rattle.std.specs.Prelude.{List, []}
-use Rattle.std.specs.Prelude.{◌∷◌, ◌++◌, length, codes, Option, Some, None, is_none, unwrap_or}
-use Rattle.std.specs.Prelude.{if◌then◌else◌, Result, Err, All, map}
+use Rattle.std.specs.Prelude.{List, [], ◌∷◌, ◌++◌, length, codes, Option, Some, None, is_none}
+use Rattle.std.specs.Prelude.{unwrap_or, if◌then◌else◌, Result, Err, All, map}
 use Rattle.aide_attr.specs.declared.set.AttrSet.{AttrSet}
 use Rattle.aide_attr.specs.declared.expression.ExprFault.{ExprFault}
 use Rattle.aide_attr.specs.declared.expression.ExprFault.TheVariants as expression
@@ -40,8 +39,7 @@ use Rattle.aide_conf.specs.declared.option_kind.OptionKind.TheVariants as kinds
 use Rattle.aide_conf.specs.Cutting.{Place, strip, bytes_before, bytes_after}
 use Rattle.aide_conf.specs.Limits.{longest_line, longest_value, deepest}
 use Rattle.aide_conf.specs.Effect.{same, is_skipped, is_selection, is_equals, option_named}
-use Rattle.aide_conf.specs.Effect.{bool_named}
-use Rattle.aide_conf.specs.Effect.{is_left_out, path_of}
+use Rattle.aide_conf.specs.Effect.{bool_named, is_left_out, path_of}
 use Rattle.aide_conf.specs.declared.directive.Directive.{Directive}
 use Rattle.aide_conf.specs.declared.directive.Directive.TheVariants.{Define, Undef, IfDef, IfNotDef}
 use Rattle.aide_conf.specs.declared.directive.Directive.TheVariants.{IfOther, Omitted, Unknown}

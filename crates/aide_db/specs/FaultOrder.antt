@@ -1,7 +1,6 @@
 -- What can be wrong with a line of a database, one fault at a time, and which fault of a line is reported.
-use Rattle.std.specs.Prelude.{ℕ, ◌≡◌, ◌==◌, nat_lt, Bool, true, false, not, ◌&&◌, ◌||◌}
-use Rattle.std.specs.Prelude.{List, [], ◌∷◌, ◌++◌}
-use Rattle.std.specs.Prelude.{◌+◌, length, find, unwrap_or, flat_map, zip, All}
+use Rattle.std.specs.Prelude.{ℕ, ◌≡◌, ◌==◌, nat_lt, Bool, true, false, not, ◌&&◌, ◌||◌, List, []}
+use Rattle.std.specs.Prelude.{◌∷◌, ◌++◌, ◌+◌, length, find, unwrap_or, flat_map, zip, All}
 use Rattle.std.specs.List.{list_any, range_with_len, enumerate_from}
 use Rattle.aide_attr.specs.Attr.{form_of}
 use Rattle.aide_attr.specs.declared.form.Form.{Form}
@@ -18,12 +17,11 @@ use Rattle.aide_entry.specs.declared.line.LineKind.TheVariants as kinds
 use Rattle.aide_db.specs.declared.limits.Limits.{Limits}
 use Rattle.aide_entry.specs.declared.fault_kind.DbFaultKind.{DbFaultKind}
 use Rattle.aide_entry.specs.declared.fault_kind.DbFaultKind.TheVariants.{LineTooLong, NoBegin}
-use Rattle.aide_entry.specs.declared.fault_kind.DbFaultKind.TheVariants.{BadDirective}
-use Rattle.aide_entry.specs.declared.fault_kind.DbFaultKind.TheVariants.{BadSpec, NoSpec}
-use Rattle.aide_entry.specs.declared.fault_kind.DbFaultKind.TheVariants.{FieldCount}
+use Rattle.aide_entry.specs.declared.fault_kind.DbFaultKind.TheVariants.{BadDirective, BadSpec}
+use Rattle.aide_entry.specs.declared.fault_kind.DbFaultKind.TheVariants.{NoSpec, FieldCount}
 use Rattle.aide_entry.specs.declared.fault_kind.DbFaultKind.TheVariants.{BadName, OutOfOrder}
-use Rattle.aide_entry.specs.declared.fault_kind.DbFaultKind.TheVariants.{BadNumber}
-use Rattle.aide_entry.specs.declared.fault_kind.DbFaultKind.TheVariants.{BadTime, BadDigest}
+use Rattle.aide_entry.specs.declared.fault_kind.DbFaultKind.TheVariants.{BadNumber, BadTime}
+use Rattle.aide_entry.specs.declared.fault_kind.DbFaultKind.TheVariants.{BadDigest}
 
 -- ---- the order
 

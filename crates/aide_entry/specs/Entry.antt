@@ -1,7 +1,6 @@
 -- The entry of a line.
 use Rattle.std.specs.Prelude.{ℕ, ◌+◌, ◌==◌, nat_eq, Bool, true, not, ◌&&◌, if◌then◌else◌, Option}
-use Rattle.std.specs.Prelude.{Some, None, is_some, unwrap_or}
-use Rattle.std.specs.Prelude.{List, [], ◌∷◌, length, codes}
+use Rattle.std.specs.Prelude.{Some, None, is_some, unwrap_or, List, [], ◌∷◌, length, codes}
 use Rattle.std.specs.List.{zip, list_all, starts_with}
 use Rattle.std.specs.Int.{bit_at}
 use Rattle.std.specs.Ordering.{is_lt}
@@ -19,8 +18,7 @@ use Rattle.aide_entry.specs.declared.column.Column.{Column}
 use Rattle.aide_entry.specs.declared.column.Column.TheVariants.{Name, Bits, Of, Skipped}
 use Rattle.aide_entry.specs.declared.fault_kind.DbFaultKind.{DbFaultKind}
 use Rattle.aide_entry.specs.declared.fault_kind.DbFaultKind.TheVariants.{FieldCount, BadName}
-use Rattle.aide_entry.specs.declared.fault_kind.DbFaultKind.TheVariants.{OutOfOrder}
-use Rattle.aide_entry.specs.declared.fault_kind.DbFaultKind.TheVariants.{BadNumber}
+use Rattle.aide_entry.specs.declared.fault_kind.DbFaultKind.TheVariants.{OutOfOrder, BadNumber}
 
 -- the field with the path, as it is written
 abbrev pub name_of : List Column → List ℕ → List ℕ

@@ -1,7 +1,6 @@
 -- The columns of a database.
 use Rattle.std.specs.Prelude.{ℕ, nat_le, Bool, true, false, not, ◌&&◌, if◌then◌else◌, Option, Some}
-use Rattle.std.specs.Prelude.{None, List, [], ◌∷◌, length}
-use Rattle.std.specs.Prelude.{codes, map, drop}
+use Rattle.std.specs.Prelude.{None, List, [], ◌∷◌, length, codes, map, drop}
 use Rattle.std.specs.List.{list_any}
 use Rattle.std.specs.Str.{bytes_eq}
 use Rattle.aide_attr.specs.Attr.{attr_of_column}

@@ -1,7 +1,6 @@
 -- Where the first column of a kind is, and the number in the field of bits.
 use Rattle.std.specs.Prelude.{ℕ, zero, suc, ◌==◌, Bool, true, if◌then◌else◌, Option, Some, None}
-use Rattle.std.specs.Prelude.{unwrap_or}
-use Rattle.std.specs.Prelude.{List, [], ◌∷◌, drop, slice_index, ◌≡◌}
+use Rattle.std.specs.Prelude.{unwrap_or, List, [], ◌∷◌, drop, slice_index, ◌≡◌}
 use Rattle.std.specs.Int.{bit_at}
 use Rattle.aide_entry.specs.Codes.{code_of}
 use Rattle.aide_entry.specs.Fields.{field_under, is_column, is_bits}

@@ -1,7 +1,6 @@
 -- What the fields of a column have to be.
 use Rattle.std.specs.Prelude.{ℕ, ◌+◌, ◌≤◌, Bool, true, ◌||◌, if◌then◌else◌, Option, Some, None}
-use Rattle.std.specs.Prelude.{is_some}
-use Rattle.std.specs.Prelude.{List, [], ◌∷◌}
+use Rattle.std.specs.Prelude.{is_some, List, [], ◌∷◌}
 use Rattle.aide_attr.specs.Attr.{form_of}
 use Rattle.aide_attr.specs.declared.form.Form.{Form}
 use Rattle.aide_attr.specs.declared.form.Form.TheVariants.{Kind, Mode, Number, Time, Link, Digest}
@@ -12,8 +11,7 @@ use Rattle.aide_entry.specs.declared.column.Column.{Column}
 use Rattle.aide_entry.specs.declared.column.Column.TheVariants.{Name, Bits, Of, Skipped}
 use Rattle.aide_entry.specs.declared.shape.Shape.{Shape}
 use Rattle.aide_entry.specs.declared.shape.Shape.TheVariants.{Free, Octal, Signed, Unsigned}
-use Rattle.aide_entry.specs.declared.shape.Shape.TheVariants.{Seconds}
-use Rattle.aide_entry.specs.declared.shape.Shape.TheVariants.{Encoded}
+use Rattle.aide_entry.specs.declared.shape.Shape.TheVariants.{Seconds, Encoded}
 use Rattle.aide_entry.specs.declared.fault_kind.DbFaultKind.{DbFaultKind}
 use Rattle.aide_entry.specs.declared.fault_kind.DbFaultKind.TheVariants.{BadNumber, BadTime}
 use Rattle.aide_entry.specs.declared.fault_kind.DbFaultKind.TheVariants.{BadDigest}

@@ -1,7 +1,6 @@
 //! The blanks among 32 bytes, as bits.
 ghost use Rattle.std.specs.Prelude.{ℕ, true, max, ◌≡◌, ◌≢◌, ◌↔◌, ◌+◌, ◌<◌, ◌≤◌, ◌==◌};
-ghost use Rattle.std.specs.Prelude.{if◌then◌else◌};
-ghost use Rattle.std.specs.Prelude.{length, slice_index, bit_or};
+ghost use Rattle.std.specs.Prelude.{if◌then◌else◌, length, slice_index, bit_or};
 ghost use Rattle.std.specs.Int.{bit_at};
 ghost use Rattle.memchr.specs.Lanes.{HasLanes};
 ghost use Rattle.aide_entry.specs.Text.{is_blank};

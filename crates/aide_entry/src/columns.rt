@@ -1,7 +1,6 @@
 //! The columns of a database.
 ghost use Rattle.std.specs.Prelude.{◌≡◌, ◌+◌, ◌≤◌, [], ◌∷◌, ◌++◌, length, true, false, take, map};
-ghost use Rattle.std.specs.Prelude.{All};
-ghost use Rattle.std.specs.Prelude.{ℕ, List, None, IfNone, IfSome, drop};
+ghost use Rattle.std.specs.Prelude.{All, ℕ, List, None, IfNone, IfSome, drop};
 ghost use Rattle.aide_entry.specs.Fields.{is_column, field_under};
 ghost use Rattle.aide_entry.specs.FirstColumns.{AreFirstColumns};
 ghost use Rattle.aide_entry.specs.Spans.{first_in};

@@ -1,7 +1,6 @@
 //! Finds the runs of bytes between blanks, which are the fields of a line.
 ghost use Rattle.std.specs.Prelude.{ℕ, slice_index, true, false, ◌≡◌, ◌+◌, ◌^◌, ◌<◌, ◌≤◌, [], ◌∷◌};
-ghost use Rattle.std.specs.Prelude.{◌++◌, length, take, drop};
-ghost use Rattle.std.specs.Prelude.{IfSome, IfNone};
+ghost use Rattle.std.specs.Prelude.{◌++◌, length, take, drop, IfSome, IfNone};
 ghost use Rattle.std.specs.Int.{bit_at};
 ghost use Rattle.aide_entry.specs.Text.{is_blank, fields};
 ghost use Rattle.aide_entry.specs.Spans.{fields_at};

@@ -1,7 +1,6 @@
 //! The spans of the fields of a line. They are found once.
 ghost use Rattle.std.specs.Prelude.{true, false, ◌≡◌, ◌+◌, ◌^◌, ◌<◌, ◌≤◌, [], ◌∷◌, ◌++◌, length};
-ghost use Rattle.std.specs.Prelude.{take, drop};
-ghost use Rattle.std.specs.Prelude.{IfSome, IfNone};
+ghost use Rattle.std.specs.Prelude.{take, drop, IfSome, IfNone};
 ghost use Rattle.aide_entry.specs.Text.{fields};
 
 use crate::fields::{field_len, run_of};

@@ -14,8 +14,7 @@ use Rattle.aide_report.specs.Asked.{Asked}
 use Rattle.aide_report.specs.Failures.{Rose}
 use Rattle.aide_report.specs.Missing.{IsHindered, IsOfReliable, RunsOver, SendsFront, SendsWhole, StopsFor, TellsSide}
 use Rattle.aide_report.specs.Missing.{run_answer}
-use Rattle.aide_report.specs.Runs.{HasCause, Causes}
-use Rattle.aide_report.specs.Runs.{Report}
+use Rattle.aide_report.specs.Runs.{HasCause, Causes, Report}
 use Rattle.aide_report.specs.Sent.{SendsPart}
 use Rattle.aide_entry.specs.Cause.{is_memory}
 use Rattle.aide_db.specs.Side.{by_side}

@@ -3,11 +3,9 @@ ghost use Rattle.std.specs.Prelude.{◌≡◌, ◌==◌, ◌<◌, ℕ, List};
 ghost use Rattle.std.specs.Int.{bit_at};
 ghost use Rattle.aide_session.specs.Put.{Put};
 ghost use Rattle.aide_session.specs.Lines.{changed_line, column_number, conf_line, conf_place};
-ghost use Rattle.aide_session.specs.Lines.{database_line};
-ghost use Rattle.aide_session.specs.Lines.{database_place, fault_column, memory_line, open_line};
-ghost use Rattle.aide_session.specs.Lines.{outcome_lines};
-ghost use Rattle.aide_session.specs.Lines.{line_if_skipped, side_word, skipped_line, skipped_lines};
-ghost use Rattle.aide_session.specs.Lines.{too_large_line};
+ghost use Rattle.aide_session.specs.Lines.{database_line, database_place, fault_column};
+ghost use Rattle.aide_session.specs.Lines.{memory_line, open_line, outcome_lines, line_if_skipped};
+ghost use Rattle.aide_session.specs.Lines.{side_word, skipped_line, skipped_lines, too_large_line};
 ghost use Rattle.aide_session.specs.Lines.{unread_line, usage_line, write_line};
 
 use crate::pieces::{

@@ -2,10 +2,9 @@
 ghost use Rattle.std.specs.Prelude.{◌≡◌, ℕ, List};
 ghost use Rattle.aide_session.specs.Put.{Put};
 ghost use Rattle.aide_session.specs.Lines.{changed_end, changed_start, colon, colon_blank};
-ghost use Rattle.aide_session.specs.Lines.{column_start};
-ghost use Rattle.aide_session.specs.Lines.{blank, database_blank, database_word, end_of_line};
-ghost use Rattle.aide_session.specs.Lines.{open_start};
-ghost use Rattle.aide_session.specs.Lines.{program_word, skipped_end, unread_start};
+ghost use Rattle.aide_session.specs.Lines.{column_start, blank, database_blank, database_word};
+ghost use Rattle.aide_session.specs.Lines.{end_of_line, open_start, program_word, skipped_end};
+ghost use Rattle.aide_session.specs.Lines.{unread_start};
 
 use crate::put::put;
 use aide_report::Sink;

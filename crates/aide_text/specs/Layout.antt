@@ -1,7 +1,6 @@
 -- Texts of the report that are padded and cut.
 use Rattle.std.specs.Prelude.{ℕ, zero, suc, ◌+◌, ◌-◌, ◌/◌, ◌==◌, if◌then◌else◌, Bool, List, [], ◌∷◌}
-use Rattle.std.specs.Prelude.{◌++◌, not, max, take, drop, length}
-use Rattle.std.specs.Prelude.{replicate, codes}
+use Rattle.std.specs.Prelude.{◌++◌, not, max, take, drop, length, replicate, codes}
 use Rattle.aide_text.specs.Printed.{printed}
 
 -- a text, padded with blanks to a width in bytes

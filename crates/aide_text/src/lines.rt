@@ -2,10 +2,9 @@
 ghost use Rattle.std.specs.Prelude.{◌≡◌, ◌≤◌, replicate, take, drop, if◌then◌else◌, []};
 ghost use Rattle.aide_text.specs.PenSheet.{sheet};
 ghost use Rattle.aide_text.specs.Sheet.{Wrote};
-ghost use Rattle.aide_text.specs.Layout.{padded, margin, indent, heading};
-ghost use Rattle.aide_text.specs.Layout.{single_line, alone};
-ghost use Rattle.aide_text.specs.Layout.{bar, left_part, pair_body, pair_line};
-ghost use Rattle.aide_text.specs.Layout.{next_line, has_lines, side_by_side};
+ghost use Rattle.aide_text.specs.Layout.{padded, margin, indent, heading, single_line, alone, bar};
+ghost use Rattle.aide_text.specs.Layout.{left_part, pair_body, pair_line, next_line, has_lines};
+ghost use Rattle.aide_text.specs.Layout.{side_by_side};
 ghost use Rattle.aide_text.specs.PieceText.{piece_text};
 
 use crate::feed::Feed;

@@ -28,7 +28,7 @@ use Rattle.std.specs.List.{list_any}
 use Rattle.std.specs.FinMap as finmap
 use Rattle.aide_attr.specs.declared.set.AttrSet.{AttrSet}
 use Rattle.aide_attr.specs.declared.level.Level.{Level}
-use Rattle.aide_attr.specs.Groups.{Sets, names_of, IsFull}
+use Rattle.aide_attr.specs.Groups.{Sets, names_of, IsFull, most_groups}
 use Rattle.aide_attr.specs.declared.attr.Attr.{Attr}
 use Rattle.aide_attr.specs.declared.expression.ExprFault.{ExprFault}
 use Rattle.aide_attr.specs.Expression.{IsFault}
@@ -47,10 +47,9 @@ use Rattle.aide_conf.specs.declared.blocks.Frame.{Frame}
 use Rattle.aide_conf.specs.Cutting.{Place}
 use Rattle.aide_conf.specs.Options.{options_of, switch_of, is_switch, attrs_of, is_list}
 use Rattle.aide_conf.specs.Effect.{Effect, same}
-use Rattle.aide_conf.specs.Marks.{Marked}
+use Rattle.aide_conf.specs.Marks.{Marked, says}
 use Rattle.aide_conf.specs.MarkedGroups.{IsJudgedWell}
 use Rattle.aide_conf.specs.RightMarks.{AreSound, Grows, IsMarkedWell}
-use Rattle.aide_conf.specs.Marks.{says}
 use Rattle.aide_conf.specs.MarkedBlocks.{seen_in}
 use Rattle.aide_conf.specs.MarkedGroups.{meaning_after, expression_in, group, group_names}
 use Rattle.aide_conf.specs.MarkedVariables.{variable, is_defined, variable_names, defined_names}
@@ -59,7 +58,6 @@ use Rattle.aide_conf.specs.PlaceFault.{line_fault, fault_at, verdict_fault}
 use Rattle.aide_conf.specs.code.Stack.{IsOpen}
 use Rattle.aide_conf.specs.code.Variables.{Values, values_of}
 use Rattle.aide_conf.specs.Settings.{AreOptions, counted, fixes}
-use Rattle.aide_attr.specs.Groups.{most_groups}
 
 -- the bytes of a path, if there is one
 abbrev pub text_at : {A : Type 0} → Option (String A) → Option (List ℕ)

@@ -7,9 +7,8 @@ use Rattle.aide_conf.specs.declared.effect.Effect as code
 use Rattle.aide_conf.specs.declared.effect.Effect.TheVariants as returned
 use Rattle.aide_conf.specs.declared.directive.Directive.{Directive}
 use Rattle.aide_conf.specs.declared.directive.Directive.TheVariants as directive
-use Rattle.aide_conf.specs.Effect.{Effect, Nothing, Faulty}
-use Rattle.aide_conf.specs.Effect.{NamesDatabase, SetsLevel, SetsSwitch, SetsAttributes}
-use Rattle.aide_conf.specs.Effect.{EndsOptions, DefinesGroup}
+use Rattle.aide_conf.specs.Effect.{Effect, Nothing, Faulty, NamesDatabase, SetsLevel, SetsSwitch}
+use Rattle.aide_conf.specs.Effect.{SetsAttributes, EndsOptions, DefinesGroup}
 
 -- the bytes that are borrowed, if any
 abbrev pub bytes_at : Option (Bor (List ℕ)) → Option (List ℕ)

@@ -1,0 +1,18 @@
+use Rattle.std.proofs.Common.{◌≡◌, ap, sym, ◌∙◌, true, false, List, ℕ}
+use Rattle.std.specs.Prelude.{codes, nat_eq}
+use Rattle.std.specs.List.{starts_with}
+use Rattle.std.specs.Str.{bytes_eq}
+use Rattle.aide_entry.specs.Lines.{kind_of_field}
+use Rattle.aide_entry.specs.declared.line.LineKind.TheVariants.{Begin}
+use Rattle.aide_entry.proofs.line.kind_of_field.Goals as goal
+
+-- a field with the word of a first line, and no comment, makes its line a first line
+begins : (field : List ℕ) → starts_with nat_eq field (codes "#") ≡ false → bytes_eq field (codes "@@begin_db") ≡ true
+    → Begin ≡ kind_of_field field
+unfolding kind_of_field
+begins field plain is = sym (rw (plain, is))
+
+pub returns-then-eq : goal.returns-then-eq
+returns-then-eq c =
+    begins c.args.field.now (sym c.starts_with.ensures.value ∙ c.if-starts_with.false)
+    (ap (bytes_eq c.args.field.now) (sym c.as_slice.ensures) ∙ (sym c.eq.ensures ∙ c.if-eq.true))
