@@ -36,6 +36,8 @@ from report_parts import judge, read_report
 from shown_text import shown, shown_path
 
 REFUSED, USAGE, DEVICE = 65, 15, 18
+# What a report may leave open.
+DOUBTS = {'kind', 'end', 'old-empty', 'old-blanks', 'new-empty'}
 
 
 def run(words, text=b'', **streams):
@@ -118,9 +120,12 @@ def try_program(program, seed, count, tally):
 
 
 def try_hostile(seed, count, tally):
-    """Reports with names and values that could be taken for something else. Returns how often which doubt was met."""
-    doubts = {}
-    for number in range(count):
+    """Reports with names and values that could be taken for something else: further ones, up to ten times as many, until
+    each doubt was met. Some seeds meet no entry of an open kind in 400 reports."""
+    doubts = set()
+    for number in range(10 * count):
+        if number >= count and doubts == DOUBTS:
+            break
         pick = random.Random('hostile %d %d' % (seed, number))
         databases, texts = hostile.random_databases(pick)
         settings, label = random_settings(pick), 'seed %d, hostile %d' % (seed, number)
@@ -134,9 +139,8 @@ def try_hostile(seed, count, tally):
         tally.add(label, faults)
         for fields in objects:
             for part in [fields] + list(fields.get('attributes', {}).values()):
-                for doubt in part.get('uncertain', ()):
-                    doubts[doubt] = doubts.get(doubt, 0) + 1
-    return doubts
+                doubts.update(part.get('uncertain', ()))
+    tally.add('doubts', ['met %s' % ', '.join(sorted(doubts))] if doubts != DOUBTS else [])
 
 
 def try_cuts(tally):
@@ -299,8 +303,7 @@ def main():
     try_cuts(tally)
     try_edits(tally)
     try_shown(given.seed, tally)
-    doubts = try_hostile(given.seed, 10 * given.count, tally)
-    tally.add('doubts', ['only %r was met' % doubts] if len(doubts) < 5 else [])
+    try_hostile(given.seed, 10 * given.count, tally)
     try_program(program, given.seed, given.count, tally)
     tally.end()
 
