@@ -17,7 +17,7 @@ import sys
 
 from displays.messages import try_messages
 from displays.pages import all_displays
-from displays.place import Place
+from displays.sandbox import Sandbox
 from displays.rows import ROWS
 from displays.statuses import try_statuses
 
@@ -36,13 +36,13 @@ def rows_of(displays, check):
     return pairs
 
 
-def try_one(place, display, row):
-    place.now = display.name() + " "
+def try_one(sandbox, display, row):
+    sandbox.now = display.name() + " "
     try:
-        row.work(place, display)
+        row.work(sandbox, display)
     except OSError as fault:
-        place.check(False, "cannot be looked at:", str(fault))
-    place.now = ""
+        sandbox.check(False, "cannot be looked at:", str(fault))
+    sandbox.now = ""
 
 
 def main():
@@ -55,17 +55,17 @@ def main():
     if len(words) != 1 or not os.access(words[0], os.X_OK):
         sys.stderr.write("usage: tools/try_commands.py [--with-rt] PROGRAM\nPROGRAM has to be the built program\n")
         return 2
-    place = Place(words[0], with_rt)
+    sandbox = Sandbox(words[0], with_rt)
     try:
-        place.install()
-        for display, row in rows_of(all_displays(), place.check):
-            try_one(place, display, row)
-        try_statuses(place)
-        try_messages(place.check)
+        sandbox.install()
+        for display, row in rows_of(all_displays(), sandbox.check):
+            try_one(sandbox, display, row)
+        try_statuses(sandbox)
+        try_messages(sandbox.check)
     finally:
-        place.trial.close()
-    print("%d passed, %d failed" % (place.trial.passed, place.trial.failed))
-    return 1 if place.trial.failed else 0
+        sandbox.trial.close()
+    print("%d passed, %d failed" % (sandbox.trial.passed, sandbox.trial.failed))
+    return 1 if sandbox.trial.failed else 0
 
 
 if __name__ == "__main__":

@@ -15,7 +15,7 @@ from tool_trials.accept import try_accept
 from tool_trials.age import try_age
 from tool_trials.faults import try_faults, try_signals
 from tool_trials.mail import try_mail
-from tool_trials.place import Place, shells
+from tool_trials.sandbox import Sandbox, shells
 from tool_trials.run import try_run
 from tool_trials.state import try_readers
 from trials import Tally, program_of, side_by_side
@@ -26,13 +26,13 @@ TRIALS = [try_run, try_age, try_faults, try_signals, try_accept, try_mail, try_r
 def try_one(given):
     """One set of trials under one shell, in a place of its own."""
     program, shell, trial, tally = given
-    place = Place(program, shell, tally)
+    sandbox = Sandbox(program, shell, tally)
     try:
-        trial(place)
+        trial(sandbox)
     except Exception:
         tally.add(' '.join(shell), [traceback.format_exc()])
     finally:
-        place.remove()
+        sandbox.remove()
 
 
 def main():

@@ -22,37 +22,37 @@ class Row:
 
 
 class Commands(Row):
-    """Commands that are run. look(place, done) compares more; needs names a program that may be missing."""
+    """Commands that are run. look(sandbox, done) compares more; needs names a program that may be missing."""
 
     def __init__(self, page, key, statuses, look=looks.nothing, prepare=None, folder="/tmp", given=None, needs=None):
         super().__init__(page, key)
         self.statuses, self.look, self.prepare, self.folder, self.given, self.needs = (
             statuses, look, prepare, folder, given, needs)
 
-    def work(self, place, display):
-        if self.needs and not place.has(self.needs):
+    def work(self, sandbox, display):
+        if self.needs and not sandbox.has(self.needs):
             print("skipped: %s %s is not installed" % (display.name(), self.needs))
             return
-        place.fill()
+        sandbox.fill()
         if self.prepare:
-            self.prepare(place)
-        done = place.run(display.text, self.folder, self.given)
-        place.check(done[0] == self.statuses, "ends with %s" % self.statuses, done)
+            self.prepare(sandbox)
+        done = sandbox.run(display.text, self.folder, self.given)
+        sandbox.check(done[0] == self.statuses, "ends with %s" % self.statuses, done)
         said = re.findall(r"\(?status (\d+)", display.key)
-        place.check(not said or [int(word) for word in said] == done[0][-1:], "ends as the page says: %s" % said, done)
-        self.look(place, done)
+        sandbox.check(not said or [int(word) for word in said] == done[0][-1:], "ends as the page says: %s" % said, done)
+        self.look(sandbox, done)
 
 
 class Shown(Row):
-    """A text that is no command: look(place, text) makes what it shows, and compares."""
+    """A text that is no command: look(sandbox, text) makes what it shows, and compares."""
 
     def __init__(self, page, key, look):
         super().__init__(page, key)
         self.look = look
 
-    def work(self, place, display):
-        place.fill()
-        self.look(place, display.text)
+    def work(self, sandbox, display):
+        sandbox.fill()
+        self.look(sandbox, display.text)
 
 
 class Elsewhere(Row):
@@ -62,19 +62,19 @@ class Elsewhere(Row):
         super().__init__(page, key)
         self.reason, self.file, self.look = reason, file, look
 
-    def work(self, place, display):
-        place.check(os.path.isfile(os.path.join(HERE, self.file)), "is tried by a file that is there: " + self.file)
+    def work(self, sandbox, display):
+        sandbox.check(os.path.isfile(os.path.join(HERE, self.file)), "is tried by a file that is there: " + self.file)
         for name in re.findall(r"^tools/\S+", display.text, re.M):
-            place.check(os.access(os.path.join(HERE, name), os.X_OK), "names a command that is there: " + name)
-        self.look(place, display.text)
+            sandbox.check(os.access(os.path.join(HERE, name), os.X_OK), "names a command that is there: " + name)
+        self.look(sandbox, display.text)
 
 
 class WithRt(Commands):
     """Commands of the kit that are run only if this is asked for."""
 
-    def work(self, place, display):
-        if place.with_rt:
-            super().work(place, display)
+    def work(self, sandbox, display):
+        if sandbox.with_rt:
+            super().work(sandbox, display)
         else:
             print("skipped: %s; --with-rt runs it" % display.name())
 
@@ -82,9 +82,9 @@ class WithRt(Commands):
 class FirstAnswer(Commands):
     """README's first command: by the built program, or in this clone by the kit if this is asked for."""
 
-    def work(self, place, display):
-        self.folder = HERE if place.with_rt else "/tmp/clone"
-        super().work(place, display)
+    def work(self, sandbox, display):
+        self.folder = HERE if sandbox.with_rt else "/tmp/clone"
+        super().work(sandbox, display)
 
 
 LEVELS = ["minimal", "summary", "database_attributes", "list_entries", "changed_attributes", "added_removed_attributes",

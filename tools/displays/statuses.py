@@ -2,7 +2,7 @@
 import re
 
 from .pages import read
-from .place import HEAD, NEW, OLD, SUMMARY
+from .sandbox import HEAD, NEW, OLD, SUMMARY
 
 ENDS = "@@end_db\n"
 ADDED = HEAD + "/a 100644 5 MA== 4\n" + ENDS
@@ -43,16 +43,16 @@ def said(words):
     return []
 
 
-def try_statuses(place):
+def try_statuses(sandbox):
     seen = set()
     for words, old, new, command in CASES:
-        place.fill(old, new)
-        done = place.run(command)
+        sandbox.fill(old, new)
+        done = sandbox.run(command)
         good = said(words) == [str(number) for number in done[0]]
-        place.check(good, "README.md: the status of: " + words, (said(words), done))
+        sandbox.check(good, "README.md: the status of: " + words, (said(words), done))
         seen.update(said(words))
     numbers = {number for numbers, _ in table() for number in numbers}
-    place.check(numbers and numbers == seen, "README.md: statuses that were not tried", numbers ^ seen)
-    place.fill()
-    done = place.run(COMPARE)
-    place.check(done[0] == [7] and SUMMARY in done[1], "README.md: sums of statuses", done)
+    sandbox.check(numbers and numbers == seen, "README.md: statuses that were not tried", numbers ^ seen)
+    sandbox.fill()
+    done = sandbox.run(COMPARE)
+    sandbox.check(done[0] == [7] and SUMMARY in done[1], "README.md: sums of statuses", done)

@@ -4,7 +4,7 @@ import os
 import re
 import time
 
-from .place import NEW, OLD
+from .sandbox import NEW, OLD
 from .run import KEYS
 
 TOOL = 'aide-compare-run'
@@ -12,25 +12,25 @@ HOUR = 3600
 REFUSAL = 'aide-compare-run: the new database %s is %s old, more than --age allows: does AIDE still run?\n'
 
 
-def try_age(place):
+def try_age(sandbox):
     for trial in (try_old_files, try_accepted, try_links, try_pipes, try_values, try_readers):
-        trial(place)
+        trial(sandbox)
 
 
-def write_aged(place, name, text, seconds):
+def write_aged(sandbox, name, text, seconds):
     """A database that was written so many seconds ago."""
-    path = place.write(name, text)
+    path = sandbox.write(name, text)
     os.utime(path, (time.time() - seconds,) * 2)
     return path
 
 
-def refused(place, label, answer, name='late.db', age='3 hours'):
+def refused(sandbox, label, answer, name='late.db', age='3 hours'):
     """Nothing is compared, and the one line says why, in the state too."""
     line = REFUSAL % (name, age)
-    place.expect(label, answer, 18, b'', line.encode())
-    place.check('one line, ' + label, answer.errors == line.encode(), answer)
-    state = place.state()
-    place.check(
+    sandbox.expect(label, answer, 18, b'', line.encode())
+    sandbox.check('one line, ' + label, answer.errors == line.encode(), answer)
+    state = sandbox.state()
+    sandbox.check(
         'the state, ' + label,
         list(state) == KEYS
         and (state['status'], state['error'] + '\n') == ('18', line)
@@ -39,49 +39,49 @@ def refused(place, label, answer, name='late.db', age='3 hours'):
     )
 
 
-def try_old_files(place):
-    os.utime(place.path('old.db'))
-    write_aged(place, 'late.db', NEW, 3 * HOUR + 60)
-    write_aged(place, 'late.db.gz', gzip.compress(NEW), 3 * HOUR + 60)
-    write_aged(place, 'years.db', OLD, 2 * 365 * 24 * HOUR + 60)
+def try_old_files(sandbox):
+    os.utime(sandbox.path('old.db'))
+    write_aged(sandbox, 'late.db', NEW, 3 * HOUR + 60)
+    write_aged(sandbox, 'late.db.gz', gzip.compress(NEW), 3 * HOUR + 60)
+    write_aged(sandbox, 'years.db', OLD, 2 * 365 * 24 * HOUR + 60)
     for words in (['--age', '7200'], ['--age=7200'], ['--age', str(3 * HOUR)], ['--age', '1', '--', '-A', 'report_quiet=yes']):
-        answer = place.call(TOOL, '--state', 'state', 'old.db', 'late.db', *words)
-        refused(place, 'an old database with %r' % words, answer)
+        answer = sandbox.call(TOOL, '--state', 'state', 'old.db', 'late.db', *words)
+        refused(sandbox, 'an old database with %r' % words, answer)
     refused(
-        place,
+        sandbox,
         'an old database in gzip',
-        place.call(TOOL, '--state', 'state', '--age', '7200', 'old.db', 'late.db.gz'),
+        sandbox.call(TOOL, '--state', 'state', '--age', '7200', 'old.db', 'late.db.gz'),
         'late.db.gz',
     )
     refused(
-        place,
+        sandbox,
         'years without a difference',
-        place.call(TOOL, '--state', 'state', '--age', '180000', 'old.db', 'years.db'),
+        sandbox.call(TOOL, '--state', 'state', '--age', '180000', 'old.db', 'years.db'),
         'years.db',
         '17520 hours',
     )
-    place.write('conf', 'database_in=file:%s\ndatabase_out=file:%s\n' % (place.path('old.db'), place.path('late.db')))
+    sandbox.write('conf', 'database_in=file:%s\ndatabase_out=file:%s\n' % (sandbox.path('old.db'), sandbox.path('late.db')))
     refused(
-        place,
+        sandbox,
         'an old database of a configuration',
-        place.call(TOOL, '--state', 'state', '--age', '7200', '-c', 'conf'),
-        place.path('late.db'),
+        sandbox.call(TOOL, '--state', 'state', '--age', '7200', '-c', 'conf'),
+        sandbox.path('late.db'),
     )
-    write_aged(place, 'minute.db', NEW, 100)
-    answer = place.call(TOOL, '--age', '60', 'old.db', 'minute.db')
+    write_aged(sandbox, 'minute.db', NEW, 100)
+    answer = sandbox.call(TOOL, '--age', '60', 'old.db', 'minute.db')
     line = re.escape(REFUSAL) % ('minute\\.db', r'1\d\d seconds')
-    place.check('an age of seconds', answer.status == 18 and re.fullmatch(line, answer.errors.decode()), answer)
-    place.expect(
-        'a missing database with --age', place.call(TOOL, '--age', '60', 'old.db', 'missing'), 18, b'', b'cannot open the new'
+    sandbox.check('an age of seconds', answer.status == 18 and re.fullmatch(line, answer.errors.decode()), answer)
+    sandbox.expect(
+        'a missing database with --age', sandbox.call(TOOL, '--age', '60', 'old.db', 'missing'), 18, b'', b'cannot open the new'
     )
 
 
-def try_accepted(place):
+def try_accepted(sandbox):
     """No limit, an age below it, a time in the future; and the age of the old database does not matter."""
-    write_aged(place, 'years.old', OLD, 2 * 365 * 24 * HOUR)
-    write_aged(place, 'late.db', NEW, 3 * HOUR)
-    write_aged(place, 'fresh.db', NEW, 50)
-    write_aged(place, 'later.db', NEW, -90 * HOUR)
+    write_aged(sandbox, 'years.old', OLD, 2 * 365 * 24 * HOUR)
+    write_aged(sandbox, 'late.db', NEW, 3 * HOUR)
+    write_aged(sandbox, 'fresh.db', NEW, 50)
+    write_aged(sandbox, 'later.db', NEW, -90 * HOUR)
     for label, words in (
         ('no limit', ['years.old', 'late.db']),
         ('--age 0', ['--age', '0', 'years.old', 'late.db']),
@@ -90,63 +90,63 @@ def try_accepted(place):
         ('a time in the future', ['--age', '7200', 'years.old', 'later.db']),
         ('the greatest limit', ['--age', '9' * 15, 'years.old', 'late.db']),
     ):
-        answer = place.call(TOOL, '--state', 'state', *words)
-        place.expect(label, answer, 7, b'Changed entries:         2', b'')
-        place.check('the state, ' + label, (place.state()['status'], place.state()['error']) == ('7', ''), place.state())
+        answer = sandbox.call(TOOL, '--state', 'state', *words)
+        sandbox.expect(label, answer, 7, b'Changed entries:         2', b'')
+        sandbox.check('the state, ' + label, (sandbox.state()['status'], sandbox.state()['error']) == ('7', ''), sandbox.state())
 
 
-def try_links(place):
+def try_links(sandbox):
     """The age is that of the file, and not of a link to it."""
-    write_aged(place, 'late.db', NEW, 3 * HOUR + 60)
-    write_aged(place, 'fresh.db', NEW, 50)
+    write_aged(sandbox, 'late.db', NEW, 3 * HOUR + 60)
+    write_aged(sandbox, 'fresh.db', NEW, 50)
     for target, name in (('late.db', 'fresh link'), ('fresh.db', 'late link')):
-        os.symlink(target, place.path(name))
-    os.utime(place.path('late link'), (time.time() - 3 * HOUR,) * 2, follow_symlinks=False)
-    answer = place.call(TOOL, '--state', 'state', '--age', '7200', 'old.db', 'fresh link')
-    refused(place, 'a link to an old file', answer, 'fresh link')
-    place.expect('an old link to a fresh file', place.call(TOOL, '--age', '7200', 'old.db', 'late link'), 7, b'Changed', b'')
+        os.symlink(target, sandbox.path(name))
+    os.utime(sandbox.path('late link'), (time.time() - 3 * HOUR,) * 2, follow_symlinks=False)
+    answer = sandbox.call(TOOL, '--state', 'state', '--age', '7200', 'old.db', 'fresh link')
+    refused(sandbox, 'a link to an old file', answer, 'fresh link')
+    sandbox.expect('an old link to a fresh file', sandbox.call(TOOL, '--age', '7200', 'old.db', 'late link'), 7, b'Changed', b'')
 
 
-def try_pipes(place):
+def try_pipes(sandbox):
     """A pipe has no age: with a limit it is refused, and nobody waits for a writer. A redirected file has one."""
-    os.mkfifo(place.path('pipe'))
+    os.mkfifo(sandbox.path('pipe'))
     for name, more in (('pipe', {}), ('/dev/stdin', {'text': NEW})):
-        answer = place.call(TOOL, '--state', 'state', '--age', '7200', 'old.db', name, **more)
+        answer = sandbox.call(TOOL, '--state', 'state', '--age', '7200', 'old.db', name, **more)
         line = 'aide-compare-run: the new database %s is no regular file, so --age cannot tell its age' % name
-        place.expect('a pipe with --age, ' + name, answer, 18, b'', line.encode())
-        place.check('the state of a pipe with --age, ' + name, place.state()['error'] == line, place.state())
-    place.expect('a pipe with --age 0', place.call(TOOL, '--age', '0', 'old.db', '/dev/stdin', text=NEW), 7, b'Changed', b'')
-    place.expect('an old pipe', place.call(TOOL, '--age', '7200', '/dev/stdin', 'new.db', text=OLD), 7, b'Changed', b'')
-    write_aged(place, 'late.db', NEW, 3 * HOUR + 60)
+        sandbox.expect('a pipe with --age, ' + name, answer, 18, b'', line.encode())
+        sandbox.check('the state of a pipe with --age, ' + name, sandbox.state()['error'] == line, sandbox.state())
+    sandbox.expect('a pipe with --age 0', sandbox.call(TOOL, '--age', '0', 'old.db', '/dev/stdin', text=NEW), 7, b'Changed', b'')
+    sandbox.expect('an old pipe', sandbox.call(TOOL, '--age', '7200', '/dev/stdin', 'new.db', text=OLD), 7, b'Changed', b'')
+    write_aged(sandbox, 'late.db', NEW, 3 * HOUR + 60)
     for name, status in (('late.db', 18), ('new.db', 7)):
-        with open(place.path(name), 'rb') as file:
-            answer = place.call(TOOL, '--age', '7200', 'old.db', '/dev/stdin', stdin=file)
-        place.expect('a redirected file, ' + name, answer, status, None, b'/dev/stdin is 3 hours old' if status == 18 else b'')
+        with open(sandbox.path(name), 'rb') as file:
+            answer = sandbox.call(TOOL, '--age', '7200', 'old.db', '/dev/stdin', stdin=file)
+        sandbox.expect('a redirected file, ' + name, answer, status, None, b'/dev/stdin is 3 hours old' if status == 18 else b'')
 
 
-def try_values(place):
-    place.write('state', b'as before\n')
+def try_values(sandbox):
+    sandbox.write('state', b'as before\n')
     for words in (['--age'], ['--age', ''], ['--age='], ['--age', 'x'], ['--age=-1'], ['--age', '1h'], ['--age', '1.5'],
                   ['--age', '08'], ['--age', '9' * 16]):
-        answer = place.call(TOOL, '--state', 'state', 'old.db', 'new.db', *words)
-        place.expect('the arguments %r' % words, answer, 15, b'', b'aide-compare-run: --age needs a ')
-        place.check('the state with %r' % words, place.read('state') == b'as before\n')
+        answer = sandbox.call(TOOL, '--state', 'state', 'old.db', 'new.db', *words)
+        sandbox.expect('the arguments %r' % words, answer, 15, b'', b'aide-compare-run: --age needs a ')
+        sandbox.check('the state with %r' % words, sandbox.read('state') == b'as before\n')
 
 
-def try_readers(place):
+def try_readers(sandbox):
     """The check, the metrics and the line for the log take the refusal from the state."""
-    write_aged(place, 'late.db', OLD, 3 * HOUR + 60)
-    place.call(TOOL, '--state', 'state', '--age', '7200', 'old.db', 'late.db')
+    write_aged(sandbox, 'late.db', OLD, 3 * HOUR + 60)
+    sandbox.call(TOOL, '--state', 'state', '--age', '7200', 'old.db', 'late.db')
     reason = (REFUSAL % ('late.db', '3 hours')).encode().strip()
-    place.expect(
+    sandbox.expect(
         'the check of an old database',
-        place.call('check_aide_compare', '--state', 'state'),
+        sandbox.call('check_aide_compare', '--state', 'state'),
         3,
         b'AIDE UNKNOWN: no comparison, status 18: ' + reason + b'|age=',
         b'',
     )
-    place.expect('the log of an old database', place.call('aide-compare-log', '--state', 'state'), 0, [b'no comparison', reason], b'')
-    answer = place.call('aide-compare-metrics', '--state', 'state', 'metrics.prom')
-    text = place.read('metrics.prom')
+    sandbox.expect('the log of an old database', sandbox.call('aide-compare-log', '--state', 'state'), 0, [b'no comparison', reason], b'')
+    answer = sandbox.call('aide-compare-metrics', '--state', 'state', 'metrics.prom')
+    text = sandbox.read('metrics.prom')
     good = answer.status == 0 and re.search(rb'_status 18$', text, re.M) and b'_entries' not in text
-    place.check('the metrics of an old database', good, (answer, text))
+    sandbox.check('the metrics of an old database', good, (answer, text))

@@ -1,12 +1,12 @@
 """aide-compare-run: the lines with which it explains an error of aide-compare."""
 import gzip
 
-from .place import END, HEAD, NEW
+from .sandbox import END, HEAD, NEW
 
 TOOL = 'aide-compare-run'
 
 
-def try_database_hints(place):
+def try_database_hints(sandbox):
     name = 'hints é\n.db'
     shown = 'the new database is hints é\\012.db\n'.encode()
     for label, text, errors in (
@@ -43,11 +43,11 @@ def try_database_hints(place):
         ('UTF-16', NEW.decode().encode('utf-16'), [b'UTF-16']),
         ('another file', b'root:x:0:0\n', [b'no @@begin_db\n', b'line 1: root:x:0:0\n', b'no database of AIDE']),
     ):
-        place.write(name, text)
-        answer = place.call(TOOL, 'old.db', name)
-        place.expect('a hint on %s' % label, answer, 24, b'', errors)
+        sandbox.write(name, text)
+        answer = sandbox.call(TOOL, 'old.db', name)
+        sandbox.expect('a hint on %s' % label, answer, 24, b'', errors)
         lines = answer.errors.split(b'\n')
-        place.check(
+        sandbox.check(
             'lines of %s' % label,
             lines[0].startswith(b'aide: ')
             and lines[-1] == b''
@@ -56,7 +56,7 @@ def try_database_hints(place):
         )
 
 
-def try_configuration_hints(place):
+def try_configuration_hints(sandbox):
     for text, errors in (
         (
             '\n report_lvel=minimal',
@@ -73,18 +73,18 @@ def try_configuration_hints(place):
         ('@@x_include /x\n@@odd', [b'aide: config:2: unknown directive\n', b'line 2: @@odd\n', b'AIDE may know it']),
         ('a\x1b[1m\x80', [b'line 1: a\\033[1m']),
     ):
-        place.write('odd conf', text)
-        answer = place.call(TOOL, '-c', 'odd conf', 'old.db', 'new.db')
-        place.expect('a hint on %r' % text, answer, 17, b'', errors)
+        sandbox.write('odd conf', text)
+        answer = sandbox.call(TOOL, '-c', 'odd conf', 'old.db', 'new.db')
+        sandbox.expect('a hint on %r' % text, answer, 17, b'', errors)
         if 'lvel' not in text:
-            place.check(
+            sandbox.check(
                 'no more than a hint on %r' % text,
                 b'lvel is no option' not in answer.errors and b'xyz is no' not in answer.errors,
                 answer,
             )
     for option, name in (('-A', b'after'), ('-B', b'before')):
-        answer = place.call(TOOL, 'old.db', 'new.db', '--', option, '\nreport_level=x')
-        place.expect(
+        answer = sandbox.call(TOOL, 'old.db', 'new.db', '--', option, '\nreport_level=x')
+        sandbox.expect(
             'a hint on ' + option,
             answer,
             17,

@@ -6,13 +6,13 @@ import subprocess
 import time
 
 from .hints import try_configuration_hints, try_database_hints
-from .place import COUNTS, END, HEAD, NEW, OLD, UMASK, sha256
+from .sandbox import COUNTS, END, HEAD, NEW, OLD, UMASK, sha256
 
 KEYS = ['format', 'status', 'time', 'date', 'added', 'removed', 'changed', 'old_sha256', 'new_sha256', 'old', 'new', 'error']
 TOOL = 'aide-compare-run'
 
 
-def try_run(place):
+def try_run(sandbox):
     for trial in (
         try_reports,
         try_names,
@@ -24,30 +24,30 @@ def try_run(place):
         try_counts,
         try_state_faults,
     ):
-        trial(place)
+        trial(sandbox)
 
 
-def direct(place, *words):
+def direct(sandbox, *words):
     """What the program itself answers over the plain databases."""
-    text = 'database_in=file:%s\ndatabase_new=file:%s' % (place.path('old.db'), place.path('new.db'))
+    text = 'database_in=file:%s\ndatabase_new=file:%s' % (sandbox.path('old.db'), sandbox.path('new.db'))
     done = subprocess.run(
-        [place.path('bin/aide-compare'), '-E', '-c', '/dev/null', '-A', '\n'.join(words) + '\n' + text],
+        [sandbox.path('bin/aide-compare'), '-E', '-c', '/dev/null', '-A', '\n'.join(words) + '\n' + text],
         stdin=subprocess.DEVNULL,
         stdout=subprocess.PIPE,
     )
     return done.returncode, done.stdout
 
 
-def try_reports(place):
-    status, report = direct(place)
-    place.check('the databases differ in every way', status == 7, status)
+def try_reports(sandbox):
+    status, report = direct(sandbox)
+    sandbox.check('the databases differ in every way', status == 7, status)
     for old in ('old.db', 'old.db.gz'):
         for new in ('new.db', 'new.db.gz'):
-            want = report.replace(place.path('old.db').encode(), b'/proc/self/cwd' + place.path(old).encode())
-            want = want.replace(place.path('new.db').encode(), b'/proc/self/cwd' + place.path(new).encode())
-            answer = place.call(TOOL, old, new)
-            place.expect('the report of %s and %s' % (old, new), answer, 7, want, b'')
-            place.check('the whole report of %s and %s' % (old, new), answer.output == want, answer)
+            want = report.replace(sandbox.path('old.db').encode(), b'/proc/self/cwd' + sandbox.path(old).encode())
+            want = want.replace(sandbox.path('new.db').encode(), b'/proc/self/cwd' + sandbox.path(new).encode())
+            answer = sandbox.call(TOOL, old, new)
+            sandbox.expect('the report of %s and %s' % (old, new), answer, 7, want, b'')
+            sandbox.check('the whole report of %s and %s' % (old, new), answer.output == want, answer)
     for new, status in (
         (OLD, 0),
         (OLD.replace(END, b'/e 36 100644 1\n' + END), 1),
@@ -55,62 +55,62 @@ def try_reports(place):
         (OLD.replace(b'644 10', b'644 11'), 4),
         (b'x', 24),
     ):
-        place.write('other.db', new)
-        place.expect('the status %d' % status, place.call(TOOL, 'old.db', 'other.db'), status)
-    place.write('members.gz', gzip.compress(NEW[:70]) + gzip.compress(NEW[70:]))
-    place.expect('gzip in two pieces', place.call(TOOL, 'old.db', 'members.gz'), 7, report[:200])
-    place.expect('standard input', place.call(TOOL, '/dev/stdin', 'new.db', text=gzip.compress(OLD)), 7, report[:200])
-    place.write('column.db', NEW.replace(b'perm size', b'perm odd'))
-    place.expect(
-        'a skipped column', place.call(TOOL, 'old.db', 'column.db'), 7, None, b'aide: new database: column 4 skipped\n'
+        sandbox.write('other.db', new)
+        sandbox.expect('the status %d' % status, sandbox.call(TOOL, 'old.db', 'other.db'), status)
+    sandbox.write('members.gz', gzip.compress(NEW[:70]) + gzip.compress(NEW[70:]))
+    sandbox.expect('gzip in two pieces', sandbox.call(TOOL, 'old.db', 'members.gz'), 7, report[:200])
+    sandbox.expect('standard input', sandbox.call(TOOL, '/dev/stdin', 'new.db', text=gzip.compress(OLD)), 7, report[:200])
+    sandbox.write('column.db', NEW.replace(b'perm size', b'perm odd'))
+    sandbox.expect(
+        'a skipped column', sandbox.call(TOOL, 'old.db', 'column.db'), 7, None, b'aide: new database: column 4 skipped\n'
     )
-    place.write('stubs/down.gz', gzip.compress(OLD))
-    place.expect(
-        'a file beside the missing one is not taken', place.call(TOOL, 'stubs/down', 'new.db'), 18, b'', b'cannot open'
+    sandbox.write('stubs/down.gz', gzip.compress(OLD))
+    sandbox.expect(
+        'a file beside the missing one is not taken', sandbox.call(TOOL, 'stubs/down', 'new.db'), 18, b'', b'cannot open'
     )
     with open('/dev/full', 'wb') as full:
-        place.expect(
-            'a full output', place.call(TOOL, 'old.db', 'new.db', stdout=full), 18, b'', b'aide: cannot write the report'
+        sandbox.expect(
+            'a full output', sandbox.call(TOOL, 'old.db', 'new.db', stdout=full), 18, b'', b'aide: cannot write the report'
         )
     with open('/dev/full', 'wb') as full:
-        place.expect('full errors', place.call(TOOL, 'old.db', 'other.db', stderr=full), 24, b'')
-    place.expect('--help', place.call(TOOL, '--help'), 0, b'usage: aide-compare-run', b'')
+        sandbox.expect('full errors', sandbox.call(TOOL, 'old.db', 'other.db', stderr=full), 24, b'')
+    sandbox.expect('--help', sandbox.call(TOOL, '--help'), 0, b'usage: aide-compare-run', b'')
 
 
-def try_names(place):
+def try_names(sandbox):
     quoted = "it's \"$HOME\" `x` *"
     for name in ('with blank', 'é', '-dash', quoted, 'end ', 'back\\slash', '@@{X}', 'two\nlines', b'\xff\x01'):
         name = os.fsdecode(name)
-        place.write('odd/old ' + name, OLD)
-        place.write('odd/' + name, gzip.compress(NEW))
-        answer = place.call(TOOL, 'odd/old ' + name, './odd/' + name, '--state', 'state')
-        place.expect('the name %r' % name, answer, 7, b'Changed entries:         2', b'')
+        sandbox.write('odd/old ' + name, OLD)
+        sandbox.write('odd/' + name, gzip.compress(NEW))
+        answer = sandbox.call(TOOL, 'odd/old ' + name, './odd/' + name, '--state', 'state')
+        sandbox.expect('the name %r' % name, answer, 7, b'Changed entries:         2', b'')
         printed = ''.join(
             '\\%03o' % byte if byte < 32 or byte in (92, 127) else chr(byte) for byte in os.fsencode('./odd/' + name)
         )
-        given = place.state().get('new', '').encode('utf-8', 'surrogateescape').decode('latin-1')
-        place.check('the name %r in the state' % name, given == printed, given)
-    place.expect(
+        given = sandbox.state().get('new', '').encode('utf-8', 'surrogateescape').decode('latin-1')
+        sandbox.check('the name %r in the state' % name, given == printed, given)
+    sandbox.expect(
         'a name with ..',
-        place.call(TOOL, 'odd/../old.db', place.path('bin/../../') + os.path.basename(place.root) + '/new.db'),
+        sandbox.call(TOOL, 'odd/../old.db', sandbox.path('bin/../../') + os.path.basename(sandbox.root) + '/new.db'),
         7,
         b'Old database: /proc/self/cwd/old.db\n',
         b'',
     )
-    report = place.call(TOOL, 'odd/old é', 'new.db').output
-    place.check('a name in the report', ('Old database: /proc/self/cwd%s/odd/old é\n' % place.root).encode() in report, report)
-    place.expect('one file twice', place.call(TOOL, 'old.db', 'old.db'), 0, b'NO differences')
-    place.write('paths.db', HEAD + b'/a%0Ab%20c 36 100644 1\n' + END)
-    place.expect('a newline in a path', place.call(TOOL, 'old.db', 'paths.db'), 3, b': /a\\012b c\n')
+    report = sandbox.call(TOOL, 'odd/old é', 'new.db').output
+    sandbox.check('a name in the report', ('Old database: /proc/self/cwd%s/odd/old é\n' % sandbox.root).encode() in report, report)
+    sandbox.expect('one file twice', sandbox.call(TOOL, 'old.db', 'old.db'), 0, b'NO differences')
+    sandbox.write('paths.db', HEAD + b'/a%0Ab%20c 36 100644 1\n' + END)
+    sandbox.expect('a newline in a path', sandbox.call(TOOL, 'old.db', 'paths.db'), 3, b': /a\\012b c\n')
 
 
-def try_configurations(place):
-    databases = 'database_in=file:%s\n%s=file:%s\n' % (place.path('old.db.gz'), '%s', place.path('new.db.gz'))
+def try_configurations(sandbox):
+    databases = 'database_in=file:%s\n%s=file:%s\n' % (sandbox.path('old.db.gz'), '%s', sandbox.path('new.db.gz'))
     debian = '@@x_include_setenv PATH /bin\n  @@x_include /etc/aide/aide.conf.d ^[a-z]+$\nreport_ignore_e2fsattrs=VNIE\n'
     defined = (
         '@@define DIR %s\n@@ifdef DIR\ndatabase_in = file:@@{DIR}/old.db\n@@else\ndatabase_in=file:/no\n@@endif\n'
         '@@ifndef DIR\ndatabase_new=file:/no\n@@else\n @@if not defined X\ndatabase_new=file:@@{DIR}/@@{X}new.db \n@@endif\n@@endif\n'
-        '@@undef DIR\n@@ifdef DIR\ndatabase_new=file:/no\n@@endif\n' % place.root
+        '@@undef DIR\n@@ifdef DIR\ndatabase_new=file:/no\n@@endif\n' % sandbox.root
     )
     for label, text, words in (
         ('database_new', databases % 'database_new', ()),
@@ -122,14 +122,14 @@ def try_configurations(place):
         (
             'a variable of -B',
             'database_in=file:@@{D}/old.db\ndatabase_new=file:@@{D}/new.db',
-            ('--', '-B', '@@define D ' + place.root),
+            ('--', '-B', '@@define D ' + sandbox.root),
         ),
         ('a database of -A', 'database_in=file:/no\ndatabase_new=file:/no', ('--', '-A', databases % 'database_new')),
         ('a rule and a comment', '# database_in=file:/no\n/etc R\n!/database_in=file:/no\n' + databases % 'database_new', ()),
     ):
-        place.write('conf', text)
-        place.expect(
-            'a configuration with ' + label, place.call(TOOL, '-c', 'conf', *words), 7, b'Changed entries:         2', b''
+        sandbox.write('conf', text)
+        sandbox.expect(
+            'a configuration with ' + label, sandbox.call(TOOL, '-c', 'conf', *words), 7, b'Changed entries:         2', b''
         )
     for label, text, errors in (
         ('no database', '', b'conf names no old database'),
@@ -139,25 +139,25 @@ def try_configurations(place):
         ('an output to elsewhere', 'database_in=file:/x\ndatabase_out=stdout', b'no file: stdout'),
         ('a fault', 'database_in=file:/x\nreport_level=1', b'aide: config:2: bad value\n'),
     ):
-        place.write('conf', text)
-        place.expect('a configuration with ' + label, place.call(TOOL, '-c', 'conf'), 17, b'', errors)
-    place.write('conf', 'report_level=summary\nreport_ignore_changed_attrs=s')
-    place.expect(
-        'options of a configuration', place.call(TOOL, '-c', 'conf', 'old.db', 'new.db'), 7, b'Changed entries:         1'
+        sandbox.write('conf', text)
+        sandbox.expect('a configuration with ' + label, sandbox.call(TOOL, '-c', 'conf'), 17, b'', errors)
+    sandbox.write('conf', 'report_level=summary\nreport_ignore_changed_attrs=s')
+    sandbox.expect(
+        'options of a configuration', sandbox.call(TOOL, '-c', 'conf', 'old.db', 'new.db'), 7, b'Changed entries:         1'
     )
-    place.expect(
-        'a missing configuration', place.call(TOOL, '-c', 'missing'), 18, b'', b'cannot read the configuration missing'
+    sandbox.expect(
+        'a missing configuration', sandbox.call(TOOL, '-c', 'missing'), 18, b'', b'cannot read the configuration missing'
     )
-    place.expect(
+    sandbox.expect(
         'an endless configuration',
-        place.call(TOOL, '-c', '/dev/zero', 'old.db', 'new.db'),
+        sandbox.call(TOOL, '-c', '/dev/zero', 'old.db', 'new.db'),
         17,
         b'',
         b'the configuration is longer than 4194304 bytes',
     )
 
 
-def try_arguments(place):
+def try_arguments(sandbox):
     minimal = b'AIDE found differences between the two databases.\n'
     for words in (
         ['-A', 'report_level=minimal'],
@@ -167,12 +167,12 @@ def try_arguments(place):
         ['--after=report_level=minimal'],
         ['-B', 'report_level=minimal'],
     ):
-        answer = place.call(TOOL, 'old.db', 'new.db', '--', *words)
-        place.check('the arguments %r' % words, (answer.status, answer.output) == (7, minimal), answer)
-    answer = place.call(TOOL, 'old.db', 'new.db', '--', '-A', 'database_in=file:/no')
-    place.expect('the databases of the command line win', answer, 7, minimal, b'')
+        answer = sandbox.call(TOOL, 'old.db', 'new.db', '--', *words)
+        sandbox.check('the arguments %r' % words, (answer.status, answer.output) == (7, minimal), answer)
+    answer = sandbox.call(TOOL, 'old.db', 'new.db', '--', '-A', 'database_in=file:/no')
+    sandbox.expect('the databases of the command line win', answer, 7, minimal, b'')
     for words in ([], ['old.db', 'new.db', 'x']):
-        place.expect('the operands %r' % (words or ['old.db']), place.call(TOOL, *(words or ['old.db'])), 15, b'', b'databases')
+        sandbox.expect('the operands %r' % (words or ['old.db']), sandbox.call(TOOL, *(words or ['old.db'])), 15, b'', b'databases')
     for words in (
         ['--', '-D'],
         ['--', '-c', 'x'],
@@ -187,14 +187,14 @@ def try_arguments(place):
         ['-A', 'x'],
         ['--', 'x'],
     ):
-        place.expect('the arguments %r' % words, place.call(TOOL, 'old.db', 'new.db', *words), 15, b'', b'aide-compare-run: ')
+        sandbox.expect('the arguments %r' % words, sandbox.call(TOOL, 'old.db', 'new.db', *words), 15, b'', b'aide-compare-run: ')
 
 
-def try_state(place):
+def try_state(sandbox):
     before = int(time.time())
-    place.call(TOOL, 'old.db.gz', './new.db', '--state', 'state')
-    state = place.state()
-    place.check('the keys of a state', list(state) == KEYS and place.read('state').count(b'\n') == len(KEYS), state)
+    sandbox.call(TOOL, 'old.db.gz', './new.db', '--state', 'state')
+    state = sandbox.state()
+    sandbox.check('the keys of a state', list(state) == KEYS and sandbox.read('state').count(b'\n') == len(KEYS), state)
     want = {
         'format': '1',
         'status': '7',
@@ -205,29 +205,29 @@ def try_state(place):
         'new': './new.db',
         'error': '',
     }
-    place.check('the values of a state', {**state, **want} == state, state)
+    sandbox.check('the values of a state', {**state, **want} == state, state)
     moment = int(state.get('time', '0'))
-    place.check('the time of a state', before <= moment <= time.time(), state)
-    place.check('the date of a state', state.get('date') == time.strftime('%Y-%m-%dT%H:%M:%SZ', time.gmtime(moment)), state)
+    sandbox.check('the time of a state', before <= moment <= time.time(), state)
+    sandbox.check('the date of a state', state.get('date') == time.strftime('%Y-%m-%dT%H:%M:%SZ', time.gmtime(moment)), state)
     for mask in (0o77, 0o22):
-        place.call(TOOL, 'old.db', 'new.db', '--state', 'masked/by/state', before=UMASK % mask)
-        place.check('the mode of a state', os.stat(place.path('masked/by/state')).st_mode & 0o7777 == 0o644)
-        place.check('the mode of its folder', os.stat(place.path('masked/by')).st_mode & 0o777 == 0o755)
-    place.check('nothing beside a state', os.listdir(place.path('masked/by')) == ['state'], os.listdir(place.path('masked/by')))
-    place.call(TOOL, 'old.db', 'old.db', '--state', 'state')
-    state = place.state()
-    place.check(
+        sandbox.call(TOOL, 'old.db', 'new.db', '--state', 'masked/by/state', before=UMASK % mask)
+        sandbox.check('the mode of a state', os.stat(sandbox.path('masked/by/state')).st_mode & 0o7777 == 0o644)
+        sandbox.check('the mode of its folder', os.stat(sandbox.path('masked/by')).st_mode & 0o777 == 0o755)
+    sandbox.check('nothing beside a state', os.listdir(sandbox.path('masked/by')) == ['state'], os.listdir(sandbox.path('masked/by')))
+    sandbox.call(TOOL, 'old.db', 'old.db', '--state', 'state')
+    state = sandbox.state()
+    sandbox.check(
         'a state without a difference', [state[key] for key in KEYS[4:7]] == ['0'] * 3 and state['status'] == '0', state
     )
-    place.write('bad.db', NEW.replace(b'@@end_db', b'\x01|x'))
+    sandbox.write('bad.db', NEW.replace(b'@@end_db', b'\x01|x'))
     for words, status, error in (
         (('old.db', 'bad.db'), '24', 'aide: new database:6: '),
         (('old.db', 'missing|\n'), '18', 'aide-compare-run: cannot open the new database missing|\\012'),
         (('-c', '/dev/null'), '17', 'aide-compare-run: /dev/null names no old database'),
     ):
-        place.call(TOOL, '--state', 'state', *words)
-        state = place.state()
-        place.check(
+        sandbox.call(TOOL, '--state', 'state', *words)
+        state = sandbox.state()
+        sandbox.check(
             'the state of a status %s' % status,
             state['status'] == status
             and state['error'].startswith(error)
@@ -235,18 +235,18 @@ def try_state(place):
             and [state[key] for key in KEYS[4:7]] == [''] * 3,
             state,
         )
-    before = place.read('state')
-    place.call(TOOL, '--state', 'state', 'old.db')
-    place.check('bad arguments leave the state', place.read('state') == before)
+    before = sandbox.read('state')
+    sandbox.call(TOOL, '--state', 'state', 'old.db')
+    sandbox.check('bad arguments leave the state', sandbox.read('state') == before)
 
 
-def try_counts(place):
-    place.write('quiet', 'report_quiet=yes\nreport_level=minimal\nreport_grouped=no\n')
-    place.write(
+def try_counts(sandbox):
+    sandbox.write('quiet', 'report_quiet=yes\nreport_level=minimal\nreport_grouped=no\n')
+    sandbox.write(
         'fixed',
         'report_level=minimal\nreport_ignore_changed_attrs=p\n report_url = stdout\nreport_level=summary\nreport_ignore_changed_attrs=s+p\n',
     )
-    place.write('named', '@@define N report_url\nreport_level=minimal\n@@{N}=stdout\n')
+    sandbox.write('named', '@@define N report_url\nreport_level=minimal\n@@{N}=stdout\n')
     for words, changed in (
         (['-c', 'quiet'], '2'),
         (['-c', 'fixed'], '2'),
@@ -256,34 +256,34 @@ def try_counts(place):
         (['--', '-A', 'report_ignore_changed_attrs=s'], '1'),
         (['--', '-A', 'report_level=added_removed_entries\nreport_base16=yes'], '2'),
     ):
-        plain = place.call(TOOL, 'old.db', 'new.db', *words)
-        answer = place.call(TOOL, '--state', 'state', 'old.db', 'new.db', *words)
-        state = place.state()
-        place.check('the counts with %r' % words, [state[key] for key in KEYS[4:7]] == ['1', '1', changed], state)
-        place.check(
+        plain = sandbox.call(TOOL, 'old.db', 'new.db', *words)
+        answer = sandbox.call(TOOL, '--state', 'state', 'old.db', 'new.db', *words)
+        state = sandbox.state()
+        sandbox.check('the counts with %r' % words, [state[key] for key in KEYS[4:7]] == ['1', '1', changed], state)
+        sandbox.check(
             'the report with %r' % words,
             (answer.output, answer.errors, answer.status) == (plain.output, plain.errors, plain.status),
             answer,
         )
 
 
-def try_state_faults(place):
-    os.makedirs(place.path('folder'), exist_ok=True)
-    place.expect('a state that is a folder', place.call(TOOL, 'old.db', 'new.db', '--state', 'folder'), 15, b'', b'is a folder')
-    place.expect(
+def try_state_faults(sandbox):
+    os.makedirs(sandbox.path('folder'), exist_ok=True)
+    sandbox.expect('a state that is a folder', sandbox.call(TOOL, 'old.db', 'new.db', '--state', 'folder'), 15, b'', b'is a folder')
+    sandbox.expect(
         'a state below a file',
-        place.call(TOOL, 'old.db', 'new.db', '--state', 'old.db/state'),
+        sandbox.call(TOOL, 'old.db', 'new.db', '--state', 'old.db/state'),
         18,
         b'',
         b'cannot write the state file',
     )
-    place.call(TOOL, 'old.db', 'new.db', '--state', 'state')
-    runs = [place.start(TOOL, 'old.db', 'new.db', '--state', 'state') for _ in range(6)]
+    sandbox.call(TOOL, 'old.db', 'new.db', '--state', 'state')
+    runs = [sandbox.start(TOOL, 'old.db', 'new.db', '--state', 'state') for _ in range(6)]
     reports = {run.communicate()[0] for run in runs}
-    place.check(
-        'runs at once', len(reports) == 1 and {run.returncode for run in runs} == {7} and list(place.state()) == KEYS, reports
+    sandbox.check(
+        'runs at once', len(reports) == 1 and {run.returncode for run in runs} == {7} and list(sandbox.state()) == KEYS, reports
     )
-    place.check(
+    sandbox.check(
         'nothing is left of runs at once',
-        not place.leftovers() and not [name for name in os.listdir(place.root) if re.match(r'state\.', name)],
+        not sandbox.leftovers() and not [name for name in os.listdir(sandbox.root) if re.match(r'state\.', name)],
     )

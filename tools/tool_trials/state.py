@@ -4,7 +4,7 @@ import re
 import subprocess
 import time
 
-from .place import AS_NOBODY, HERE, UMASK
+from .sandbox import AS_NOBODY, HERE, UMASK
 
 CHECK = 'check_aide_compare'
 FORM = (
@@ -15,19 +15,19 @@ NONE = {'status': 0, 'added': 0, 'removed': 0, 'changed': 0, 'error': '', 'diges
 READERS = ('contrib/nagios/check_aide_compare', 'contrib/bin/aide-compare-metrics', 'contrib/bin/aide-compare-log')
 
 
-def try_readers(place):
+def try_readers(sandbox):
     for trial in (try_check, try_check_faults, try_metrics, try_log, try_rules, try_one_reader):
-        trial(place)
+        trial(sandbox)
 
 
-def write_state(place, age=60, **more):
+def write_state(sandbox, age=60, **more):
     given = {**NONE, 'time': int(time.time()) - age, **more}
-    return place.write('state', (FORM % given).encode('utf-8', 'surrogateescape'))
+    return sandbox.write('state', (FORM % given).encode('utf-8', 'surrogateescape'))
 
 
-def check(place, label, status, *parts, words=(), **more):
+def check(sandbox, label, status, *parts, words=(), **more):
     """The check answers with one line of one bar at most, and with these parts."""
-    answer = place.call(CHECK, '--state', 'state', *words, **more)
+    answer = sandbox.call(CHECK, '--state', 'state', *words, **more)
     line = answer.output.decode('utf-8', 'replace')
     good = (
         answer.status == status
@@ -39,10 +39,10 @@ def check(place, label, status, *parts, words=(), **more):
     good = good and line.startswith('AIDE %s: ' % ['OK', 'WARNING', 'CRITICAL', 'UNKNOWN'][status])
     numbers = line.strip().partition('|')[2]
     good = good and re.match(r"^((added|removed|changed)=(\d+|U) ){0,3}(age=\d+s)?$", numbers)
-    place.check('the check of ' + label, good and all(part in line for part in parts) and len(line) < 500, answer)
+    sandbox.check('the check of ' + label, good and all(part in line for part in parts) and len(line) < 500, answer)
 
 
-def try_check(place):
+def try_check(sandbox):
     for status, added, removed, changed, want in (
         (0, 0, 0, 0, 0),
         (1, 5, 0, 0, 1),
@@ -53,40 +53,40 @@ def try_check(place):
         (6, 0, 1, 1, 2),
         (7, 12, 34, 56, 2),
     ):
-        write_state(place, status=status, added=added, removed=removed, changed=changed)
-        check(place, 'the status %d' % status, want, '|added=%d removed=%d changed=%d age=6' % (added, removed, changed))
+        write_state(sandbox, status=status, added=added, removed=removed, changed=changed)
+        check(sandbox, 'the status %d' % status, want, '|added=%d removed=%d changed=%d age=6' % (added, removed, changed))
         if status:
             check(
-                place,
+                sandbox,
                 'the text of the status %d' % status,
                 want,
                 ': %d added, %d removed, %d changed|' % (added, removed, changed),
             )
-    write_state(place, age=-20)
-    check(place, 'a clock that is a little behind', 0, 'age=0s')
-    write_state(place)
+    write_state(sandbox, age=-20)
+    check(sandbox, 'a clock that is a little behind', 0, 'age=0s')
+    write_state(sandbox)
     if os.getuid() == 0:
-        check(place, 'an unprivileged user', 0, 'no difference', before=AS_NOBODY)
-        os.chmod(place.path('state'), 0o600)
-        check(place, 'no right', 3, 'state cannot be read', before=AS_NOBODY)
-    place.call('aide-compare-run', 'old.db', 'new.db', '--state', 'state')
-    check(place, 'a real state', 2, ': 1 added, 1 removed, 2 changed|added=1 removed=1 changed=2 age=')
+        check(sandbox, 'an unprivileged user', 0, 'no difference', before=AS_NOBODY)
+        os.chmod(sandbox.path('state'), 0o600)
+        check(sandbox, 'no right', 3, 'state cannot be read', before=AS_NOBODY)
+    sandbox.call('aide-compare-run', 'old.db', 'new.db', '--state', 'state')
+    check(sandbox, 'a real state', 2, ': 1 added, 1 removed, 2 changed|added=1 removed=1 changed=2 age=')
 
 
-def try_check_faults(place):
+def try_check_faults(sandbox):
     nothing = {'added': '', 'removed': '', 'changed': ''}
-    write_state(place, status=24, error='a|b=1;2\x01\x1b[0m|' + 'é' * 4000, **nothing)
-    check(place, 'an error', 3, 'no comparison, status 24: a!b=1;2[0m!', '|age=6')
-    write_state(place, status=5, **nothing)
-    check(place, 'a state without counts', 2, 'added=U removed=U changed=U')
-    write_state(place, age=93700)
-    check(place, 'an old state', 3, 'older than 93600 seconds', 'age=937')
-    check(place, 'an old state that may be', 0, 'no difference', words=['--age', '100000'])
-    check(place, 'an old state that may not be', 3, 'older than 10 seconds', words=['--age=10'])
-    write_state(place, age=-4000)
-    check(place, 'a state from the future', 3, 'in the future')
-    good = write_state(place)
-    whole = place.read('state').decode()
+    write_state(sandbox, status=24, error='a|b=1;2\x01\x1b[0m|' + 'é' * 4000, **nothing)
+    check(sandbox, 'an error', 3, 'no comparison, status 24: a!b=1;2[0m!', '|age=6')
+    write_state(sandbox, status=5, **nothing)
+    check(sandbox, 'a state without counts', 2, 'added=U removed=U changed=U')
+    write_state(sandbox, age=93700)
+    check(sandbox, 'an old state', 3, 'older than 93600 seconds', 'age=937')
+    check(sandbox, 'an old state that may be', 0, 'no difference', words=['--age', '100000'])
+    check(sandbox, 'an old state that may not be', 3, 'older than 10 seconds', words=['--age=10'])
+    write_state(sandbox, age=-4000)
+    check(sandbox, 'a state from the future', 3, 'in the future')
+    good = write_state(sandbox)
+    whole = sandbox.read('state').decode()
     for label, text in (
         ('nothing', ''),
         ('half', whole[:40]),
@@ -103,24 +103,24 @@ def try_check_faults(place):
         ('a large file', whole + 'x' * 30000),
         ('NUL', whole.replace('status', '\0')),
     ):
-        place.write('state', text)
-        check(place, 'a state that is ' + label, 3, 'is no state file')
+        sandbox.write('state', text)
+        check(sandbox, 'a state that is ' + label, 3, 'is no state file')
     os.remove(good)
-    check(place, 'no state', 3, 'there is no state')
+    check(sandbox, 'no state', 3, 'there is no state')
     os.makedirs(good)
-    check(place, 'a folder', 3, 'is no state file')
+    check(sandbox, 'a folder', 3, 'is no state file')
     os.rmdir(good)
     os.mkfifo(good)
-    check(place, 'a FIFO', 3, 'is no state file')
+    check(sandbox, 'a FIFO', 3, 'is no state file')
     os.remove(good)
     for words in (['--age'], ['--age', 'x'], ['--odd|\n'], ['--state']):
-        check(place, 'the arguments %r' % words, 3, words=words)
+        check(sandbox, 'the arguments %r' % words, 3, words=words)
 
 
-def try_metrics(place):
+def try_metrics(sandbox):
     moment = int(time.time()) - 60
-    write_state(place, status=5, added=1, changed=4)
-    answer = place.call('aide-compare-metrics', '--state', 'state')
+    write_state(sandbox, status=5, added=1, changed=4)
+    answer = sandbox.call('aide-compare-metrics', '--state', 'state')
     lines = answer.output.decode().splitlines()
     names = {}
     good = answer.status == 0 and len(lines) == 15 and answer.output.endswith(b'\n')
@@ -134,47 +134,47 @@ def try_metrics(place):
         )
         names.update({found.group(1)[13:]: int(found.group(2))} if found else {})
     want = {'status': 5, 'added_entries': 1, 'removed_entries': 0, 'changed_entries': 4}
-    place.check('the metrics', good and {**names, **want} == names and abs(names['end_time_seconds'] - moment) < 5, answer)
-    place.expect(
+    sandbox.check('the metrics', good and {**names, **want} == names and abs(names['end_time_seconds'] - moment) < 5, answer)
+    sandbox.expect(
         'metrics to a file',
-        place.call('aide-compare-metrics', '--state=state', 'aide.prom', before=UMASK % 0o77),
+        sandbox.call('aide-compare-metrics', '--state=state', 'aide.prom', before=UMASK % 0o77),
         0,
         b'',
         b'',
     )
-    place.check(
+    sandbox.check(
         'the file of the metrics',
-        place.read('aide.prom') == answer.output
-        and os.stat(place.path('aide.prom')).st_mode & 0o777 == 0o644
-        and not [name for name in os.listdir(place.root) if name.startswith('aide.prom.')],
+        sandbox.read('aide.prom') == answer.output
+        and os.stat(sandbox.path('aide.prom')).st_mode & 0o777 == 0o644
+        and not [name for name in os.listdir(sandbox.root) if name.startswith('aide.prom.')],
     )
-    write_state(place, status=18, added='', removed='', changed='')
-    place.call('aide-compare-metrics', '--state', 'state', 'aide.prom')
-    place.check(
+    write_state(sandbox, status=18, added='', removed='', changed='')
+    sandbox.call('aide-compare-metrics', '--state', 'state', 'aide.prom')
+    sandbox.check(
         'the metrics of no comparison',
-        b'\naide_compare_status 18\n' in place.read('aide.prom') and b'entries' not in place.read('aide.prom'),
-        place.read('aide.prom'),
+        b'\naide_compare_status 18\n' in sandbox.read('aide.prom') and b'entries' not in sandbox.read('aide.prom'),
+        sandbox.read('aide.prom'),
     )
-    before = place.read('aide.prom')
-    place.write('state', 'x')
-    place.expect(
-        'metrics of a bad state', place.call('aide-compare-metrics', '--state', 'state', 'aide.prom'), 18, b'', b'no state file'
+    before = sandbox.read('aide.prom')
+    sandbox.write('state', 'x')
+    sandbox.expect(
+        'metrics of a bad state', sandbox.call('aide-compare-metrics', '--state', 'state', 'aide.prom'), 18, b'', b'no state file'
     )
-    place.check('the metrics are as before', place.read('aide.prom') == before)
-    write_state(place)
-    place.expect(
-        'metrics to nowhere', place.call('aide-compare-metrics', '--state', 'state', 'missing/x.prom'), 18, b'', b'cannot write'
+    sandbox.check('the metrics are as before', sandbox.read('aide.prom') == before)
+    write_state(sandbox)
+    sandbox.expect(
+        'metrics to nowhere', sandbox.call('aide-compare-metrics', '--state', 'state', 'missing/x.prom'), 18, b'', b'cannot write'
     )
     with open('/dev/full', 'wb') as full:
-        place.expect('metrics to a full device', place.call('aide-compare-metrics', '--state', 'state', stdout=full), 18)
+        sandbox.expect('metrics to a full device', sandbox.call('aide-compare-metrics', '--state', 'state', stdout=full), 18)
     for words in (['--odd'], ['a', 'b'], ['--state']):
-        place.expect('metrics with %r' % words, place.call('aide-compare-metrics', *words), 15, b'', b'aide-compare-metrics: ')
+        sandbox.expect('metrics with %r' % words, sandbox.call('aide-compare-metrics', *words), 15, b'', b'aide-compare-metrics: ')
 
 
-def log(place, **state):
-    write_state(place, **state)
-    answer = place.call('aide-compare-log', '--state', 'state')
-    place.check(
+def log(sandbox, **state):
+    write_state(sandbox, **state)
+    answer = sandbox.call('aide-compare-log', '--state', 'state')
+    sandbox.check(
         'one line for the log',
         answer.status == 0 and answer.output.count(b'\n') == 1 and answer.output.endswith(b'\n') and answer.errors == b'',
         answer,
@@ -182,7 +182,7 @@ def log(place, **state):
     return answer.output.decode('utf-8', 'replace')
 
 
-def try_log(place):
+def try_log(sandbox):
     nothing = {'added': '', 'removed': '', 'changed': ''}
     for state, want in (
         ({}, 'no difference: status=0 added=0 removed=0 changed=0\n'),
@@ -194,24 +194,24 @@ def try_log(place):
         ({'age': 93700}, 'no comparison: the last one ended at 2026-11-23T16:30:00Z\n'),
         ({'time': 'x'}, 'no comparison: state cannot be read, or is no state file of aide-compare-run\n'),
     ):
-        line = log(place, **state)
-        place.check('the line for the log of %r' % state, line == want, line)
-    write_state(place, age=100)
-    place.expect(
-        'an old line', place.call('aide-compare-log', '--state', 'state', '--age', '50'), 0, b'no comparison: the last one', b''
+        line = log(sandbox, **state)
+        sandbox.check('the line for the log of %r' % state, line == want, line)
+    write_state(sandbox, age=100)
+    sandbox.expect(
+        'an old line', sandbox.call('aide-compare-log', '--state', 'state', '--age', '50'), 0, b'no comparison: the last one', b''
     )
     for words in (['--odd'], ['--age', 'x'], ['--state']):
-        place.expect('the log with %r' % words, place.call('aide-compare-log', *words), 15, b'', b'aide-compare-log: ')
+        sandbox.expect('the log with %r' % words, sandbox.call('aide-compare-log', *words), 15, b'', b'aide-compare-log: ')
 
 
-def try_rules(place):
+def try_rules(sandbox):
     """The rule for logcheck ignores the line without a difference, and no other."""
     rules = os.path.join(HERE, 'contrib', 'logcheck', 'aide-compare')
     lines = [
-        log(place),
-        log(place, status=1, added=1),
-        log(place, age=93700),
-        log(place, status=18, added='', removed='', changed='', error='no difference: status=0'),
+        log(sandbox),
+        log(sandbox, status=1, added=1),
+        log(sandbox, age=93700),
+        log(sandbox, status=18, added='', removed='', changed='', error='no difference: status=0'),
     ]
     for head in ('Nov  3 16:46:19 www1.example aide-compare: ', '2026-11-23T16:46:19.123456+00:00 www1 aide-compare[12]: '):
         left = subprocess.run(
@@ -220,20 +220,20 @@ def try_rules(place):
             stdout=subprocess.PIPE,
             universal_newlines=True,
         ).stdout
-        place.check('the rule for logcheck', left == ''.join(head + line for line in lines[1:]), left)
+        sandbox.check('the rule for logcheck', left == ''.join(head + line for line in lines[1:]), left)
     left = subprocess.run(
         ['grep', '-E', '-c', '-f', rules],
         input=head + lines[0][:-1] + ' more\nx' + head + lines[0],
         stdout=subprocess.PIPE,
         universal_newlines=True,
     ).stdout
-    place.check('the rule for logcheck takes whole lines', left == '0\n', left)
+    sandbox.check('the rule for logcheck takes whole lines', left == '0\n', left)
 
 
-def try_one_reader(place):
+def try_one_reader(sandbox):
     """The three commands stand alone, and read the state by the same text."""
     texts = set()
     for name in READERS:
         with open(os.path.join(HERE, name)) as file:
             texts.update(re.findall(r'^is_number\(\) \{\n.*?^read_state\(\) \{\n.*?^\}$', file.read(), re.M | re.S))
-    place.check('one text reads the state', len(texts) == 1, [len(text) for text in texts])
+    sandbox.check('one text reads the state', len(texts) == 1, [len(text) for text in texts])

@@ -56,7 +56,7 @@ class Answer:
         return 'status %d, output %.400r, errors %.600r' % (self.status, self.output, self.errors)
 
 
-class Place:
+class Sandbox:
     """The tools beside the program, a folder for what is unpacked, and the databases OLD and NEW in two forms."""
 
     def __init__(self, program, shell, tally):

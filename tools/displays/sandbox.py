@@ -33,7 +33,7 @@ exec aide-compare "$@"
 """
 
 
-class Place:
+class Sandbox:
     def __init__(self, program, with_rt):
         self.trial = Trial(program, "")
         self.with_rt = with_rt
@@ -102,8 +102,8 @@ class Place:
         """Runs a block as it stands, with its folders below the root: the status of each command, output and errors."""
         shell = "bash" if "<(" in text else "sh"
         statuses = self.path("/stubs/statuses")
-        place = folder if folder == HERE else self.path(folder)
-        script = "set -u\ncd '%s'\n" % place + ("exec < '%s'\n" % self.path(given) if given else "")
+        start = folder if folder == HERE else self.path(folder)
+        script = "set -u\ncd '%s'\n" % start + ("exec < '%s'\n" % self.path(given) if given else "")
         for command in self.commands(self.trial.below(text), shell):
             script += '%s\necho "$?" >> "%s"\n' % (command.rstrip("\n"), statuses)
         if os.path.exists(statuses):
