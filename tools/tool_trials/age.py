@@ -92,7 +92,8 @@ def try_accepted(sandbox):
     ):
         answer = sandbox.call(TOOL, '--state', 'state', *words)
         sandbox.expect(label, answer, 7, b'Changed entries:         2', b'')
-        sandbox.check('the state, ' + label, (sandbox.state()['status'], sandbox.state()['error']) == ('7', ''), sandbox.state())
+        sandbox.check('the state, ' + label, (sandbox.state()['status'], sandbox.state()['error']) == ('7', ''),
+                      sandbox.state())
 
 
 def try_links(sandbox):
@@ -104,7 +105,8 @@ def try_links(sandbox):
     os.utime(sandbox.path('late link'), (time.time() - 3 * HOUR,) * 2, follow_symlinks=False)
     answer = sandbox.call(TOOL, '--state', 'state', '--age', '7200', 'old.db', 'fresh link')
     refused(sandbox, 'a link to an old file', answer, 'fresh link')
-    sandbox.expect('an old link to a fresh file', sandbox.call(TOOL, '--age', '7200', 'old.db', 'late link'), 7, b'Changed', b'')
+    sandbox.expect('an old link to a fresh file', sandbox.call(TOOL, '--age', '7200', 'old.db', 'late link'), 7, b'Changed',
+                   b'')
 
 
 def try_pipes(sandbox):
@@ -115,13 +117,15 @@ def try_pipes(sandbox):
         line = 'aide-compare-run: the new database %s is no regular file, so --age cannot tell its age' % name
         sandbox.expect('a pipe with --age, ' + name, answer, 18, b'', line.encode())
         sandbox.check('the state of a pipe with --age, ' + name, sandbox.state()['error'] == line, sandbox.state())
-    sandbox.expect('a pipe with --age 0', sandbox.call(TOOL, '--age', '0', 'old.db', '/dev/stdin', text=NEW), 7, b'Changed', b'')
+    sandbox.expect('a pipe with --age 0', sandbox.call(TOOL, '--age', '0', 'old.db', '/dev/stdin', text=NEW), 7, b'Changed',
+                   b'')
     sandbox.expect('an old pipe', sandbox.call(TOOL, '--age', '7200', '/dev/stdin', 'new.db', text=OLD), 7, b'Changed', b'')
     write_aged(sandbox, 'late.db', NEW, 3 * HOUR + 60)
     for name, status in (('late.db', 18), ('new.db', 7)):
         with open(sandbox.path(name), 'rb') as file:
             answer = sandbox.call(TOOL, '--age', '7200', 'old.db', '/dev/stdin', stdin=file)
-        sandbox.expect('a redirected file, ' + name, answer, status, None, b'/dev/stdin is 3 hours old' if status == 18 else b'')
+        sandbox.expect('a redirected file, ' + name, answer, status, None,
+                       b'/dev/stdin is 3 hours old' if status == 18 else b'')
 
 
 def try_values(sandbox):
@@ -145,7 +149,8 @@ def try_readers(sandbox):
         b'AIDE UNKNOWN: no comparison, status 18: ' + reason + b'|age=',
         b'',
     )
-    sandbox.expect('the log of an old database', sandbox.call('aide-compare-log', '--state', 'state'), 0, [b'no comparison', reason], b'')
+    sandbox.expect('the log of an old database', sandbox.call('aide-compare-log', '--state', 'state'), 0,
+                   [b'no comparison', reason], b'')
     answer = sandbox.call('aide-compare-metrics', '--state', 'state', 'metrics.prom')
     text = sandbox.read('metrics.prom')
     good = answer.status == 0 and re.search(rb'_status 18$', text, re.M) and b'_entries' not in text

@@ -33,7 +33,8 @@ def try_limits(sandbox):
     writer = subprocess.Popen(['yes', '/a'], stdout=subprocess.PIPE, stderr=subprocess.DEVNULL)
     sandbox.expect(
         'an endless stream',
-        sandbox.call(TOOL, '--most', '1000000', 'old.db', '/dev/stdin', stdin=writer.stdout, before=SMALL_FILES % (1500000, 1500000)),
+        sandbox.call(TOOL, '--most', '1000000', 'old.db', '/dev/stdin', stdin=writer.stdout,
+                     before=SMALL_FILES % (1500000, 1500000)),
         18,
         b'',
         b'the new database /dev/stdin has more than 1000000 bytes unpacked',
@@ -183,8 +184,10 @@ def try_programs(sandbox):
     )
     sandbox.check('the state of a program that is killed', sandbox.state()['status'] == '137', sandbox.state())
     sandbox.stub('aide-compare', '[ "$1" = -D ] || { printf "aide: a\\001b\\naide: c\\n" >&2; exit 18; }')
-    sandbox.expect('an odd error line', sandbox.call(TOOL, 'old.db', 'new.db', '--state', 'state'), 18, b'', b'aide: a\1b\naide: c\n')
-    sandbox.check('the state of an odd error line', sandbox.state()['error'] == 'aide: ab' and len(sandbox.state()) == 12, sandbox.state())
+    sandbox.expect('an odd error line', sandbox.call(TOOL, 'old.db', 'new.db', '--state', 'state'), 18, b'',
+                   b'aide: a\1b\naide: c\n')
+    sandbox.check('the state of an odd error line', sandbox.state()['error'] == 'aide: ab' and len(sandbox.state()) == 12,
+                  sandbox.state())
     sandbox.stub('aide-compare', 'exec "%s.away" "$@"' % program)
     sandbox.expect('the program in PATH', sandbox.call(TOOL, 'old.db', 'new.db'), 7, b'Changed', b'')
     os.remove(sandbox.path('stubs/aide-compare'))

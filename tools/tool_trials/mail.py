@@ -95,7 +95,8 @@ def try_texts(sandbox):
             'the arguments %r' % words, sandbox.call(TOOL, 'old.db', 'new.db', *words), 15, b'', b'--to needs an address'
         )
     sandbox.expect(
-        'arguments after --', sandbox.call(TOOL, '--to', 'x', 'old.db', 'new.db', '--', '-A', 'report_level=minimal'), 7, b'', b''
+        'arguments after --', sandbox.call(TOOL, '--to', 'x', 'old.db', 'new.db', '--', '-A', 'report_level=minimal'), 7, b'',
+        b''
     )
     message = sent(sandbox)
     sandbox.check(
@@ -131,7 +132,8 @@ def try_pages(sandbox):
     sandbox.stub('aide-compare-html', 'exit 0', 'bin')
     sandbox.expect('a page that fails', sandbox.call(TOOL, '--html', 'old.db', 'new.db'), 7, b'', b'')
     message = sent(sandbox)
-    sandbox.check('the mail without a page that fails', message and body(message) == report + note + b'an odd report\n', message)
+    sandbox.check('the mail without a page that fails', message and body(message) == report + note + b'an odd report\n',
+                  message)
     page = '<p>é</p>\n<p>%s</p>\n' % ('x' * 2000)
     sandbox.write('page', page)
     sandbox.stub('aide-compare-json', 'sed "s/^/json /"', 'bin')
@@ -202,4 +204,5 @@ def try_mail_signals(sandbox):
         except subprocess.TimeoutExpired:
             process.kill()
         sandbox.check('SIG%s' % name, started and process.returncode == 128 + number, process.returncode)
-        sandbox.check('nothing is left after SIG%s' % name, not sandbox.leftovers() and sent(sandbox) is None, sandbox.leftovers())
+        sandbox.check('nothing is left after SIG%s' % name, not sandbox.leftovers() and sent(sandbox) is None,
+                      sandbox.leftovers())

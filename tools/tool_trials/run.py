@@ -98,7 +98,8 @@ def try_names(sandbox):
         b'',
     )
     report = sandbox.call(TOOL, 'odd/old é', 'new.db').output
-    sandbox.check('a name in the report', ('Old database: /proc/self/cwd%s/odd/old é\n' % sandbox.root).encode() in report, report)
+    sandbox.check('a name in the report', ('Old database: /proc/self/cwd%s/odd/old é\n' % sandbox.root).encode() in report,
+                  report)
     sandbox.expect('one file twice', sandbox.call(TOOL, 'old.db', 'old.db'), 0, b'NO differences')
     sandbox.write('paths.db', HEAD + b'/a%0Ab%20c 36 100644 1\n' + END)
     sandbox.expect('a newline in a path', sandbox.call(TOOL, 'old.db', 'paths.db'), 3, b': /a\\012b c\n')
@@ -172,7 +173,8 @@ def try_arguments(sandbox):
     answer = sandbox.call(TOOL, 'old.db', 'new.db', '--', '-A', 'database_in=file:/no')
     sandbox.expect('the databases of the command line win', answer, 7, minimal, b'')
     for words in ([], ['old.db', 'new.db', 'x']):
-        sandbox.expect('the operands %r' % (words or ['old.db']), sandbox.call(TOOL, *(words or ['old.db'])), 15, b'', b'databases')
+        sandbox.expect('the operands %r' % (words or ['old.db']), sandbox.call(TOOL, *(words or ['old.db'])), 15, b'',
+                       b'databases')
     for words in (
         ['--', '-D'],
         ['--', '-c', 'x'],
@@ -187,7 +189,8 @@ def try_arguments(sandbox):
         ['-A', 'x'],
         ['--', 'x'],
     ):
-        sandbox.expect('the arguments %r' % words, sandbox.call(TOOL, 'old.db', 'new.db', *words), 15, b'', b'aide-compare-run: ')
+        sandbox.expect('the arguments %r' % words, sandbox.call(TOOL, 'old.db', 'new.db', *words), 15, b'',
+                       b'aide-compare-run: ')
 
 
 def try_state(sandbox):
@@ -213,7 +216,8 @@ def try_state(sandbox):
         sandbox.call(TOOL, 'old.db', 'new.db', '--state', 'masked/by/state', before=UMASK % mask)
         sandbox.check('the mode of a state', os.stat(sandbox.path('masked/by/state')).st_mode & 0o7777 == 0o644)
         sandbox.check('the mode of its folder', os.stat(sandbox.path('masked/by')).st_mode & 0o777 == 0o755)
-    sandbox.check('nothing beside a state', os.listdir(sandbox.path('masked/by')) == ['state'], os.listdir(sandbox.path('masked/by')))
+    sandbox.check('nothing beside a state', os.listdir(sandbox.path('masked/by')) == ['state'],
+                  os.listdir(sandbox.path('masked/by')))
     sandbox.call(TOOL, 'old.db', 'old.db', '--state', 'state')
     state = sandbox.state()
     sandbox.check(
@@ -269,7 +273,8 @@ def try_counts(sandbox):
 
 def try_state_faults(sandbox):
     os.makedirs(sandbox.path('folder'), exist_ok=True)
-    sandbox.expect('a state that is a folder', sandbox.call(TOOL, 'old.db', 'new.db', '--state', 'folder'), 15, b'', b'is a folder')
+    sandbox.expect('a state that is a folder', sandbox.call(TOOL, 'old.db', 'new.db', '--state', 'folder'), 15, b'',
+                   b'is a folder')
     sandbox.expect(
         'a state below a file',
         sandbox.call(TOOL, 'old.db', 'new.db', '--state', 'old.db/state'),

@@ -158,17 +158,20 @@ def try_metrics(sandbox):
     before = sandbox.read('aide.prom')
     sandbox.write('state', 'x')
     sandbox.expect(
-        'metrics of a bad state', sandbox.call('aide-compare-metrics', '--state', 'state', 'aide.prom'), 18, b'', b'no state file'
+        'metrics of a bad state', sandbox.call('aide-compare-metrics', '--state', 'state', 'aide.prom'), 18, b'',
+        b'no state file'
     )
     sandbox.check('the metrics are as before', sandbox.read('aide.prom') == before)
     write_state(sandbox)
     sandbox.expect(
-        'metrics to nowhere', sandbox.call('aide-compare-metrics', '--state', 'state', 'missing/x.prom'), 18, b'', b'cannot write'
+        'metrics to nowhere', sandbox.call('aide-compare-metrics', '--state', 'state', 'missing/x.prom'), 18, b'',
+        b'cannot write'
     )
     with open('/dev/full', 'wb') as full:
         sandbox.expect('metrics to a full device', sandbox.call('aide-compare-metrics', '--state', 'state', stdout=full), 18)
     for words in (['--odd'], ['a', 'b'], ['--state']):
-        sandbox.expect('metrics with %r' % words, sandbox.call('aide-compare-metrics', *words), 15, b'', b'aide-compare-metrics: ')
+        sandbox.expect('metrics with %r' % words, sandbox.call('aide-compare-metrics', *words), 15, b'',
+                       b'aide-compare-metrics: ')
 
 
 def log(sandbox, **state):
@@ -198,7 +201,8 @@ def try_log(sandbox):
         sandbox.check('the line for the log of %r' % state, line == want, line)
     write_state(sandbox, age=100)
     sandbox.expect(
-        'an old line', sandbox.call('aide-compare-log', '--state', 'state', '--age', '50'), 0, b'no comparison: the last one', b''
+        'an old line', sandbox.call('aide-compare-log', '--state', 'state', '--age', '50'), 0, b'no comparison: the last one',
+        b''
     )
     for words in (['--odd'], ['--age', 'x'], ['--state']):
         sandbox.expect('the log with %r' % words, sandbox.call('aide-compare-log', *words), 15, b'', b'aide-compare-log: ')
