@@ -152,7 +152,8 @@ fn first_bad(
 pub fn follows(columns: &Columns, last: &HeldEntry<'_>, next: &SpannedLine<'_>) -> bool
     ensures { result ≡ follows (columns_in columns.now) last.now.line.now next.now.line.now }
 {
-    if last.line.is_empty() {
+    let is_first = last.line.is_empty();
+    if is_first {
         return true;
     }
     match cmp_paths(
