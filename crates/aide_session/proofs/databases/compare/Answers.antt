@@ -90,3 +90,6 @@ returns-clause-bound g c = λ named a is old new has_old has_new.
     (c.compare_sides.ensures.bound old new
     (texts Old old (subst (λ (path : List ℕ). files path ≡ Some (Some old)) is_old has_old))
     (texts New new (subst (λ (path : List ℕ). files path ≡ Some (Some new)) is_new has_new)))
+
+pub compare_sides-requires : goal.compare_sides-requires
+compare_sides-requires g c = record { room = omega (arith, c.in-Ok.ensures.room) }
