@@ -41,6 +41,11 @@ impl Wanted {
             }),
         }
     }
+
+    /// Whether a cursor returned what it should.
+    fn is_given(self, entries: u64, answer: Result<Step, DbFault>) -> bool {
+        entries == self.entries && answer == self.answer()
+    }
 }
 
 /// A cursor at the start of a reel, under the limits of most tests.
@@ -105,26 +110,49 @@ fn assert_read<A: Allocator + Copy>(
     for pace in &PACES {
         let reel = PlannedReel::new(text, *pace, u64::MAX);
         let (entries, answer, _) = read_whole(rt, reel, limits, desk);
-        let right = entries == wanted.entries && answer == wanted.answer();
+        let right = wanted.is_given(entries, answer);
         assert!(rt; right, "{text:?}, {pace:?}: {entries} and {answer:?}");
     }
+}
+
+/// Reads a text on a desk under the limits of most tests. Returns the number of entries, and the last answer.
+fn read_on<A: Allocator + Copy>(
+    rt: &impl Abort,
+    text: &[u8],
+    desk: &mut Desk<A>,
+) -> (u64, Result<Step, DbFault>) {
+    let (entries, answer, _) = read_whole(rt, text, LIMITS, desk);
+    (entries, answer)
+}
+
+/// Refuses an allocation, and then reads the same text on the same desk. Returns whether there was such an allocation.
+fn refuse_one<A: Allocator + Copy>(
+    rt: &impl Abort,
+    refusing: &Refusing<A>,
+    text: &[u8],
+    wanted: Wanted,
+) -> bool {
+    let mut desk = Desk::new(refusing);
+    let (entries, answer) = read_on(rt, text, &mut desk);
+    if !refusing.has_refused() {
+        assert!(rt; wanted.is_given(entries, answer));
+        return false;
+    }
+    assert!(rt; entries <= wanted.entries);
+    let is_memory = answer.is_err_and(|fault| fault.kind == DbFaultKind::Memory);
+    assert!(rt; is_memory, "{answer:?}");
+    let (entries, answer) = read_on(rt, text, &mut desk);
+    assert!(rt; wanted.is_given(entries, answer));
+    true
 }
 
 /// Refuses each allocation in turn, and then reads the same text on the same desk. Returns the number of allocations.
 fn refuse_each<A: Allocator + Copy>(rt: &impl Abort, alloc: A, text: &[u8], wanted: Wanted) -> u64 {
     for growth in 0..1000 {
         let refusing = Refusing::new(alloc, growth);
-        let mut desk = Desk::new(&refusing);
-        let (entries, answer, _) = read_whole(rt, text, LIMITS, &mut desk);
-        if !refusing.has_refused() {
-            assert!(rt; entries == wanted.entries && answer == wanted.answer());
+        if !refuse_one(rt, &refusing, text, wanted) {
             return growth;
         }
-        assert!(rt; entries <= wanted.entries);
-        let is_memory = answer.is_err_and(|fault| fault.kind == DbFaultKind::Memory);
-        assert!(rt; is_memory, "growth {growth}: {answer:?}");
-        let (entries, answer, _) = read_whole(rt, text, LIMITS, &mut desk);
-        assert!(rt; entries == wanted.entries && answer == wanted.answer());
     }
     1000
 }

@@ -1,7 +1,7 @@
 //! Attributes: names, expressions and changes. Groups: failed allocations, and the greatest number of groups.
 use crate::Refusing;
 use aide_attr::{Attr, AttrSet, GroupFault, Groups};
-use std::alloc::Allocator;
+use std::alloc::{Allocator, Global};
 use std::process::Abort;
 use std::test::Fail;
 
@@ -96,22 +96,30 @@ fn define_all<A: Allocator + Copy>(rt: &impl Abort, groups: &mut Groups<A>) -> u
     refused
 }
 
-#[test]
-fn each_growth_refused_in_turn(rt: HostRuntime) -> Result<(), Fail> {
-    let mut growths = 0u64;
+/// Makes the definitions while this allocation is refused. Returns whether there was such an allocation.
+fn refuse_growth(rt: &impl Abort, alloc: Global, growth: u64) -> bool {
+    let refusing = Refusing::new(alloc, growth);
+    let mut groups = Groups::new(&refusing);
+    let refused = define_all(rt, &mut groups);
+    let has_refused = refusing.has_refused();
+    assert!(rt; refused == u64::from(has_refused), "growth {growth}");
+    has_refused
+}
+
+/// The first allocation that no definition makes.
+fn growths(rt: &impl Abort, alloc: Global) -> u64 {
     for growth in 0..1000 {
-        let alloc = Refusing::new(rt.alloc(), growth);
-        let mut groups = Groups::new(&alloc);
-        let refused = define_all(&rt, &mut groups);
-        if !alloc.has_refused() {
-            assert!(rt; refused == 0);
-            break;
+        if !refuse_growth(rt, alloc, growth) {
+            return growth;
         }
-        assert!(rt; refused == 1, "growth {growth}");
-        growths = growths.saturating_add(1);
     }
-    assert!(rt; growths > 100 && growths < 1000);
-    Ok(())
+    1000
+}
+
+#[test]
+fn each_growth_refused_in_turn(rt: HostRuntime) {
+    let growths = growths(&rt, rt.alloc());
+    assert!(rt; growths > 100 && growths < 1000, "{growths}");
 }
 
 #[test]

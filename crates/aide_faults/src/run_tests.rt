@@ -2,7 +2,8 @@
 use crate::{Pace, PlannedSources, SidePlan};
 use aide_conf::{Need, Options, Settings, Task};
 use aide_db::{Desk, Limits, Side, Sources};
-use aide_report::{Outcome, RunFault, Sink, run};
+use aide_report::{Outcome, RunFault, Sink, WriteSink, run};
+use arrayvec::ArrayVec;
 use std::alloc::{Allocator, Global};
 use std::process::Abort;
 
@@ -128,4 +129,15 @@ fn run_over<S: Sources, W: Sink, A: Allocator + Copy>(
         bytes: 1_048_576,
     };
     run(&task, limits, desk, sources, out)
+}
+
+/// A run over these sources whose report goes into an array. The answer, and what the array holds then.
+fn run_into<const SPACE: usize, S: Sources, A: Allocator + Copy>(
+    options: Options,
+    desk: &mut Desk<A>,
+    sources: &mut S,
+) -> (Result<Outcome, RunFault>, ArrayVec<u8, SPACE>) {
+    let mut out = WriteSink::new(ArrayVec::new());
+    let answer = run_over(options, desk, sources, &mut out);
+    (answer, out.into_inner())
 }

@@ -19,8 +19,8 @@ impl<'a> WatchedReel<'a> {
     fn note(&mut self, count: usize)
         ensures { self.new.bytes ≡ self.old.bytes }
     {
-        if let Some(answer) = self.answers.get_mut(self.reads) {
-            *answer = count;
+        if self.reads < 8 {
+            self.answers[self.reads] = count;
         }
         self.reads = self.reads.saturating_add(1);
     }
@@ -167,6 +167,14 @@ fn reads_of_a_reader(rt: HostRuntime) {
     assert!(rt; reel.into_reader() == b"c".as_slice());
 }
 
+/// A database of two entries out of order. The first one's line ends after this number of bytes.
+fn out_of_order(alloc: Global, newline: usize) -> Result<Vec<u8>, AllocError> {
+    let mut text = Vec::from_slice(alloc, b"@@begin_db\n@@db_spec name\n/")?;
+    text.resize(newline, b'b')?;
+    text.extend_from_slice(b"\n/a\n@@end_db\n")?;
+    Ok(text)
+}
+
 #[test]
 fn two_entries_out_of_order_about_the_border_of_a_chunk(rt: HostRuntime) -> Result<(), Fail> {
     let mut desk = Desk::new(rt.alloc());
@@ -176,9 +184,7 @@ fn two_entries_out_of_order_about_the_border_of_a_chunk(rt: HostRuntime) -> Resu
         fault: Some(Kind::OutOfOrder),
     };
     for newline in 4080..4110 {
-        let mut text = Vec::from_slice(rt.alloc(), b"@@begin_db\n@@db_spec name\n/")?;
-        text.resize(newline, b'b')?;
-        text.extend_from_slice(b"\n/a\n@@end_db\n")?;
+        let text = out_of_order(rt.alloc(), newline)?;
         assert_read(&rt, &mut desk, &text, LIMITS, wanted);
     }
     Ok(())

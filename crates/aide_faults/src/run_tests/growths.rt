@@ -4,8 +4,8 @@ use super::{NEW, OLD, REPORT, SAME, assert_answer, assert_well, options_of, pair
 use crate::{Journal, NotedSources, Pace, PlannedSources, Refusing, SidePlan};
 use aide_conf::Options;
 use aide_db::{DbFaultKind, Desk, Side};
-use aide_report::{MemorySink, RunFault};
-use std::alloc::Global;
+use aide_report::{MemorySink, Outcome, RunFault};
+use std::alloc::{Allocator, Global};
 use std::process::Abort;
 use std::test::Fail;
 
@@ -34,16 +34,26 @@ fn fault_at(trial: &Trial<'_>, journal: &Journal) -> RunFault {
     database(side, line, DbFaultKind::Memory)
 }
 
+/// Runs over sources that give a byte at a time. Returns the answer, and how often the new side was opened.
+fn run_slowly<A: Allocator + Copy>(
+    trial: &Trial<'_>,
+    desk: &mut Desk<A>,
+    journal: &Journal,
+    out: &mut MemorySink<Global>,
+) -> (Result<Outcome, RunFault>, u64) {
+    let mut sources = NotedSources::new(slow_sources(trial), journal);
+    let answer = run_over(trial.options, desk, &mut sources, out);
+    (answer, sources.into_inner().openings(Side::New))
+}
+
 /// Refuses an allocation of a run, checks the side and the line that are reported, and runs on the same desk again.
 /// Returns how often the new side was opened, or `None` if there is no such allocation.
 fn refuse_one(rt: &impl Abort, alloc: Global, trial: &Trial<'_>, growth: u64) -> Option<u64> {
     let refusing = Refusing::new(alloc, growth);
     let mut desk = Desk::new(&refusing);
     let journal = Journal::new();
-    let mut sources = NotedSources::new(slow_sources(trial), &journal);
     let mut out = MemorySink::new(alloc);
-    let answer = run_over(trial.options, &mut desk, &mut sources, &mut out);
-    let openings = sources.into_inner().openings(Side::New);
+    let (answer, openings) = run_slowly(trial, &mut desk, &journal, &mut out);
     if !refusing.has_refused() {
         assert_well(rt, answer);
         assert!(rt; out.bytes() == trial.report);
@@ -86,18 +96,23 @@ fn each_growth_refused_in_turn(rt: HostRuntime) {
     assert!(rt; refusals.all > 3 && refusals.all < 1000, "{refusals:?}");
 }
 
+/// Refuses each allocation of a run with the options of a row in turn.
+fn refuse_each_at(rt: &impl Abort, alloc: Global, row: &pair::LevelRow, report: &[u8]) -> Refusals {
+    let trial = Trial {
+        options: options_of(rt, alloc, row.options),
+        old: pair::OLD,
+        new: pair::NEW,
+        report,
+        openings: row.openings,
+    };
+    refuse_each(rt, alloc, &trial)
+}
+
 #[test]
 fn each_growth_refused_at_each_level(rt: HostRuntime) -> Result<(), Fail> {
     for row in &pair::LEVELS {
         let report = row.report(rt.alloc())?;
-        let trial = Trial {
-            options: options_of(&rt, rt.alloc(), row.options),
-            old: pair::OLD,
-            new: pair::NEW,
-            report: &report,
-            openings: row.openings,
-        };
-        let refusals = refuse_each(&rt, rt.alloc(), &trial);
+        let refusals = refuse_each_at(&rt, rt.alloc(), row, &report);
         assert!(rt; refusals.all > 3 && refusals.all < 1000, "{refusals:?}");
     }
     Ok(())

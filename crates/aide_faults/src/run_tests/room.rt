@@ -2,9 +2,9 @@
 ghost use Rattle.std.specs.Prelude.{◌≤◌};
 
 use super::trial::database;
-use super::{DIFFERENT, SAME, assert_well, options_of, pair, run_over};
+use super::{DIFFERENT, SAME, assert_well, options_of, pair, run_into};
 use crate::{Pace, PlannedSources, Refusing, SidePlan};
-use aide_conf::Task;
+use aide_conf::{Options, Task};
 use aide_db::{DbFaultKind, Desk, DeskFault, Limits, Side, Sources};
 use aide_report::{Outcome, RunFault, Sink, WriteSink, run};
 use arrayvec::ArrayVec;
@@ -83,6 +83,21 @@ fn fault_of(row: &Roomy) -> Option<RunFault> {
     }
 }
 
+/// Runs over the databases of a row on a desk. The answer, and the bytes that went out.
+fn run_row<A: Allocator + Copy>(
+    rt: &impl Abort,
+    task: &Task<'_>,
+    desk: &mut Desk<A>,
+    row: &Roomy,
+) -> (Result<Outcome, RunFault>, ArrayVec<u8, 60>) {
+    assert!(rt; row.line >= 14);
+    let (old, new) = (SidePlan::plain(row.old), SidePlan::plain(TWO));
+    let mut sources = PlannedSources::new(old, new, Pace::new(4096));
+    let mut out = WriteSink::new(ArrayVec::new());
+    let answer = run_under(row.line, task, desk, &mut sources, &mut out);
+    (answer, out.into_inner())
+}
+
 /// Runs on a desk with room for lines of 30 bytes, and checks the answer, the report and the peak.
 fn assert_roomy(rt: &impl Abort, alloc: Global, task: &Task<'_>, row: &Roomy) {
     let refusing = Refusing::all_from(alloc, row.refused);
@@ -91,14 +106,10 @@ fn assert_roomy(rt: &impl Abort, alloc: Global, task: &Task<'_>, row: &Roomy) {
         return;
     };
     assert!(rt; desk.room() == 30 && desk.held() == 0 && desk.peak() == 0);
-    assert!(rt; row.line >= 14);
-    let mut out = WriteSink::new(ArrayVec::<u8, 60>::new());
-    let (old, new) = (SidePlan::plain(row.old), SidePlan::plain(TWO));
-    let mut sources = PlannedSources::new(old, new, Pace::new(4096));
-    let answer = run_under(row.line, task, &mut desk, &mut sources, &mut out);
+    let (answer, sent) = run_row(rt, task, &mut desk, row);
     assert!(rt; answer.err() == fault_of(row));
     assert!(rt; desk.room() == 30 && (row.old != TWO || desk.peak() == 90));
-    assert!(rt; out.into_inner().as_slice() == row.report);
+    assert!(rt; sent.as_slice() == row.report);
 }
 
 #[test]
@@ -113,21 +124,30 @@ fn lines_as_long_as_the_room(rt: HostRuntime) {
     }
 }
 
+/// Runs over the pair of databases on a desk and into an array, and checks the report.
+fn assert_without_growth<A: Allocator + Copy>(
+    rt: &impl Abort,
+    options: Options,
+    desk: &mut Desk<A>,
+    report: &[u8],
+) {
+    let (old, new) = (SidePlan::plain(pair::OLD), SidePlan::plain(pair::NEW));
+    let mut sources = PlannedSources::new(old, new, Pace::new(7));
+    let (answer, sent) = run_into::<4096, _, _>(options, desk, &mut sources);
+    assert_well(rt, answer);
+    assert!(rt; sent.as_slice() == report);
+}
+
 #[test]
 fn no_growth_at_any_level(rt: HostRuntime) -> Result<(), Fail> {
     for row in &pair::LEVELS {
         let options = options_of(&rt, rt.alloc(), row.options);
+        let report = row.report(rt.alloc())?;
         let refusing = Refusing::all_from(rt.alloc(), 3);
         let Ok(mut desk) = Desk::reserved(&refusing, 65_536) else {
             return Err(Fail::from("reserved"));
         };
-        let (old, new) = (SidePlan::plain(pair::OLD), SidePlan::plain(pair::NEW));
-        let mut sources = PlannedSources::new(old, new, Pace::new(7));
-        let mut out = WriteSink::new(ArrayVec::<u8, 4096>::new());
-        let answer = run_over(options, &mut desk, &mut sources, &mut out);
-        assert_well(&rt, answer);
-        let report = row.report(rt.alloc())?;
-        assert!(rt; out.into_inner().as_slice() == report.as_slice());
+        assert_without_growth(&rt, options, &mut desk, report.as_slice());
     }
     Ok(())
 }

@@ -2,12 +2,11 @@
 use super::refused::whole_trial;
 use super::reported::Titles;
 use super::trial::Trial;
-use super::{NEW, OLD, REPORT, assert_answer, assert_openings, options_of, run_over};
+use super::{NEW, OLD, REPORT, assert_answer, assert_openings, options_of, run_into, run_over};
 use crate::pace::PACES;
 use crate::{Pace, PlannedSink, PlannedSources, SidePlan};
 use aide_db::Desk;
-use aide_report::{MemorySink, RunFault, WriteSink};
-use arrayvec::ArrayVec;
+use aide_report::{MemorySink, RunFault};
 use std::alloc::Global;
 use std::process::Abort;
 
@@ -87,14 +86,11 @@ fn a_quiet_run_is_flushed_too(rt: HostRuntime) {
 fn a_writer_without_space(rt: HostRuntime) {
     let options = options_of(&rt, rt.alloc(), b"");
     let mut desk = Desk::new(rt.alloc());
-    let pace = Pace::new(4096);
     let (old, new) = (SidePlan::plain(OLD), SidePlan::plain(NEW));
-    let mut sources = PlannedSources::new(old, new, pace);
-    let mut out = WriteSink::new(ArrayVec::<u8, 2048>::new());
-    let answer = run_over(options, &mut desk, &mut sources, &mut out);
-    assert!(rt; answer.is_ok() && out.into_inner().as_slice() == REPORT);
-    let mut out = WriteSink::new(ArrayVec::<u8, 40>::new());
-    let answer = run_over(options, &mut desk, &mut sources, &mut out);
+    let mut sources = PlannedSources::new(old, new, Pace::new(4096));
+    let (answer, sent) = run_into::<2048, _, _>(options, &mut desk, &mut sources);
+    assert!(rt; answer.is_ok() && sent.as_slice() == REPORT);
+    let (answer, sent) = run_into::<40, _, _>(options, &mut desk, &mut sources);
     assert!(rt; answer == Err(RunFault::Write { written: 40 }));
-    assert!(rt; out.into_inner().as_slice() == REPORT.split_at(40).0);
+    assert!(rt; sent.as_slice() == REPORT.split_at(40).0);
 }

@@ -360,6 +360,22 @@ fn told_by(marks: &[Mark<'_>], none: &Groups<Global>) -> Told {
     told
 }
 
+/// Marks a text after those before it. Returns the line and the kind of its first fault, if it has one. The last text
+/// has a fault at its end if the databases are asked for and not named.
+fn fault_in<'a>(
+    alloc: Global,
+    marks: &mut Vec<Mark<'a>>,
+    defined: &mut Defined,
+    bytes: &'a [u8],
+    is_last: bool,
+) -> Result<Option<(u64, Kind)>, Fail> {
+    let (line, mut fault) = mark_text(alloc, marks, defined, bytes)?;
+    if fault.is_none() && is_last {
+        fault = missing(marks, &Groups::new(alloc));
+    }
+    Ok(fault.map(|kind| (line, kind)))
+}
+
 /// What three texts say, or their first fault.
 pub(super) fn answer(
     alloc: Global,
@@ -371,16 +387,12 @@ pub(super) fn answer(
         groups: Groups::new(alloc),
         count: 0,
     };
-    let none = Groups::new(alloc);
     let names = [ConfText::Before, ConfText::File, ConfText::After];
     for (text, bytes) in names.into_iter().zip(texts) {
-        let (line, mut fault) = mark_text(alloc, &mut marks, &mut defined, bytes)?;
-        if fault.is_none() && need == Need::Compare && text == ConfText::After {
-            fault = missing(&marks, &none);
-        }
-        if let Some(kind) = fault {
+        let is_last = need == Need::Compare && text == ConfText::After;
+        if let Some((line, kind)) = fault_in(alloc, &mut marks, &mut defined, bytes, is_last)? {
             return Ok(Err(ConfFault { text, line, kind }));
         }
     }
-    Ok(Ok(told_by(&marks, &none)))
+    Ok(Ok(told_by(&marks, &Groups::new(alloc))))
 }
