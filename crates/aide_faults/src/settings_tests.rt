@@ -1,6 +1,8 @@
 //! Configurations: why they are refused, what they set, how large they may be, and what follows a failed allocation.
 use aide_conf::{ConfFault, ConfFaultKind, ConfText, Need, Options, Settings};
+use plain::answer;
 use std::alloc::{Allocator, Global};
+use std::test::Fail;
 
 mod compared;
 mod counts;
@@ -33,6 +35,11 @@ fn options_of(alloc: Global, texts: [&[u8]; 3], need: Need) -> Result<Options, C
 /// The first fault of a single text that is read to be checked.
 fn fault_of_file(alloc: Global, file: &[u8]) -> Option<ConfFault> {
     options_of(alloc, [b"", file, b""], Need::Check).err()
+}
+
+/// The first fault that the plain program finds in a single text.
+fn plain_fault(alloc: Global, file: &[u8]) -> Result<Option<ConfFault>, Fail> {
+    Ok(answer(alloc, [b"", file, b""], Need::Check)?.err())
 }
 
 /// A fault of the file.

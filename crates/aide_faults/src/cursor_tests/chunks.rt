@@ -1,7 +1,7 @@
 //! Reels that are asked for a chunk at a time.
 ghost use Rattle.std.specs.Prelude.{◌≡◌, Some};
 
-use super::{LIMITS, Wanted, assert_read, read_whole, start, step};
+use super::{LIMITS, Wanted, assert_read, digest, read_whole, start, step};
 use aide_db::{DbFaultKind as Kind, Desk, DeviceFault, Limits, ReadReel, Reel, Side, Step};
 use std::alloc::{AllocError, Global};
 use std::test::Fail;
@@ -150,9 +150,9 @@ fn digest_of_a_whole_database(rt: HostRuntime) -> Result<(), Fail> {
     let text = database_of(rt.alloc(), 10_000)?;
     let mut desk = Desk::new(rt.alloc());
     let mut cursor = start(Side::New, text.as_slice(), &mut desk);
-    assert!(rt; step(&mut cursor, &mut desk) == Ok(Step::Record) && cursor.digest().is_none());
+    assert!(rt; step(&mut cursor, &mut desk) == Ok(Step::Record) && digest(&cursor).is_none());
     assert!(rt; step(&mut cursor, &mut desk) == Ok(Step::End));
-    assert!(rt; cursor.digest() == Some(DIGEST));
+    assert!(rt; digest(&cursor) == Some(DIGEST));
     cursor.into_reel();
     Ok(())
 }

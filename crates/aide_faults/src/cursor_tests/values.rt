@@ -156,19 +156,23 @@ const LINKS: [Link; 10] = [
     },
 ];
 
+/// Whether the entry on a desk is a link to this name, or one without a name.
+fn links_to(desk: &Desk<Global>, name: Option<&[u8]>) -> bool {
+    let link = desk.view(Side::Old).and_then(|view| view.link());
+    match (link, name) {
+        (Some(None), None) => true,
+        (Some(Some(decoded)), Some(name)) => says(decoded, name),
+        _ => false,
+    }
+}
+
 #[test]
 fn links(rt: HostRuntime) -> Result<(), Fail> {
     let mut desk = Desk::new(rt.alloc());
     for row in &LINKS {
         let answer = first(rt.alloc(), &mut desk, b"lname", row.field)?;
         assert!(rt; answer == Ok(Step::Record), "{answer:?}");
-        let link = desk.view(Side::Old).and_then(|view| view.link());
-        let right = match (link, row.name) {
-            (Some(None), None) => true,
-            (Some(Some(decoded)), Some(name)) => says(decoded, name),
-            _ => false,
-        };
-        assert!(rt; right, "{:?}", row.field);
+        assert!(rt; links_to(&desk, row.name), "{:?}", row.field);
     }
     Ok(())
 }

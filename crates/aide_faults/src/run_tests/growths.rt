@@ -5,7 +5,7 @@ use crate::{Journal, NotedSources, Pace, PlannedSources, Refusing, SidePlan};
 use aide_conf::Options;
 use aide_db::{DbFaultKind, Desk, Side};
 use aide_report::{MemorySink, Outcome, RunFault};
-use std::alloc::{Allocator, Global};
+use std::alloc::{AllocError, Allocator, Global};
 use std::process::Abort;
 use std::test::Fail;
 
@@ -118,12 +118,18 @@ fn each_growth_refused_at_each_level(rt: HostRuntime) -> Result<(), Fail> {
     Ok(())
 }
 
+/// A database of an entry with a short line, and one with a long line.
+fn short_and_long(alloc: Global) -> Result<Vec<u8>, AllocError> {
+    let mut text = Vec::from_slice(alloc, b"@@begin_db\n@@db_spec name size\n/a 1\n/b")?;
+    text.resize(3000, b'b')?;
+    text.extend_from_slice(b" 1\n@@end_db\n")?;
+    Ok(text)
+}
+
 /// The lists change places at each entry, so that a long line can meet a short list again in the counting pass.
 #[test]
 fn growths_of_the_counting_pass(rt: HostRuntime) -> Result<(), Fail> {
-    let mut text = Vec::from_slice(rt.alloc(), b"@@begin_db\n@@db_spec name size\n/a 1\n/b")?;
-    text.resize(3000, b'b')?;
-    text.extend_from_slice(b" 1\n@@end_db\n")?;
+    let text = short_and_long(rt.alloc())?;
     let trial = Trial {
         options: options_of(&rt, rt.alloc(), b"report_level=minimal"),
         old: &text,

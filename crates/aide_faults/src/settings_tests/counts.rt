@@ -1,7 +1,6 @@
 //! How many variables and groups there may be.
-use super::plain::answer;
-use super::{at, fault_of_file};
-use aide_conf::{ConfFaultKind as Kind, Need};
+use super::{at, fault_of_file, plain_fault};
+use aide_conf::ConfFaultKind as Kind;
 use std::alloc::{AllocError, Global};
 use std::process::Abort;
 use std::test::Fail;
@@ -79,9 +78,9 @@ fn check_many(rt: &impl Abort, alloc: Global, many: &[u8], table: &[Many]) -> Re
         text.extend_from_slice(row.tail)?;
         let wanted = at(row.line, row.kind);
         let given = fault_of_file(alloc, &text);
-        let plain = answer(alloc, [b"", &text, b""], Need::Check)?;
+        let plain = plain_fault(alloc, &text)?;
         assert!(rt;
-            given == Some(wanted) && plain == Err(wanted),
+            given == Some(wanted) && plain == Some(wanted),
             "{:?}",
             row.tail
         );

@@ -1,7 +1,6 @@
 //! How deep blocks may be nested, and how long lines, names, values and texts may be.
-use super::plain::answer;
-use super::{at, fault_of_file};
-use aide_conf::{ConfFaultKind as Kind, Need};
+use super::{at, fault_of_file, plain_fault};
+use aide_conf::ConfFaultKind as Kind;
 use std::alloc::{AllocError, Global};
 use std::process::Abort;
 use std::test::Fail;
@@ -420,9 +419,9 @@ fn check_long(rt: &impl Abort, alloc: Global, before: &[u8], table: &[Long]) -> 
         let text = text_of(alloc, before, parts_of(row))?;
         let wanted = at(row.line, row.kind);
         let given = fault_of_file(alloc, &text);
-        let plain = answer(alloc, [b"", &text, b""], Need::Check)?;
+        let plain = plain_fault(alloc, &text)?;
         assert!(rt;
-            given == Some(wanted) && plain == Err(wanted),
+            given == Some(wanted) && plain == Some(wanted),
             "{:?} {} {}: {given:?}",
             row.head,
             row.times,
@@ -437,9 +436,9 @@ fn check_sound(rt: &impl Abort, alloc: Global, before: &[u8], table: &[Sound]) -
     for row in table {
         let text = text_of(alloc, before, *row)?;
         let given = fault_of_file(alloc, &text);
-        let plain = answer(alloc, [b"", &text, b""], Need::Check)?;
+        let plain = plain_fault(alloc, &text)?;
         assert!(rt;
-            given.is_none() && plain.is_ok(),
+            given.is_none() && plain.is_none(),
             "{:?} {}: {given:?}",
             row.head,
             row.more
