@@ -1,9 +1,8 @@
 -- A page whose first bytes have been passed on.
-use Rattle.std.proofs.Common.{◌≡◌, ◌∙◌, ℕ, ◌+◌, ◌≤◌, List, ◌++◌, Option, None, Some, sym, ap, length, take, drop}
-use Rattle.std.proofs.Common.{append_assoc}
+use Rattle.std.proofs.Common.{◌≡◌, ◌∙◌, ℕ, ◌+◌, List, ◌++◌, Option, sym, ap, take, drop}
 use Rattle.std.proofs.Math.Path.{subst}
 use Rattle.std.proofs.KnownBytes.{append_known-moved}
-use Rattle.std.proofs.lemmas.List.{drop-append-le, drop-drop, take-append-drop}
+use Rattle.std.proofs.lemmas.List.{drop-drop, take-append-drop}
 use Rattle.std.specs.Io.KnownBytes.{Appends, Keeps, append_known}
 
 -- what was sent and what is left are what waited on the page
@@ -19,12 +18,3 @@ pub passed_on : (a b : Option (List ℕ)) (items rest : List ℕ) (passed count 
 passed_on a b items rest passed count is went =
     append_known-moved a b (take count (drop passed items)) (drop (passed + count) items) (drop passed items)
     (subst (λ (waiting : List ℕ). Appends a b (take count waiting)) is went) (whole_again items passed count)
-
--- known bytes grow by what is put onto the page
-pub put_on : (a : Option (List ℕ)) (items all more : List ℕ) (passed : ℕ) → passed ≤ length items
-    → all ≡ items ++ more
-    → Appends (append_known a (drop passed items)) (append_known a (drop passed all)) more
-put_on None items all more passed le is = tt
-put_on (Some xs) items all more passed le is =
-    ap (λ (l : List ℕ). xs ++ l) (ap (drop passed) is ∙ drop-append-le passed items more le)
-    ∙ sym (append_assoc xs (drop passed items) more)
