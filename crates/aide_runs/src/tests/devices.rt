@@ -1,8 +1,8 @@
 //! Sessions whose standard output or standard error fails, once or for good.
-use super::session::{CONF, site_of, words_of};
+use super::session::{CONF, site_of, status_of, words_of};
 use aide_faults::{Pace, PlannedSink, Refusing};
 use aide_report::MemorySink;
-use aide_session::{Memory, session};
+use aide_session::Memory;
 use std::alloc::Global;
 use std::process::Abort;
 use std::test::Fail;
@@ -21,7 +21,7 @@ fn report(rt: &impl Abort, alloc: Global) -> Result<MemorySink<Global>, Memory> 
     let words = words_of(alloc, "aide -E -c /conf")?;
     let mut out = MemorySink::new(alloc);
     let mut err = MemorySink::new(alloc);
-    let status = session(alloc, &words, &mut site, &mut out, &mut err);
+    let status = status_of(alloc, &words, &mut site, &mut out, &mut err);
     assert!(rt; status == 7 && err.bytes().is_empty(), "status {status}");
     Ok(out)
 }
@@ -37,7 +37,7 @@ fn assert_stops(
     let mut site = site_of(alloc, CONF, OLD, NEW)?;
     let words = words_of(alloc, "aide -E -c /conf")?;
     let mut err = MemorySink::new(alloc);
-    let status = session(alloc, &words, &mut site, &mut out, &mut err);
+    let status = status_of(alloc, &words, &mut site, &mut out, &mut err);
     assert!(rt; status == 18, "status {status} at {sound}");
     assert!(rt; err.bytes() == FULL, "error lines at {sound}");
     assert!(rt; whole.starts_with(out.inner().bytes()), "output at {sound}");
@@ -84,7 +84,7 @@ fn refuses_growth(
     let refusing = Refusing::new(alloc, growth);
     let mut out = MemorySink::new(&refusing);
     let mut err = MemorySink::new(alloc);
-    let status = session(alloc, &words, &mut site, &mut out, &mut err);
+    let status = status_of(alloc, &words, &mut site, &mut out, &mut err);
     if !refusing.has_refused() {
         assert!(rt; status == 7, "status {status} at growth {growth}");
         assert!(rt; out.bytes() == whole, "output at growth {growth}");
@@ -139,18 +139,23 @@ const DEAF: [Deaf; 3] = [
     },
 ];
 
+/// Runs the session of a row, and checks its output and its status.
+fn assert_goes_on(rt: &impl Abort, alloc: Global, row: &Deaf) -> Result<(), Memory> {
+    let new = b"@@begin_db\n@@db_spec name size\n/a 1\n@@end_db\n";
+    let mut site = site_of(alloc, CONF, row.old, new)?;
+    let words = words_of(alloc, row.line)?;
+    let mut out = MemorySink::new(alloc);
+    let mut err = PlannedSink::new(MemorySink::new(alloc), Pace::new(1), 0, false);
+    let status = status_of(alloc, &words, &mut site, &mut out, &mut err);
+    assert!(rt; status == row.status, "status {status} of {}", row.line);
+    assert!(rt; out.bytes() == row.output, "output of {}", row.line);
+    Ok(())
+}
+
 #[test]
 fn goes_on_without_standard_error(rt: HostRuntime) -> Result<(), Fail> {
-    let alloc = rt.alloc();
-    let new = b"@@begin_db\n@@db_spec name size\n/a 1\n@@end_db\n";
     for row in &DEAF {
-        let mut site = site_of(alloc, CONF, row.old, new)?;
-        let words = words_of(alloc, row.line)?;
-        let mut out = MemorySink::new(alloc);
-        let mut err = PlannedSink::new(MemorySink::new(alloc), Pace::new(1), 0, false);
-        let status = session(alloc, &words, &mut site, &mut out, &mut err);
-        assert!(rt; status == row.status, "status {status} of {}", row.line);
-        assert!(rt; out.bytes() == row.output, "output of {}", row.line);
+        assert_goes_on(&rt, rt.alloc(), row)?;
     }
     Ok(())
 }

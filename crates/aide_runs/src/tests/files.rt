@@ -1,7 +1,7 @@
 //! Long files, and files of the machine.
-use super::session::{assert_silent, site_of, words_of};
+use super::session::{assert_silent, site_of, status_of, words_of};
 use aide_report::MemorySink;
-use aide_session::{FileSite, MemorySite, session};
+use aide_session::{FileSite, MemorySite};
 use std::alloc::{AllocError, Global};
 use std::fs;
 use std::test::Fail;
@@ -65,7 +65,7 @@ fn compares_files_of_the_machine(rt: HostRuntime) -> Result<(), Fail> {
     let mut site = FileSite::new(&rt);
     let mut out = MemorySink::new(alloc);
     let mut err = MemorySink::new(alloc);
-    let status = session(alloc, &words, &mut site, &mut out, &mut err);
+    let status = status_of(alloc, &words, &mut site, &mut out, &mut err);
     fs::remove_dir_all(&rt, "/tmp/aide_session_test")?;
     assert!(rt; status == 7);
     assert!(rt; out.bytes() == HEAD.as_bytes());

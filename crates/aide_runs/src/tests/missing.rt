@@ -2,6 +2,7 @@
 use super::session::{CONF, assert_silent};
 use aide_session::{Memory, MemorySite};
 use std::alloc::Global;
+use std::process::Abort;
 use std::test::Fail;
 
 const SOUND: &[u8] = b"@@begin_db\n@@db_spec name size\n/a 1\n@@end_db\n";
@@ -135,19 +136,17 @@ fn site_of(alloc: Global, row: &Row) -> Result<MemorySite<'static>, Memory> {
     Ok(site)
 }
 
+/// Compares the databases of a row, and checks the error lines and the status.
+fn assert_told(rt: &impl Abort, alloc: Global, row: &Row) -> Result<(), Memory> {
+    let mut site = site_of(alloc, row)?;
+    let line = "aide -E -c /conf";
+    assert_silent(rt, alloc, line, &mut site, row.errors, row.status)
+}
+
 #[test]
 fn tells_what_is_not_there(rt: HostRuntime) -> Result<(), Fail> {
-    let alloc = rt.alloc();
     for row in &ROWS {
-        let mut site = site_of(alloc, row)?;
-        assert_silent(
-            &rt,
-            alloc,
-            "aide -E -c /conf",
-            &mut site,
-            row.errors,
-            row.status,
-        )?;
+        assert_told(&rt, rt.alloc(), row)?;
     }
     Ok(())
 }

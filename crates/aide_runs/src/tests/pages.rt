@@ -1,8 +1,8 @@
 //! A `PagedSink` over a sink that fails, by itself and in a session whose report has several pages.
-use super::session::{CONF, site_of, words_of};
+use super::session::{CONF, site_of, status_of, words_of};
 use aide_faults::{Pace, PlannedSink};
 use aide_report::{MemorySink, Sink, WriteSink, emit};
-use aide_session::{Memory, PagedSink, session};
+use aide_session::{Memory, PagedSink};
 use std::alloc::{AllocError, Global};
 use std::process::Abort;
 use std::test::Fail;
@@ -99,7 +99,7 @@ fn assert_stops(
     );
     let mut out = PagedSink::new(alloc, below)?;
     let mut err = MemorySink::new(alloc);
-    let status = session(alloc, &words, &mut site, &mut out, &mut err);
+    let status = status_of(alloc, &words, &mut site, &mut out, &mut err);
     assert!(rt; status == 18, "status {status} at {sound}");
     assert!(rt; err.bytes() == FULL, "error lines at {sound}");
     Ok(())

@@ -1,6 +1,6 @@
 //! Runs a session over files in memory, and checks all that it does.
-use aide_report::MemorySink;
-use aide_session::{Memory, MemorySite, Words, session};
+use aide_report::{MemorySink, Sink};
+use aide_session::{Memory, MemorySite, Site, Words, session};
 use std::alloc::Global;
 use std::process::Abort;
 
@@ -40,6 +40,18 @@ pub(super) fn site_of<'a>(
     Ok(site)
 }
 
+/// The status of a session. It has no contract, so that the many facts about `session` are no part of the proofs of
+/// its callers.
+pub(super) fn status_of<S: Site, W: Sink, E: Sink>(
+    alloc: Global,
+    words: &Words,
+    site: &mut S,
+    out: &mut W,
+    err: &mut E,
+) -> u8 {
+    session(alloc, words, site, out, err)
+}
+
 /// Runs a session, and checks its error lines and its status. Its standard output must stay empty.
 pub(super) fn assert_silent(
     rt: &impl Abort,
@@ -52,7 +64,7 @@ pub(super) fn assert_silent(
     let words = words_of(alloc, line)?;
     let mut out = MemorySink::new(alloc);
     let mut err = MemorySink::new(alloc);
-    let answer = session(alloc, &words, site, &mut out, &mut err);
+    let answer = status_of(alloc, &words, site, &mut out, &mut err);
     assert!(rt;
         err.bytes() == errors.as_bytes(),
         "error lines after {line}"
@@ -69,7 +81,7 @@ pub(super) fn check(rt: &impl Abort, alloc: Global, row: &Row) -> Result<(), Mem
     words.push(row.options)?;
     let mut out = MemorySink::new(alloc);
     let mut err = MemorySink::new(alloc);
-    let status = session(alloc, &words, &mut site, &mut out, &mut err);
+    let status = status_of(alloc, &words, &mut site, &mut out, &mut err);
     assert!(rt;
         err.bytes() == row.errors.as_bytes(),
         "error lines: {}",

@@ -1,6 +1,7 @@
 //! Command lines and configurations, and what follows from them before a database is read.
 use super::session::{assert_silent, words_of};
-use aide_session::{MemorySite, WordsFault, read_words};
+use aide_session::{Job, MemorySite, WordsFault, read_words};
+use std::alloc::Global;
 use std::test::Fail;
 
 const USAGE: &str = "aide: usage: aide (-E | -D) -c FILE [-B TEXT] [-A TEXT]\n";
@@ -147,13 +148,16 @@ fn answers_words(rt: HostRuntime) -> Result<(), Fail> {
     Ok(())
 }
 
+/// The job of a command line. It has no contract, as `status_of` has none.
+fn job_of(alloc: Global, line: &str) -> Result<Job, WordsFault> {
+    read_words(alloc, &words_of(alloc, line)?)
+}
+
 #[test]
 fn reads_a_job(rt: HostRuntime) -> Result<(), Fail> {
-    let words = words_of(rt.alloc(), "aide -E -c /conf -B A=p")?;
-    let job = read_words(rt.alloc(), &words)?;
+    let job = job_of(rt.alloc(), "aide -E -c /conf -B A=p")?;
     assert!(rt; job.compare && job.config.as_str() == "/conf");
     assert!(rt; job.before.as_str() == "A=p" && job.after.as_str() == "");
-    let words = words_of(rt.alloc(), "aide")?;
-    assert!(rt; matches!(read_words(rt.alloc(), &words), Err(WordsFault::Usage)));
+    assert!(rt; matches!(job_of(rt.alloc(), "aide"), Err(WordsFault::Usage)));
     Ok(())
 }
