@@ -19,8 +19,8 @@ impl<'a> WatchedReel<'a> {
     fn note(&mut self, count: usize)
         ensures { self.new.bytes ≡ self.old.bytes }
     {
-        if self.reads < 8 {
-            self.answers[self.reads] = count;
+        if let Some(answer) = self.answers.get_mut(self.reads) {
+            *answer = count;
         }
         self.reads = self.reads.saturating_add(1);
     }
