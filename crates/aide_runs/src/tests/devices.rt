@@ -1,5 +1,5 @@
 //! Sessions whose standard output or standard error fails, once or for good.
-use super::session::{CONF, site_of, status_of, words_of};
+use super::session::{CONF, compare, site_of, status_of, words_of};
 use aide_faults::{Pace, PlannedSink, Refusing};
 use aide_report::MemorySink;
 use aide_session::Memory;
@@ -17,13 +17,16 @@ const FULL: &[u8] = b"aide: cannot write the report\n";
 
 /// What a comparison of these two databases writes to standard output.
 fn report(rt: &impl Abort, alloc: Global) -> Result<MemorySink<Global>, Memory> {
-    let mut site = site_of(alloc, CONF, OLD, NEW)?;
-    let words = words_of(alloc, "aide -E -c /conf")?;
     let mut out = MemorySink::new(alloc);
-    let mut err = MemorySink::new(alloc);
-    let status = status_of(alloc, &words, &mut site, &mut out, &mut err);
-    assert!(rt; status == 7 && err.bytes().is_empty(), "status {status}");
+    let (status, errors) = compare(alloc, OLD, NEW, &mut out)?;
+    assert!(rt; status == 7 && errors.bytes().is_empty(), "status {status}");
     Ok(out)
+}
+
+/// Checks that the comparison has ended because it could not write the report.
+fn assert_full(rt: &impl Abort, status: u8, errors: &MemorySink<Global>, at: u64) {
+    assert!(rt; status == 18, "status {status} at {at}");
+    assert!(rt; errors.bytes() == FULL, "error lines at {at}");
 }
 
 /// Checks the same comparison with a standard output that fails after `sound` bytes.
@@ -34,14 +37,11 @@ fn assert_stops(
     sound: usize,
     mut out: PlannedSink<MemorySink<Global>>,
 ) -> Result<(), Memory> {
-    let mut site = site_of(alloc, CONF, OLD, NEW)?;
-    let words = words_of(alloc, "aide -E -c /conf")?;
-    let mut err = MemorySink::new(alloc);
-    let status = status_of(alloc, &words, &mut site, &mut out, &mut err);
-    assert!(rt; status == 18, "status {status} at {sound}");
-    assert!(rt; err.bytes() == FULL, "error lines at {sound}");
-    assert!(rt; whole.starts_with(out.inner().bytes()), "output at {sound}");
-    assert!(rt; out.inner().bytes().len() == sound, "bytes at {sound}");
+    let (status, errors) = compare(alloc, OLD, NEW, &mut out)?;
+    assert_full(rt, status, &errors, sound as u64);
+    let written = out.inner().bytes();
+    assert!(rt; whole.starts_with(written), "output at {sound}");
+    assert!(rt; written.len() == sound, "bytes at {sound}");
     Ok(())
 }
 
@@ -79,21 +79,17 @@ fn refuses_growth(
     whole: &[u8],
     growth: u64,
 ) -> Result<bool, Memory> {
-    let mut site = site_of(alloc, CONF, OLD, NEW)?;
-    let words = words_of(alloc, "aide -E -c /conf")?;
     let refusing = Refusing::new(alloc, growth);
     let mut out = MemorySink::new(&refusing);
-    let mut err = MemorySink::new(alloc);
-    let status = status_of(alloc, &words, &mut site, &mut out, &mut err);
-    if !refusing.has_refused() {
-        assert!(rt; status == 7, "status {status} at growth {growth}");
-        assert!(rt; out.bytes() == whole, "output at growth {growth}");
-        return Ok(false);
+    let (status, errors) = compare(alloc, OLD, NEW, &mut out)?;
+    if refusing.has_refused() {
+        assert_full(rt, status, &errors, growth);
+        assert!(rt; whole.starts_with(out.bytes()), "output at growth {growth}");
+        return Ok(true);
     }
-    assert!(rt; status == 18, "status {status} at growth {growth}");
-    assert!(rt; err.bytes() == FULL, "error lines at growth {growth}");
-    assert!(rt; whole.starts_with(out.bytes()), "output at growth {growth}");
-    Ok(true)
+    assert!(rt; status == 7, "status {status} at growth {growth}");
+    assert!(rt; out.bytes() == whole, "output at growth {growth}");
+    Ok(false)
 }
 
 #[test]

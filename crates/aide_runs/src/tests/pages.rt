@@ -1,7 +1,7 @@
 //! A `PagedSink` over a sink that fails, by itself and in a session whose report has several pages.
-use super::session::{CONF, site_of, status_of, words_of};
+use super::session::compare;
 use aide_faults::{Pace, PlannedSink};
-use aide_report::{MemorySink, Sink, WriteSink, emit};
+use aide_report::{Sink, WriteSink, emit};
 use aide_session::{Memory, PagedSink};
 use std::alloc::{AllocError, Global};
 use std::process::Abort;
@@ -90,18 +90,15 @@ fn assert_stops(
     sound: usize,
     bytes: &mut Vec<u8>,
 ) -> Result<(), Memory> {
-    let mut site = site_of(alloc, CONF, old, NEW)?;
-    let words = words_of(alloc, "aide -E -c /conf")?;
     let below: Below<'_> = PlannedSink::failing_once(
         WriteSink::new(bytes),
         Pace::new(4096),
         sound as u64,
     );
     let mut out = PagedSink::new(alloc, below)?;
-    let mut err = MemorySink::new(alloc);
-    let status = status_of(alloc, &words, &mut site, &mut out, &mut err);
+    let (status, errors) = compare(alloc, old, NEW, &mut out)?;
     assert!(rt; status == 18, "status {status} at {sound}");
-    assert!(rt; err.bytes() == FULL, "error lines at {sound}");
+    assert!(rt; errors.bytes() == FULL, "error lines at {sound}");
     Ok(())
 }
 

@@ -52,6 +52,40 @@ pub(super) fn status_of<S: Site, W: Sink, E: Sink>(
     session(alloc, words, site, out, err)
 }
 
+/// Compares two databases. Returns the status and the error lines.
+pub(super) fn compare<W: Sink>(
+    alloc: Global,
+    old: &[u8],
+    new: &[u8],
+    out: &mut W,
+) -> Result<(u8, MemorySink<Global>), Memory> {
+    let mut site = site_of(alloc, CONF, old, new)?;
+    let words = words_of(alloc, "aide -E -c /conf")?;
+    let mut err = MemorySink::new(alloc);
+    let status = status_of(alloc, &words, &mut site, out, &mut err);
+    Ok((status, err))
+}
+
+/// What a session writes and returns.
+#[derive(Drop)]
+pub(super) struct Ended {
+    pub(super) status: u8,
+    pub(super) output: MemorySink<Global>,
+    pub(super) errors: MemorySink<Global>,
+}
+
+/// Runs a session.
+pub(super) fn run_session<S: Site>(alloc: Global, words: &Words, site: &mut S) -> Ended {
+    let mut output = MemorySink::new(alloc);
+    let mut errors = MemorySink::new(alloc);
+    let status = status_of(alloc, words, site, &mut output, &mut errors);
+    Ended {
+        status,
+        output,
+        errors,
+    }
+}
+
 /// Runs a session, and checks its error lines and its status. Its standard output must stay empty.
 pub(super) fn assert_silent(
     rt: &impl Abort,
@@ -62,36 +96,44 @@ pub(super) fn assert_silent(
     status: u8,
 ) -> Result<(), Memory> {
     let words = words_of(alloc, line)?;
-    let mut out = MemorySink::new(alloc);
-    let mut err = MemorySink::new(alloc);
-    let answer = status_of(alloc, &words, site, &mut out, &mut err);
+    let ended = run_session(alloc, &words, site);
     assert!(rt;
-        err.bytes() == errors.as_bytes(),
+        ended.errors.bytes() == errors.as_bytes(),
         "error lines after {line}"
     );
-    assert!(rt; out.bytes().is_empty(), "output after {line}");
-    assert!(rt; answer == status, "status {answer} after {line}");
+    assert!(rt; ended.output.bytes().is_empty(), "output after {line}");
+    assert!(rt;
+        ended.status == status,
+        "status {} after {line}",
+        ended.status
+    );
     Ok(())
 }
 
-/// Compares the two databases of a row with its options, and checks the result.
-pub(super) fn check(rt: &impl Abort, alloc: Global, row: &Row) -> Result<(), Memory> {
+/// Compares the two databases of a row with its options.
+fn compare_row(alloc: Global, row: &Row) -> Result<Ended, Memory> {
     let mut site = site_of(alloc, CONF, row.old, row.new)?;
     let mut words = words_of(alloc, "aide --compare --config /conf --after")?;
     words.push(row.options)?;
-    let mut out = MemorySink::new(alloc);
-    let mut err = MemorySink::new(alloc);
-    let status = status_of(alloc, &words, &mut site, &mut out, &mut err);
+    Ok(run_session(alloc, &words, &mut site))
+}
+
+/// Compares the two databases of a row, and checks the result.
+pub(super) fn check(rt: &impl Abort, alloc: Global, row: &Row) -> Result<(), Memory> {
+    let ended = compare_row(alloc, row)?;
+    let name = row.name;
     assert!(rt;
-        err.bytes() == row.errors.as_bytes(),
-        "error lines: {}",
-        row.name
+        ended.errors.bytes() == row.errors.as_bytes(),
+        "error lines: {name}"
     );
     assert!(rt;
-        out.bytes() == row.output.as_bytes(),
-        "output: {}",
-        row.name
+        ended.output.bytes() == row.output.as_bytes(),
+        "output: {name}"
     );
-    assert!(rt; status == row.status, "status {status}: {}", row.name);
+    assert!(rt;
+        ended.status == row.status,
+        "status {}: {name}",
+        ended.status
+    );
     Ok(())
 }
