@@ -1,7 +1,7 @@
 use Rattle.std.proofs.Common.{ap, ◌∙◌}
-use Rattle.std.specs.Prelude.{not, ◌&&◌, ◌||◌}
+use Rattle.std.specs.Prelude.{not, ◌&&◌}
 use Rattle.aide_attr.specs.Attr.{attrs_at}
-use Rattle.aide_attr.specs.Difference.{sides_of, is_changed, is_same}
+use Rattle.aide_attr.specs.Difference.{sides_of, is_same}
 use Rattle.aide_attr.specs.Set.{has}
 use Rattle.aide_attr.proofs.DifferenceLemmas.{any_has}
 use Rattle.aide_attr.proofs.summary_string.any_same.Goals as goal
