@@ -355,6 +355,10 @@ unfolding walk
 ends_wanting_more look acc p s text i h k w =
     rw (drop_all i text h, w) (let e : i ≡ length text = omega arith in ap (λ z. Err (BadExpression z)) e)
 
+pub not_before : (p : Stage) → (p ≡ InName) ⊎ (p ≡ AfterName) → p ≡ BeforeName → ⊥
+not_before p (inl e) w = cc
+not_before p (inr e) w = cc
+
 pub ends_well : (look : Lookup) (acc : Attr → Bool) (p : Stage) (s : Bool) (text : List ℕ) (i : ℕ) → length text ≤ i
     → (p ≡ BeforeName → ⊥)
     → walk look acc p s i (drop i text) ≡ Ok acc

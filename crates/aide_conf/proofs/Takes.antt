@@ -13,7 +13,7 @@ use Rattle.aide_attr.specs.Expression.{IsMeaning, IsFault}
 use Rattle.aide_attr.specs.Name.{is_word}
 use Rattle.aide_conf.specs.declared.fault.ConfFaultKind.{ConfFaultKind}
 use Rattle.aide_conf.specs.declared.fault.ConfFaultKind.TheVariants.{BadDirective, BadName, LineTooLong, ValueTooLong}
-use Rattle.aide_conf.specs.declared.fault.ConfFaultKind.TheVariants.{TooMany}
+use Rattle.aide_conf.specs.declared.fault.ConfFaultKind.TheVariants.{TooMany, Memory}
 use Rattle.aide_conf.specs.declared.option_kind.Side.{Side}
 use Rattle.aide_conf.specs.declared.options.Switch.{Switch}
 use Rattle.aide_conf.specs.declared.options.AttrList.{AttrList}
@@ -80,9 +80,15 @@ module _ {A : Type 0} (E : Type 0) (earlier : List Marked) (depth : ℕ) (divide
   pub fixes_here : (u : E) → Taken EndsOptions (record p { fixed = true }) (Ok u)
   fixes_here u = (None, refl, refl, λ x e w. built_fixed earlier x p s e)
 
-  pub names_path : (u : E) (d : Side) (path : List ℕ) (q : SettingsBuilder A) → NamesPath d path p q
+  names_path : (u : E) (d : Side) (path : List ℕ) (q : SettingsBuilder A) → NamesPath d path p q
       → Taken (NamesDatabase d path) q (Ok u)
   names_path u d path q h = (None, refl, refl, λ x e w. built_named earlier x p s d path q e h)
+
+  pub path_taken : (d : Side) (path : List ℕ) (q : SettingsBuilder A) (result : Result E ConfFaultKind)
+      → OnOk result (NamesPath d path p q) → IfErr result (λ kind. kind ≡ Memory)
+      → Taken (NamesDatabase d path) q result
+  path_taken d path q (Ok u) named starved = names_path u d path q named
+  path_taken d path q (Err kind) named starved = inr starved
 
   -- ---- expressions
 

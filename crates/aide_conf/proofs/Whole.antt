@@ -1,7 +1,7 @@
 -- The three texts, one after another.
 use Rattle.std.proofs.Common.{ℕ, ◌≡◌, ◌+◌, false, List, [], ◌∷◌, ◌++◌, refl, sym, ap, subst, ◌∙◌, append_assoc, inl}
 use Rattle.std.proofs.Common.{inr, ◌⊎◌}
-use Rattle.std.specs.Prelude.{map, if◌then◌else◌}
+use Rattle.std.specs.Prelude.{map, if◌then◌else◌, Result, Ok, Err}
 use Rattle.aide_conf.specs.declared.task.Need.{Need}
 use Rattle.aide_conf.specs.declared.fault.ConfFault.{ConfFault}
 use Rattle.aide_conf.specs.declared.builder.SettingsBuilder.{SettingsBuilder}
@@ -11,7 +11,7 @@ use Rattle.aide_conf.specs.Marks.{Marked}
 use Rattle.aide_conf.specs.MarkedBlocks.{is_text, seen, seen_in}
 use Rattle.aide_conf.specs.RightMarks.{AreSound}
 use Rattle.aide_conf.specs.ReadResult.{IsRead, IsRefused, IsStarved}
-use Rattle.aide_conf.specs.code.Builder.{IsBuiltFrom, Takes, Stops, text_at}
+use Rattle.aide_conf.specs.code.Builder.{IsBuiltFrom, Takes, TakesAll, Stops, settings_of}
 use Rattle.aide_conf.proofs.Cuts.{append_nothing}
 
 places_append : (xs ys : List Marked)
@@ -77,6 +77,14 @@ then_stop need ps qs p e t u =
       kind = v.kind;
     }
 
+-- one text after others, sound or not
+pub then_all : {A E : Type 0} (need : Need) (ps qs : List Place) (p q : SettingsBuilder A) (r : Result E ConfFault)
+    → Takes need [] ps p
+    → ((earlier : List Marked) → map (λ (x : Marked). x.place) earlier ≡ ps → IsBuiltFrom earlier p → TakesAll need earlier qs q r)
+    → TakesAll need [] (ps ++ qs) q r
+then_all need ps qs p q (Ok u) t taken = then_more need ps qs p q t taken
+then_all need ps qs p q (Err e) t taken = then_stop need ps qs p e t taken
+
 pub more_behind : (need : Need) (ps qs : List Place) (e : ConfFault) → Stops need [] ps e → Stops need [] (ps ++ qs) e
 more_behind need ps qs e v = record {
   lines = v.lines;
@@ -106,6 +114,7 @@ refused need ps e v = elim v.kind [
   | inr k ↦ inr (record { lines = v.lines; at = v.at; rest = v.rest; cut = v.cut; sound = v.sound; grows = k.1; kind = k.0; text = v.text; line = v.line })
 ]
 
-pub taken : {A : Type 0} (need : Need) (ps : List Place) (p : SettingsBuilder A) → Takes need [] ps p → IsRead need ps (record { options = p.options; old_path = text_at p.old_path; new_path = text_at p.new_path })
+pub taken : {A : Type 0} (need : Need) (ps : List Place) (p : SettingsBuilder A) → Takes need [] ps p
+    → IsRead need ps (settings_of p)
 taken need ps p t =
     record { lines = t.0; all = t.1; sound = t.2; settings = record { options = t.3.options; old_path = t.3.old_path; new_path = t.3.new_path } }

@@ -1,6 +1,7 @@
 //! Settings in the making: what the lines read so far have set.
 
 ghost use Rattle.std.specs.Prelude.{◌≡◌, ℕ, Bool, List, [], true, IfOk, IfErr, OnOk};
+ghost use Rattle.aide_conf.specs.declared.fault.ConfFaultKind.TheVariants.{Memory};
 ghost use Rattle.aide_attr.specs.Expression.{IsMeaning};
 ghost use Rattle.aide_attr.specs.Groups.{names_of, meaning_of};
 ghost use Rattle.aide_attr.specs.Name.{is_group_name};
@@ -15,7 +16,7 @@ use crate::fault::ConfFaultKind;
 use crate::option_kind::Side;
 use crate::options::{AttrList, Options, Switch};
 use aide_attr::{AttrSet, ExprFault, GroupFault, Groups, Level, NameMap};
-use std::alloc::{AllocError, Allocator};
+use std::alloc::Allocator;
 
 /// Settings in the making, with the groups and the variables by which the next line is read.
 #[derive(Drop)]
@@ -77,10 +78,13 @@ impl<A: Allocator + Copy> SettingsBuilder<A> {
     }
 
     /// Keeps the path of a database.
-    fn name_database(&mut self, side: Side, path: &str) -> Result<(), AllocError>
-        ensures { OnOk result (NamesPath side path.now self.old self.new) }
+    fn name_database(&mut self, side: Side, path: &str) -> Result<(), ConfFaultKind>
+        ensures ok { OnOk result (NamesPath side path.now self.old self.new) }
+        ensures err { IfErr result (λ kind. kind ≡ Memory) }
     {
-        let copy = String::from_str(self.alloc, path)?;
+        let Ok(copy) = String::from_str(self.alloc, path) else {
+            return Err(ConfFaultKind::Memory);
+        };
         match side {
             Side::Old => self.old_path = Some(copy),
             Side::New => self.new_path = Some(copy),
@@ -125,10 +129,7 @@ impl<A: Allocator + Copy> SettingsBuilder<A> {
     {
         match effect {
             Effect::Nothing => Ok(()),
-            Effect::NamesDatabase(side, path) => match self.name_database(side, path) {
-                Ok(()) => Ok(()),
-                Err(_) => Err(ConfFaultKind::Memory),
-            },
+            Effect::NamesDatabase(side, path) => self.name_database(side, path),
             Effect::SetsLevel(level) => {
                 self.set_level(level);
                 Ok(())

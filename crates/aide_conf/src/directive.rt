@@ -9,7 +9,6 @@ ghost use Rattle.aide_conf.specs.Effect.{is_omitted};
 use crate::line::{after_first_word, first_word, strip};
 
 /// A directive, with the bytes of its names and its text: slices here, lists in contracts.
-#[derive(Clone, Copy)]
 pub(crate) enum Directive<Bytes> {
     /// A variable's name, and its value before expansion.
     Define(Bytes, Bytes),
@@ -87,13 +86,12 @@ fn negated(rest: &[u8]) -> Directive<&[u8]>
     }
 }
 
+/// The words of the directives that this program leaves out.
+const OMITTED_WORDS: [&[u8]; 4] = [b"include", b"x_include", b"ifhost", b"ifnhost"];
+
 /// Returns whether a directive with this word is one that this program leaves out.
-#[tactic(auto, unfolding(crate::specs::Effect::is_omitted))]
 fn is_omitted(word: &[u8]) -> bool
     ensures { result ≡ is_omitted word.now }
 {
-    word == b"include".as_slice()
-        || word == b"x_include".as_slice()
-        || word == b"ifhost".as_slice()
-        || word == b"ifnhost".as_slice()
+    OMITTED_WORDS.contains(&word)
 }

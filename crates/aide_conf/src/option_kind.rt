@@ -51,39 +51,47 @@ fn main_option(name: &[u8]) -> Option<OptionKind>
     }
 }
 
+/// The names of AIDE's options that have no effect here.
+const ACCEPTED_NAMES: [&[u8]; 17] = [
+    b"database_out",
+    b"database_gzip",
+    b"gzip_dbout",
+    b"database_attrs",
+    b"database_add_metadata",
+    b"log_level",
+    b"verbose",
+    b"config_version",
+    b"config_check_warn_unrestricted_rules",
+    b"root_prefix",
+    b"num_workers",
+    b"acl_no_symlink_follow",
+    b"warn_dead_symlinks",
+    b"report_append",
+    b"report_detailed_init",
+    b"report_ignore_e2fsattrs",
+    b"syslog_format",
+];
+
 /// Returns whether this is the name of an option of AIDE that has no effect here.
-#[tactic(auto, unfolding(crate::specs::Effect::is_accepted))]
 fn is_accepted(name: &[u8]) -> bool
     ensures { result ≡ is_accepted name.now }
 {
-    name == b"database_out".as_slice()
-        || name == b"database_gzip".as_slice()
-        || name == b"gzip_dbout".as_slice()
-        || name == b"database_attrs".as_slice()
-        || name == b"database_add_metadata".as_slice()
-        || name == b"log_level".as_slice()
-        || name == b"verbose".as_slice()
-        || name == b"config_version".as_slice()
-        || name == b"config_check_warn_unrestricted_rules".as_slice()
-        || name == b"root_prefix".as_slice()
-        || name == b"num_workers".as_slice()
-        || name == b"acl_no_symlink_follow".as_slice()
-        || name == b"warn_dead_symlinks".as_slice()
-        || name == b"report_append".as_slice()
-        || name == b"report_detailed_init".as_slice()
-        || name == b"report_ignore_e2fsattrs".as_slice()
-        || name == b"syslog_format".as_slice()
+    ACCEPTED_NAMES.contains(&name)
 }
 
+/// The names of options that AIDE no longer has.
+const OLDER_NAMES: [&[u8]; 4] = [
+    b"ignore_list",
+    b"report_attributes",
+    b"grouped",
+    b"summarize_changes",
+];
+
 /// Returns whether this is the name of an option that AIDE no longer has.
-#[tactic(auto, unfolding(crate::specs::Effect::is_older))]
 fn is_older(name: &[u8]) -> bool
     ensures { result ≡ is_older name.now }
 {
-    name == b"ignore_list".as_slice()
-        || name == b"report_attributes".as_slice()
-        || name == b"grouped".as_slice()
-        || name == b"summarize_changes".as_slice()
+    OLDER_NAMES.contains(&name)
 }
 
 /// Returns the option of a name. Any other name is that of a group.

@@ -57,7 +57,7 @@ use Rattle.aide_conf.specs.MarkedPaths.{path_set}
 use Rattle.aide_conf.specs.PlaceFault.{line_fault, fault_at, verdict_fault}
 use Rattle.aide_conf.specs.code.Stack.{IsOpen}
 use Rattle.aide_conf.specs.code.Variables.{Values, values_of}
-use Rattle.aide_conf.specs.Settings.{AreOptions, counted, fixes}
+use Rattle.aide_conf.specs.Settings.{AreOptions, Configured, counted, fixes}
 
 -- the bytes of a path, if there is one
 abbrev pub text_at : {A : Type 0} → Option (String A) → Option (List ℕ)
@@ -83,6 +83,14 @@ pub record IsBuiltFrom {A : Type 0} (xs : List Marked) (p : SettingsBuilder A) :
   pub fixed : p.fixed ≡ list_any fixes xs
   pub old_path : text_at p.old_path ≡ path_set Old xs
   pub new_path : text_at p.new_path ≡ path_set New xs
+
+-- the settings that a builder gives
+abbrev pub settings_of : {A : Type 0} → SettingsBuilder A → Configured
+settings_of p = record {
+  options = p.options;
+  old_path = text_at p.old_path;
+  new_path = text_at p.new_path;
+}
 
 -- the place of a text with this number and this line
 abbrev pub place_at : ConfText → ℕ → Option (List ℕ) → Place

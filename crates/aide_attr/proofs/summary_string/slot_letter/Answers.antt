@@ -1,15 +1,42 @@
-use Rattle.std.proofs.Common.{refl, sym, ◌∙◌, ◌≡◌, ℕ, Bool, true, false}
+use Rattle.std.proofs.Common.{sym, ◌∙◌, ◌≡◌, ℕ, Bool, true, false, refl}
 use Rattle.std.specs.Prelude.{if◌then◌else◌}
 use Rattle.aide_attr.specs.Summary.{slot_letter}
 use Rattle.aide_attr.proofs.summary_string.slot_letter.Goals as goal
 
--- the fourth case is the first that applies
-fourth : (p q r s : Bool) (a b d e f : ℕ) → p ≡ false → q ≡ false → r ≡ false → s ≡ true
-    → (if p then a else if q then b else if r then d else if s then e else f) ≡ e
-fourth p q r s a b d e f not_p not_q not_r is_s = rw (not_p, not_q, not_r, is_s) refl
+-- this case applies
+here : (p : Bool) (a z : ℕ) → p ≡ true → (if p then a else z) ≡ a
+here p a z is = rw is refl
+
+-- it does not, so a later one gives the letter
+later : (p : Bool) (a z letter : ℕ) → p ≡ false → z ≡ letter → (if p then a else z) ≡ letter
+later p a z letter not rest = rw not rest
+
+pub returns-then-any_changed : goal.returns-then-any_changed
+unfolding slot_letter
+returns-then-any_changed c =
+    sym (here _ _ _ (sym c.any_changed.ensures ∙ c.if-any_changed.true))
+
+pub returns-then-any_added : goal.returns-then-any_added
+unfolding slot_letter
+returns-then-any_added c =
+    sym (later _ _ _ _ (sym c.any_changed.ensures ∙ c.if-any_changed.false) (here _ _ _ (sym c.any_added.ensures ∙ c.if-any_added.true)))
+
+pub returns-then-any_removed : goal.returns-then-any_removed
+unfolding slot_letter
+returns-then-any_removed c =
+    sym (later _ _ _ _ (sym c.any_changed.ensures ∙ c.if-any_changed.false) (later _ _ _ _ (sym c.any_added.ensures ∙ c.if-any_added.false) (here _ _ _ (sym c.any_removed.ensures ∙ c.if-any_removed.true))))
 
 pub returns-then-any_affected : goal.returns-then-any_affected
 unfolding slot_letter
 returns-then-any_affected c =
-    sym (fourth _ _ _ _ _ _ _ _ _ (sym c.any_changed.ensures ∙ c.if-any_changed.false) (sym c.any_added.ensures ∙ c.if-any_added.false)
-    (sym c.any_removed.ensures ∙ c.if-any_removed.false) (sym c.any_affected.ensures ∙ c.if-any_affected.true))
+    sym (later _ _ _ _ (sym c.any_changed.ensures ∙ c.if-any_changed.false) (later _ _ _ _ (sym c.any_added.ensures ∙ c.if-any_added.false) (later _ _ _ _ (sym c.any_removed.ensures ∙ c.if-any_removed.false) (here _ _ _ (sym c.any_affected.ensures ∙ c.if-any_affected.true)))))
+
+pub returns-then-any_same : goal.returns-then-any_same
+unfolding slot_letter
+returns-then-any_same c =
+    sym (later _ _ _ _ (sym c.any_changed.ensures ∙ c.if-any_changed.false) (later _ _ _ _ (sym c.any_added.ensures ∙ c.if-any_added.false) (later _ _ _ _ (sym c.any_removed.ensures ∙ c.if-any_removed.false) (later _ _ _ _ (sym c.any_affected.ensures ∙ c.if-any_affected.false) (here _ _ _ (sym c.any_same.ensures ∙ c.if-any_same.true))))))
+
+pub returns-else-any_same : goal.returns-else-any_same
+unfolding slot_letter
+returns-else-any_same c =
+    sym (later _ _ _ _ (sym c.any_changed.ensures ∙ c.if-any_changed.false) (later _ _ _ _ (sym c.any_added.ensures ∙ c.if-any_added.false) (later _ _ _ _ (sym c.any_removed.ensures ∙ c.if-any_removed.false) (later _ _ _ _ (sym c.any_affected.ensures ∙ c.if-any_affected.false) (later _ _ _ _ (sym c.any_same.ensures ∙ c.if-any_same.false) refl)))))
