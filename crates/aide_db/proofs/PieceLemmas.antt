@@ -192,7 +192,5 @@ near_whole ahead near most e some =
 pub near_short : (ahead near : List ℕ) (most : ℕ) → near ≡ take most ahead → length near ≤ most
 near_short ahead near most e = omega (arith, ap length e, length-take most ahead)
 
-pub near_length : (ahead near : List ℕ) (most : ℕ) → near ≡ take most ahead
-    → length near + length (drop (length near) ahead) ≡ length ahead
-near_length ahead near most e =
-    sym (ap length (near_parts ahead near most e) ∙ length-append near (drop (length near) ahead))
+pub near_fits : (ahead near : List ℕ) (most : ℕ) → near ≡ take most ahead → length near ≤ length ahead
+near_fits ahead near most e = omega (arith, ap length e, length-take most ahead)
