@@ -1,10 +1,10 @@
 -- The first piece of a line, by the index of its newline.
 use Rattle.std.proofs.Common.{◌≡◌, ℕ, ◌+◌, ◌<◌, ◌≤◌, List, [], ◌∷◌, ◌++◌, length, take, drop, refl, sym, ap, ◌∙◌, subst}
 use Rattle.std.proofs.Common.{true, false, Bool, arith, get_or, None, Some, inl, inr}
-use Rattle.std.specs.Prelude.{min, ◌==◌}
+use Rattle.std.specs.Prelude.{min, ◌==◌, ◌-◌}
 use Rattle.std.proofs.lemmas.Bool.{eqb-true, cases_lt}
 use Rattle.std.proofs.lemmas.List.{take-append-drop, take-append-le, get_or-take, get_or_default, length-take-le}
-use Rattle.std.proofs.lemmas.List.{length-take, drop_more, drop-drop, take_all, drop_all}
+use Rattle.std.proofs.lemmas.List.{length-take, length-drop, drop_more, drop-drop, take_all, drop_all}
 use Rattle.memchr.specs.Find.{IsFirstByte, is_byte}
 use Rattle.aide_entry.specs.Text.{is_newline, is_filled}
 use Rattle.std.proofs.Common.{append_assoc, append-nil}
@@ -12,7 +12,8 @@ use Rattle.sha2.specs.Hashers.{Holds256}
 use Rattle.sha2.specs.declared.Sha256.{Sha256}
 use Rattle.std.proofs.lemmas.List.{length-append}
 use Rattle.std.proofs.lemmas.List.Elements.{All-append}
-use Rattle.aide_db.specs.TakeLine.{HasNoNewline, HaveBegun, Begins}
+use Rattle.aide_db.specs.Keeping.{IsWithinLimit}
+use Rattle.aide_db.specs.TakeLine.{HasCome, HasNoNewline, HaveBegun, Begins}
 use Rattle.aide_db.specs.NextChunk.{Gives}
 use Rattle.aide_db.specs.declared.limits.Limits.{Limits}
 use Rattle.aide_db.specs.Piece.{IsPiece}
@@ -151,6 +152,38 @@ pub piece_length : (ahead piece : List ℕ) (most : ℕ) (ends : Bool) → IsPie
     → length piece + length (drop (length piece) ahead) ≡ length ahead
 piece_length ahead piece most ends p = sym (ap length p.parts ∙ length-append piece (drop (length piece) ahead))
 
+pub piece_fits : (ahead piece : List ℕ) (most : ℕ) (ends : Bool) → IsPiece ahead most piece ends
+    → length piece ≤ length ahead
+piece_fits ahead piece most ends p = omega (arith, piece_length ahead piece most ends p)
+
+pub over_fits : (ahead piece : List ℕ) (most space : ℕ) (ends : Bool) → IsPiece ahead most piece ends
+    → space < length piece → space + 1 ≤ length ahead
+over_fits ahead piece most space ends p over = omega (arith, piece_length ahead piece most ends p, over)
+
+-- a line whose newline follows the piece
+pub begun_ended : (limits : Limits) (bytes line ahead rest left piece : List ℕ) (used used_now most : ℕ) (ends : Bool)
+    → HaveBegun limits bytes used line left used_now → ahead ++ rest ≡ left → IsPiece ahead most piece ends
+    → ends ≡ true → length line + length piece ≤ limits.line
+    → HasCome limits bytes used false (line ++ piece) (drop 1 (drop (length piece) ahead) ++ rest) (used_now + length piece + 1)
+begun_ended limits bytes line ahead rest left piece used used_now most ends h same p end short =
+    let b = begun_more limits bytes line ahead rest left piece used used_now most ends h same p in
+    record {
+      none = b.none;
+      short = omega (arith, short, length-append line piece);
+      whole = λ t. (b.parts ∙ ap (λ d. (line ++ piece) ++ (d ++ rest)) (p.newline end).0, omega (arith, b.count));
+      at_end = λ e. cc;
+    }
+
+-- the byte limit still holds once so many of the bytes ahead are used
+pub within_used : (limits : Limits) (used count : ℕ) (before ahead : List ℕ) → IsWithinLimit limits used before
+    → (length before ≤ limits.bytes - used + 1 → length ahead ≤ limits.bytes - used + 1)
+    → count ≤ limits.bytes - used → IsWithinLimit limits (used + count) (drop count ahead)
+within_used limits used count before ahead h most small = record {
+  within = omega (arith, h.within, small);
+  given = omega (arith, length-drop count ahead, h.within, small, most (omega (arith, h.within, h.given)));
+  bytes = h.bytes;
+}
+
 pub near_whole : (ahead near : List ℕ) (most : ℕ) → near ≡ take most ahead → is_filled (drop (length near) ahead) ≡ true
     → length near ≡ most
 near_whole ahead near most e some =
@@ -159,7 +192,5 @@ near_whole ahead near most e some =
 pub near_short : (ahead near : List ℕ) (most : ℕ) → near ≡ take most ahead → length near ≤ most
 near_short ahead near most e = omega (arith, ap length e, length-take most ahead)
 
-pub near_length : (ahead near : List ℕ) (most : ℕ) → near ≡ take most ahead
-    → length near + length (drop (length near) ahead) ≡ length ahead
-near_length ahead near most e =
-    sym (ap length (near_parts ahead near most e) ∙ length-append near (drop (length near) ahead))
+pub near_fits : (ahead near : List ℕ) (most : ℕ) → near ≡ take most ahead → length near ≤ length ahead
+near_fits ahead near most e = omega (arith, ap length e, length-take most ahead)

@@ -16,6 +16,7 @@ pub mod DecodeLemmas
 pub mod FieldValues
 pub mod AttrLoops
 pub mod ColumnLemmas
+pub mod SpecLineLemmas
 pub mod FirstColumnLemmas
 pub mod JudgedFields
 pub mod SymbolLemmas

@@ -6,7 +6,8 @@ use Rattle.std.specs.declared.cmp.Ordering.TheVariants.{Less, Equal, Greater}
 use Rattle.std.specs.List.{All, AllPairs, list_all}
 use Rattle.std.specs.Ordering.{is_lt}
 use Rattle.std.proofs.lemmas.Cmp.{nat_list_cmp_total, lists_total}
-use Rattle.std.proofs.lemmas.Bool.{and_from, and_parts}
+use Rattle.std.proofs.lemmas.Bool.{and_from, and_parts, eqb-true}
+use Rattle.std.specs.Prelude.{◌==◌}
 use Rattle.aide_entry.specs.Path.{pieces, path_cmp}
 use Rattle.aide_entry.specs.Text.{last_of, is_filled, fields}
 use Rattle.aide_entry.specs.Entry.{is_before, path_of, follows, entry_fault, first_bad, is_path}
@@ -97,3 +98,8 @@ pub fault_form : (cs : List Column) (es : List (List ℕ)) (last l : List ℕ) (
     → found ≡ first_bad cs (fields l) → found ≡ entry_fault cs es l
 fault_form cs es last l found count path each pairs same after is =
     is ∙ (rw (eq-eqb (length (fields l)) (length cs) count, path, follows_all cs es last l each pairs same after) refl)
+
+-- a line with no entry before it is in order
+pub first_follows : (columns : List Column) (last line : List ℕ) → true ≡ (length last == 0) → true ≡ follows columns last line
+first_follows columns [] line e = refl
+first_follows columns (x ∷ xs) line e = absurd (omega (arith, eqb-true (length (x ∷ xs)) 0 (sym e)))

@@ -1,16 +1,17 @@
 -- The shapes of columns, and the field `0`, which is of any shape.
 use Rattle.std.proofs.Common.{◌≡◌, ℕ, ◌+◌, ◌<◌, ◌≤◌, List, [], ◌∷◌, refl, ap, sym, ◌∙◌, true, map, length, drop}
-use Rattle.std.proofs.Common.{min, get_or, arith, inl, inr}
+use Rattle.std.proofs.Common.{min, get_or, arith, inl, inr, false}
 use Rattle.std.proofs.lemmas.Bool.{cases_lt}
 use Rattle.std.proofs.lemmas.List.{drop_all, drop_more}
-use Rattle.std.specs.Prelude.{codes, None}
+use Rattle.std.specs.Prelude.{codes, None, is_some, ◌==◌}
 use Rattle.std.specs.List.{zip}
 use Rattle.std.specs.Cmp.Lexicographic.{same_text}
 use Rattle.aide_attr.specs.Attr.{form_of}
 use Rattle.aide_attr.specs.declared.form.Form.{Form}
 use Rattle.aide_attr.specs.declared.form.Form.TheVariants.{Kind, Mode, Number, Time, Link, Digest, Opaque}
 use Rattle.aide_entry.specs.Numbers.{mode_of, number_of, bits_of, natural_of}
-use Rattle.aide_entry.specs.Values.{time_of, is_nought, is_field, fault_of_form}
+use Rattle.aide_entry.specs.Values.{time_of, is_nought, is_field, fault_of_form, IsTimeOrNothing}
+use Rattle.std.specs.Str.{bytes_eq}
 use Rattle.aide_entry.specs.Entry.{has_form, first_bad_from, fault_of_column}
 use Rattle.aide_entry.specs.Shapes.{shape_of, shape_of_form, has_shape, fault_of_shape, first_misshapen_from}
 use Rattle.aide_entry.specs.declared.column.Column.{Column}
@@ -94,3 +95,9 @@ all_shaped n line shapes spans index le =
       | inl lt ↦ rw (drop_all index spans (omega (arith, le, lt))) (none_of_no_field n (drop index shapes))
       | inr ge ↦ rw (drop_all index shapes ge) refl
     ]
+
+-- a field that is written like a time is one too
+pub time_beside : (field time : List ℕ) → IsTimeOrNothing time → false ≡ (length time == 0) → true ≡ bytes_eq field time
+    → true ≡ is_some (time_of field)
+time_beside field [] known some same = cc
+time_beside field (x ∷ xs) known some same = rw (same_text field (x ∷ xs) same) (sym (known refl))

@@ -1,7 +1,7 @@
 use Rattle.std.specs.Prelude.{is_some}
 use Rattle.aide_entry.specs.Attributes.{is_different}
 use Rattle.aide_entry.specs.View.{entry_in}
-use Rattle.aide_entry.proofs.AttrLoops.{begins_filling, steps}
+use Rattle.aide_entry.proofs.AttrLoops.{begins_filling, filled, steps}
 use Rattle.aide_entry.proofs.delta.contrasts_between.Goals as goal
 
 pub attrs-init : goal.attrs-init
@@ -20,3 +20,15 @@ attrs-preserved c = record {
   differs_filling = steps c.attrs.differs c.with_if-differs.result c.in-Some.attr.now c.contrast_at-contrast.result.differs c.attrs.rest.now c.in-Some.more.now
       (λ a. is_different ((entry_in c.args.old.now).1 a) ((entry_in c.args.new.now).1 a)) c.in-Some.ensures.cases.0 c.contrast_at-contrast.ensures.differs c.with_if-differs.ensures c.attrs.invariant.differs_filling;
 }
+
+pub returns-clause-in_old : goal.returns-clause-in_old
+returns-clause-in_old c =
+    filled _ _ (λ a. is_some ((entry_in c.args.old.now).1 a)) c.in_default.ensures.cases c.attrs.invariant.old_filling
+
+pub returns-clause-in_new : goal.returns-clause-in_new
+returns-clause-in_new c =
+    filled _ _ (λ a. is_some ((entry_in c.args.new.now).1 a)) c.in_default.ensures.cases c.attrs.invariant.new_filling
+
+pub returns-clause-differs : goal.returns-clause-differs
+returns-clause-differs c =
+    filled _ _ (λ a. is_different ((entry_in c.args.old.now).1 a) ((entry_in c.args.new.now).1 a)) c.in_default.ensures.cases c.attrs.invariant.differs_filling
