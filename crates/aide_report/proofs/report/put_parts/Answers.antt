@@ -1,4 +1,4 @@
-use Rattle.std.proofs.Common.{◌++◌, ℕ, arith, refl}
+use Rattle.std.proofs.Common.{◌++◌, ℕ, arith, le_refl, refl}
 use Rattle.aide_report.specs.Finding.{pass_of, old_origin, new_origin}
 use Rattle.aide_report.specs.Report.{parts_of, sections_text, databases_text}
 use Rattle.aide_attr.specs.declared.level.Level.TheVariants.{DatabaseAttributes}
@@ -16,7 +16,7 @@ returns-then-pen-clause-passes g c =
 
 pub returns-then-pen-2-clause-passes : goal.returns-then-pen-2-clause-passes
 returns-then-pen-2-clause-passes g c =
-    passes_broken _ _ c.put_databases.new.pen.sent (omega arith) c.in-Ok.ensures.passes c.if-pen-2.true
+    passes_broken _ _ c.put_databases.new.pen.sent (le_refl _) c.in-Ok.ensures.passes c.if-pen-2.true
 
 pub returns-then-pen-clause-writes : goal.returns-then-pen-clause-writes
 unfolding parts_of
