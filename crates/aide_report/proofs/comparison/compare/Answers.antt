@@ -198,3 +198,30 @@ returns-in-Err-count_pass-clause-over g c = λ wish old new told_old told_new r 
     (subst (λ bytes. IsLater c.args.limits bytes fault) (c.read_whole-2.ensures.sources.same ∙ same) c.in-Err-count_pass.ensures.passes.fault.later)
     (rose_later (Rose middle after) (Rose before after) ⊥ fault
     (rose_since before middle after (sources_then c.read_whole.ensures.sources c.read_whole-2.ensures.sources).never_falls) c.in-Err-count_pass.ensures.passes.fault.caused))
+
+pub returns-in-Err-clause-sources : goal.returns-in-Err-clause-sources
+returns-in-Err-clause-sources g c = c.read_whole.ensures.sources
+
+pub returns-in-Err-clause-opens : goal.returns-in-Err-clause-opens
+returns-in-Err-clause-opens g c = tt
+
+pub returns-in-Err-clause-found : goal.returns-in-Err-clause-found
+returns-in-Err-clause-found g c = tt
+
+pub returns-in-Err-read_whole-clause-opens : goal.returns-in-Err-read_whole-clause-opens
+returns-in-Err-read_whole-clause-opens g c = tt
+
+pub returns-in-Err-read_whole-clause-found : goal.returns-in-Err-read_whole-clause-found
+returns-in-Err-read_whole-clause-found g c = tt
+
+pub returns-in-Err-count_pass-clause-opens : goal.returns-in-Err-count_pass-clause-opens
+returns-in-Err-count_pass-clause-opens g c = tt
+
+pub returns-in-Err-count_pass-clause-found : goal.returns-in-Err-count_pass-clause-found
+returns-in-Err-count_pass-clause-found g c = tt
+
+pub returns-in-Ok-count_pass-clause-fault : goal.returns-in-Ok-count_pass-clause-fault
+returns-in-Ok-count_pass-clause-fault g c = tt
+
+pub returns-in-Ok-count_pass-clause-over : goal.returns-in-Ok-count_pass-clause-over
+returns-in-Ok-count_pass-clause-over g c wish old new told_old told_new r runs = tt

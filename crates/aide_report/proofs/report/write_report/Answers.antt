@@ -80,3 +80,9 @@ returns-in-Err-clause-sink g c =
       never_falls = never_falls fresh pen.some;
       fails = counts_of_pen c.put_report.new.pen c.in-Err.fault refl fresh pen.some pen.written;
     }
+
+pub returns-in-Err-clause-first : goal.returns-in-Err-clause-first
+returns-in-Err-clause-first g c = tt
+
+pub returns-in-Err-flush-clause-first : goal.returns-in-Err-flush-clause-first
+returns-in-Err-flush-clause-first g c = tt
