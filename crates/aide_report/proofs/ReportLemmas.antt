@@ -1,5 +1,5 @@
 -- From what a pen has written to what a run tells.
-use Rattle.std.proofs.Common.{◌≡◌, ◌∙◌, ℕ, ◌≤◌, Bool, true, false, if◌then◌else◌, List, [], refl, sym, ap, subst, arith}
+use Rattle.std.proofs.Common.{◌≡◌, ◌∙◌, ℕ, ◌≤◌, ◌<◌, Bool, true, false, if◌then◌else◌, List, [], refl, sym, ap, subst, arith}
 use Rattle.std.specs.Prelude.{Option}
 use Rattle.std.specs.Io.KnownBytes.{Appends, Keeps}
 use Rattle.std.proofs.lemmas.List.{append-nil}
@@ -63,6 +63,10 @@ rose_by_one before middle after le is below = omega (arith, le, is, below)
 -- that many more failures
 pub rises_by : (before middle after count : ℕ) → middle ≡ before → after ≡ sum_of middle count → before ≤ after
 rises_by before middle after count is adds = omega (arith, is, adds)
+
+pub rose_by : (before middle after count : ℕ) → middle ≡ before → 0 < count → after ≡ sum_of middle count
+    → Rose before after
+rose_by before middle after count is some adds below = omega (arith, is, some, adds, below)
 
 -- ---- the fault of a report
 
