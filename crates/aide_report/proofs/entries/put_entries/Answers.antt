@@ -131,3 +131,12 @@ returns-in-End-clause-ended g c = c.in-Ok.ensures.step.ended c.in-End.is
 
 pub returns-in-End-clause-fault : goal.returns-in-End-clause-fault
 returns-in-End-clause-fault g c = tt
+
+pub pass-smaller-else-pen : goal.pass-smaller-else-pen
+pass-smaller-else-pen g c = c.in-Ok.ensures.step.falls c.in_default.not-End
+
+pub pass-smaller-in-Alike : goal.pass-smaller-in-Alike
+pass-smaller-in-Alike g c = c.in-Ok.ensures.step.falls c.in_default.not-End
+
+pub pass-smaller : goal.pass-smaller
+pass-smaller g c = c.in-Ok.ensures.step.falls c.in_default.not-End
