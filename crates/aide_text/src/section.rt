@@ -1,6 +1,7 @@
 //! The table of the sections of entries. All code that depends on this table is here.
 ghost use Rattle.std.specs.Prelude.{◌≡◌};
-ghost use Rattle.aide_text.specs.Section.{contents_of, fits, grouped_of, is_asked, level_of, title_of};
+ghost use Rattle.aide_text.specs.Section.{contents_of, fits, grouped_of, is_asked, level_of};
+ghost use Rattle.aide_text.specs.Section.{title_of};
 
 use aide_attr::Level;
 

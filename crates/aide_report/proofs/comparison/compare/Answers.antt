@@ -1,4 +1,4 @@
-use Rattle.std.proofs.Common.{◌≡◌, ◌∙◌, ◌≤◌, ap, refl, rules, sym, subst, arith}
+use Rattle.std.proofs.Common.{◌≡◌, ◌∙◌, ◌≤◌, ap, refl, sym, subst, arith}
 use Rattle.std.specs.Prelude.{Some}
 use Rattle.aide_db.specs.Count.{one_more}
 use Rattle.aide_db.specs.Database.{IsSound}
@@ -124,7 +124,7 @@ returns-in-Err-read_whole-clause-fault g c =
           (c.read_whole-2.ensures.opens.others ∙ c.read_whole.ensures.opens.opens, c.read_whole-2.ensures.opens.opens ∙ ap one_more c.read_whole.ensures.opens.others) first;
       not_given = fault.not_given;
       refused = refused_first c.args.limits (g.S.Sources.bytes_of c.read_whole.new.sources) New (g.S.Sources.openings c.args.sources.now) (g.S.Sources.openings c.read_whole-2.new.sources)
-          c.in-Err-read_whole.fault (c.read_whole-2.ensures.opens.others ∙ c.read_whole.ensures.opens.opens) (omega (arith, c.read_whole-2.ensures.opens.opens, c.read_whole.ensures.opens.others))
+          c.in-Err-read_whole.fault (c.read_whole-2.ensures.opens.others ∙ c.read_whole.ensures.opens.opens) (c.read_whole-2.ensures.opens.opens ∙ ap one_more c.read_whole.ensures.opens.others)
           fault.first;
       caused = rose_later (Rose middle after) (Rose before after) ⊥ c.in-Err-read_whole.fault (rose_since before middle after c.read_whole.ensures.sources.never_falls) fault.caused;
       reliable = λ is. subst (λ bytes. IsOfReliable bytes c.in-Err-read_whole.fault) same (fault.reliable (c.read_whole.ensures.sources.reliable_same ∙ is));
@@ -155,7 +155,7 @@ returns-in-Err-count_pass-clause-fault g c =
           c.in-Err-count_pass.fault
           (record {
             of_old = c.read_whole-2.ensures.opens.others ∙ c.read_whole.ensures.opens.opens;
-            of_new = omega (arith, c.read_whole-2.ensures.opens.opens, c.read_whole.ensures.opens.others);
+            of_new = c.read_whole-2.ensures.opens.opens ∙ ap one_more c.read_whole.ensures.opens.others;
           })
           fault.refused;
       caused = rose_later (Rose middle after) (Rose before after) ⊥ c.in-Err-count_pass.fault (rose_since before middle after fell.never_falls) fault.caused;
@@ -201,27 +201,3 @@ returns-in-Err-count_pass-clause-over g c = λ wish old new told_old told_new r 
 
 pub returns-in-Err-clause-sources : goal.returns-in-Err-clause-sources
 returns-in-Err-clause-sources g c = c.read_whole.ensures.sources
-
-pub returns-in-Err-clause-opens : goal.returns-in-Err-clause-opens
-returns-in-Err-clause-opens g c = tt
-
-pub returns-in-Err-clause-found : goal.returns-in-Err-clause-found
-returns-in-Err-clause-found g c = tt
-
-pub returns-in-Err-read_whole-clause-opens : goal.returns-in-Err-read_whole-clause-opens
-returns-in-Err-read_whole-clause-opens g c = tt
-
-pub returns-in-Err-read_whole-clause-found : goal.returns-in-Err-read_whole-clause-found
-returns-in-Err-read_whole-clause-found g c = tt
-
-pub returns-in-Err-count_pass-clause-opens : goal.returns-in-Err-count_pass-clause-opens
-returns-in-Err-count_pass-clause-opens g c = tt
-
-pub returns-in-Err-count_pass-clause-found : goal.returns-in-Err-count_pass-clause-found
-returns-in-Err-count_pass-clause-found g c = tt
-
-pub returns-in-Ok-count_pass-clause-fault : goal.returns-in-Ok-count_pass-clause-fault
-returns-in-Ok-count_pass-clause-fault g c = tt
-
-pub returns-in-Ok-count_pass-clause-over : goal.returns-in-Ok-count_pass-clause-over
-returns-in-Ok-count_pass-clause-over g c wish old new told_old told_new r runs = tt

@@ -1,8 +1,8 @@
-use Rattle.std.proofs.Common.{◌∙◌, ◌+◌, ap, refl, sym, subst, arith}
+use Rattle.std.proofs.Common.{◌∙◌, ◌+◌, ◌≤◌, ℕ, ap, refl, sym, subst, arith}
 use Rattle.aide_db.specs.declared.side.Side.TheVariants.{Old, New}
 use Rattle.aide_report.specs.Asked.{asked}
 use Rattle.aide_text.specs.Failures.{Rose}
-use Rattle.aide_report.specs.Missing.{IsHindered}
+use Rattle.aide_report.specs.Missing.{IsHindered, IsOfReliable}
 use Rattle.aide_report.specs.Report.{section_count}
 use Rattle.aide_report.specs.RunFaults.{IsLater}
 use Rattle.aide_report.proofs.BoundLemmas.{fits_limit, fits_within}
@@ -15,9 +15,15 @@ use Rattle.aide_report.proofs.OpeningLemmas.{refused_later, unsent_nothing, unse
 use Rattle.aide_report.proofs.ReadingLemmas.{clears_then}
 use Rattle.aide_report.proofs.ReportLemmas.{caused_as, counts_nothing}
 use Rattle.aide_report.proofs.RunLemmas.{ends_well, ends_early, sections_are}
-use Rattle.aide_report.proofs.SectionsLemmas.{fitting, most_sections, opens_more, opens_then, sections_few}
+use Rattle.aide_report.proofs.SectionsLemmas.{fitting, most_sections, opens_more, opens_then, opens_within, sections_few}
 use Rattle.aide_text.specs.Section.{row, row_of}
 use Rattle.aide_report.proofs.comparison.run.Goals as goal
+
+two_of_six : 2 ≤ 6
+two_of_six = omega arith
+
+two_and : (n : ℕ) → 2 ≤ 2 + n
+two_and n = omega arith
 
 pub write_report-requires-clause-digests : goal.write_report-requires-clause-digests
 write_report-requires-clause-digests g c side text told =
@@ -218,36 +224,6 @@ returns-in-Err-clause-opens_first g c = c.in-Err.ensures.fault.opens_first
 pub returns-in-Err-clause-memory : goal.returns-in-Err-clause-memory
 returns-in-Err-clause-memory g c = c.in-Err.ensures.fault.memory
 
-pub returns-in-Err-clause-sound : goal.returns-in-Err-clause-sound
-returns-in-Err-clause-sound g c = tt
-
-pub returns-in-Err-clause-consistent : goal.returns-in-Err-clause-consistent
-returns-in-Err-clause-consistent g c = tt
-
-pub returns-in-Err-clause-flushed : goal.returns-in-Err-clause-flushed
-returns-in-Err-clause-flushed g c = tt
-
-pub returns-in-Err-clause-opens : goal.returns-in-Err-clause-opens
-returns-in-Err-clause-opens g c = tt
-
-pub returns-in-Err-clause-opens_told : goal.returns-in-Err-clause-opens_told
-returns-in-Err-clause-opens_told g c = tt
-
-pub returns-in-Err-write_report-clause-sound : goal.returns-in-Err-write_report-clause-sound
-returns-in-Err-write_report-clause-sound g c = tt
-
-pub returns-in-Err-write_report-clause-consistent : goal.returns-in-Err-write_report-clause-consistent
-returns-in-Err-write_report-clause-consistent g c = tt
-
-pub returns-in-Err-write_report-clause-flushed : goal.returns-in-Err-write_report-clause-flushed
-returns-in-Err-write_report-clause-flushed g c = tt
-
-pub returns-in-Err-write_report-clause-opens : goal.returns-in-Err-write_report-clause-opens
-returns-in-Err-write_report-clause-opens g c = tt
-
-pub returns-in-Err-write_report-clause-opens_told : goal.returns-in-Err-write_report-clause-opens_told
-returns-in-Err-write_report-clause-opens_told g c = tt
-
 pub returns-in-Err-clause-nothing : goal.returns-in-Err-clause-nothing
 returns-in-Err-clause-nothing g c = λ side text told unsound. Appends-nothing (g.W.Sink.delivered c.args.out.now)
 
@@ -263,35 +239,8 @@ returns-in-Err-clause-lookups g c = c.compare.ensures.sources.lookups
 pub returns-in-Err-clause-room : goal.returns-in-Err-clause-room
 returns-in-Err-clause-room g c = c.compare.ensures.desk.room
 
-pub returns-in-Ok-write_report-clause-reliable : goal.returns-in-Ok-write_report-clause-reliable
-returns-in-Ok-write_report-clause-reliable g c = λ _. tt
-
-pub returns-in-Ok-write_report-clause-memory : goal.returns-in-Ok-write_report-clause-memory
-returns-in-Ok-write_report-clause-memory g c = λ _. tt
-
 pub returns-in-Ok-write_report-clause-sound : goal.returns-in-Ok-write_report-clause-sound
 returns-in-Ok-write_report-clause-sound g c = c.in-Ok.ensures.found.sound
-
-pub returns-in-Ok-write_report-clause-written : goal.returns-in-Ok-write_report-clause-written
-returns-in-Ok-write_report-clause-written g c = tt
-
-pub returns-in-Ok-write_report-clause-unsent : goal.returns-in-Ok-write_report-clause-unsent
-returns-in-Ok-write_report-clause-unsent g c = tt
-
-pub returns-in-Ok-write_report-clause-cause : goal.returns-in-Ok-write_report-clause-cause
-returns-in-Ok-write_report-clause-cause g c = tt
-
-pub returns-in-Ok-write_report-clause-right : goal.returns-in-Ok-write_report-clause-right
-returns-in-Ok-write_report-clause-right g c = tt
-
-pub returns-in-Ok-write_report-clause-refused : goal.returns-in-Ok-write_report-clause-refused
-returns-in-Ok-write_report-clause-refused g c = tt
-
-pub returns-in-Ok-write_report-clause-not_given : goal.returns-in-Ok-write_report-clause-not_given
-returns-in-Ok-write_report-clause-not_given g c = tt
-
-pub returns-in-Ok-write_report-clause-opens_first : goal.returns-in-Ok-write_report-clause-opens_first
-returns-in-Ok-write_report-clause-opens_first g c = tt
 
 pub returns-in-Ok-write_report-clause-flushed : goal.returns-in-Ok-write_report-clause-flushed
 returns-in-Ok-write_report-clause-flushed g c = c.in-Ok-write_report.ensures.sink.flushed
@@ -331,3 +280,18 @@ returns-in-Err-write_report-clause-lookups g c = (sources_then c.compare.ensures
 
 pub returns-in-Err-write_report-clause-room : goal.returns-in-Err-write_report-clause-room
 returns-in-Err-write_report-clause-room g c = c.write_report.ensures.passes.desk.room ∙ c.compare.ensures.desk.room
+
+pub returns-in-Err-clause-opens_some : goal.returns-in-Err-clause-opens_some
+returns-in-Err-clause-opens_some g c = opens_within _ _ 2 6 two_of_six c.compare.ensures.opens_some
+
+pub returns-in-Err-clause-opens_within : goal.returns-in-Err-clause-opens_within
+returns-in-Err-clause-opens_within g c old new told_old told_new sound_old sound_new = opens_within _ _ 2 _ (two_and _) c.compare.ensures.opens_some
+
+pub returns-in-Err-write_report-clause-reliable : goal.returns-in-Err-write_report-clause-reliable
+returns-in-Err-write_report-clause-reliable g c is =
+    subst (λ bytes. IsOfReliable bytes c.in-Err-write_report.fault) c.compare.ensures.sources.same
+    (c.in-Err-write_report.ensures.passes.fault.reliable (c.compare.ensures.sources.reliable_same ∙ is))
+
+pub returns-in-Err-write_report-clause-memory : goal.returns-in-Err-write_report-clause-memory
+returns-in-Err-write_report-clause-memory g c le =
+    c.in-Err-write_report.ensures.passes.fault.memory (subst (λ room. c.args.limits.line ≤ room) (sym c.compare.ensures.desk.room) le)

@@ -68,17 +68,8 @@ pass-preserved g c =
 pub next-requires : goal.next-requires
 next-requires g c = c.pass.invariant.ready
 
-pub returns-in-Err-clause-counts : goal.returns-in-Err-clause-counts
-returns-in-Err-clause-counts g c = tt
-
-pub returns-in-Err-clause-ended : goal.returns-in-Err-clause-ended
-returns-in-Err-clause-ended g c = tt
-
 pub returns-in-End-clause-ended : goal.returns-in-End-clause-ended
 returns-in-End-clause-ended g c = c.in-Ok.ensures.step.ended c.in-End.is
-
-pub returns-in-End-clause-fault : goal.returns-in-End-clause-fault
-returns-in-End-clause-fault g c = tt
 
 pub pass-smaller-in-Differs : goal.pass-smaller-in-Differs
 pass-smaller-in-Differs g c = c.in-Ok.ensures.step.falls c.in_default.not-End

@@ -114,12 +114,6 @@ returns-in-Err-clause-writes g c old new s t = writing_so_far (c.pass.invariant.
 pub returns-in-Err-clause-some : goal.returns-in-Err-clause-some
 returns-in-Err-clause-some g c = c.pass.invariant.some
 
-pub returns-in-Err-clause-writes_on : goal.returns-in-Err-clause-writes_on
-returns-in-Err-clause-writes_on g c = tt
-
-pub returns-in-Err-clause-ended : goal.returns-in-Err-clause-ended
-returns-in-Err-clause-ended g c = tt
-
 pub returns-in-End-clause-some : goal.returns-in-End-clause-some
 returns-in-End-clause-some g c = c.pass.invariant.some
 
@@ -128,9 +122,6 @@ returns-in-End-clause-writes_on g c = c.pass.invariant.writes_on
 
 pub returns-in-End-clause-ended : goal.returns-in-End-clause-ended
 returns-in-End-clause-ended g c = c.in-Ok.ensures.step.ended c.in-End.is
-
-pub returns-in-End-clause-fault : goal.returns-in-End-clause-fault
-returns-in-End-clause-fault g c = tt
 
 pub pass-smaller-else-pen : goal.pass-smaller-else-pen
 pass-smaller-else-pen g c = c.in-Ok.ensures.step.falls c.in_default.not-End

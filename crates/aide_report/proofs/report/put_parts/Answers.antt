@@ -69,14 +69,8 @@ returns-clause-passes g c = passes_same _ _ refl c.in-Ok.ensures.passes
 pub returns-then-pen-clause-pen : goal.returns-then-pen-clause-pen
 returns-then-pen-clause-pen g c = record { some = some_of c.put_overview.ensures; writes_on = tt; written = (c.if-pen.true, refl) }
 
-pub returns-then-pen-clause-first : goal.returns-then-pen-clause-first
-returns-then-pen-clause-first g c = tt
-
-pub returns-then-pen-2-clause-first : goal.returns-then-pen-2-clause-first
-returns-then-pen-2-clause-first g c = tt
-
-pub returns-in-Err-clause-first : goal.returns-in-Err-clause-first
-returns-in-Err-clause-first g c = tt
-
 pub returns-in-Err-clause-passes : goal.returns-in-Err-clause-passes
 returns-in-Err-clause-passes g c = c.in-Err.ensures.passes
+
+pub put_sections-requires-clause-writes_on : goal.put_sections-requires-clause-writes_on
+put_sections-requires-clause-writes_on g c = c.if-pen.false

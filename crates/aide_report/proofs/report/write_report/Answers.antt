@@ -81,8 +81,5 @@ returns-in-Err-clause-sink g c =
       fails = counts_of_pen c.put_report.new.pen c.in-Err.fault refl fresh pen.some pen.written;
     }
 
-pub returns-in-Err-clause-first : goal.returns-in-Err-clause-first
-returns-in-Err-clause-first g c = tt
-
-pub returns-in-Err-flush-clause-first : goal.returns-in-Err-flush-clause-first
-returns-in-Err-flush-clause-first g c = tt
+pub put_report-requires-clause-writes_on : goal.put_report-requires-clause-writes_on
+put_report-requires-clause-writes_on g c = ap (λ pen. pen.failed) c.new-pen.ensures
