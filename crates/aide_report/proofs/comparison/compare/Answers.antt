@@ -140,7 +140,7 @@ returns-in-Err-count_pass-clause-fault g c =
     let after = g.S.Sources.failures c.count_pass.new.sources in
     let same = c.read_whole.ensures.sources.same in
     let twice = c.read_whole-2.ensures.sources.same ∙ same in
-    let fell = (sources_then c.read_whole.ensures.sources c.read_whole-2.ensures.sources) in
+    let kept = sources_then c.read_whole.ensures.sources c.read_whole-2.ensures.sources in
     record {
       right = right_later c.args.limits bytes_of (g.S.Sources.bytes_of c.read_whole-2.new.sources) twice
           (of_sides (λ side text. g.S.Sources.bytes_of c.args.sources.now side ≡ Some text) (λ side text. IsSound c.args.limits text)
@@ -158,8 +158,8 @@ returns-in-Err-count_pass-clause-fault g c =
             of_new = c.read_whole-2.ensures.opens.opens ∙ ap one_more c.read_whole.ensures.opens.others;
           })
           fault.refused;
-      caused = rose_later (Rose middle after) (Rose before after) ⊥ c.in-Err-count_pass.fault (rose_since before middle after fell.never_falls) fault.caused;
-      reliable = λ is. subst (λ bytes. IsOfReliable bytes c.in-Err-count_pass.fault) twice (fault.reliable (fell.reliable_same ∙ is));
+      caused = rose_later (Rose middle after) (Rose before after) ⊥ c.in-Err-count_pass.fault (rose_since before middle after kept.never_falls) fault.caused;
+      reliable = λ is. subst (λ bytes. IsOfReliable bytes c.in-Err-count_pass.fault) twice (fault.reliable (kept.reliable_same ∙ is));
       memory = λ le. fault.memory (subst (λ room. c.args.limits.line ≤ room) (sym (c.read_whole-2.ensures.room ∙ c.read_whole.ensures.room ∙ c.clear.ensures.room)) le);
     }
 
