@@ -201,3 +201,18 @@ returns-in-Err-count_pass-clause-over g c = λ wish old new told_old told_new r 
 
 pub returns-in-Err-clause-sources : goal.returns-in-Err-clause-sources
 returns-in-Err-clause-sources g c = c.read_whole.ensures.sources
+
+pub returns-in-Err-clause-found : goal.returns-in-Err-clause-found
+returns-in-Err-clause-found g c = tt
+
+pub returns-in-Err-read_whole-clause-found : goal.returns-in-Err-read_whole-clause-found
+returns-in-Err-read_whole-clause-found g c = tt
+
+pub returns-in-Err-count_pass-clause-found : goal.returns-in-Err-count_pass-clause-found
+returns-in-Err-count_pass-clause-found g c = tt
+
+pub returns-in-Ok-count_pass-clause-fault : goal.returns-in-Ok-count_pass-clause-fault
+returns-in-Ok-count_pass-clause-fault g c = tt
+
+pub returns-in-Ok-count_pass-clause-over : goal.returns-in-Ok-count_pass-clause-over
+returns-in-Ok-count_pass-clause-over g c wish old new told_old told_new r runs = tt
