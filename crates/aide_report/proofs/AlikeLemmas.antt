@@ -2,6 +2,7 @@
 use Rattle.std.specs.Prelude.{◌≡◌, Option, Some, None, [], ◌∷◌}
 use Rattle.std.proofs.Common.{sym, ap, ◌∙◌}
 use Rattle.std.specs.Cmp.{tied_itself}
+use Rattle.std.specs.declared.cmp.Ordering.{Ordering}
 use Rattle.aide_db.specs.Alike.{HoldsAlike}
 use Rattle.aide_entry.specs.Attributes.{Entry}
 use Rattle.aide_entry.specs.View.{entry_at}
@@ -42,6 +43,12 @@ turn_of_alike d old_next new_next old new alike shows_old shows_new =
     (shown_of_next new_next (desk_entry New d) new shows_new) in
     sym ((λ i. turn_of (shows_old i) (shows_new i)) ∙ ap (λ (e : Entry). turn_by (path_cmp old.0 e.0)) (sym same)
     ∙ ap turn_by (tied_itself path_cmp_total old.0))
+
+-- it is the turn that the order of two entries gives
+pub turn_of_order : (order : Ordering) (old new : Entry) {old_shown new_shown : Option Entry} → old_shown ≡ Some old → new_shown ≡ Some new
+    → order ≡ path_cmp old.0 new.0
+    → turn_by order ≡ turn_of old_shown new_shown
+turn_of_order order old new shows_old shows_new is = ap turn_by is ∙ sym (λ i. turn_of (shows_old i) (shows_new i))
 
 -- the change there has this entry on both sides
 pub change_of_alike : (d : DeskView) (old new : Entry) → HoldsAlike d → desk_entry Old d ≡ Some old

@@ -1,6 +1,6 @@
 -- The faults of a run, by cases.
 use Rattle.std.specs.Prelude.{◌≡◌, ◌<◌, ◌≤◌, ℕ, Option, Some, Result, Err, List, true, false}
-use Rattle.std.proofs.Common.{refl, sym, ap, arith, ◌∙◌}
+use Rattle.std.proofs.Common.{refl, sym, subst, ap, arith, inl, inr, ◌∙◌}
 use Rattle.aide_report.specs.Asked.{Asked}
 use Rattle.aide_db.specs.Database.{IsSound}
 use Rattle.aide_entry.specs.Cause.{is_outside}
@@ -15,9 +15,9 @@ use Rattle.aide_db.specs.declared.side.Side.TheVariants.{Old, New}
 use Rattle.aide_db.proofs.MapLaws.{first_fault_unsound}
 use Rattle.aide_report.specs.LaterFault.{later_by, later_of}
 use Rattle.aide_report.specs.Missing.{IsOfReliable}
-use Rattle.aide_report.specs.Openings.{OpensFirst}
+use Rattle.aide_report.specs.Openings.{OpensFirst, opened_first}
 use Rattle.aide_report.specs.Standing.{IsFaultOf}
-use Rattle.aide_report.specs.RunFaults.{IsCaused, IsLater, IsRight, HasPenWritten}
+use Rattle.aide_report.specs.RunFaults.{IsCaused, IsFirst, IsLater, IsRight, HasPenWritten}
 use Rattle.aide_text.specs.Failures.{Rose}
 use Rattle.aide_text.specs.declared.pen.Pen.{Pen}
 use Rattle.aide_report.specs.Runs.{Report, Runs, IsRunFault, Causes, HasCause}
@@ -163,6 +163,38 @@ written_at pen fault NoEnd unfailed = unfailed
 written_at pen fault Memory unfailed = unfailed
 written_at pen fault Read unfailed = unfailed
 written_at pen fault TooManyBytes unfailed = unfailed
+
+-- ---- a fault of the first reading of a side
+
+pub right_first : (limits : Limits) (bytes_of : Side → Option (List ℕ)) (side : Side) (fault : RunFault)
+    → IsFirst limits bytes_of side fault → IsRight limits bytes_of fault
+right_first limits bytes_of side (Open opened) first = tt
+right_first limits bytes_of side (Database fault) first = λ text told. first.1 text (ap bytes_of (sym first.0) ∙ told)
+right_first limits bytes_of side (Changed changed) first = absurd first
+right_first limits bytes_of side (Write written) first = absurd first
+
+pub answer_old : (limits : Limits) (task : Asked) (bytes_of : Side → Option (List ℕ)) (fault : RunFault)
+    → IsFirst limits bytes_of Old fault → IsRunFault limits task bytes_of fault
+answer_old limits task bytes_of (Open opened) first = tt
+answer_old limits task bytes_of (Database fault) first = λ old new told_old told_new inside. inl (first.0, first.1 old told_old inside)
+answer_old limits task bytes_of (Changed changed) first = absurd first
+answer_old limits task bytes_of (Write written) first = absurd first
+
+-- of the new side, behind an old one that is sound
+pub answer_new : (limits : Limits) (task : Asked) (bytes_of : Side → Option (List ℕ)) (fault : RunFault)
+    → ((text : List ℕ) → bytes_of Old ≡ Some text → IsSound limits text) → IsFirst limits bytes_of New fault
+    → IsRunFault limits task bytes_of fault
+answer_new limits task bytes_of (Open opened) sound first = tt
+answer_new limits task bytes_of (Database fault) sound first = λ old new told_old told_new inside. inr (sound old told_old, (first.0, first.1 new told_new inside))
+answer_new limits task bytes_of (Changed changed) sound first = absurd first
+answer_new limits task bytes_of (Write written) sound first = absurd first
+
+pub opens_first : (limits : Limits) (bytes_of : Side → Option (List ℕ)) (side : Side) (before after : Side → ℕ) (fault : RunFault)
+    → opened_first before after side → IsFirst limits bytes_of side fault → OpensFirst before after fault
+opens_first limits bytes_of side before after (Open opened) opens first = tt
+opens_first limits bytes_of side before after (Database fault) opens first = λ inside. subst (opened_first before after) (sym first.0) opens
+opens_first limits bytes_of side before after (Changed changed) opens first = tt
+opens_first limits bytes_of side before after (Write written) opens first = tt
 
 -- ---- a fault after the first readings is no fault of a text
 

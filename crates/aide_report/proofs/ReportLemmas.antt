@@ -1,11 +1,12 @@
 -- From what a pen has written to what a run tells.
-use Rattle.std.proofs.Common.{◌≡◌, ◌∙◌, ℕ, ◌≤◌, Bool, true, false, if◌then◌else◌, List, [], refl, sym, ap, subst, arith}
+use Rattle.std.proofs.Common.{◌≡◌, ◌∙◌, ℕ, ◌≤◌, ◌<◌, Bool, true, false, if◌then◌else◌, List, [], refl, sym, ap, subst, arith}
 use Rattle.std.specs.Prelude.{Option}
 use Rattle.std.specs.Io.KnownBytes.{Appends, Keeps}
 use Rattle.std.proofs.lemmas.List.{append-nil}
+use Rattle.aide_db.specs.Count.{sum_of}
 use Rattle.aide_conf.specs.declared.options.Options.{Options}
 use Rattle.aide_report.specs.Entries.{PathChange}
-use Rattle.aide_text.specs.Failures.{Rose}
+use Rattle.aide_text.specs.Failures.{Rose, one_more}
 use Rattle.aide_report.specs.Report.{Origin, is_silent, parts_of, text_of}
 use Rattle.aide_text.specs.Overview.{differs}
 use Rattle.aide_report.specs.RunFaults.{IsCaused, CountsWriteFault, HasPenWritten, HasWrittenIfAny}
@@ -51,6 +52,21 @@ flushed_count {a} {b} c fresh start p kept =
 
 pub never_falls : {a b : Sheet} → a.failed ≡ false → WritesSome a b → a.failures ≤ b.failures
 never_falls {a} {b} fresh p = (from_fresh fresh p).3
+
+-- one more failure
+pub rises_by_one : (before middle after : ℕ) → before ≤ middle → after ≡ one_more middle → before ≤ after
+rises_by_one before middle after le is = omega (arith, le, is)
+
+pub rose_by_one : (before middle after : ℕ) → before ≤ middle → after ≡ one_more middle → Rose before after
+rose_by_one before middle after le is below = omega (arith, le, is, below)
+
+-- that many more failures
+pub rises_by : (before middle after count : ℕ) → middle ≡ before → after ≡ sum_of middle count → before ≤ after
+rises_by before middle after count is adds = omega (arith, is, adds)
+
+pub rose_by : (before middle after count : ℕ) → middle ≡ before → 0 < count → after ≡ sum_of middle count
+    → Rose before after
+rose_by before middle after count is some adds below = omega (arith, is, some, adds, below)
 
 -- ---- the fault of a report
 

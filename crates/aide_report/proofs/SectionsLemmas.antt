@@ -79,6 +79,10 @@ pub opens_more : (a b c : Side → ℕ) (m n k : ℕ) → k ≡ m + n → OpensE
 opens_more a b c m n k is p q =
     record { of_old = omega (arith, p.of_old, q.of_old); of_new = omega (arith, p.of_new, q.of_new) }
 
+-- at most that often, and so at most more often
+pub opens_within : (before after : Side → ℕ) (m k : ℕ) → m ≤ k → OpensAtMost before after m → OpensAtMost before after k
+opens_within before after m k le p = record { of_old = omega (arith, le, p.of_old); of_new = omega (arith, le, p.of_new) }
+
 pub opens_then : (a b c : Side → ℕ) (m n k : ℕ) → m + n ≤ k → OpensExactly a b m → OpensAtMost b c n → OpensAtMost a c k
 opens_then a b c m n k less p q =
     record { of_old = omega (arith, p.of_old, q.of_old); of_new = omega (arith, p.of_new, q.of_new) }

@@ -2,10 +2,11 @@
 use Rattle.std.proofs.Common.{◌≡◌, ◌∙◌, ℕ, ◌<◌, ◌≤◌, Bool, true, false, List, [], ◌++◌, length, take, drop}
 use Rattle.std.proofs.Common.{refl, sym, ap, subst, append_assoc, length-append, arith}
 use Rattle.std.proofs.lemmas.List.{append-nil, take-append-drop, length-take-le}
+use Rattle.std.proofs.Math.Seq.{take-append_seam}
 use Rattle.std.specs.Io.KnownBytes.{Appends}
 use Rattle.aide_db.specs.Count.{sum_of}
 use Rattle.aide_text.specs.Failures.{one_more}
-use Rattle.aide_text.specs.Sent.{SendsPart}
+use Rattle.aide_text.specs.Sent.{IsCut, SendsPart}
 use Rattle.aide_text.specs.Sheet.{Sheet, Adds, WroteBy, Wrote, Writing, WritesPart, WritesSome}
 use Rattle.aide_text.proofs.Sending.{Appends-Appends, Appends-nothing}
 
@@ -164,6 +165,22 @@ some_by text a b false false is_f is_h fresh p =
 pub from_fresh : {a b : Sheet} → a.failed ≡ false → WritesSome a b
     → (sent : List ℕ) × Appends a.bytes b.bytes sent × (b.sent ≡ sum_of a.sent (length sent)) × (a.failures ≤ b.failures) × (b.failed ≡ true → b.failures ≡ one_more a.failures)
 from_fresh {a} {b} fresh p = some_by p.text a b a.failed b.failed refl refl fresh p.wrote.as_flags
+
+cut_by : (text : List ℕ) (a b : Sheet) (f h : Bool) → f ≡ false → h ≡ true → a.sent ≡ 0 → WroteBy f h text a b
+    → IsCut text a.bytes b.bytes b.sent
+cut_by text a b true h fresh broken start p = absurd (true_false fresh)
+cut_by text a b false true fresh broken start p = record {
+  sent = length p.front;
+  fewer = p.fewer;
+  bytes = subst (λ l. Appends a.bytes b.bytes l) (sym (ap (take (length p.front)) p.whole ∙ take-append_seam p.front p.rest)) p.adds.bytes;
+  count = omega (arith, p.adds.count, start);
+}
+cut_by text a b false false fresh broken start p = absurd (true_false (sym broken))
+
+-- a pen that had written nothing has failed within its first text
+pub cut_within : {text : List ℕ} {a b : Sheet} → a.failed ≡ false → b.failed ≡ true → a.sent ≡ 0 → Wrote text a b
+    → IsCut text a.bytes b.bytes b.sent
+cut_within {text} {a} {b} fresh broken start p = cut_by text a b a.failed b.failed fresh broken start p.as_flags
 
 whole_by : (text : List ℕ) (a b : Sheet) (f h : Bool) → f ≡ false → h ≡ false → WroteBy f h text a b
     → Appends a.bytes b.bytes text

@@ -8,25 +8,14 @@ ghost use Rattle.aide_text.specs.ValueText.{digest_text};
 use crate::lines::put_alone;
 use crate::pen::Pen;
 use crate::sink::Sink;
-use base64::engine::general_purpose::STANDARD;
+use crate::value::digest_of;
 
 /// Writes the SHA-256 (FIPS 180-4) of a database, in base 16 or in base 64 (RFC 4648 section 4).
-#[tactic(auto, unfolding(crate::specs::ValueText::digest_text))]
 pub fn put_digest<W: Sink>(out: &mut W, pen: &mut Pen, base16: bool, digest: &[u8; 32])
     ensures { Wrote (alone (codes "SHA256") (digest_text base16 digest.now))
         (sheet W.delivered W.failures W.flushes out.old pen.old)
         (sheet W.delivered W.failures W.flushes out.new pen.new) }
 {
-    if base16 {
-        let mut text = [0; 64];
-        // The text has two bytes for each byte of the digest, so this cannot fail.
-        let _ = hex::encode_to_slice(digest, &mut text);
-        put_alone(out, pen, b"SHA256", &text);
-    } else {
-        let mut text = [0; 44];
-        match STANDARD.encode_slice(digest, &mut text) {
-            Ok(len) => put_alone(out, pen, b"SHA256", &text[..len]),
-            Err(_) => put_alone(out, pen, b"SHA256", b""),
-        }
-    }
+    let text = digest_of(base16, digest);
+    put_alone(out, pen, b"SHA256", text.bytes());
 }

@@ -5,11 +5,12 @@ ghost use Rattle.std.specs.Prelude.{◌≡◌, ◌<◌, ◌≤◌, ◌++◌, ◌
 use crate::feed::Feed;
 
 /// Hands out a short text.
-#[derive(Clone, Copy, Debug)]
+#[derive(Clone, Copy)]
 pub struct Ready {
     bytes: [u8; 128],
     at: usize,
     len: usize,
+    ghost begins: { at ≤ len },
     ghost fits: { len ≤ 128 },
 }
 
@@ -28,6 +29,13 @@ impl Ready {
             at: 0,
             len: text.len(),
         }
+    }
+
+    /// Returns the bytes that were not handed out yet.
+    pub(crate) fn bytes(&self) -> &[u8]
+        ensures { result.now ≡ ready_rest self.now }
+    {
+        &self.bytes[self.at..self.len]
     }
 }
 

@@ -1,11 +1,12 @@
 //! The table of the sections of entries. All code that depends on this table is here.
 ghost use Rattle.std.specs.Prelude.{◌≡◌};
-ghost use Rattle.aide_text.specs.Section.{contents_of, grouped_of, is_asked, level_of, title_of};
+ghost use Rattle.aide_text.specs.Section.{contents_of, fits, grouped_of, is_asked, level_of};
+ghost use Rattle.aide_text.specs.Section.{title_of};
 
 use aide_attr::Level;
 
 /// A section of the report that goes over the entries.
-#[derive(Clone, Copy, Debug, PartialEq, Eq)]
+#[derive(Clone, Copy)]
 pub enum Section {
     /// The list of the added entries.
     AddedEntries,
@@ -20,7 +21,7 @@ pub enum Section {
 }
 
 /// What a section has.
-#[derive(Clone, Copy, Debug, PartialEq, Eq)]
+#[derive(Clone, Copy)]
 pub enum Contents {
     /// A line for each entry of the kinds that are true here.
     Listed {
@@ -68,6 +69,16 @@ fn listed(added: bool, removed: bool, changed: bool) -> Contents
         added,
         removed,
         changed,
+    }
+}
+
+/// Returns whether lists that are grouped or not are as a section wants them.
+fn fits(wanted: Option<bool>, grouped: bool) -> bool
+    ensures { result ≡ fits wanted grouped }
+{
+    match wanted {
+        None => true,
+        Some(wanted) => wanted == grouped,
     }
 }
 
@@ -147,10 +158,7 @@ impl Section {
     pub fn is_asked(self, level: Level, grouped: bool) -> bool
         ensures { result ≡ is_asked level grouped self }
     {
-        let fits = match self.row().grouped {
-            None => true,
-            Some(wanted) => wanted == grouped,
-        };
-        level.reaches(self.row().level) && fits
+        let row = self.row();
+        level.reaches(row.level) && fits(row.grouped, grouped)
     }
 }

@@ -18,7 +18,7 @@ use base64::engine::general_purpose::STANDARD;
 use itoa::Buffer;
 
 /// Hands out the text of a value. A short text is kept in place. A link name and a field are printed as a path is.
-#[derive(Clone, Copy, Drop)]
+#[derive(Drop)]
 pub enum ValueText<S, L, F> {
     /// A text that is kept in place.
     Short(S),

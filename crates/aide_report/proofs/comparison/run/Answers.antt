@@ -1,21 +1,29 @@
-use Rattle.std.proofs.Common.{◌∙◌, ◌+◌, ap, refl, sym, subst, arith}
+use Rattle.std.proofs.Common.{◌∙◌, ◌+◌, ◌≤◌, ℕ, ap, refl, sym, subst, arith}
 use Rattle.aide_db.specs.declared.side.Side.TheVariants.{Old, New}
 use Rattle.aide_report.specs.Asked.{asked}
 use Rattle.aide_text.specs.Failures.{Rose}
-use Rattle.aide_report.specs.Missing.{IsHindered}
+use Rattle.aide_report.specs.Missing.{IsHindered, IsOfReliable}
 use Rattle.aide_report.specs.Report.{section_count}
 use Rattle.aide_report.specs.RunFaults.{IsLater}
 use Rattle.aide_report.proofs.BoundLemmas.{fits_limit, fits_within}
-use Rattle.aide_report.proofs.FaultLemmas.{has_cause, right_later, answer_later, first_later, rose_later}
+use Rattle.aide_report.proofs.FaultLemmas.{has_cause, right_later, answer_later, first_later, rose_later, rose_since}
 use Rattle.aide_report.proofs.MissingLemmas.{front_over, hindered_by, later_over, nothing_front}
 use Rattle.aide_report.proofs.MissingLemmas.{stops_by, stops_hindered, whole_over}
+use Rattle.aide_text.proofs.Sending.{Appends-nothing}
+use Rattle.aide_report.proofs.PassLemmas.{sources_then}
 use Rattle.aide_report.proofs.OpeningLemmas.{refused_later, unsent_nothing, unsent_begun}
 use Rattle.aide_report.proofs.ReadingLemmas.{clears_then}
 use Rattle.aide_report.proofs.ReportLemmas.{caused_as, counts_nothing}
 use Rattle.aide_report.proofs.RunLemmas.{ends_well, ends_early, sections_are}
-use Rattle.aide_report.proofs.SectionsLemmas.{fitting, most_sections, opens_more, opens_then, sections_few}
+use Rattle.aide_report.proofs.SectionsLemmas.{fitting, most_sections, opens_more, opens_then, opens_within, sections_few}
 use Rattle.aide_text.specs.Section.{row, row_of}
 use Rattle.aide_report.proofs.comparison.run.Goals as goal
+
+two_of_six : 2 ≤ 6
+two_of_six = omega arith
+
+two_and : (n : ℕ) → 2 ≤ 2 + n
+two_and n = omega arith
 
 pub write_report-requires-clause-digests : goal.write_report-requires-clause-digests
 write_report-requires-clause-digests g c side text told =
@@ -64,7 +72,7 @@ returns-in-Err-write_report-clause-cause g c =
     let sink = Rose (g.W.Sink.failures c.args.out.now) (g.W.Sink.failures c.write_report.new.out) in
     has_cause c.args.limits (asked c.args.task.now) (g.S.Sources.bytes_of c.args.sources.now) sources sink c.in-Err-write_report.fault
     (rose_later (Rose (g.S.Sources.failures c.compare.new.sources) (g.S.Sources.failures c.write_report.new.sources)) sources sink c.in-Err-write_report.fault
-    (λ rose below. let later = rose below in omega (arith, later, c.in-Ok.ensures.sources.never_falls)) c.in-Err-write_report.ensures.passes.fault.caused)
+    (rose_since (g.S.Sources.failures c.args.sources.now) _ _ c.in-Ok.ensures.sources.never_falls) c.in-Err-write_report.ensures.passes.fault.caused)
     (answer_later c.args.limits (asked c.args.task.now) (g.S.Sources.bytes_of c.args.sources.now) (g.S.Sources.bytes_of c.compare.new.sources) c.in-Err-write_report.fault c.in-Err-write_report.ensures.passes.fault.later)
     (right_later c.args.limits (g.S.Sources.bytes_of c.args.sources.now) (g.S.Sources.bytes_of c.compare.new.sources) c.compare.ensures.sources.same
     c.in-Ok.ensures.found.sound c.in-Err-write_report.fault c.in-Err-write_report.ensures.passes.fault.later)
@@ -176,7 +184,7 @@ returns-in-Err-write_report-clause-over g c = λ old new told_old told_new r run
           (later_over c.args.limits bytes_of is_missing old new (Rose before after) sink fault told_old told_new c.in-Ok.ensures.found.there c.in-Ok.ensures.found.sound
           (subst (λ bytes. IsLater c.args.limits bytes fault) c.compare.ensures.sources.same c.in-Err-write_report.ensures.passes.fault.later)
           (rose_later (Rose (g.S.Sources.failures c.compare.new.sources) after) (Rose before after) sink fault
-          (λ rose below. let later = rose below in omega (arith, later, c.in-Ok.ensures.sources.never_falls)) c.in-Err-write_report.ensures.passes.fault.caused)),
+          (rose_since before (g.S.Sources.failures c.compare.new.sources) after c.in-Ok.ensures.sources.never_falls) c.in-Err-write_report.ensures.passes.fault.caused)),
       front_over c.args.limits (asked c.args.task.now) bytes_of is_missing old new (g.W.Sink.delivered c.args.out.now) (g.W.Sink.delivered c.write_report.new.out)
           told_old told_new c.in-Ok.ensures.found.there
           (λ old new told_old told_new r runs.
@@ -197,3 +205,93 @@ returns-in-Ok-write_report-clause-opens_told g c = rw c.outcome.ensures (record 
   shown = c.in-Ok.finding.counts.shown;
   opens = opens_more _ _ _ 2 (section_count c.args.task.now.options c.in-Ok.finding.counts) _ refl c.in-Ok.ensures.opens c.in-Ok-write_report.ensures.passes.opens;
 })
+
+pub returns-in-Err-clause-reliable : goal.returns-in-Err-clause-reliable
+returns-in-Err-clause-reliable g c = c.in-Err.ensures.fault.reliable
+
+pub returns-in-Err-clause-right : goal.returns-in-Err-clause-right
+returns-in-Err-clause-right g c = c.in-Err.ensures.fault.right
+
+pub returns-in-Err-clause-refused : goal.returns-in-Err-clause-refused
+returns-in-Err-clause-refused g c = c.in-Err.ensures.fault.refused
+
+pub returns-in-Err-clause-not_given : goal.returns-in-Err-clause-not_given
+returns-in-Err-clause-not_given g c = c.in-Err.ensures.fault.not_given
+
+pub returns-in-Err-clause-opens_first : goal.returns-in-Err-clause-opens_first
+returns-in-Err-clause-opens_first g c = c.in-Err.ensures.fault.opens_first
+
+pub returns-in-Err-clause-memory : goal.returns-in-Err-clause-memory
+returns-in-Err-clause-memory g c = c.in-Err.ensures.fault.memory
+
+pub returns-in-Err-clause-nothing : goal.returns-in-Err-clause-nothing
+returns-in-Err-clause-nothing g c = λ side text told unsound. Appends-nothing (g.W.Sink.delivered c.args.out.now)
+
+pub returns-in-Err-clause-flushes : goal.returns-in-Err-clause-flushes
+returns-in-Err-clause-flushes g c = refl
+
+pub returns-in-Err-clause-sources_never_fall : goal.returns-in-Err-clause-sources_never_fall
+returns-in-Err-clause-sources_never_fall g c = c.compare.ensures.sources.never_falls
+
+pub returns-in-Err-clause-lookups : goal.returns-in-Err-clause-lookups
+returns-in-Err-clause-lookups g c = c.compare.ensures.sources.lookups
+
+pub returns-in-Err-clause-room : goal.returns-in-Err-clause-room
+returns-in-Err-clause-room g c = c.compare.ensures.desk.room
+
+pub returns-in-Ok-write_report-clause-sound : goal.returns-in-Ok-write_report-clause-sound
+returns-in-Ok-write_report-clause-sound g c = c.in-Ok.ensures.found.sound
+
+pub returns-in-Ok-write_report-clause-flushed : goal.returns-in-Ok-write_report-clause-flushed
+returns-in-Ok-write_report-clause-flushed g c = c.in-Ok-write_report.ensures.sink.flushed
+
+pub returns-in-Ok-write_report-clause-flushes : goal.returns-in-Ok-write_report-clause-flushes
+returns-in-Ok-write_report-clause-flushes g c = c.in-Ok-write_report.ensures.sink.flushes
+
+pub returns-in-Ok-write_report-clause-sink_fails : goal.returns-in-Ok-write_report-clause-sink_fails
+returns-in-Ok-write_report-clause-sink_fails g c = c.in-Ok-write_report.ensures.sink.fails
+
+pub returns-in-Err-write_report-clause-written : goal.returns-in-Err-write_report-clause-written
+returns-in-Err-write_report-clause-written g c = c.in-Err-write_report.ensures.sink.written
+
+pub returns-in-Err-write_report-clause-flushes : goal.returns-in-Err-write_report-clause-flushes
+returns-in-Err-write_report-clause-flushes g c = c.in-Err-write_report.ensures.sink.flushes
+
+pub returns-in-Err-write_report-clause-sink_fails : goal.returns-in-Err-write_report-clause-sink_fails
+returns-in-Err-write_report-clause-sink_fails g c = c.in-Err-write_report.ensures.sink.fails
+
+pub returns-in-Err-write_report-clause-not_given : goal.returns-in-Err-write_report-clause-not_given
+returns-in-Err-write_report-clause-not_given g c = c.in-Err-write_report.ensures.passes.fault.not_given
+
+pub returns-in-Ok-write_report-clause-sources_never_fall : goal.returns-in-Ok-write_report-clause-sources_never_fall
+returns-in-Ok-write_report-clause-sources_never_fall g c = (sources_then c.compare.ensures.sources c.write_report.ensures.passes.sources).never_falls
+
+pub returns-in-Ok-write_report-clause-lookups : goal.returns-in-Ok-write_report-clause-lookups
+returns-in-Ok-write_report-clause-lookups g c = (sources_then c.compare.ensures.sources c.write_report.ensures.passes.sources).lookups
+
+pub returns-in-Ok-write_report-clause-room : goal.returns-in-Ok-write_report-clause-room
+returns-in-Ok-write_report-clause-room g c = c.write_report.ensures.passes.desk.room ∙ c.compare.ensures.desk.room
+
+pub returns-in-Err-write_report-clause-sources_never_fall : goal.returns-in-Err-write_report-clause-sources_never_fall
+returns-in-Err-write_report-clause-sources_never_fall g c = (sources_then c.compare.ensures.sources c.write_report.ensures.passes.sources).never_falls
+
+pub returns-in-Err-write_report-clause-lookups : goal.returns-in-Err-write_report-clause-lookups
+returns-in-Err-write_report-clause-lookups g c = (sources_then c.compare.ensures.sources c.write_report.ensures.passes.sources).lookups
+
+pub returns-in-Err-write_report-clause-room : goal.returns-in-Err-write_report-clause-room
+returns-in-Err-write_report-clause-room g c = c.write_report.ensures.passes.desk.room ∙ c.compare.ensures.desk.room
+
+pub returns-in-Err-clause-opens_some : goal.returns-in-Err-clause-opens_some
+returns-in-Err-clause-opens_some g c = opens_within _ _ 2 6 two_of_six c.compare.ensures.opens_some
+
+pub returns-in-Err-clause-opens_within : goal.returns-in-Err-clause-opens_within
+returns-in-Err-clause-opens_within g c old new told_old told_new sound_old sound_new = opens_within _ _ 2 _ (two_and _) c.compare.ensures.opens_some
+
+pub returns-in-Err-write_report-clause-reliable : goal.returns-in-Err-write_report-clause-reliable
+returns-in-Err-write_report-clause-reliable g c is =
+    subst (λ bytes. IsOfReliable bytes c.in-Err-write_report.fault) c.compare.ensures.sources.same
+    (c.in-Err-write_report.ensures.passes.fault.reliable (c.compare.ensures.sources.reliable_same ∙ is))
+
+pub returns-in-Err-write_report-clause-memory : goal.returns-in-Err-write_report-clause-memory
+returns-in-Err-write_report-clause-memory g c le =
+    c.in-Err-write_report.ensures.passes.fault.memory (subst (λ room. c.args.limits.line ≤ room) (sym c.compare.ensures.desk.room) le)

@@ -64,3 +64,18 @@ pass-preserved g c =
       counts = λ old new s t. counts_same c.args.options.now c.pass.counts _ _ _ _
           (c.in-Ok.ensures.step.gives old new (stands Old old s) (stands New new t)) c.in-Nothing.ensures (c.pass.invariant.counts old new s t);
     }
+
+pub next-requires : goal.next-requires
+next-requires g c = c.pass.invariant.ready
+
+pub returns-in-End-clause-ended : goal.returns-in-End-clause-ended
+returns-in-End-clause-ended g c = c.in-Ok.ensures.step.ended c.in-End.is
+
+pub pass-smaller-in-Differs : goal.pass-smaller-in-Differs
+pass-smaller-in-Differs g c = c.in-Ok.ensures.step.falls c.in_default.not-End
+
+pub pass-smaller-in-Alike : goal.pass-smaller-in-Alike
+pass-smaller-in-Alike g c = c.in-Ok.ensures.step.falls c.in_default.not-End
+
+pub pass-smaller : goal.pass-smaller
+pass-smaller g c = c.in-Ok.ensures.step.falls c.in_default.not-End

@@ -104,3 +104,30 @@ pass-preserved g c =
           (c.pass.invariant.writes old new s t);
       some = c.pass.invariant.some;
     }
+
+pub next-requires : goal.next-requires
+next-requires g c = c.pass.invariant.ready
+
+pub returns-in-Err-clause-writes : goal.returns-in-Err-clause-writes
+returns-in-Err-clause-writes g c old new s t = writing_so_far (c.pass.invariant.writes old new s t)
+
+pub returns-in-Err-clause-some : goal.returns-in-Err-clause-some
+returns-in-Err-clause-some g c = c.pass.invariant.some
+
+pub returns-in-End-clause-some : goal.returns-in-End-clause-some
+returns-in-End-clause-some g c = c.pass.invariant.some
+
+pub returns-in-End-clause-writes_on : goal.returns-in-End-clause-writes_on
+returns-in-End-clause-writes_on g c = c.pass.invariant.writes_on
+
+pub returns-in-End-clause-ended : goal.returns-in-End-clause-ended
+returns-in-End-clause-ended g c = c.in-Ok.ensures.step.ended c.in-End.is
+
+pub pass-smaller-else-pen : goal.pass-smaller-else-pen
+pass-smaller-else-pen g c = c.in-Ok.ensures.step.falls c.in_default.not-End
+
+pub pass-smaller-in-Alike : goal.pass-smaller-in-Alike
+pass-smaller-in-Alike g c = c.in-Ok.ensures.step.falls c.in_default.not-End
+
+pub pass-smaller : goal.pass-smaller
+pass-smaller g c = c.in-Ok.ensures.step.falls c.in_default.not-End

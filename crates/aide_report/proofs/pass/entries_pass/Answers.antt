@@ -1,4 +1,4 @@
-use Rattle.std.proofs.Common.{subst}
+use Rattle.std.proofs.Common.{◌∙◌, ap, subst}
 use Rattle.std.proofs.lemmas.Result.{err_from_is_err_and}
 use Rattle.aide_db.specs.Desk.{list_of, columns_of_side}
 use Rattle.aide_db.specs.Map.{entries_of}
@@ -90,3 +90,21 @@ returns-in_err-old_reel-clause-pen g c =
       writes_on = tt;
       written = unwritten (Rose (g.S.Sources.failures c.args.sources.now) (g.S.Sources.failures c.open_both.new.sources)) c.args.pen.now c.in_err-old_reel.field-0.0 c.requires.writes_on (c.in_err-old_reel.ensures.passes c.args.plan.now.limits c.args.desk.now).fault.caused;
     })
+
+pub returns-in-None-clause-pen : goal.returns-in-None-clause-pen
+returns-in-None-clause-pen g c = record { some = c.put_entries.ensures.some; writes_on = c.in-Ok.ensures.writes_on; written = tt }
+
+pub returns-in-Some-clause-pen : goal.returns-in-Some-clause-pen
+returns-in-Some-clause-pen g c = record { some = c.put_entries.ensures.some; writes_on = tt; written = c.in-Ok.ensures.writes_on }
+
+pub returns-in_err-old_reel-clause-old_opened : goal.returns-in_err-old_reel-clause-old_opened
+returns-in_err-old_reel-clause-old_opened g c = c.open_both.ensures.old_opened
+
+pub returns-in-None-clause-old_opened : goal.returns-in-None-clause-old_opened
+returns-in-None-clause-old_opened g c = ap (λ openings. openings Old) c.close_both.ensures.openings ∙ c.open_both.ensures.old_opened
+
+pub returns-in-Some-clause-old_opened : goal.returns-in-Some-clause-old_opened
+returns-in-Some-clause-old_opened g c = ap (λ openings. openings Old) c.close_both.ensures.openings ∙ c.open_both.ensures.old_opened
+
+pub returns-in-Err-clause-old_opened : goal.returns-in-Err-clause-old_opened
+returns-in-Err-clause-old_opened g c = ap (λ openings. openings Old) c.close_both-in-Err.ensures.openings ∙ c.open_both.ensures.old_opened

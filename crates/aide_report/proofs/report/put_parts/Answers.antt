@@ -1,4 +1,4 @@
-use Rattle.std.proofs.Common.{◌++◌, ℕ, arith, refl}
+use Rattle.std.proofs.Common.{◌++◌, ℕ, arith, le_refl, refl}
 use Rattle.aide_report.specs.Finding.{pass_of, old_origin, new_origin}
 use Rattle.aide_report.specs.Report.{parts_of, sections_text, databases_text}
 use Rattle.aide_attr.specs.declared.level.Level.TheVariants.{DatabaseAttributes}
@@ -16,7 +16,7 @@ returns-then-pen-clause-passes g c =
 
 pub returns-then-pen-2-clause-passes : goal.returns-then-pen-2-clause-passes
 returns-then-pen-2-clause-passes g c =
-    passes_broken _ _ c.put_databases.new.pen.sent (omega arith) c.in-Ok.ensures.passes c.if-pen-2.true
+    passes_broken _ _ c.put_databases.new.pen.sent (le_refl _) c.in-Ok.ensures.passes c.if-pen-2.true
 
 pub returns-then-pen-clause-writes : goal.returns-then-pen-clause-writes
 unfolding parts_of
@@ -68,3 +68,9 @@ returns-clause-passes g c = passes_same _ _ refl c.in-Ok.ensures.passes
 
 pub returns-then-pen-clause-pen : goal.returns-then-pen-clause-pen
 returns-then-pen-clause-pen g c = record { some = some_of c.put_overview.ensures; writes_on = tt; written = (c.if-pen.true, refl) }
+
+pub returns-in-Err-clause-passes : goal.returns-in-Err-clause-passes
+returns-in-Err-clause-passes g c = c.in-Err.ensures.passes
+
+pub put_sections-requires-clause-writes_on : goal.put_sections-requires-clause-writes_on
+put_sections-requires-clause-writes_on g c = c.if-pen.false

@@ -51,3 +51,6 @@ returns-then-is_silent-clause-pen g c = record {
   writes_on = c.requires.writes_on;
   written = tt;
 }
+
+pub returns-clause-pen : goal.returns-clause-pen
+returns-clause-pen g c = c.put_parts.ensures.pen

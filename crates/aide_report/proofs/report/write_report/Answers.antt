@@ -1,9 +1,9 @@
-use Rattle.std.proofs.Common.{◌∙◌, ap, refl, arith}
+use Rattle.std.proofs.Common.{◌∙◌, ◌≤◌, ap, le_refl, refl, subst, sym}
 use Rattle.aide_text.specs.Failures.{one_more}
 use Rattle.aide_report.proofs.AgreementLemmas.{begins, unflushed}
 use Rattle.aide_report.proofs.PassLemmas.{passes_broken, passes_err, passes_same}
 use Rattle.aide_report.proofs.ReportLemmas.{flushed_whole, flushed_part, flushed_count, never_falls, count_of_pen}
-use Rattle.aide_report.proofs.ReportLemmas.{written_of_pen, rose_of_pen, unfailed, counts_of_pen}
+use Rattle.aide_report.proofs.ReportLemmas.{written_of_pen, rises_by_one, rose_by_one, rose_of_pen, unfailed, counts_of_pen}
 use Rattle.aide_text.proofs.Sheets.{wrote_part}
 use Rattle.aide_report.proofs.report.write_report.Goals as goal
 
@@ -29,7 +29,7 @@ returns-clause-sink g c =
       flushed = c.in_default.ensures.flushed;
       flushes = c.in_default.ensures.flushes ∙ ap one_more (unflushed pen.some);
       written = tt;
-      never_falls = omega (arith, e, c.in_default.ensures.fault);
+      never_falls = subst (λ n. g.W.Sink.failures c.args.out.now ≤ n) (sym c.in_default.ensures.fault) e;
       fails = c.in_default.ensures.fault ∙ unfailed fresh pen.writes_on pen.some;
     }
 
@@ -37,7 +37,7 @@ pub returns-in-Err-flush-clause-passes : goal.returns-in-Err-flush-clause-passes
 returns-in-Err-flush-clause-passes g c =
     let fresh = ap (λ pen. pen.failed) c.new-pen.ensures in
     let e = never_falls fresh c.in-Ok.ensures.pen.some in
-    passes_broken _ _ c.put_report.new.pen.sent (omega arith) c.in-Ok.ensures.passes (λ below. omega (arith, e, below, c.in-Err-flush.ensures.fault))
+    passes_broken _ _ c.put_report.new.pen.sent (le_refl _) c.in-Ok.ensures.passes (rose_by_one _ _ _ e c.in-Err-flush.ensures.fault)
 
 pub returns-in-Err-flush-clause-sends : goal.returns-in-Err-flush-clause-sends
 returns-in-Err-flush-clause-sends g c old new told_old told_new =
@@ -54,7 +54,7 @@ returns-in-Err-flush-clause-sink g c =
       flushed = tt;
       flushes = c.in-Err-flush.ensures.flushes ∙ unflushed pen.some;
       written = flushed_count (g.W.Sink.delivered c.flush.new.self) fresh start pen.some c.flush.ensures.bytes;
-      never_falls = omega (arith, e, c.in-Err-flush.ensures.fault);
+      never_falls = rises_by_one _ _ _ e c.in-Err-flush.ensures.fault;
       fails = c.in-Err-flush.ensures.fault ∙ ap one_more (unfailed fresh pen.writes_on pen.some);
     }
 
@@ -80,3 +80,6 @@ returns-in-Err-clause-sink g c =
       never_falls = never_falls fresh pen.some;
       fails = counts_of_pen c.put_report.new.pen c.in-Err.fault refl fresh pen.some pen.written;
     }
+
+pub put_report-requires-clause-writes_on : goal.put_report-requires-clause-writes_on
+put_report-requires-clause-writes_on g c = ap (λ pen. pen.failed) c.new-pen.ensures
