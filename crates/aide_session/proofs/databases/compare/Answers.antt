@@ -45,8 +45,15 @@ returns-clause-ends g c = λ named a is.
     ends_by a named _ _ _ _ _
     (failed_later (g.S.Sources.is_reliable first) (g.S.Sources.is_reliable last) _ _ _ (c.point-2.ensures.reliable ∙ c.point.ensures.reliable)
     (omega (arith, c.point-2.ensures.failures, c.point.ensures.failures)))
-    (c.compare_sides.ensures.ends named is_old is_new is.old_file is.new_file told_old told_new a
-    (subst (λ (options : Options). IsCompared options named is.old_file is.new_file a) (sym c.in-Some.ensures.some.2) is.then_is))
+    (c.compare_sides.ensures.ends named a (record {
+      old_is = is_old;
+      new_is = is_new;
+      old_file = is.old_file;
+      new_file = is.new_file;
+      old_told = told_old;
+      new_told = told_new;
+      then_is = subst (λ (options : Options). IsCompared options named is.old_file is.new_file a) (sym c.in-Some.ensures.some.2) is.then_is;
+    }))
 
 pub returns-clause-closes : goal.returns-clause-closes
 returns-clause-closes g c = λ words config read.
@@ -59,8 +66,14 @@ returns-clause-closes g c = λ words config read.
     closes_over files (g.S.Sources.file_at c.point-2.new.self) words _ _ _ _ _ _ _ _ same
     (same_course g.S.Sources.openings g.S.Sources.was_given g.W.Sink.flushes g.W.Sink.is_flushed c.args.site.now c.point-2.new.self c.compare_sides.new.site c.args.out.now c.compare_sides.new.out (c.point-2.ensures.openings ∙ c.point.ensures.openings))
     (c.point-2.ensures.failures ∙ c.point.ensures.failures)
-    (c.compare_sides.ensures.closes words named refl refl (asks_over files _ words named same asks) (same_options files _ words named same asks ∙ sym c.in-Some.ensures.some.2)
-    (λ side text has. texts side text (subst (λ (f : Files). HasText f named side text) same has)))
+    (c.compare_sides.ensures.closes words (record {
+      named = named;
+      old_is = refl;
+      new_is = refl;
+      asks = asks_over files _ words named same asks;
+      options_are = same_options files _ words named same asks ∙ sym c.in-Some.ensures.some.2;
+      gives = λ side text has. texts side text (subst (λ (f : Files). HasText f named side text) same has);
+    }))
 
 pub returns-in_default-reserve-clause-closes : goal.returns-in_default-reserve-clause-closes
 returns-in_default-reserve-clause-closes g c = λ words config read. closes_starved _ words _ _ _ _ _ _ _ _ c.put_memory_line-in_default-reserve.ensures (c.point-2.ensures.openings ∙ c.point.ensures.openings) refl
