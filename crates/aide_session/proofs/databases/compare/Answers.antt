@@ -1,4 +1,4 @@
-use Rattle.std.proofs.Common.{◌≡◌, ◌∙◌, sym, ℕ, List, Some, refl, arith}
+use Rattle.std.proofs.Common.{◌≡◌, ◌∙◌, sym, ℕ, List, Some, refl}
 use Rattle.std.proofs.Math.Path.{subst}
 use Rattle.aide_conf.specs.declared.options.Options.{Options}
 use Rattle.aide_db.specs.declared.side.Side.TheVariants.{Old, New}
@@ -9,7 +9,7 @@ use Rattle.aide_session.specs.Held.{IsPeakOf}
 use Rattle.aide_session.proofs.Closings.{asks_over, closes_over, closes_starved, old_is_not_new, pointed_texts}
 use Rattle.aide_session.proofs.Closings.{same_course, same_options, told_side}
 use Rattle.aide_session.proofs.Endings.{ends_by, ends_starved, failed_later, same_some}
-use Rattle.aide_session.proofs.HeldLemmas.{same_held}
+use Rattle.aide_session.proofs.HeldLemmas.{held_still, room_enough, same_held, stayed}
 use Rattle.aide_session.proofs.databases.compare.Goals as goal
 
 pub returns-in-Err-clause-ends : goal.returns-in-Err-clause-ends
@@ -44,7 +44,7 @@ returns-clause-ends g c = λ named a is.
     (subst (λ (path : List ℕ). files path ≡ Some is.new_file) is_new is.new_told)) in
     ends_by a named _ _ _ _ _
     (failed_later (g.S.Sources.is_reliable first) (g.S.Sources.is_reliable last) _ _ _ (c.point-2.ensures.reliable ∙ c.point.ensures.reliable)
-    (omega (arith, c.point-2.ensures.failures, c.point.ensures.failures)))
+    (stayed _ _ _ c.point.ensures.failures c.point-2.ensures.failures))
     (c.compare_sides.ensures.ends named a (record {
       old_is = is_old;
       new_is = is_new;
@@ -85,7 +85,7 @@ pub returns-in-Err-point-clause-bound : goal.returns-in-Err-point-clause-bound
 returns-in-Err-point-clause-bound g c = λ named a is. same_held (g.S.Sources.file_at c.args.site.now) named c.args.desk.now.peak
 
 pub returns-in_default-reserve-clause-bound : goal.returns-in_default-reserve-clause-bound
-returns-in_default-reserve-clause-bound g c = λ named a is old new has_old has_new. omega (arith, c.reserve.ensures.peak)
+returns-in_default-reserve-clause-bound g c = λ named a is. held_still (g.S.Sources.file_at c.args.site.now) named _ _ c.reserve.ensures.peak
 
 pub returns-clause-bound : goal.returns-clause-bound
 returns-clause-bound g c = λ named a is old new has_old has_new.
@@ -105,4 +105,4 @@ returns-clause-bound g c = λ named a is old new has_old has_new.
     (texts New new (subst (λ (path : List ℕ). files path ≡ Some (Some new)) is_new has_new)))
 
 pub compare_sides-requires : goal.compare_sides-requires
-compare_sides-requires g c = record { room = omega (arith, c.in-Ok.ensures.room) }
+compare_sides-requires g c = record { room = room_enough _ c.in-Ok.ensures.room }
