@@ -1,6 +1,6 @@
 -- How a session closes over any site.
 use Rattle.std.proofs.Common.{◌≡◌, ◌∙◌, ℕ, ◌≤◌, List, [], Option, Some, None, refl, sym, ap, Bool, true, false, Ok, Err}
-use Rattle.std.proofs.Common.{inl, inr, ◌⊎◌, arith}
+use Rattle.std.proofs.Common.{arith}
 use Rattle.std.specs.Prelude.{Result, ⊤}
 use Rattle.std.specs.Io.KnownBytes.{Keeps}
 use Rattle.std.proofs.Math.Path.{subst}

@@ -1,5 +1,4 @@
 use Rattle.std.proofs.Common.{[], refl, true, false, Ok, Err}
-use Rattle.aide_session.specs.Job.{text_of_job}
 use Rattle.aide_session.specs.Lines.{conf_line}
 use Rattle.aide_session.proofs.AnswerSteps.{checked_is, compares_is, fault_is}
 use Rattle.aide_session.proofs.Closings.{asks_and_reads, closes_bad_config, closes_good_config, closes_starved}

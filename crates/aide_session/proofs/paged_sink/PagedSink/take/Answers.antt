@@ -1,7 +1,4 @@
-use Rattle.std.proofs.Common.{sym, take}
-use Rattle.std.proofs.Math.Path.{subst}
-use Rattle.std.specs.Io.KnownBytes.{Appends}
-use Rattle.aide_session.specs.Page.{Paged, known_of}
+use Rattle.std.proofs.Common.{take}
 use Rattle.aide_session.proofs.Pages.{page_grows}
 use Rattle.aide_session.proofs.paged_sink.PagedSink.take.Goals as goal
 
