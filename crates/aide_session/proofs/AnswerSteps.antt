@@ -1,6 +1,6 @@
 -- From one step of the answer to the next.
-use Rattle.std.proofs.Common.{◌≡◌, ℕ, List, Option, Some, None, sym, true, false, Bool, Ok, Err}
-use Rattle.std.specs.Prelude.{Result, ⊤}
+use Rattle.std.proofs.Common.{◌≡◌, ◌∙◌, ℕ, List, Option, Some, None, sym, ap, true, false, Bool, Ok, Err}
+use Rattle.std.specs.Prelude.{Result}
 use Rattle.std.proofs.Math.Path.{subst}
 use Rattle.aide_conf.specs.Settings.{Configured}
 use Rattle.aide_conf.specs.declared.fault.ConfFault.{ConfFault}
@@ -9,13 +9,7 @@ use Rattle.aide_session.specs.Answer.{IsJobAnswer, IsWordsAnswer, IsReadAnswer, 
 use Rattle.aide_session.specs.Files.{Files, IsLarge, is_too_large}
 use Rattle.aide_session.specs.Job.{JobText, job_of}
 use Rattle.aide_session.specs.Lines.{usage_line, too_large_line, unread_line, conf_line}
-
-abbrev denies : Bool → Type 0
-denies true = ⊥
-denies false = ⊤
-
-false_is_not_true : false ≡ true → ⊥
-false_is_not_true e = subst denies e tt
+use Rattle.aide_session.specs.Premises.{HasRead, ReadsOnlyAs}
 
 pub usage_is : (files : Files) (words : List (List ℕ)) (named : Named) (a : Answer) → job_of words ≡ None
     → IsAnswer files words named a → a ≡ refused usage_line 15
@@ -44,30 +38,65 @@ small_is : (files : Files) (job : JobText) (text : List ℕ) (named : Named) (a 
     → IsFileAnswer files job (Some text) named a → IsTextAnswer files job text named a
 small_is files job text named a small is = subst (λ (b : Bool). IsSizedAnswer files job b text named a) small is
 
-pub text_is : (files : Files) (job : JobText) (file : Option (List ℕ)) (text : List ℕ) (named : Named) (a : Answer)
+text_is : (files : Files) (job : JobText) (file : Option (List ℕ)) (text : List ℕ) (named : Named) (a : Answer)
     → (file ≡ Some text) × (is_too_large text ≡ false)
     → IsFileAnswer files job file named a → IsTextAnswer files job text named a
 text_is files job file text named a found is =
     small_is files job text named a found.1 (subst (λ (o : Option (List ℕ)). IsFileAnswer files job o named a) found.0 is)
 
-pub fault_is : (files : Files) (compare : Bool) (f : ConfFault) (r : Result Configured ConfFault) (named : Named) (a : Answer)
-    → r ≡ Err f → IsReadAnswer files compare r named a
-    → a ≡ refused (conf_line f) 17
-fault_is files true f r named a e is =
-    subst (λ (x : Result Configured ConfFault). IsReadAnswer files true x named a) e is
-fault_is files false f r named a e is =
-    subst (λ (x : Result Configured ConfFault). IsReadAnswer files false x named a) e is
+-- What is known of a file that was read: it has this text, which is not too large.
+abbrev pub IsRead : (files : Files) (path text : List ℕ) → Type 0
+IsRead files path text = (file : Option (List ℕ)) → files path ≡ Some file
+    → (file ≡ Some text) × (is_too_large text ≡ false)
 
-pub compares_is : (files : Files) (compare : Bool) (s : Configured) (r : Result Configured ConfFault) (named : Named) (a : Answer)
-    → compare ≡ true → r ≡ Ok s → IsReadAnswer files compare r named a
+-- the answer to a job whose configuration was read is that of its text
+pub read_is : (files later : Files) (job : JobText) (path text copy : List ℕ) (named : Named) (a : Answer)
+    → path ≡ job.config → copy ≡ text → later ≡ files → IsRead files path text
+    → IsJobAnswer files job named a → IsTextAnswer later job copy named a
+read_is files later job path text copy named a is_path is_text same found is =
+    let known = subst (λ (x : List ℕ). files x ≡ Some is.file) (sym is_path) is.known in
+    let of_text = text_is files job is.file text named a (found is.file known) is.then_is in
+    subst (λ (f : Files). IsTextAnswer f job copy named a) (sym same)
+    (subst (λ (x : List ℕ). IsTextAnswer files job x named a) (sym is_text) of_text)
+
+-- what is known where the configuration of a job was read
+pub has_read : (files later : Files) (words : List (List ℕ)) (job : JobText) (path text copy : List ℕ)
+    → path ≡ job.config → copy ≡ text → later ≡ files → IsRead files path text → is_too_large text ≡ false
+    → job_of words ≡ Some job → HasRead later words job copy
+has_read files later words job path text copy is_path is_text same found small is = record {
+  job_is = is;
+  text_is = λ file known.
+      let before = subst (λ (f : Files). f job.config ≡ Some file) same known in
+      let at_path = subst (λ (x : List ℕ). files x ≡ Some file) (sym is_path) before in
+      (found file at_path).0 ∙ ap (λ (x : List ℕ). Some x) (sym is_text);
+  small = subst (λ (x : List ℕ). is_too_large x ≡ false) (sym is_text) small;
+}
+
+-- a job that reads only as this has the answer of this reading
+read_answer : (files : Files) (job : JobText) (text : List ℕ) (read : Result Configured ConfFault) (named : Named) (a : Answer)
+    → ReadsOnlyAs job text read → IsTextAnswer files job text named a → IsReadAnswer files job.compare read named a
+read_answer files job text read named a reads is =
+    subst (λ (x : Result Configured ConfFault). IsReadAnswer files job.compare x named a) (reads.only is.read is.reads) is.then_is
+
+bad_answer : (files : Files) (compare : Bool) (fault : ConfFault) (named : Named) (a : Answer)
+    → IsReadAnswer files compare (Err fault) named a → a ≡ refused (conf_line fault) 17
+bad_answer files true fault named a is = is
+bad_answer files false fault named a is = is
+
+pub fault_is : (files : Files) (job : JobText) (text : List ℕ) (fault : ConfFault) (named : Named) (a : Answer)
+    → ReadsOnlyAs job text (Err fault) → IsTextAnswer files job text named a
+    → a ≡ refused (conf_line fault) 17
+fault_is files job text fault named a reads is =
+    bad_answer files job.compare fault named a (read_answer files job text (Err fault) named a reads is)
+
+pub compares_is : (files : Files) (job : JobText) (text : List ℕ) (s : Configured) (named : Named) (a : Answer)
+    → job.compare ≡ true → ReadsOnlyAs job text (Ok s) → IsTextAnswer files job text named a
     → Compares files s named a
-compares_is files true s r named a c e is =
-    subst (λ (x : Result Configured ConfFault). IsReadAnswer files true x named a) e is
-compares_is files false s r named a c e is = absurd (false_is_not_true c)
+compares_is files job text s named a compare reads is =
+    subst (λ (b : Bool). IsReadAnswer files b (Ok s) named a) compare (read_answer files job text (Ok s) named a reads is)
 
-pub checked_is : (files : Files) (compare : Bool) (s : Configured) (r : Result Configured ConfFault) (named : Named) (a : Answer)
-    → compare ≡ false → r ≡ Ok s → IsReadAnswer files compare r named a
+pub checked_is : (files : Files) (job : JobText) (text : List ℕ) (s : Configured) (named : Named) (a : Answer)
+    → job.compare ≡ false → ReadsOnlyAs job text (Ok s) → IsTextAnswer files job text named a
     → a ≡ checked
-checked_is files true s r named a c e is = absurd (false_is_not_true (sym c))
-checked_is files false s r named a c e is =
-    subst (λ (x : Result Configured ConfFault). IsReadAnswer files false x named a) e is
+checked_is files job text s named a compare reads is =
+    subst (λ (b : Bool). IsReadAnswer files b (Ok s) named a) compare (read_answer files job text (Ok s) named a reads is)

@@ -1,15 +1,12 @@
 -- How a session closes over any site.
 use Rattle.std.proofs.Common.{◌≡◌, ◌∙◌, ℕ, ◌≤◌, List, [], Option, Some, None, refl, sym, ap, Bool, true, false, Ok, Err}
-use Rattle.std.proofs.Common.{inl, inr, ◌⊎◌, arith}
+use Rattle.std.proofs.Common.{arith}
 use Rattle.std.specs.Prelude.{Result, ⊤}
 use Rattle.std.specs.Io.KnownBytes.{Keeps}
 use Rattle.std.proofs.Math.Path.{subst}
-use Rattle.aide_conf.specs.declared.task.Need.{Need}
-use Rattle.aide_conf.specs.ReadResult.{IsRefused, IsStarved, ReadsAs}
-use Rattle.aide_conf.specs.Cutting.{places}
+use Rattle.aide_conf.specs.ReadResult.{ReadsAs}
 use Rattle.aide_conf.specs.Settings.{Configured}
 use Rattle.aide_conf.specs.declared.fault.ConfFault.{ConfFault}
-use Rattle.aide_conf.specs.declared.fault.ConfFaultKind.TheVariants.{Memory}
 use Rattle.aide_db.specs.declared.fault.DbFault.{DbFault}
 use Rattle.aide_entry.specs.declared.fault_kind.DbFaultKind.{DbFaultKind}
 use Rattle.aide_entry.specs.declared.fault_kind.DbFaultKind.TheVariants.{Read}
@@ -29,9 +26,10 @@ use Rattle.aide_session.specs.Closing.{ClosingCause, closing_line, HasText, RunC
 use Rattle.aide_session.specs.Closing.{no_job, no_memory, no_config, large_config, bad_config, good_config, bad_run}
 use Rattle.aide_session.specs.Closing.{good_run}
 use Rattle.aide_session.specs.Ends.{Sinks}
-use Rattle.aide_session.specs.Files.{Files, IsLarge, is_too_large}
+use Rattle.aide_session.specs.Files.{Files, IsLarge}
 use Rattle.aide_session.specs.Job.{JobText, job_of}
 use Rattle.aide_session.specs.Lines.{usage_line, memory_line, unread_line, too_large_line, conf_line}
+use Rattle.aide_session.specs.Premises.{HasRead, ReadsOnlyAs}
 use Rattle.aide_session.specs.Put.{Put}
 use Rattle.aide_session.proofs.Endings.{rose_later, sinks}
 use Rattle.aide_session.proofs.PutLemmas.{appends_none, put_none, put_passed}
@@ -84,19 +82,17 @@ closes_large files words job d e f m n course site out is large put unopened unf
 
 -- the configuration of a job was read, and reads as this
 pub asks_and_reads : (files : Files) (words : List (List ℕ)) (job : JobText) (text : List ℕ) (compare : Bool) (read : Result Configured ConfFault)
-    → job_of words ≡ Some job
-    → is_too_large text ≡ false → ((file : Option (List ℕ)) → files job.config ≡ Some file → file ≡ Some text)
-    → job.compare ≡ compare
-    → ReadsAs (need_of job.compare) job.before text job.after read → AsksAndReads files words job.config compare read
-asks_and_reads files words job text compare read is small text_is compare_is reads = record {
+    → HasRead files words job text → job.compare ≡ compare → ReadsOnlyAs job text read
+    → AsksAndReads files words job.config compare read
+asks_and_reads files words job text compare read has compare_is only = record {
   job = job;
-  job_is = is;
+  job_is = has.job_is;
   config_is = refl;
   compare_is = compare_is;
   text = text;
-  text_is = text_is;
-  small = small;
-  reads = subst (λ (b : Bool). ReadsAs (need_of b) job.before text job.after read) compare_is reads;
+  text_is = has.text_is;
+  small = has.small;
+  reads = subst (λ (b : Bool). ReadsAs (need_of b) job.before text job.after read) compare_is only.reads;
 }
 
 pub closes_bad_config : (files : Files) (words : List (List ℕ)) (config : List ℕ) (compare : Bool) (fault : ConfFault) (d e f : Option (List ℕ)) (m n : ℕ) (course : Course) (site out : Type 0)
@@ -168,15 +164,6 @@ denies_old New = ⊤
 pub old_is_not_new : Old ≡ New → ⊥
 old_is_not_new e = subst denies_old (sym e) tt
 
--- a configuration reads as this for the same need and the same texts
-pub reads_same : (need job_need : Need) (before job_before text after job_after : List ℕ) (read : Result Configured ConfFault)
-    → need ≡ job_need → before ≡ job_before → after ≡ job_after
-    → ReadsAs need before text after read → ReadsAs job_need job_before text job_after read
-reads_same need job_need before job_before text after job_after read is_need is_before is_after reads =
-    subst (λ (x : List ℕ). ReadsAs job_need job_before text x read) is_after
-    (subst (λ (x : List ℕ). ReadsAs job_need x text after read) is_before
-    (subst (λ (x : Need). ReadsAs x before text after read) is_need reads))
-
 -- sides that were pointed at the paths that are named, the old one first, have the bytes of their files
 pub pointed_texts : (files middle : Files) (named : Named) (old_pointed both_pointed : Side → Option (List ℕ))
     → middle ≡ files
@@ -219,15 +206,6 @@ pub same_options : (files later : Files) (words : List (List ℕ)) (named : Name
     → (asks_over files later words named same asks).settings.options ≡ asks.settings.options
 unfolding asks_over
 same_options files later words named same asks = refl
-
--- a refusal that is not for want of memory is that of the configuration
-pub refused_as : (need : Need) (before text after : List ℕ) (fault : ConfFault)
-    → IsRefused need (places before text after) fault ⊎ IsStarved need (places before text after) fault
-    → (fault.kind ≡ Memory → ⊥) → ReadsAs need before text after (Err fault)
-refused_as need before text after fault refused other = elim refused [
-  | inl is ↦ is
-  | inr starved ↦ absurd (other starved.kind)
-]
 
 -- a closing over the same files and openings, after a call that may have counted failures
 pub closes_later : (files later : Files) (words : List (List ℕ)) (status : ℕ) (s : Sinks) (course later_course : Course) (count later_count end : ℕ) (out : Type 0)

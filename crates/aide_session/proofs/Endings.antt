@@ -28,6 +28,7 @@ use Rattle.aide_session.specs.Answer.{Answer, Named, IsCompared, asked_by, limit
 use Rattle.aide_session.specs.Ends.{Sinks, Failure, failure_line, FailureCause, HasFailed, Ends, Whole, Starved}
 use Rattle.aide_session.specs.Ends.{config_unread, unopened, unread, unwritten}
 use Rattle.aide_session.specs.Lines.{memory_line, open_line, database_line, kind_line, outcome_lines, run_fault_line}
+use Rattle.aide_session.specs.Premises.{ComparesSides}
 use Rattle.aide_session.specs.Put.{HasNoFailure, Put}
 use Rattle.aide_session.proofs.PutLemmas.{appends_none, put_passed}
 
@@ -143,7 +144,7 @@ given_answer named (Ok report) = refl
 given_answer named (Err fault) = refl
 
 -- an answer over what stands at both paths is that of a run
-pub compared_by : (options : Options) (named : Named) (old new : Option (List ℕ)) (a : Answer)
+compared_by : (options : Options) (named : Named) (old new : Option (List ℕ)) (a : Answer)
     → IsCompared options named old new a
     → (r : Result Report RunFault) × RunsOver limits (asked_by options named) old new r × (a ≡ answer_by named r)
 compared_by options named None new a is = (Err (Open Old), refl, is)
@@ -253,11 +254,19 @@ abbrev asking : Options → List ℕ → List ℕ → Asked
 asking options old_path new_path = record { options = options; old_path = old_path; new_path = new_path }
 
 -- the same options and the same paths ask for the same
-pub same_asked : (options wish : Options) (old_path old_task new_path new_task : List ℕ) → options ≡ wish
+same_asked : (options wish : Options) (old_path old_task new_path new_task : List ℕ) → options ≡ wish
     → old_path ≡ old_task → new_path ≡ new_task
     → asking options old_path new_path ≡ asking wish old_task new_task
 same_asked options wish old_path old_task new_path new_task o p q i =
     record { options = o i; old_path = p i; new_path = q i }
+
+-- the answer of a comparison of both sides is that of a run
+pub run_of : (bytes_of : Side → Option (List ℕ)) (is_missing : Side → Bool) (asked : Asked) (named : Named) (a : Answer) (is : ComparesSides bytes_of is_missing asked named a)
+    → (r : Result Report RunFault) × RunsOver limits asked is.old_file is.new_file r × (a ≡ answer_by named r)
+run_of bytes_of is_missing asked named a is =
+    let by_run = compared_by asked.options named is.old_file is.new_file a is.then_is in
+    let same = same_asked asked.options asked.options named.old_path asked.old_path named.new_path asked.new_path refl is.old_is is.new_is in
+    (by_run.0, subst (λ (wish : Asked). RunsOver limits wish is.old_file is.new_file by_run.0) same by_run.1, by_run.2)
 
 -- the line of a run's fault over the paths that are named
 pub put_paths : (fault : RunFault) (named : Named) (old_path new_path : List ℕ) (e f : Option (List ℕ)) (m n : ℕ)

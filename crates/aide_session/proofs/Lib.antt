@@ -8,3 +8,4 @@ mod Closings
 mod Existence
 mod Pages
 mod HeldLemmas
+mod JobReadings

@@ -4,6 +4,7 @@ use Rattle.std.proofs.Common.{length, length-append, true, false}
 use Rattle.std.proofs.Math.Path.{subst}
 use Rattle.std.proofs.lemmas.List.{append-nil}
 use Rattle.std.specs.Io.KnownBytes.{Consumes, IsAtEnd}
+use Rattle.aide_db.specs.Count.{one_more, sum_of}
 use Rattle.aide_session.specs.Files.{GivesFile, IsLarge, is_too_large}
 
 pub consumes_more : (a b c : Option (List ℕ)) (xs ys : List ℕ) → Consumes a b xs → Consumes b c ys
@@ -43,3 +44,11 @@ pub large_file : (file to_come : Option (List ℕ)) → GivesFile file to_come
     → ((xs : List ℕ) → to_come ≡ Some xs → is_too_large xs ≡ true) → IsLarge file
 large_file None to_come gives all = absurd gives
 large_file (Some xs) to_come gives all = all xs gives
+
+-- no more was looked up once the file is closed
+pub lookups_after : (before opened closed : ℕ) → closed ≡ opened → opened ≤ one_more before → closed ≤ one_more before
+lookups_after before opened closed same more = subst (λ (n : ℕ). n ≤ one_more before) (sym same) more
+
+-- the count of failures does not fall while a file is opened and closed
+pub failures_after : (before opened closed failures : ℕ) → opened ≡ before → closed ≡ sum_of opened failures → before ≤ closed
+failures_after before opened closed failures same adds = grind (arith, same, adds)

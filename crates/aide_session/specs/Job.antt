@@ -17,6 +17,18 @@ abbrev pub option_rule : Text → ℕ → ArgAction → Rule
 option_rule id letter action =
     record (new_rule id) { short = Some letter; long = Some id; action = Some action }
 
+-- a command with the two flags
+abbrev pub with_flags : App → App
+with_flags app = with_rule (with_rule app (option_rule (codes "compare") 69 SetTrue))
+    (option_rule (codes "config-check") 68 SetTrue)
+
+-- a command with the options that take a text
+abbrev pub with_texts : App → App
+with_texts app = with_rule (with_rule (with_rule app
+    (record (option_rule (codes "config") 99 Set) { required = true }))
+    (option_rule (codes "before") 66 Set))
+    (option_rule (codes "after") 65 Set)
+
 -- the command `aide` with its options
 unfoldable pub aide_command : App
 aide_command = with_rule (with_rule (with_rule (with_rule (with_rule (new_app (codes "aide"))

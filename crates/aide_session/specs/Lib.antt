@@ -9,4 +9,6 @@ pub mod Ends
 pub mod Closing
 pub mod Held
 pub mod Existence
+pub mod Devices
+pub mod Premises
 pub mod Page

@@ -1,15 +1,15 @@
 //! Comparing the two databases that the settings name.
-ghost use Rattle.std.specs.Prelude.{◌≡◌, ◌≤◌, ℕ, List, Option, Some, IsSome, Ok, true, max};
+ghost use Rattle.std.specs.Prelude.{◌≡◌, ◌≤◌, ℕ, List, Some, IsSome, Ok, true};
 ghost use Rattle.aide_db.specs.Side.{by_side};
 ghost use Rattle.aide_db.specs.declared.side.Side.{Side};
-ghost use Rattle.aide_report.specs.Failures.{Rose};
-ghost use Rattle.aide_report.specs.Missing.{TellsSide};
-ghost use Rattle.aide_session.specs.Answer.{Answer, Named, Compares, IsCompared};
-ghost use Rattle.aide_session.specs.Closing.{AsksAndReads, AsksToCompare, Closes, HasText};
-ghost use Rattle.aide_session.specs.Closing.{course_between};
-ghost use Rattle.aide_session.specs.Ends.{Ends, HasFailed, sinks_between};
-ghost use Rattle.aide_session.specs.Held.{HoldsWithin, IsPeakOf, most_held};
+ghost use Rattle.aide_report.specs.Asked.{asked};
+ghost use Rattle.aide_session.specs.Answer.{Compares};
+ghost use Rattle.aide_session.specs.Closing.{AsksAndReads};
+ghost use Rattle.aide_session.specs.Devices.{ClosesFor, EndsWith, HoldsWith, KeepsPeak};
+ghost use Rattle.aide_session.specs.Devices.{devices_between};
+ghost use Rattle.aide_session.specs.Held.{IsPeakOf};
 ghost use Rattle.aide_session.specs.Lines.{run_fault_line};
+ghost use Rattle.aide_session.specs.Premises.{AsksForSides, ComparesSides};
 ghost use Rattle.aide_session.specs.Put.{Put};
 
 use crate::lines::{
@@ -67,32 +67,18 @@ fn compare_sides<S: Site, W: Sink, E: Sink>(
     err: &mut E,
 ) -> u8
     requires room { 1048576 ≤ desk.old.room }
-    ensures ends { (named : Named)
-        → named.old_path ≡ task.now.old_path.now → named.new_path ≡ task.now.new_path.now
-        → (old_file new_file : Option (List ℕ))
-        → TellsSide (S.bytes_of site.old Side.Old) (S.is_missing site.old Side.Old) old_file
-        → TellsSide (S.bytes_of site.old Side.New) (S.is_missing site.old Side.New) new_file
-        → (a : Answer) → IsCompared task.now.options named old_file new_file a
-        → Ends a named result
-        (sinks_between W.delivered E.delivered E.failures out.old out.new err.old err.new)
-        (HasFailed (S.is_reliable site.old) (S.failures site.old) (S.failures site.new))
-        (Rose (W.failures out.old) (W.failures out.new)) }
-    ensures closes { (words : List (List ℕ)) (named : Named)
-        → named.old_path ≡ task.now.old_path.now → named.new_path ≡ task.now.new_path.now
-        → (asks : AsksToCompare (S.file_at site.old) words named)
-        → asks.settings.options ≡ task.now.options
-        → ((side : Side) (text : List ℕ) → HasText (S.file_at site.old) named side text
-        → S.bytes_of site.old side ≡ Some text)
-        → Closes (S.file_at site.old) words result
-        (sinks_between W.delivered E.delivered E.failures out.old out.new err.old err.new)
-        (course_between S.openings S.was_given W.flushes W.is_flushed
-        site.old site.new out.old out.new)
-        (Rose (S.failures site.old) (S.failures site.new))
-        (Rose (W.failures out.old) (W.failures out.new)) }
+    ensures ends { EndsWith (ComparesSides (S.bytes_of site.old) (S.is_missing site.old)
+        (asked task.now)) result
+        (devices_between S.Sources W.delivered W.failures W.flushes W.is_flushed
+        E.delivered E.failures site.old site.new out.old out.new err.old err.new) }
+    ensures closes { (words : List (List ℕ))
+        → AsksForSides (S.file_at site.old) (S.bytes_of site.old) words (asked task.now)
+        → ClosesFor words result
+        (devices_between S.Sources W.delivered W.failures W.flushes W.is_flushed
+        E.delivered E.failures site.old site.new out.old out.new err.old err.new) }
     ensures site_never_falls { S.failures site.old ≤ S.failures site.new }
     ensures lookups { S.lookups site.new ≡ S.lookups site.old }
-    ensures peak { desk.old.peak ≤ desk.new.peak }
-    ensures below { desk.new.peak ≤ max desk.old.peak most_held }
+    ensures peak { KeepsPeak desk.old.peak desk.new.peak }
     ensures bound { (old new : List ℕ) → S.bytes_of site.old Side.Old ≡ Some old
         → S.bytes_of site.old Side.New ≡ Some new
         → IsPeakOf old new desk.old.peak desk.new.peak }
@@ -120,26 +106,19 @@ pub(crate) fn compare<S: Site, W: Sink, E: Sink>(
     err: &mut E,
 ) -> u8
     requires { IsSome settings.now.old_path × IsSome settings.now.new_path }
-    ensures ends { (named : Named) (a : Answer) → Compares (S.file_at site.old) settings.now named a
-        → Ends a named result
-        (sinks_between W.delivered E.delivered E.failures out.old out.new err.old err.new)
-        (HasFailed (S.is_reliable site.old) (S.failures site.old) (S.failures site.new))
-        (Rose (W.failures out.old) (W.failures out.new)) }
+    ensures ends { EndsWith (Compares (S.file_at site.old) settings.now) result
+        (devices_between S.Sources W.delivered W.failures W.flushes W.is_flushed
+        E.delivered E.failures site.old site.new out.old out.new err.old err.new) }
     ensures closes { (words : List (List ℕ)) (config : List ℕ)
         → AsksAndReads (S.file_at site.old) words config true (Ok settings.now)
-        → Closes (S.file_at site.old) words result
-        (sinks_between W.delivered E.delivered E.failures out.old out.new err.old err.new)
-        (course_between S.openings S.was_given W.flushes W.is_flushed
-        site.old site.new out.old out.new)
-        (Rose (S.failures site.old) (S.failures site.new))
-        (Rose (W.failures out.old) (W.failures out.new)) }
+        → ClosesFor words result
+        (devices_between S.Sources W.delivered W.failures W.flushes W.is_flushed
+        E.delivered E.failures site.old site.new out.old out.new err.old err.new) }
     ensures site_never_falls { S.failures site.old ≤ S.failures site.new }
     ensures lookups { S.lookups site.new ≡ S.lookups site.old }
-    ensures peak { desk.old.peak ≤ desk.new.peak }
-    ensures below { desk.new.peak ≤ max desk.old.peak most_held }
-    ensures bound { (named : Named) (a : Answer)
-        → Compares (S.file_at site.old) settings.now named a
-        → HoldsWithin (S.file_at site.old) named desk.old.peak desk.new.peak }
+    ensures peak { KeepsPeak desk.old.peak desk.new.peak }
+    ensures bound { HoldsWith (Compares (S.file_at site.old) settings.now) (S.file_at site.old)
+        desk.old.peak desk.new.peak }
 {
     let Some(task) = settings.task() else {
         unreachable!()

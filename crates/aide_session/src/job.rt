@@ -1,7 +1,8 @@
 //! What a command line asks for.
 ghost use Rattle.std.specs.Prelude.{◌≡◌, ◌≢◌, [], false, Some, None, IfOk, IsErrOf};
-ghost use Rattle.aide_session.specs.Job.{aide_command, flag_of, option_rule, job_of, text_of};
-ghost use Rattle.aide_session.specs.Job.{number_of_refusal, text_of_job};
+ghost use Rattle.aide_session.specs.Job.{aide_command, flag_of, option_rule, job_of, job_of_rows};
+ghost use Rattle.aide_session.specs.Job.{number_of_refusal, text_of, text_of_job, with_flags};
+ghost use Rattle.aide_session.specs.Job.{with_texts};
 ghost use Rattle.clap.specs.Words.{app_of, fault_of, found_of, matches_of, rows_of, rule_of};
 
 use crate::words::{Memory, Word, Words};
@@ -62,21 +63,31 @@ fn option<'a>(alloc: Global, id: &'a str, letter: char, action: ArgAction) -> Ar
     Arg::new(alloc, id).short(letter).long(id).action(action)
 }
 
+/// Adds the two flags, of which one says what to do.
+fn add_flags<'a>(alloc: Global, command: Command<'a>) -> Result<Command<'a>, AllocError>
+    ensures { IfOk result (λ c. app_of c ≡ with_flags (app_of command.entry)) }
+{
+    command
+        .arg(option(alloc, "compare", 'E', ArgAction::SetTrue))?
+        .arg(option(alloc, "config-check", 'D', ArgAction::SetTrue))
+}
+
+/// Adds the options that take a text.
+fn add_texts<'a>(alloc: Global, command: Command<'a>) -> Result<Command<'a>, AllocError>
+    ensures { IfOk result (λ c. app_of c ≡ with_texts (app_of command.entry)) }
+{
+    command
+        .arg(option(alloc, "config", 'c', ArgAction::Set).required(true))?
+        .arg(option(alloc, "before", 'B', ArgAction::Set))?
+        .arg(option(alloc, "after", 'A', ArgAction::Set))
+}
+
 /// Makes the command `aide` with its options.
 fn command<'a>(alloc: Global) -> Result<Command<'a>, AllocError>
     ensures { IfOk result (λ c. app_of c ≡ aide_command) }
 {
-    let compare = option(alloc, "compare", 'E', ArgAction::SetTrue);
-    let check = option(alloc, "config-check", 'D', ArgAction::SetTrue);
-    let config = option(alloc, "config", 'c', ArgAction::Set).required(true);
-    let before = option(alloc, "before", 'B', ArgAction::Set);
-    let after = option(alloc, "after", 'A', ArgAction::Set);
-    Command::new(alloc, "aide")
-        .arg(compare)?
-        .arg(check)?
-        .arg(config)?
-        .arg(before)?
-        .arg(after)
+    let command = add_flags(alloc, Command::new(alloc, "aide"))?;
+    add_texts(alloc, command)
 }
 
 /// Matches the arguments against the command.
@@ -114,6 +125,29 @@ fn text<'a>(matches: &ArgMatches<'a>, id: &str) -> &'a str
     matches.get_str(id).unwrap_or("")
 }
 
+/// Returns the job that the options ask for.
+fn job_from(alloc: Global, found: &ArgMatches<'_>) -> Result<Job, WordsFault>
+    ensures ok { IfOk result (λ job. job_of_rows (rows_of (found_of found.now))
+        ≡ Some (text_of_job job)) }
+    ensures usage { IsErrOf result WordsFault.Usage
+        → job_of_rows (rows_of (found_of found.now)) ≡ None }
+{
+    let compare = is_set(found, "compare");
+    let check = is_set(found, "config-check");
+    if compare == check {
+        return Err(WordsFault::Usage);
+    }
+    let Some(config) = found.get_str("config") else {
+        return Err(WordsFault::Usage);
+    };
+    Ok(Job {
+        compare,
+        config: Word::new(alloc, config)?,
+        before: Word::new(alloc, text(found, "before"))?,
+        after: Word::new(alloc, text(found, "after"))?,
+    })
+}
+
 /// Reads the arguments of a command line. The first one is the program's name:
 /// `aide (-E | --compare | -D | --config-check) (-c | --config) FILE [-B | --before TEXT] [-A | --after TEXT]`.
 ///
@@ -125,18 +159,5 @@ pub fn read_words(alloc: Global, words: &Words) -> Result<Job, WordsFault>
     ensures usage { IsErrOf result WordsFault.Usage → job_of words.now ≡ None }
 {
     let found = matches(alloc, words.as_slice())?;
-    let compare = is_set(&found, "compare");
-    let check = is_set(&found, "config-check");
-    if compare == check {
-        return Err(WordsFault::Usage);
-    }
-    let Some(config) = found.get_str("config") else {
-        return Err(WordsFault::Usage);
-    };
-    Ok(Job {
-        compare,
-        config: Word::new(alloc, config)?,
-        before: Word::new(alloc, text(&found, "before"))?,
-        after: Word::new(alloc, text(&found, "after"))?,
-    })
+    job_from(alloc, &found)
 }

@@ -2,8 +2,9 @@
 use crate::file_site::FileSite;
 use crate::paged_sink::PagedSink;
 use crate::program::session;
+use crate::site::Site;
 use crate::words::{Memory, Words};
-use aide_report::WriteSink;
+use aide_report::{Sink, WriteSink};
 use std::alloc::Global;
 use std::env;
 
@@ -19,14 +20,27 @@ fn take_words(rt: &HostRuntime, alloc: Global) -> Result<Words, Memory> {
     Ok(words)
 }
 
-/// Runs the session of the command line over the machine's files. Memory for the arguments and for
-/// the pages of both streams is reserved before any file is opened.
+/// Runs a session whose output and lines each go through a page. Memory for both pages is reserved
+/// before any file is opened.
+fn run_paged<S: Site, W: Sink + Drop, E: Sink + Drop>(
+    alloc: Global,
+    words: &Words,
+    site: &mut S,
+    out: W,
+    err: E,
+) -> Result<u8, Memory> {
+    let mut out = PagedSink::new(alloc, out)?;
+    let mut err = PagedSink::new(alloc, err)?;
+    Ok(session(alloc, words, site, &mut out, &mut err))
+}
+
+/// Runs the session of the command line over the machine's files.
 fn run_session(rt: &HostRuntime, alloc: Global) -> Result<u8, Memory> {
     let words = take_words(rt, alloc)?;
     let mut site = FileSite::new(rt);
-    let mut out = PagedSink::new(alloc, WriteSink::new(rt.stdout()))?;
-    let mut err = PagedSink::new(alloc, WriteSink::new(rt.stderr()))?;
-    Ok(session(alloc, &words, &mut site, &mut out, &mut err))
+    let out = WriteSink::new(rt.stdout());
+    let err = WriteSink::new(rt.stderr());
+    run_paged(alloc, &words, &mut site, out, err)
 }
 
 /// Runs the session of the command line over the machine's files. The report goes to standard

@@ -1,16 +1,19 @@
 //! The whole program over any site.
-ghost use Rattle.std.specs.Prelude.{◌≡◌, ◌≤◌, ◌⊎◌, ℕ, List, Option, Some, Ok, Err, true, false};
-ghost use Rattle.std.specs.Prelude.{max};
+ghost use Rattle.std.specs.Prelude.{◌≡◌, ◌≢◌, ◌≤◌, ◌⊎◌, ℕ, List, Some, Ok, Err, true, max, IfOk};
+ghost use Rattle.std.specs.Prelude.{IfErr, IsSome};
+ghost use Rattle.aide_conf.specs.declared.fault.ConfFaultKind.TheVariants.{Memory};
 ghost use Rattle.aide_db.specs.Count.{one_more};
 ghost use Rattle.aide_report.specs.Failures.{Rose};
 ghost use Rattle.aide_session.specs.Answer.{Answer, Named, IsAnswer, IsJobAnswer, IsTextAnswer};
 ghost use Rattle.aide_session.specs.Answer.{need_of};
 ghost use Rattle.aide_session.specs.Closing.{Closes, course_between};
+ghost use Rattle.aide_session.specs.Devices.{ClosesFor, EndsWith, HoldsWith, KeepsPeak};
+ghost use Rattle.aide_session.specs.Devices.{devices_between};
 ghost use Rattle.aide_session.specs.Ends.{Ends, HasFailed, Whole, Starved, sinks_between};
 ghost use Rattle.aide_session.specs.Existence.{HasSessionAnswer, TellsNamed};
-ghost use Rattle.aide_session.specs.Files.{is_too_large};
 ghost use Rattle.aide_session.specs.Held.{HoldsWithin, most_held};
 ghost use Rattle.aide_session.specs.Job.{job_of, text_of_job};
+ghost use Rattle.aide_session.specs.Premises.{HasRead, ReadsOnlyAs};
 ghost use Rattle.aide_session.specs.Put.{HasNoFailure};
 
 use crate::config_file::{ConfigFault, read_config};
@@ -22,11 +25,12 @@ use crate::lines::{
 use crate::put::pass_on;
 use crate::site::Site;
 use crate::words::Words;
-use aide_conf::{ConfFaultKind, Need, Settings};
+use aide_conf::{ConfFault, ConfFaultKind, Need, Settings};
 use aide_db::{Desk, Sources};
 use aide_report::Sink;
 use std::alloc::Global;
 
+/// Returns what the configuration of a job is read for.
 fn need(compare: bool) -> Need
     ensures { result ≡ need_of compare }
 {
@@ -40,6 +44,21 @@ struct PreparedJob<'a> {
     text: &'a [u8],
 }
 
+/// Reads the settings of a job from its three texts.
+fn read_settings(alloc: Global, prepared: &PreparedJob<'_>) -> Result<Settings, ConfFault>
+    ensures ok { IfOk result (λ settings. ReadsOnlyAs (text_of_job prepared.now.job.now)
+        prepared.now.text.now (Ok settings)) }
+    ensures err { IfErr result (λ fault. fault.kind ≢ Memory
+        → ReadsOnlyAs (text_of_job prepared.now.job.now) prepared.now.text.now (Err fault)) }
+    ensures named { prepared.now.job.now.compare ≡ true
+        → IfOk result (λ settings. IsSome settings.old_path × IsSome settings.new_path) }
+{
+    let job = prepared.job;
+    let before = job.before.as_str().as_bytes();
+    let after = job.after.as_str().as_bytes();
+    Settings::read(alloc, before, prepared.text, after, need(job.compare))
+}
+
 /// Runs the session of a job whose configuration has been read.
 fn run_prepared<S: Site, W: Sink, E: Sink>(
     alloc: Global,
@@ -49,39 +68,25 @@ fn run_prepared<S: Site, W: Sink, E: Sink>(
     out: &mut W,
     err: &mut E,
 ) -> u8
-    ensures ends { (named : Named) (a : Answer)
-        → IsTextAnswer (S.file_at site.old) (text_of_job prepared.now.job.now)
-        prepared.now.text.now named a
-        → Ends a named result
-        (sinks_between W.delivered E.delivered E.failures out.old out.new err.old err.new)
-        (HasFailed (S.is_reliable site.old) (S.failures site.old) (S.failures site.new))
-        (Rose (W.failures out.old) (W.failures out.new)) }
+    ensures ends { EndsWith (IsTextAnswer (S.file_at site.old) (text_of_job prepared.now.job.now)
+        prepared.now.text.now) result
+        (devices_between S.Sources W.delivered W.failures W.flushes W.is_flushed
+        E.delivered E.failures site.old site.new out.old out.new err.old err.new) }
     ensures closes { (words : List (List ℕ))
-        → job_of words ≡ Some (text_of_job prepared.now.job.now)
-        → is_too_large prepared.now.text.now ≡ false
-        → ((file : Option (List ℕ)) → S.file_at site.old prepared.now.job.now.config ≡ Some file
-        → file ≡ Some prepared.now.text.now)
-        → Closes (S.file_at site.old) words result
-        (sinks_between W.delivered E.delivered E.failures out.old out.new err.old err.new)
-        (course_between S.openings S.was_given W.flushes W.is_flushed
-        site.old site.new out.old out.new)
-        (Rose (S.failures site.old) (S.failures site.new))
-        (Rose (W.failures out.old) (W.failures out.new)) }
+        → HasRead (S.file_at site.old) words (text_of_job prepared.now.job.now)
+        prepared.now.text.now
+        → ClosesFor words result
+        (devices_between S.Sources W.delivered W.failures W.flushes W.is_flushed
+        E.delivered E.failures site.old site.new out.old out.new err.old err.new) }
     ensures site_never_falls { S.failures site.old ≤ S.failures site.new }
     ensures lookups { S.lookups site.new ≡ S.lookups site.old }
-    ensures peak { desk.old.peak ≤ desk.new.peak }
-    ensures below { desk.new.peak ≤ max desk.old.peak most_held }
-    ensures bound { (named : Named) (a : Answer)
-        → IsTextAnswer (S.file_at site.old) (text_of_job prepared.now.job.now)
-        prepared.now.text.now named a
-        → HoldsWithin (S.file_at site.old) named desk.old.peak desk.new.peak }
+    ensures peak { KeepsPeak desk.old.peak desk.new.peak }
+    ensures bound { HoldsWith (IsTextAnswer (S.file_at site.old) (text_of_job prepared.now.job.now)
+        prepared.now.text.now) (S.file_at site.old) desk.old.peak desk.new.peak }
 {
-    let job = prepared.job;
-    let before = job.before.as_str().as_bytes();
-    let after = job.after.as_str().as_bytes();
-    match Settings::read(alloc, before, prepared.text, after, need(job.compare)) {
+    match read_settings(alloc, prepared) {
         Ok(settings) => {
-            if job.compare {
+            if prepared.job.compare {
                 compare(alloc, &settings, desk, site, out, err)
             } else {
                 0
@@ -109,25 +114,17 @@ fn run_job<S: Site, W: Sink, E: Sink>(
     out: &mut W,
     err: &mut E,
 ) -> u8
-    ensures ends { (named : Named) (a : Answer)
-        → IsJobAnswer (S.file_at site.old) (text_of_job job.now) named a
-        → Ends a named result
-        (sinks_between W.delivered E.delivered E.failures out.old out.new err.old err.new)
-        (HasFailed (S.is_reliable site.old) (S.failures site.old) (S.failures site.new))
-        (Rose (W.failures out.old) (W.failures out.new)) }
+    ensures ends { EndsWith (IsJobAnswer (S.file_at site.old) (text_of_job job.now)) result
+        (devices_between S.Sources W.delivered W.failures W.flushes W.is_flushed
+        E.delivered E.failures site.old site.new out.old out.new err.old err.new) }
     ensures closes { (words : List (List ℕ)) → job_of words ≡ Some (text_of_job job.now)
-        → Closes (S.file_at site.old) words result
-        (sinks_between W.delivered E.delivered E.failures out.old out.new err.old err.new)
-        (course_between S.openings S.was_given W.flushes W.is_flushed
-        site.old site.new out.old out.new)
-        (Rose (S.failures site.old) (S.failures site.new))
-        (Rose (W.failures out.old) (W.failures out.new)) }
+        → ClosesFor words result
+        (devices_between S.Sources W.delivered W.failures W.flushes W.is_flushed
+        E.delivered E.failures site.old site.new out.old out.new err.old err.new) }
     ensures lookups { S.lookups site.new ≤ one_more (S.lookups site.old) }
-    ensures peak { desk.old.peak ≤ desk.new.peak }
-    ensures below { desk.new.peak ≤ max desk.old.peak most_held }
-    ensures bound { (named : Named) (a : Answer)
-        → IsJobAnswer (S.file_at site.old) (text_of_job job.now) named a
-        → HoldsWithin (S.file_at site.old) named desk.old.peak desk.new.peak }
+    ensures peak { KeepsPeak desk.old.peak desk.new.peak }
+    ensures bound { HoldsWith (IsJobAnswer (S.file_at site.old) (text_of_job job.now))
+        (S.file_at site.old) desk.old.peak desk.new.peak }
 {
     let path = job.config.as_str();
     match read_config(alloc, site, path) {
@@ -159,22 +156,16 @@ fn run_words<S: Site, W: Sink, E: Sink>(
     out: &mut W,
     err: &mut E,
 ) -> u8
-    ensures ends { (named : Named) (a : Answer) → IsAnswer (S.file_at site.old) words.now named a
-        → Ends a named result
-        (sinks_between W.delivered E.delivered E.failures out.old out.new err.old err.new)
-        (HasFailed (S.is_reliable site.old) (S.failures site.old) (S.failures site.new))
-        (Rose (W.failures out.old) (W.failures out.new)) }
-    ensures closes { Closes (S.file_at site.old) words.now result
-        (sinks_between W.delivered E.delivered E.failures out.old out.new err.old err.new)
-        (course_between S.openings S.was_given W.flushes W.is_flushed
-        site.old site.new out.old out.new)
-        (Rose (S.failures site.old) (S.failures site.new))
-        (Rose (W.failures out.old) (W.failures out.new)) }
+    ensures ends { EndsWith (IsAnswer (S.file_at site.old) words.now) result
+        (devices_between S.Sources W.delivered W.failures W.flushes W.is_flushed
+        E.delivered E.failures site.old site.new out.old out.new err.old err.new) }
+    ensures closes { ClosesFor words.now result
+        (devices_between S.Sources W.delivered W.failures W.flushes W.is_flushed
+        E.delivered E.failures site.old site.new out.old out.new err.old err.new) }
     ensures lookups { S.lookups site.new ≤ one_more (S.lookups site.old) }
-    ensures peak { desk.old.peak ≤ desk.new.peak }
-    ensures below { desk.new.peak ≤ max desk.old.peak most_held }
-    ensures bound { (named : Named) (a : Answer) → IsAnswer (S.file_at site.old) words.now named a
-        → HoldsWithin (S.file_at site.old) named desk.old.peak desk.new.peak }
+    ensures peak { KeepsPeak desk.old.peak desk.new.peak }
+    ensures bound { HoldsWith (IsAnswer (S.file_at site.old) words.now) (S.file_at site.old)
+        desk.old.peak desk.new.peak }
 {
     match read_words(alloc, words) {
         Ok(job) => run_job(alloc, &job, desk, site, out, err),

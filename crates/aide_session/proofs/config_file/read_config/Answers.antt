@@ -1,5 +1,5 @@
 use Rattle.std.proofs.Common.{◌∙◌}
-use Rattle.aide_session.proofs.Readings.{given_file, large_file}
+use Rattle.aide_session.proofs.Readings.{failures_after, given_file, large_file, lookups_after}
 use Rattle.aide_session.proofs.config_file.read_config.Goals as goal
 
 pub returns-in-Ok-result-clause-ok : goal.returns-in-Ok-result-clause-ok
@@ -7,3 +7,21 @@ returns-in-Ok-result-clause-ok g c = λ file is. given_file file (g.S.R.Reel.to_
 
 pub returns-in-Err-result-clause-large : goal.returns-in-Err-result-clause-large
 returns-in-Err-result-clause-large g c = λ e file is. large_file file (g.S.R.Reel.to_come c.in-Ok.reel) (c.in-Ok.ensures.gives file is) (c.read_all-result.ensures.large (c.in-Err-result.is ∙ e))
+
+pub returns-in-Ok-result-clause-opens : goal.returns-in-Ok-result-clause-opens
+returns-in-Ok-result-clause-opens g c = record {
+  files = c.close.ensures.files ∙ c.config.ensures.files;
+  reliable = c.close.ensures.reliable ∙ c.config.ensures.reliable;
+  openings = c.close.ensures.openings ∙ c.config.ensures.openings;
+  lookups = lookups_after _ _ _ c.close.ensures.lookups c.config.ensures.lookups;
+  never_falls = failures_after _ _ _ _ c.in-Ok.ensures.ok c.close.ensures.adds;
+}
+
+pub returns-in-Err-result-clause-opens : goal.returns-in-Err-result-clause-opens
+returns-in-Err-result-clause-opens g c = record {
+  files = c.close.ensures.files ∙ c.config.ensures.files;
+  reliable = c.close.ensures.reliable ∙ c.config.ensures.reliable;
+  openings = c.close.ensures.openings ∙ c.config.ensures.openings;
+  lookups = lookups_after _ _ _ c.close.ensures.lookups c.config.ensures.lookups;
+  never_falls = failures_after _ _ _ _ c.in-Ok.ensures.ok c.close.ensures.adds;
+}

@@ -1,4 +1,4 @@
-use Rattle.std.proofs.Common.{◌≡◌, ◌∙◌, sym, ℕ, List, Some, refl, arith}
+use Rattle.std.proofs.Common.{◌≡◌, ◌∙◌, sym, ℕ, List, Some, refl}
 use Rattle.std.proofs.Math.Path.{subst}
 use Rattle.aide_conf.specs.declared.options.Options.{Options}
 use Rattle.aide_db.specs.declared.side.Side.TheVariants.{Old, New}
@@ -9,7 +9,7 @@ use Rattle.aide_session.specs.Held.{IsPeakOf}
 use Rattle.aide_session.proofs.Closings.{asks_over, closes_over, closes_starved, old_is_not_new, pointed_texts}
 use Rattle.aide_session.proofs.Closings.{same_course, same_options, told_side}
 use Rattle.aide_session.proofs.Endings.{ends_by, ends_starved, failed_later, same_some}
-use Rattle.aide_session.proofs.HeldLemmas.{same_held}
+use Rattle.aide_session.proofs.HeldLemmas.{held_still, room_enough, same_held, stayed}
 use Rattle.aide_session.proofs.databases.compare.Goals as goal
 
 pub returns-in-Err-clause-ends : goal.returns-in-Err-clause-ends
@@ -44,9 +44,16 @@ returns-clause-ends g c = λ named a is.
     (subst (λ (path : List ℕ). files path ≡ Some is.new_file) is_new is.new_told)) in
     ends_by a named _ _ _ _ _
     (failed_later (g.S.Sources.is_reliable first) (g.S.Sources.is_reliable last) _ _ _ (c.point-2.ensures.reliable ∙ c.point.ensures.reliable)
-    (omega (arith, c.point-2.ensures.failures, c.point.ensures.failures)))
-    (c.compare_sides.ensures.ends named is_old is_new is.old_file is.new_file told_old told_new a
-    (subst (λ (options : Options). IsCompared options named is.old_file is.new_file a) (sym c.in-Some.ensures.some.2) is.then_is))
+    (stayed _ _ _ c.point.ensures.failures c.point-2.ensures.failures))
+    (c.compare_sides.ensures.ends named a (record {
+      old_is = is_old;
+      new_is = is_new;
+      old_file = is.old_file;
+      new_file = is.new_file;
+      old_told = told_old;
+      new_told = told_new;
+      then_is = subst (λ (options : Options). IsCompared options named is.old_file is.new_file a) (sym c.in-Some.ensures.some.2) is.then_is;
+    }))
 
 pub returns-clause-closes : goal.returns-clause-closes
 returns-clause-closes g c = λ words config read.
@@ -59,8 +66,14 @@ returns-clause-closes g c = λ words config read.
     closes_over files (g.S.Sources.file_at c.point-2.new.self) words _ _ _ _ _ _ _ _ same
     (same_course g.S.Sources.openings g.S.Sources.was_given g.W.Sink.flushes g.W.Sink.is_flushed c.args.site.now c.point-2.new.self c.compare_sides.new.site c.args.out.now c.compare_sides.new.out (c.point-2.ensures.openings ∙ c.point.ensures.openings))
     (c.point-2.ensures.failures ∙ c.point.ensures.failures)
-    (c.compare_sides.ensures.closes words named refl refl (asks_over files _ words named same asks) (same_options files _ words named same asks ∙ sym c.in-Some.ensures.some.2)
-    (λ side text has. texts side text (subst (λ (f : Files). HasText f named side text) same has)))
+    (c.compare_sides.ensures.closes words (record {
+      named = named;
+      old_is = refl;
+      new_is = refl;
+      asks = asks_over files _ words named same asks;
+      options_are = same_options files _ words named same asks ∙ sym c.in-Some.ensures.some.2;
+      gives = λ side text has. texts side text (subst (λ (f : Files). HasText f named side text) same has);
+    }))
 
 pub returns-in_default-reserve-clause-closes : goal.returns-in_default-reserve-clause-closes
 returns-in_default-reserve-clause-closes g c = λ words config read. closes_starved _ words _ _ _ _ _ _ _ _ c.put_memory_line-in_default-reserve.ensures (c.point-2.ensures.openings ∙ c.point.ensures.openings) refl
@@ -72,7 +85,7 @@ pub returns-in-Err-point-clause-bound : goal.returns-in-Err-point-clause-bound
 returns-in-Err-point-clause-bound g c = λ named a is. same_held (g.S.Sources.file_at c.args.site.now) named c.args.desk.now.peak
 
 pub returns-in_default-reserve-clause-bound : goal.returns-in_default-reserve-clause-bound
-returns-in_default-reserve-clause-bound g c = λ named a is old new has_old has_new. omega (arith, c.reserve.ensures.peak)
+returns-in_default-reserve-clause-bound g c = λ named a is. held_still (g.S.Sources.file_at c.args.site.now) named _ _ c.reserve.ensures.peak
 
 pub returns-clause-bound : goal.returns-clause-bound
 returns-clause-bound g c = λ named a is old new has_old has_new.
@@ -92,4 +105,4 @@ returns-clause-bound g c = λ named a is old new has_old has_new.
     (texts New new (subst (λ (path : List ℕ). files path ≡ Some (Some new)) is_new has_new)))
 
 pub compare_sides-requires : goal.compare_sides-requires
-compare_sides-requires g c = record { room = omega (arith, c.in-Ok.ensures.room) }
+compare_sides-requires g c = record { room = room_enough _ c.in-Ok.ensures.room }

@@ -1,58 +1,52 @@
-use Rattle.std.proofs.Common.{◌≡◌, ◌∙◌, ap, refl, sym, false, Err, Some, List, ℕ}
+use Rattle.std.proofs.Common.{◌≡◌, ◌∙◌, ap, refl, sym, Err, Some, List, ℕ}
 use Rattle.std.proofs.Math.Path.{subst}
-use Rattle.aide_session.specs.Answer.{IsTextAnswer}
 use Rattle.aide_session.specs.Ends.{config_unread}
-use Rattle.aide_session.specs.Files.{Files, is_too_large}
 use Rattle.aide_session.specs.Job.{text_of_job}
 use Rattle.aide_session.specs.Lines.{too_large_line, unread_line}
-use Rattle.aide_session.proofs.Closings.{closes_later, closes_large, closes_starved, closes_unread, same_course}
+use Rattle.aide_session.proofs.AnswerSteps.{has_read, large_is, read_is, same_file, unread_is}
+use Rattle.aide_session.proofs.Closings.{closes_large, closes_later, closes_starved, closes_unread, same_course}
 use Rattle.aide_session.proofs.Endings.{by_reliable, ends_broken, ends_by, ends_refused, ends_starved, failed_later}
-use Rattle.aide_session.proofs.AnswerSteps.{large_is, same_file, text_is, unread_is}
-use Rattle.aide_session.proofs.PutLemmas.{put_as}
 use Rattle.aide_session.proofs.HeldLemmas.{held_over, same_held}
+use Rattle.aide_session.proofs.PutLemmas.{put_as}
 use Rattle.aide_session.proofs.program.run_job.Goals as goal
 
 pub returns-in-Ok-clause-ends : goal.returns-in-Ok-clause-ends
 returns-in-Ok-clause-ends g c = λ named a is.
-    let job = text_of_job c.args.job.now in
-    let files = g.S.Sources.file_at c.args.site.now in
-    let known = subst (λ (path : List ℕ). files path ≡ Some is.file) (sym c.as_str-path.ensures) is.known in
-    let of_text = text_is files job is.file c.in-Ok.text.items named a (c.in-Ok.ensures.ok is.file known) is.then_is in
-    let of_slice = subst (λ (text : List ℕ). IsTextAnswer files job text named a) (sym c.as_slice-text.ensures.value) of_text in
     ends_by a named _ _ _ _ _
     (failed_later (g.S.Sources.is_reliable c.args.site.now) (g.S.Sources.is_reliable c.read_config.new.site) _ _ _ c.read_config.ensures.opens.reliable c.read_config.ensures.opens.never_falls)
-    (c.run_prepared.ensures.ends named a (subst (λ (f : Files). IsTextAnswer f job c.as_slice-text.result.now named a) (sym c.read_config.ensures.opens.files) of_slice))
+    (c.run_prepared.ensures.ends named a
+    (read_is _ _ _ _ _ _ named a c.as_str-path.ensures c.as_slice-text.ensures.value c.read_config.ensures.opens.files c.in-Ok.ensures.ok is))
 
 pub returns-in-Ok-clause-closes : goal.returns-in-Ok-clause-closes
 returns-in-Ok-clause-closes g c = λ words is.
-    let files = g.S.Sources.file_at c.args.site.now in
-    let later = g.S.Sources.file_at c.read_config.new.site in
-    let same = sym c.as_slice-text.ensures.value in
-    let small = subst (λ (text : List ℕ). is_too_large text ≡ false) same c.in-Ok.ensures.small in
-    closes_later files later words _ _ _ _ _ _ _ _ c.read_config.ensures.opens.files
+    closes_later _ _ words _ _ _ _ _ _ _ _ c.read_config.ensures.opens.files
     (same_course g.S.Sources.openings g.S.Sources.was_given g.W.Sink.flushes g.W.Sink.is_flushed c.args.site.now c.read_config.new.site c.run_prepared.new.site c.args.out.now c.run_prepared.new.out c.read_config.ensures.opens.openings)
     c.read_config.ensures.opens.never_falls
-    (c.run_prepared.ensures.closes words is small
-    (λ file known.
-    let before = subst (λ (f : Files). f c.args.job.now.config ≡ Some file) c.read_config.ensures.opens.files known in
-    let at_path = subst (λ (path : List ℕ). files path ≡ Some file) (sym c.as_str-path.ensures) before in
-    (c.in-Ok.ensures.ok file at_path).0 ∙ ap (λ (text : List ℕ). Some text) same))
+    (c.run_prepared.ensures.closes words
+    (has_read _ _ words _ _ _ _ c.as_str-path.ensures c.as_slice-text.ensures.value c.read_config.ensures.opens.files c.in-Ok.ensures.ok c.in-Ok.ensures.small is))
+
+pub returns-in-Ok-clause-bound : goal.returns-in-Ok-clause-bound
+returns-in-Ok-clause-bound g c = λ named a is.
+    held_over _ _ named _ _ c.read_config.ensures.opens.files
+    (c.run_prepared.ensures.bound named a
+    (read_is _ _ _ _ _ _ named a c.as_str-path.ensures c.as_slice-text.ensures.value c.read_config.ensures.opens.files c.in-Ok.ensures.ok is))
 
 pub returns-in-Err-TooLarge-clause-ends : goal.returns-in-Err-TooLarge-clause-ends
 returns-in-Err-TooLarge-clause-ends g c = λ named a is.
-    let job = text_of_job c.args.job.now in
     let files = g.S.Sources.file_at c.args.site.now in
     let known = subst (λ (path : List ℕ). files path ≡ Some is.file) (sym c.as_str-path.ensures) is.known in
     let large = c.read_config.ensures.large (c.in-Err-TooLarge.is ∙ ap Err c.in-Err-TooLarge.field-0-is) is.file known in
-    ends_refused a named too_large_line 17 _ _ _ _ _ _ _ (large_is files job is.file named a large is.then_is) c.put_too_large_line.ensures
+    ends_refused a named too_large_line 17 _ _ _ _ _ _ _ (large_is files _ is.file named a large is.then_is) c.put_too_large_line.ensures
 
 pub returns-in-Err-TooLarge-clause-closes : goal.returns-in-Err-TooLarge-clause-closes
 returns-in-Err-TooLarge-clause-closes g c = λ words is.
-    let job = text_of_job c.args.job.now in
     let files = g.S.Sources.file_at c.args.site.now in
-    closes_large files words job _ _ _ _ _ _ _ _ is
+    closes_large files words (text_of_job c.args.job.now) _ _ _ _ _ _ _ _ is
     (λ file known. c.read_config.ensures.large (c.in-Err-TooLarge.is ∙ ap Err c.in-Err-TooLarge.field-0-is) file
     (subst (λ (path : List ℕ). files path ≡ Some file) (sym c.as_str-path.ensures) known)) c.put_too_large_line.ensures c.read_config.ensures.opens.openings refl
+
+pub returns-in-Err-TooLarge-clause-bound : goal.returns-in-Err-TooLarge-clause-bound
+returns-in-Err-TooLarge-clause-bound g c = λ named a is. same_held (g.S.Sources.file_at c.args.site.now) named c.args.desk.now.peak
 
 pub returns-in-Err-Unread-clause-ends : goal.returns-in-Err-Unread-clause-ends
 returns-in-Err-Unread-clause-ends g c = λ named a is.
@@ -72,27 +66,14 @@ returns-in-Err-Unread-clause-closes g c = λ words is.
     let cause = c.read_config.ensures.unread (c.in-Err-Unread.is ∙ ap Err c.in-Err-Unread.field-0-is) in
     closes_unread _ words (text_of_job c.args.job.now) _ _ _ _ _ _ _ _ is cause (put_as _ _ (ap unread_line c.as_str-path.ensures) c.put_unread_line.ensures) c.read_config.ensures.opens.openings refl
 
+pub returns-in-Err-Unread-clause-bound : goal.returns-in-Err-Unread-clause-bound
+returns-in-Err-Unread-clause-bound g c = λ named a is. same_held (g.S.Sources.file_at c.args.site.now) named c.args.desk.now.peak
+
 pub returns-in-Err-Memory-clause-ends : goal.returns-in-Err-Memory-clause-ends
 returns-in-Err-Memory-clause-ends g c = λ named a is. ends_starved a named _ _ _ _ _ _ _ c.put_memory_line.ensures
 
 pub returns-in-Err-Memory-clause-closes : goal.returns-in-Err-Memory-clause-closes
 returns-in-Err-Memory-clause-closes g c = λ words is. closes_starved _ words _ _ _ _ _ _ _ _ c.put_memory_line.ensures c.read_config.ensures.opens.openings refl
-
-pub returns-in-Ok-clause-bound : goal.returns-in-Ok-clause-bound
-returns-in-Ok-clause-bound g c = λ named a is.
-    let job = text_of_job c.args.job.now in
-    let files = g.S.Sources.file_at c.args.site.now in
-    let known = subst (λ (path : List ℕ). files path ≡ Some is.file) (sym c.as_str-path.ensures) is.known in
-    let of_text = text_is files job is.file c.in-Ok.text.items named a (c.in-Ok.ensures.ok is.file known) is.then_is in
-    let of_slice = subst (λ (text : List ℕ). IsTextAnswer files job text named a) (sym c.as_slice-text.ensures.value) of_text in
-    held_over files _ named _ _ c.read_config.ensures.opens.files
-    (c.run_prepared.ensures.bound named a (subst (λ (f : Files). IsTextAnswer f job c.as_slice-text.result.now named a) (sym c.read_config.ensures.opens.files) of_slice))
-
-pub returns-in-Err-TooLarge-clause-bound : goal.returns-in-Err-TooLarge-clause-bound
-returns-in-Err-TooLarge-clause-bound g c = λ named a is. same_held (g.S.Sources.file_at c.args.site.now) named c.args.desk.now.peak
-
-pub returns-in-Err-Unread-clause-bound : goal.returns-in-Err-Unread-clause-bound
-returns-in-Err-Unread-clause-bound g c = λ named a is. same_held (g.S.Sources.file_at c.args.site.now) named c.args.desk.now.peak
 
 pub returns-in-Err-Memory-clause-bound : goal.returns-in-Err-Memory-clause-bound
 returns-in-Err-Memory-clause-bound g c = λ named a is. same_held (g.S.Sources.file_at c.args.site.now) named c.args.desk.now.peak

@@ -1,11 +1,18 @@
-use Rattle.std.proofs.Common.{ap, subst, sym, refl, ◌∙◌, List, ℕ, IsSome}
-use Rattle.aide_session.specs.Sites.{Shelf, bytes_at}
+use Rattle.std.proofs.Common.{List, Option, Some, ap, refl, subst, sym, IsSome, ℕ}
+use Rattle.aide_session.proofs.SiteLemmas.{found_in, gives_found}
 use Rattle.aide_session.proofs.memory_site.MemorySiteSite.config.Goals as goal
 
 pub returns-in-Some-clause-there : goal.returns-in-Some-clause-there
 returns-in-Some-clause-there c =
-    subst IsSome (c.in-Some.ensures ∙ ap (λ (l : List (List ℕ × List ℕ)). bytes_at l c.args.path.now) (c.as_slice.ensures.value ∙ ap (λ (s : Shelf). s.files) c.self.view_is)) refl
+    subst IsSome (sym (found_in _ _ _ _ _ c.as_slice.ensures.value c.self.view_is c.in-Some.ensures)) refl
+
+pub returns-in-Some-clause-gives : goal.returns-in-Some-clause-gives
+returns-in-Some-clause-gives c = λ file known.
+    gives_found _ _ file (found_in _ _ _ _ _ c.as_slice.ensures.value c.self.view_is c.in-Some.ensures) known
 
 pub returns-in-None-clause-missing : goal.returns-in-None-clause-missing
-returns-in-None-clause-missing c =
-    sym (c.in-None.ensures ∙ ap (λ (l : List (List ℕ × List ℕ)). bytes_at l c.args.path.now) (c.as_slice.ensures.value ∙ ap (λ (s : Shelf). s.files) c.self.view_is))
+returns-in-None-clause-missing c = found_in _ _ _ _ _ c.as_slice.ensures.value c.self.view_is c.in-None.ensures
+
+pub returns-in-None-clause-gone : goal.returns-in-None-clause-gone
+returns-in-None-clause-gone c =
+    ap (λ (o : Option (List ℕ)). Some o) (found_in _ _ _ _ _ c.as_slice.ensures.value c.self.view_is c.in-None.ensures)
