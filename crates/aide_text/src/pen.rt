@@ -16,7 +16,7 @@ use crate::slices::SliceFeed;
 use itoa::Buffer;
 
 /// Counts the bytes of a report that have gone out. Once the sink has failed, the pen writes nothing more.
-#[derive(Clone, Copy)]
+#[derive(Clone, Copy, Debug, PartialEq, Eq)]
 pub struct Pen {
     /// The bytes that have gone out. The count stops at `u64::MAX`.
     pub sent: u64,
