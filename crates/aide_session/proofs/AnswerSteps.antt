@@ -7,7 +7,7 @@ use Rattle.aide_conf.specs.declared.fault.ConfFault.{ConfFault}
 use Rattle.aide_session.specs.Answer.{Answer, Named, refused, checked, IsFileAnswer, IsSizedAnswer, IsTextAnswer}
 use Rattle.aide_session.specs.Answer.{IsJobAnswer, IsWordsAnswer, IsReadAnswer, Compares, IsAnswer}
 use Rattle.aide_session.specs.Files.{Files, IsLarge, is_too_large}
-use Rattle.aide_session.specs.Job.{JobText, job_of}
+use Rattle.aide_words.specs.Job.{JobText, job_of}
 use Rattle.aide_session.specs.Lines.{usage_line, too_large_line, unread_line, conf_line}
 use Rattle.aide_session.specs.Premises.{HasRead, ReadsOnlyAs}
 

@@ -27,7 +27,7 @@ use Rattle.aide_session.specs.Closing.{no_job, no_memory, no_config, large_confi
 use Rattle.aide_session.specs.Closing.{good_run}
 use Rattle.aide_session.specs.Ends.{Sinks}
 use Rattle.aide_session.specs.Files.{Files, IsLarge}
-use Rattle.aide_session.specs.Job.{JobText, job_of}
+use Rattle.aide_words.specs.Job.{JobText, job_of}
 use Rattle.aide_session.specs.Lines.{usage_line, memory_line, unread_line, too_large_line, conf_line}
 use Rattle.aide_session.specs.Premises.{HasRead, ReadsOnlyAs}
 use Rattle.aide_session.specs.Put.{Put}

@@ -19,7 +19,7 @@ use Rattle.aide_session.specs.Answer.{refused}
 use Rattle.aide_session.specs.Closing.{AsksToCompare}
 use Rattle.aide_session.specs.Existence.{HasSessionAnswer, TellsNamed}
 use Rattle.aide_session.specs.Files.{Files, is_too_large}
-use Rattle.aide_session.specs.Job.{JobText, job_of}
+use Rattle.aide_words.specs.Job.{JobText, job_of}
 use Rattle.aide_session.specs.Lines.{usage_line, too_large_line, unread_line, conf_line, open_line, database_line}
 use Rattle.aide_session.proofs.Closings.{only_config}
 

@@ -9,7 +9,7 @@ use Rattle.aide_conf.specs.declared.fault.ConfFault.{ConfFault}
 use Rattle.aide_conf.specs.declared.fault.ConfFaultKind.TheVariants.{Memory}
 use Rattle.aide_conf.specs.declared.task.Need.{Need}
 use Rattle.aide_session.specs.Answer.{need_of}
-use Rattle.aide_session.specs.Job.{JobText}
+use Rattle.aide_words.specs.Job.{JobText}
 use Rattle.aide_session.specs.Premises.{ReadsOnlyAs}
 
 -- a configuration reads as this for the same need and the same texts

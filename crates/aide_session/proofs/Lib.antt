@@ -1,6 +1,5 @@
 mod Endings
 mod SiteLemmas
-mod JobLemmas
 mod Readings
 mod AnswerSteps
 mod PutLemmas

@@ -16,7 +16,7 @@ use Rattle.aide_report.specs.Asked.{Asked}
 use Rattle.aide_report.specs.Runs.{Report, Runs, IsFirstFaultOf}
 use Rattle.aide_report.specs.Report.{status_of}
 use Rattle.aide_session.specs.Files.{Files, is_too_large}
-use Rattle.aide_session.specs.Job.{JobText, job_of}
+use Rattle.aide_words.specs.Job.{JobText, job_of}
 use Rattle.aide_session.specs.Lines.{usage_line, unread_line, too_large_line, conf_line, open_line}
 use Rattle.aide_session.specs.Lines.{database_line, outcome_lines}
 

@@ -29,7 +29,7 @@ use Rattle.aide_report.specs.declared.run_fault.RunFault.TheVariants.{Write}
 use Rattle.aide_session.specs.Answer.{Named, asked_by, limits, need_of}
 use Rattle.aide_session.specs.Ends.{Sinks, Puts}
 use Rattle.aide_session.specs.Files.{Files, IsLarge, is_too_large}
-use Rattle.aide_session.specs.Job.{JobText, job_of}
+use Rattle.aide_words.specs.Job.{JobText, job_of}
 use Rattle.aide_session.specs.Lines.{usage_line, memory_line, unread_line, too_large_line}
 use Rattle.aide_session.specs.Lines.{conf_line, run_fault_line, outcome_lines}
 

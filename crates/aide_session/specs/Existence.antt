@@ -5,7 +5,7 @@ use Rattle.aide_db.specs.declared.side.Side.{Side}
 use Rattle.aide_session.specs.Answer.{Answer, Named, IsAnswer}
 use Rattle.aide_session.specs.Closing.{AsksToCompare}
 use Rattle.aide_session.specs.Files.{Files}
-use Rattle.aide_session.specs.Job.{JobText, job_of}
+use Rattle.aide_words.specs.Job.{JobText, job_of}
 
 -- it is known what is at the configuration's path, and at the paths of the databases that the
 -- configuration names

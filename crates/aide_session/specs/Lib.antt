@@ -1,4 +1,4 @@
-pub mod Job
+pub use Rattle.aide_words.specs.Job
 pub mod Put
 pub mod Lines
 pub mod Files

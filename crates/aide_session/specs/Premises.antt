@@ -10,7 +10,7 @@ use Rattle.aide_report.specs.Missing.{TellsSide}
 use Rattle.aide_session.specs.Answer.{Answer, IsCompared, Named, need_of}
 use Rattle.aide_session.specs.Closing.{AsksToCompare, HasText}
 use Rattle.aide_session.specs.Files.{Files, is_too_large}
-use Rattle.aide_session.specs.Job.{JobText, job_of}
+use Rattle.aide_words.specs.Job.{JobText, job_of}
 
 -- The arguments ask for this job, and this is the text of its configuration. If the file is known,
 -- the text is the file's.

@@ -17,10 +17,10 @@ use crate::lines::{
     put_write_line,
 };
 use crate::site::Site;
-use crate::words::Memory;
 use aide_conf::{Settings, Task};
 use aide_db::{DbFaultKind, Desk, Limits, Side, Sources};
 use aide_report::{RunFault, Sink, run};
+use aide_words::Memory;
 use std::alloc::Global;
 
 /// The most bytes of a line of a database, without its newline.

@@ -5,8 +5,8 @@ ghost use Rattle.aide_db.specs.Side.{by_side};
 
 use crate::pointed::Pointed;
 use crate::site::Site;
-use crate::words::Memory;
 use aide_db::{OpenFault, ReadReel, Reel, Side, Sources};
+use aide_words::Memory;
 use std::alloc::Global;
 use std::fs;
 use std::marker::Model;

@@ -4,7 +4,6 @@
 mod config_file;
 mod databases;
 mod file_site;
-mod job;
 mod lines;
 mod machine;
 mod memory_site;
@@ -14,13 +13,11 @@ mod pointed;
 mod program;
 mod put;
 mod site;
-mod words;
 
+pub use aide_words::{Job, Memory, Word, Words, WordsFault, read_words};
 pub use file_site::FileSite;
-pub use job::{Job, WordsFault, read_words};
 pub use machine::start;
 pub use memory_site::MemorySite;
 pub use paged_sink::PagedSink;
 pub use program::{session, session_on};
 pub use site::Site;
-pub use words::{Memory, Word, Words};

@@ -3,8 +3,8 @@ use crate::file_site::FileSite;
 use crate::paged_sink::PagedSink;
 use crate::program::session;
 use crate::site::Site;
-use crate::words::{Memory, Words};
 use aide_report::{Sink, WriteSink};
+use aide_words::{Memory, Words};
 use std::alloc::Global;
 use std::env;
 

@@ -11,8 +11,8 @@ ghost use Rattle.aide_db.specs.Side.{other_side};
 
 use crate::pointed::Pointed;
 use crate::site::Site;
-use crate::words::{Memory, Word};
 use aide_db::{OpenFault, Reel, Side, Sources};
+use aide_words::{Memory, Word};
 use std::alloc::Global;
 use std::marker::Model;
 

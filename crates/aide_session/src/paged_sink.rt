@@ -5,9 +5,9 @@ ghost use Rattle.std.specs.Io.KnownBytes.{Appends, Keeps, append_known};
 ghost use Rattle.aide_report.specs.Failures.{CountsFault};
 ghost use Rattle.aide_session.specs.Page.{none_waits, known_of};
 
-use crate::words::Memory;
 use aide_db::DeviceFault;
 use aide_report::{Sink, emit};
+use aide_words::Memory;
 use std::alloc::Global;
 use std::marker::Model;
 

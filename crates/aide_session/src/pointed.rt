@@ -3,8 +3,8 @@ ghost use Rattle.std.specs.Prelude.{◌≡◌, ◌≢◌, Some, None, OnOk, OnEr
 ghost use Rattle.aide_db.specs.Count.{one_more};
 ghost use Rattle.aide_db.specs.Side.{by_side, other_side};
 
-use crate::words::{Memory, Word};
 use aide_db::Side;
+use aide_words::{Memory, Word};
 use std::alloc::Global;
 
 /// The path that each side is pointed at, if any, and how often each was opened.

@@ -12,22 +12,21 @@ ghost use Rattle.aide_session.specs.Devices.{devices_between};
 ghost use Rattle.aide_session.specs.Ends.{Ends, HasFailed, Whole, Starved, sinks_between};
 ghost use Rattle.aide_session.specs.Existence.{HasSessionAnswer, TellsNamed};
 ghost use Rattle.aide_session.specs.Held.{HoldsWithin, most_held};
-ghost use Rattle.aide_session.specs.Job.{job_of, text_of_job};
+ghost use Rattle.aide_words.specs.Job.{job_of, text_of_job};
 ghost use Rattle.aide_session.specs.Premises.{HasRead, ReadsOnlyAs};
 ghost use Rattle.aide_session.specs.Put.{HasNoFailure};
 
 use crate::config_file::{ConfigFault, read_config};
 use crate::databases::compare;
-use crate::job::{Job, WordsFault, read_words};
 use crate::lines::{
     put_conf_line, put_memory_line, put_too_large_line, put_unread_line, put_usage_line,
 };
 use crate::put::pass_on;
 use crate::site::Site;
-use crate::words::Words;
 use aide_conf::{ConfFault, ConfFaultKind, Need, Settings};
 use aide_db::{Desk, Sources};
 use aide_report::Sink;
+use aide_words::{Job, Words, WordsFault, read_words};
 use std::alloc::Global;
 
 /// Returns what the configuration of a job is read for.

@@ -4,8 +4,8 @@ ghost use Rattle.std.specs.Prelude.{OnErr};
 ghost use Rattle.aide_db.specs.Count.{one_more};
 ghost use Rattle.aide_session.specs.Files.{GivesFile};
 
-use crate::words::Memory;
 use aide_db::{OpenFault, Reel, Side, Sources};
+use aide_words::Memory;
 use std::alloc::Global;
 
 /// Files by their paths: a configuration, and two sides that are pointed at their databases.

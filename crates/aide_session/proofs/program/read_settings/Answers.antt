@@ -1,5 +1,5 @@
 use Rattle.std.proofs.Common.{◌∙◌}
-use Rattle.aide_session.specs.Job.{text_of_job}
+use Rattle.aide_words.specs.Job.{text_of_job}
 use Rattle.aide_session.proofs.JobReadings.{fault_read, settings_read}
 use Rattle.aide_session.proofs.program.read_settings.Goals as goal
 

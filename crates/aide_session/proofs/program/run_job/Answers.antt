@@ -1,7 +1,7 @@
 use Rattle.std.proofs.Common.{◌≡◌, ◌∙◌, ap, refl, sym, Err, Some, List, ℕ}
 use Rattle.std.proofs.Math.Path.{subst}
 use Rattle.aide_session.specs.Ends.{config_unread}
-use Rattle.aide_session.specs.Job.{text_of_job}
+use Rattle.aide_words.specs.Job.{text_of_job}
 use Rattle.aide_session.specs.Lines.{too_large_line, unread_line}
 use Rattle.aide_session.proofs.AnswerSteps.{has_read, large_is, read_is, same_file, unread_is}
 use Rattle.aide_session.proofs.Closings.{closes_large, closes_later, closes_starved, closes_unread, same_course}

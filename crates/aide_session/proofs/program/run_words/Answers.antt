@@ -1,5 +1,5 @@
 use Rattle.std.proofs.Common.{◌∙◌, ap, refl, Err}
-use Rattle.aide_session.specs.Job.{text_of_job}
+use Rattle.aide_words.specs.Job.{text_of_job}
 use Rattle.aide_session.specs.Lines.{usage_line}
 use Rattle.aide_session.proofs.Closings.{closes_misused, closes_starved}
 use Rattle.aide_session.proofs.Endings.{ends_refused, ends_starved}

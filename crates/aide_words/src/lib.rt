@@ -1,0 +1,8 @@
+//! The arguments of a command line, and the job that they ask for.
+#![tactic(auto)]
+
+mod job;
+mod words;
+
+pub use job::{Job, WordsFault, read_words};
+pub use words::{Memory, Word, Words};
