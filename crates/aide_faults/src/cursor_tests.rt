@@ -10,12 +10,10 @@ use std::process::Abort;
 
 mod chunks;
 mod cut;
-mod differences;
 mod endless;
-mod numbers;
+mod entry;
 mod room;
 mod rows;
-mod values;
 
 const LIMITS: Limits = Limits {
     line: 65_536,

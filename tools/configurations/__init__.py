@@ -1,0 +1,1 @@
+"""Configurations with what is to be said of them, and random ones."""

@@ -1,0 +1,60 @@
+"""Random configurations of few names, with many blocks and variables."""
+import random
+import re
+
+# Lines in which `$` stands for one of the names.
+LINES = [
+    b'@@define $', b'@@define $', b'@@define $ x', b'@@define $ p', b'@@define $\tminimal ',
+    b'@@define $ report_quiet=yes', b'@@define $ #', b'@@define $ # @@{$', b'@@define $ /', b'@@define $ //',
+    b'@@define $ @@{$', b'@@define $ @@{$}', b'@@define $ @@{$}@@{$}', b'@@define $ @@{$} \t@@{$}', b'@@undef $',
+    b'@@undef $', b' @@undef\t$\t', b'', b'# @@endif', b'\t/etc p', b'my=p+s', b'@@{$} \t', b'@@{$}@@{$}=p',
+    b'@@{$}my = p-s', b'@@{$}report_quiet=no', b'report_quiet=yes', b'report_quiet=no', b'@@{$}report_level=minimal',
+    b'report_level=summary', b'@@{$}report_level=changed_attributes', b'report_url=@@{$}x', b'@@{$}report_url=stdout',
+    b'database_in=file:/@@{$}', b'database_new=file:/new@@{$}', b'@@{$}database_new=file:/new',
+]
+
+# Lines that are mostly refused.
+HOSTILE = [
+    b'@@', b'@@ define $ x', b'@@@{$}', b'@@nope', b'@@if defined $', b'@@if not defined $', b'@@if not $',
+    b'@@if defined $ $', b'@@iffoo', b'@@ifhost h', b'@@ifnhost h', b'@@include /x', b'@@x_include /x', b'@@define',
+    b'@@define $=x', b'@@define @@{$} x', b'@@undef', b'@@undef $ $', b'@@ifdef $ $', b'@@ifndef', b'@@elsewhere',
+    b'@@else', b'@@endif $', b'@@{$}@@endif', b'hello', b'p=s', b'grouped=no', b'report_url=@@{$}',
+    b'report_quiet=@@{$}', b'report_level=@@{$}', b'my=p@@{$}', b'my=my-s+@@{$}', b'@@{$}}', b'report_quiet=',
+    b'database_in=file:/@@{$}/', b'database_in=@@{$}',
+]
+
+
+def block_line(pick, depth):
+    """A line of a block, and how many blocks are open after it."""
+    way = pick.randrange(4)
+    if way == 0 and depth:
+        return b'@@else', depth
+    if way == 1 and depth:
+        return b' @@endif', depth - 1
+    return (b'@@ifdef $' if way == 2 else b'@@ifndef $ '), depth + 1
+
+
+def random_line(pick, depth):
+    """A line of a text, and how many blocks are open after it."""
+    way = pick.randrange(32)
+    if way == 0:
+        return pick.choice(HOSTILE), depth
+    return block_line(pick, depth) if way < 12 else (pick.choice(LINES), depth)
+
+
+def random_text(pick):
+    """A few lines, whose blocks are mostly closed."""
+    lines, depth = [], 0
+    for _ in range(pick.randrange(9)):
+        line, depth = random_line(pick, depth)
+        lines.append(b''.join(pick.choice([b'A', b'B', b'C']) if piece == b'$' else piece
+                              for piece in re.split(rb'(\$)', line)))
+    if pick.randrange(12):
+        lines += [b'@@endif'] * depth
+    return b''.join(line + b'\n' for line in lines)
+
+
+def random_texts(seed, number):
+    """Three texts: always the same for a seed and a number."""
+    pick = random.Random('%d %d' % (seed, number))
+    return [random_text(pick) for _ in range(3)]

@@ -1,0 +1,1 @@
+"""Databases with what is to be said of their fields."""
