@@ -20,7 +20,7 @@ HOSTILE = [
     b'@@define $=x', b'@@define @@{$} x', b'@@undef', b'@@undef $ $', b'@@ifdef $ $', b'@@ifndef', b'@@elsewhere',
     b'@@else', b'@@endif $', b'@@{$}@@endif', b'hello', b'p=s', b'grouped=no', b'report_url=@@{$}',
     b'report_quiet=@@{$}', b'report_level=@@{$}', b'my=p@@{$}', b'my=my-s+@@{$}', b'@@{$}}', b'report_quiet=',
-    b'database_in=file:/@@{$}/', b'database_in=@@{$}',
+    b'database_in=file:/@@{$}/', b'database_in=@@{$}', b'my=@@{$}+', b'@@endif',
 ]
 
 
@@ -36,10 +36,12 @@ def block_line(pick, depth):
 
 def random_line(pick, depth):
     """A line of a text, and how many blocks are open after it."""
-    way = pick.randrange(32)
-    if way == 0:
-        return pick.choice(HOSTILE), depth
-    return block_line(pick, depth) if way < 12 else (pick.choice(LINES), depth)
+    return block_line(pick, depth) if pick.randrange(32) < 12 else (pick.choice(LINES), depth)
+
+
+def named(pick, line):
+    """A line with a name in place of each `$`."""
+    return b''.join(pick.choice([b'A', b'B', b'C']) if piece == b'$' else piece for piece in re.split(rb'(\$)', line))
 
 
 def random_text(pick):
@@ -47,14 +49,15 @@ def random_text(pick):
     lines, depth = [], 0
     for _ in range(pick.randrange(9)):
         line, depth = random_line(pick, depth)
-        lines.append(b''.join(pick.choice([b'A', b'B', b'C']) if piece == b'$' else piece
-                              for piece in re.split(rb'(\$)', line)))
-    if pick.randrange(12):
-        lines += [b'@@endif'] * depth
-    return b''.join(line + b'\n' for line in lines)
+        lines.append(named(pick, line))
+    return lines + [b'@@endif'] * (depth if pick.randrange(12) else 0)
 
 
 def random_texts(seed, number):
-    """Three texts: always the same for a seed and a number."""
+    """Three texts: always the same for a seed and a number. One line of half of them is hostile, each in its turn."""
     pick = random.Random('%d %d' % (seed, number))
-    return [random_text(pick) for _ in range(3)]
+    texts = [random_text(pick) for _ in range(3)]
+    if number % 2:
+        lines = pick.choice(texts)
+        lines.insert(pick.randint(0, len(lines)), named(pick, HOSTILE[number // 2 % len(HOSTILE)]))
+    return [b''.join(line + b'\n' for line in lines) for lines in texts]
