@@ -12,8 +12,11 @@ constant that no other public function names. Four kinds need no edit; docs/CONT
   reader        its body is a field of `self`, or a call without arguments on one
   passes on     its body hands what it was given to what it wraps, or lets it go
 
-Prints each public function that has no edit and needs one, and each edit that changes no line of code. With --list,
-prints every public function with its edits or its kind. The last line is `N passed, M failed`.
+An edit has a name that says what the edited code does, so the words of the function's own name are not enough.
+
+Prints each public function that has no edit and needs one, each edit that changes no line of code, and each that is
+only named after what it changes. With --list, prints every public function with its edits or its kind. The last line
+is `N passed, M failed`.
 """
 import glob
 import os
@@ -55,6 +58,10 @@ class Item:
 
     def title(self):
         return f"{self.owner}::{self.name}" if self.owner else self.name
+
+    def words(self):
+        """The words of its name and of its type's name."""
+        return set(re.findall(r"[a-z0-9]+", re.sub(r"(?<=[a-z0-9])(?=[A-Z])", "_", self.title()).lower()))
 
     def kind(self):
         """The kind of function that needs no edit, if it is of one."""
@@ -145,19 +152,21 @@ class Crate:
             yield name[: -len(".edit")], lines
 
     def edits_of_items(self):
-        """The names of the edits of each item, and the edits that belong to none."""
-        of_item, stray = {}, []
+        """The names of the edits of each item, and why other edits are wrong."""
+        of_item, wrong = {}, {}
         for name, lines in self.edits():
-            changed = {
-                id(item)
+            changed = [
+                item
                 for file, item in self.items
                 if any(file == source and item.first <= at < item.last for source, at in lines)
-            }
+            ]
             for item in changed:
-                of_item.setdefault(item, []).append(name)
+                of_item.setdefault(id(item), []).append(name)
             if not changed:
-                stray.append(name)
-        return of_item, stray
+                wrong[name] = "changes no line of code"
+            elif set(name.split("_")) <= set().union(*(item.words() for item in changed)):
+                wrong[name] = "is named after what it changes, and not after what the edited code does"
+        return of_item, wrong
 
     def own_code(self, public):
         """Of each public function the items that are its code: itself, and what it alone names."""
@@ -175,7 +184,7 @@ class Crate:
 
 def judge(crate, traits, lists):
     """How many public functions and edits are right, and how many are not, each of which is printed."""
-    of_item, stray = crate.edits_of_items()
+    of_item, wrong = crate.edits_of_items()
     public = [(file, item) for file, item in crate.items if crate.is_public(file, item, traits)]
     passed = failed = 0
     for file, item, code in crate.own_code(public):
@@ -186,9 +195,9 @@ def judge(crate, traits, lists):
             print(f"{crate.name}/{file}: {item.title()}: {', '.join(edits) or item.kind() or 'no edit'}")
         if not good:
             print(f"FAILED: crates/{crate.name}/{file}:{item.begin + 1}: {item.title()} has no must-fail edit")
-    for name in stray:
-        print(f"FAILED: crates/{crate.name}/must-fail/{name}.edit changes no line of code")
-    return passed, failed + len(stray), sum(1 for _ in crate.edits())
+    for name, why in wrong.items():
+        print(f"FAILED: crates/{crate.name}/must-fail/{name}.edit {why}")
+    return passed, failed + len(wrong), sum(1 for _ in crate.edits())
 
 
 def main(words):
