@@ -1,0 +1,1 @@
+"""The modules of the commands around aide-compare."""

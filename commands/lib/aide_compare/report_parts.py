@@ -1,0 +1,275 @@
+"""The parts of a report, read one after another: its objects in JSON."""
+import base64
+import heapq
+import re
+import tempfile
+from collections import namedtuple
+
+from aide_compare.report_lines import LINE_LIMIT, RULE, Refused, put_bytes, unprinted
+from aide_compare.report_marks import misfit
+from aide_compare.report_values import FORMS, PIECE, TYPES, Block, Digests, attribute_of
+
+FORMAT = 1
+LEVELS = ['minimal', 'summary', 'database_attributes', 'list_entries', 'changed_attributes',
+          'added_removed_attributes', 'added_removed_entries']
+
+HEADS = {b'AIDE found differences between the two databases.': True,
+         b'AIDE found NO differences between the two databases.': False}
+COUNTS = {'total': b'Total number of entries:', 'added': b'Added entries:', 'removed': b'Removed entries:',
+          'changed': b'Changed entries:'}
+KINDS = ['added', 'removed', 'changed']
+TOGETHER, DETAILS, DATABASES = (b'Added, removed and changed entries:', b'Detailed information about changes:',
+                                b'The attributes of the databases:')
+INDENT = b' ' * 14
+NAMES = {label.ljust(10).encode(): label for label in FORMS}
+ORDER = {label: place for place, label in enumerate(FORMS)}
+
+LETTERS = b'[fdlcbps?!][l+:. -][<>+:= -]' + b''.join(b'[%c+:. -]' % letter for letter in b'bpugamcinHAXSEC')
+LISTED = re.compile(b'(?:(' + LETTERS + b')|(added|removed|changed)): (/.*)')
+ALL_ADDED, ALL_REMOVED = 17 * b'+', 17 * b'-'
+TITLED = re.compile(b'(' + b'|'.join(TYPES.values()) + b'): (/.*)')
+FIRST_LINE = re.compile(rb'  ([^ ].{9}): (.{32}) \| (.{0,32})')
+NEXT_LINE = re.compile(rb' {14}(.{32}) \| (.{0,32})')
+DIGEST_LINES = [re.compile(rb'  SHA256    : (.{32})'), re.compile(rb' {14}(.{1,32})')]
+
+# An entry of a list; it is doubtful if the text leaves open whether it is of this kind or changed.
+Entry = namedtuple('Entry', 'number kind doubtful letters path')
+Detail = namedtuple('Detail', 'number title path blocks')
+
+
+def object_of(entry, detail, digests):
+    """The object of an entry, with its attributes if the details show it."""
+    fields = {'record': 'entry', 'kind': entry.kind}
+    put_bytes(fields, 'path', entry.path)
+    title = TYPES.get(entry.letters[:1]) if entry.letters else None
+    if entry.letters:
+        fields['summary'] = entry.letters.decode()
+    if detail:
+        if title not in (None, detail.title):
+            raise Refused(detail.number, 'the list has another type for this entry')
+        title = detail.title
+    if title and title != b'Entry':
+        fields['type'] = title.decode()
+    if detail:
+        attributes = {block.label: attribute_of(block, entry, digests) for block in detail.blocks}
+        other = 'old' if entry.kind == 'added' else 'new'
+        if entry.doubtful and any(sides[other] not in (None, '') for sides in attributes.values()):
+            return object_of(entry._replace(kind='changed', doubtful=False), detail, digests)
+        if entry.letters and entry.kind == 'changed' and misfit(fields['summary'], attributes):
+            raise Refused(detail.number, 'the list says something else of %s' % misfit(fields['summary'], attributes))
+        fields['attributes'] = attributes
+    if entry.doubtful:
+        fields['uncertain'] = ['kind']
+    return fields
+
+
+def read_counts(lines):
+    lines.expect(b'')
+    lines.expect(b'Summary:')
+    counts = {}
+    for name, label in COUNTS.items():
+        pattern = re.compile(b'  %s(0|[1-9][0-9]{0,19})' % re.escape(label.ljust(25)))
+        counts[name] = int(lines.match(pattern, 'the summary\'s line "%s"' % label.decode()).group(1))
+    if counts['total'] < counts['added'] + counts['changed']:
+        raise Refused(lines.number, 'the counts do not fit the total number of entries')
+    return counts
+
+
+def kinds_of(found):
+    """The kinds that a line of a list can be of."""
+    letters, kind = found.group(1, 2)
+    if kind:
+        return [kind.decode()]
+    marks = letters[1:]
+    return ['added', 'changed'] if marks == ALL_ADDED else ['removed', 'changed'] if marks == ALL_REMOVED else ['changed']
+
+
+class Section:
+    """A list of entries, in a private file; `counts` says how many of which kinds it has."""
+
+    def __init__(self, lines, counts):
+        lines.expect(b'')
+        self.file, self.number, self.counts = tempfile.TemporaryFile(), lines.number, counts
+        self.possible, self.summarized = dict.fromkeys(KINDS, 0), None
+        for _ in range(sum(counts.values())):
+            found = lines.match(LISTED, 'an entry of this list')
+            kinds, summarized = [kind for kind in kinds_of(found) if kind in counts], bool(found.group(1))
+            if not kinds or self.summarized not in (None, summarized):
+                lines.refuse(b'', 'an entry of this list')
+            self.summarized = summarized
+            for kind in kinds:
+                self.possible[kind] += 1
+            self.file.write(found.group() + b'\n')
+        if any(self.possible[kind] < count for kind, count in counts.items()):
+            raise Refused(lines.number, 'the list has not as many entries of each kind as the summary says')
+
+    def entries(self):
+        self.file.seek(0)
+        for number, line in enumerate(self.file, self.number + 1):
+            found = LISTED.fullmatch(line[:-1])
+            kinds = [kind for kind in kinds_of(found) if self.counts.get(kind)]
+            doubtful = len(kinds) > 1 and self.possible[kinds[0]] > self.counts[kinds[0]]
+            yield Entry(number, kinds[0], doubtful, found.group(1), unprinted(found.group(3), number))
+
+
+def read_sections(lines, title, counts):
+    """The lists, of which the title of the first one is read already, and the title of the part after them."""
+    sections, kinds = [], {kind: counts[kind] for kind in KINDS}
+    wanted = [(TOGETHER, kinds)]
+    if title != TOGETHER:
+        wanted = [(COUNTS[kind], {kind: count}) for kind, count in kinds.items() if count]
+    for label, part in wanted:
+        if title != label:
+            raise Refused(lines.number - 1, 'this is not the title "%s"' % label.decode())
+        sections.append(Section(lines, part))
+        lines.expect(b'')
+        title = lines.read_title()
+    if len({section.summarized for section in sections}) > 1:
+        raise Refused(lines.number, 'only one of the lists before has summary strings')
+    return sections, title
+
+
+def read_block(lines):
+    """The lines of an attribute."""
+    name, old, new = lines.match(FIRST_LINE, 'an attribute').groups()
+    lefts, rights, number = [old], [new], lines.number
+    if name not in NAMES:
+        raise Refused(number, 'this attribute is unknown')
+    while lines.coming is not None and lines.coming.startswith(INDENT):
+        old, new = lines.match(NEXT_LINE, 'a piece of a value').groups()
+        lefts.append(old)
+        rights.append(new)
+        if len(lefts) * PIECE > LINE_LIMIT:
+            raise Refused(lines.number, 'the value is too long')
+    return Block(number, NAMES[name], lefts, rights)
+
+
+def read_details(lines):
+    """Yields the entries of the details, and takes the empty line after them."""
+    lines.expect(b'')
+    while True:
+        found = lines.match(TITLED, 'an entry of the details')
+        number, blocks = lines.number, []
+        while not blocks or lines.coming:
+            blocks.append(read_block(lines))
+            if len(blocks) > 1 and ORDER[blocks[-2].label] >= ORDER[blocks[-1].label]:
+                raise Refused(blocks[-1].number, 'this attribute comes before the one above it')
+        lines.expect(b'')
+        yield Detail(number, found.group(1), unprinted(found.group(2), number), blocks)
+        if lines.coming == RULE:
+            return
+
+
+def in_order(sections):
+    """The entries of all lists in the order of their paths."""
+    def order(entry):
+        return entry.path.split(b'/')
+    before = []
+    for entry in heapq.merge(*(section.entries() for section in sections), key=order):
+        if not before < order(entry):
+            raise Refused(entry.number, 'the entry is not in the order of paths')
+        before = order(entry)
+        yield entry
+
+
+def objects_of(sections, details, digests):
+    """The objects of all entries in the order of their paths."""
+    detail = next(details, None)
+    for entry in in_order(sections):
+        is_shown = detail is not None and detail.path == entry.path
+        yield object_of(entry, detail if is_shown else None, digests)
+        if is_shown:
+            detail = next(details, None)
+    if detail is not None:
+        raise Refused(detail.number, 'no list has this entry, or not in this order')
+
+
+class Levels:
+    """The levels that a report with lists can be of."""
+
+    def __init__(self, has_details):
+        self.possible = LEVELS[4:] if has_details else LEVELS[3:]
+
+    def add(self, entry):
+        """Takes out the levels at which this entry would be shown in another way."""
+        if 'uncertain' in entry:
+            return
+        if entry['kind'] == 'changed':
+            # A letter is an attribute that has changed, and so one that the details show.
+            has_letter = re.search('[A-Za-z<>]', entry.get('summary', '')[1:])
+            out = [] if 'attributes' in entry else LEVELS[4:] if has_letter else LEVELS[5:]
+        elif 'attributes' in entry:
+            out = LEVELS[4:6]
+        else:
+            out = LEVELS[6:] if 'type' in entry else []
+        self.possible = [level for level in self.possible if level not in out] if out else self.possible
+
+
+def read_databases(lines, digests):
+    lines.expect(b'')
+    objects = []
+    for side, label in (('old', b'Old'), ('new', b'New')):
+        found = lines.match(re.compile(label + b' database: (/.*)'), 'the line of the %s database' % side)
+        fields = {'record': 'database', 'side': side}
+        put_bytes(fields, 'path', unprinted(found.group(1), lines.number))
+        text = b''.join(lines.match(pattern, 'a digest').group(1) for pattern in DIGEST_LINES)
+        digests.take(text, 32, 32, lines.number)
+        fields['sha256'] = text.decode() if 16 in digests.bases else base64.b64decode(text).hex()
+        objects.append(fields)
+    if lines.coming is not None:
+        raise Refused(lines.number + 1, 'this is after the end of the report')
+    return objects
+
+
+def read_parts(lines, counts, summary):
+    """Yields the objects of the parts after the summary, and adds to its object what they say of the whole."""
+    digests, sections = Digests(), []
+    lines.expect(b'')
+    title, changes = lines.read_title(), any(counts[kind] for kind in KINDS)
+    summary['levels'] = LEVELS[2:3] if changes else LEVELS[2:]
+    if changes and title != DATABASES:
+        summary['grouped'] = title != TOGETHER
+        sections, title = read_sections(lines, title, counts)
+        has_details = title == DETAILS
+        summary['summarized'], levels = sections[0].summarized, Levels(has_details)
+        for fields in objects_of(sections, read_details(lines) if has_details else iter(()), digests):
+            levels.add(fields)
+            yield fields
+        if not levels.possible:
+            raise Refused(lines.number, 'the entries of the details are not those of any level')
+        summary['levels'] = levels.possible
+        title = lines.read_title() if has_details else title
+    if title != DATABASES:
+        raise Refused(lines.number - 1, 'this is not the title "%s"' % DATABASES.decode())
+    yield from read_databases(lines, digests)
+    summary['base16'] = 16 in digests.bases
+
+
+def read_report(lines):
+    """Yields the objects of a report, the summary's last. An empty report has no levels."""
+    summary = {'record': 'summary', 'format': FORMAT, 'differences': False, **dict.fromkeys(COUNTS), 'levels': None,
+               'grouped': None, 'summarized': None, 'base16': None}
+    if lines.coming is not None:
+        head = lines.take()
+        if head not in HEADS:
+            lines.refuse(head, 'the first line of a report')
+        summary.update(differences=HEADS[head], levels=LEVELS[:1])
+    if lines.coming is not None:
+        counts = read_counts(lines)
+        if HEADS[head] != any(counts[kind] for kind in KINDS):
+            raise Refused(lines.number, 'the counts do not fit the first line')
+        summary.update(counts, levels=LEVELS[1:2])
+    if lines.coming is not None:
+        yield from read_parts(lines, counts, summary)
+    else:
+        summary['uncertain'] = ['end']
+    yield summary
+
+
+def judge(summary, least, takes_empty):
+    """Refuses a report that is less than what was asked for."""
+    if summary['levels'] is None and not takes_empty:
+        raise Refused(1, 'the report is empty: nothing was compared, or there is no difference and report_quiet is set '
+                         '(--empty accepts this)')
+    if least and summary['levels'] is not None and LEVELS.index(summary['levels'][-1]) < LEVELS.index(least):
+        raise Refused(1, 'the report is of a lower level than %s, or is cut' % least)

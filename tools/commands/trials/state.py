@@ -1,0 +1,243 @@
+"""What reads the state file: the check for Nagios, the metrics and the line for the log."""
+import os
+import re
+import subprocess
+import time
+
+from .sandbox import AS_NOBODY, HERE, UMASK
+
+CHECK = 'check_aide_compare'
+FORM = (
+    'format=1\nstatus=%(status)s\ntime=%(time)s\ndate=2026-11-23T16:30:00Z\nadded=%(added)s\nremoved=%(removed)s\nchanged=%(changed)s\n'
+    'old_sha256=\nnew_sha256=%(digest)s\nold=/o\nnew=/n\nerror=%(error)s\n'
+)
+NONE = {'status': 0, 'added': 0, 'removed': 0, 'changed': 0, 'error': '', 'digest': 'a' * 64}
+READERS = ('commands/nagios/check_aide_compare', 'commands/bin/aide-compare-metrics', 'commands/bin/aide-compare-log')
+
+
+def try_readers(sandbox):
+    for trial in (try_check, try_check_faults, try_metrics, try_log, try_rules, try_one_reader):
+        trial(sandbox)
+
+
+def write_state(sandbox, age=60, **more):
+    given = {**NONE, 'time': int(time.time()) - age, **more}
+    return sandbox.write('state', (FORM % given).encode('utf-8', 'surrogateescape'))
+
+
+def check(sandbox, label, status, *parts, words=(), **more):
+    """The check answers with one line of one bar at most, and with these parts."""
+    answer = sandbox.call(CHECK, '--state', 'state', *words, **more)
+    line = answer.output.decode('utf-8', 'replace')
+    good = (
+        answer.status == status
+        and answer.errors == b''
+        and line.count('\n') == 1
+        and line.endswith('\n')
+        and line.count('|') <= 1
+    )
+    good = good and line.startswith('AIDE %s: ' % ['OK', 'WARNING', 'CRITICAL', 'UNKNOWN'][status])
+    numbers = line.strip().partition('|')[2]
+    good = good and re.match(r"^((added|removed|changed)=(\d+|U) ){0,3}(age=\d+s)?$", numbers)
+    sandbox.check('the check of ' + label, good and all(part in line for part in parts) and len(line) < 500, answer)
+
+
+def try_check(sandbox):
+    for status, added, removed, changed, want in (
+        (0, 0, 0, 0, 0),
+        (1, 5, 0, 0, 1),
+        (2, 0, 3, 0, 2),
+        (3, 1, 1, 0, 2),
+        (4, 0, 0, 9, 2),
+        (5, 1, 0, 4, 2),
+        (6, 0, 1, 1, 2),
+        (7, 12, 34, 56, 2),
+    ):
+        write_state(sandbox, status=status, added=added, removed=removed, changed=changed)
+        check(sandbox, 'the status %d' % status, want, '|added=%d removed=%d changed=%d age=6' % (added, removed, changed))
+        if status:
+            check(
+                sandbox,
+                'the text of the status %d' % status,
+                want,
+                ': %d added, %d removed, %d changed|' % (added, removed, changed),
+            )
+    write_state(sandbox, age=-20)
+    check(sandbox, 'a clock that is a little behind', 0, 'age=0s')
+    write_state(sandbox)
+    if os.getuid() == 0:
+        check(sandbox, 'an unprivileged user', 0, 'no difference', before=AS_NOBODY)
+        os.chmod(sandbox.path('state'), 0o600)
+        check(sandbox, 'no right', 3, 'state cannot be read', before=AS_NOBODY)
+    sandbox.call('aide-compare-run', 'old.db', 'new.db', '--state', 'state')
+    check(sandbox, 'a real state', 2, ': 1 added, 1 removed, 2 changed|added=1 removed=1 changed=2 age=')
+
+
+def try_check_faults(sandbox):
+    nothing = {'added': '', 'removed': '', 'changed': ''}
+    write_state(sandbox, status=24, error='a|b=1;2\x01\x1b[0m|' + 'é' * 4000, **nothing)
+    check(sandbox, 'an error', 3, 'no comparison, status 24: a!b=1;2[0m!', '|age=6')
+    write_state(sandbox, status=5, **nothing)
+    check(sandbox, 'a state without counts', 2, 'added=U removed=U changed=U')
+    write_state(sandbox, age=93700)
+    check(sandbox, 'an old state', 3, 'older than 93600 seconds', 'age=937')
+    check(sandbox, 'an old state that may be', 0, 'no difference', words=['--age', '100000'])
+    check(sandbox, 'an old state that may not be', 3, 'older than 10 seconds', words=['--age=10'])
+    write_state(sandbox, age=-4000)
+    check(sandbox, 'a state from the future', 3, 'in the future')
+    good = write_state(sandbox)
+    whole = sandbox.read('state').decode()
+    for label, text in (
+        ('nothing', ''),
+        ('half', whole[:40]),
+        ('no end', whole[:-7]),
+        ('another format', whole.replace('format=1', 'format=2')),
+        ('other keys', whole.replace('added', 'x')),
+        ('no number', whole.replace('removed=0', 'removed=x')),
+        ('octal digits', whole.replace('removed=0', 'removed=08')),
+        ('a sum', whole.replace('status=0', 'status=3-3')),
+        ('a command', whole.replace('status=0', 'status=$(id)')),
+        ('no status', whole.replace('status=0', 'status=')),
+        ('a large number', whole.replace('status=0', 'status=' + '9' * 30)),
+        ('counts that are not of the status', whole.replace('added=0', 'added=1')),
+        ('a large file', whole + 'x' * 30000),
+        ('NUL', whole.replace('status', '\0')),
+    ):
+        sandbox.write('state', text)
+        check(sandbox, 'a state that is ' + label, 3, 'is no state file')
+    os.remove(good)
+    check(sandbox, 'no state', 3, 'there is no state')
+    os.makedirs(good)
+    check(sandbox, 'a folder', 3, 'is no state file')
+    os.rmdir(good)
+    os.mkfifo(good)
+    check(sandbox, 'a FIFO', 3, 'is no state file')
+    os.remove(good)
+    for words in (['--age'], ['--age', 'x'], ['--odd|\n'], ['--state']):
+        check(sandbox, 'the arguments %r' % words, 3, words=words)
+
+
+def try_metrics(sandbox):
+    moment = int(time.time()) - 60
+    write_state(sandbox, status=5, added=1, changed=4)
+    answer = sandbox.call('aide-compare-metrics', '--state', 'state')
+    lines = answer.output.decode().splitlines()
+    names = {}
+    good = answer.status == 0 and len(lines) == 15 and answer.output.endswith(b'\n')
+    for first, second, third in zip(lines[::3], lines[1::3], lines[2::3]):
+        found = re.match(r'^(aide_compare_[a-z_]+) (\d+)$', third)
+        good = (
+            good
+            and found
+            and re.match(r'^# HELP %s [^\n\\]+$' % found.group(1), first)
+            and second == '# TYPE %s gauge' % found.group(1)
+        )
+        names.update({found.group(1)[13:]: int(found.group(2))} if found else {})
+    want = {'status': 5, 'added_entries': 1, 'removed_entries': 0, 'changed_entries': 4}
+    sandbox.check('the metrics', good and {**names, **want} == names and abs(names['end_time_seconds'] - moment) < 5, answer)
+    sandbox.expect(
+        'metrics to a file',
+        sandbox.call('aide-compare-metrics', '--state=state', 'aide.prom', before=UMASK % 0o77),
+        0,
+        b'',
+        b'',
+    )
+    sandbox.check(
+        'the file of the metrics',
+        sandbox.read('aide.prom') == answer.output
+        and os.stat(sandbox.path('aide.prom')).st_mode & 0o777 == 0o644
+        and not [name for name in os.listdir(sandbox.root) if name.startswith('aide.prom.')],
+    )
+    write_state(sandbox, status=18, added='', removed='', changed='')
+    sandbox.call('aide-compare-metrics', '--state', 'state', 'aide.prom')
+    sandbox.check(
+        'the metrics of no comparison',
+        b'\naide_compare_status 18\n' in sandbox.read('aide.prom') and b'entries' not in sandbox.read('aide.prom'),
+        sandbox.read('aide.prom'),
+    )
+    before = sandbox.read('aide.prom')
+    sandbox.write('state', 'x')
+    sandbox.expect(
+        'metrics of a bad state', sandbox.call('aide-compare-metrics', '--state', 'state', 'aide.prom'), 18, b'',
+        b'no state file'
+    )
+    sandbox.check('the metrics are as before', sandbox.read('aide.prom') == before)
+    write_state(sandbox)
+    sandbox.expect(
+        'metrics to nowhere', sandbox.call('aide-compare-metrics', '--state', 'state', 'missing/x.prom'), 18, b'',
+        b'cannot write'
+    )
+    with open('/dev/full', 'wb') as full:
+        sandbox.expect('metrics to a full device', sandbox.call('aide-compare-metrics', '--state', 'state', stdout=full), 18)
+    for words in (['--odd'], ['a', 'b'], ['--state']):
+        sandbox.expect('metrics with %r' % words, sandbox.call('aide-compare-metrics', *words), 15, b'',
+                       b'aide-compare-metrics: ')
+
+
+def log(sandbox, **state):
+    write_state(sandbox, **state)
+    answer = sandbox.call('aide-compare-log', '--state', 'state')
+    sandbox.check(
+        'one line for the log',
+        answer.status == 0 and answer.output.count(b'\n') == 1 and answer.output.endswith(b'\n') and answer.errors == b'',
+        answer,
+    )
+    return answer.output.decode('utf-8', 'replace')
+
+
+def try_log(sandbox):
+    nothing = {'added': '', 'removed': '', 'changed': ''}
+    for state, want in (
+        ({}, 'no difference: status=0 added=0 removed=0 changed=0\n'),
+        (
+            {'status': 5, 'added': 1, 'changed': 4},
+            'differences: status=5 added=1 removed=0 changed=4 new_sha256=%s old=/o new=/n\n' % ('a' * 64),
+        ),
+        ({'status': 24, 'error': 'aide: x\x01y', **nothing}, 'no comparison: status=24 error=aide: xy\n'),
+        ({'age': 93700}, 'no comparison: the last one ended at 2026-11-23T16:30:00Z\n'),
+        ({'time': 'x'}, 'no comparison: state cannot be read, or is no state file of aide-compare-run\n'),
+    ):
+        line = log(sandbox, **state)
+        sandbox.check('the line for the log of %r' % state, line == want, line)
+    write_state(sandbox, age=100)
+    sandbox.expect(
+        'an old line', sandbox.call('aide-compare-log', '--state', 'state', '--age', '50'), 0, b'no comparison: the last one',
+        b''
+    )
+    for words in (['--odd'], ['--age', 'x'], ['--state']):
+        sandbox.expect('the log with %r' % words, sandbox.call('aide-compare-log', *words), 15, b'', b'aide-compare-log: ')
+
+
+def try_rules(sandbox):
+    """The rule for logcheck ignores the line without a difference, and no other."""
+    rules = os.path.join(HERE, 'contrib', 'logcheck', 'aide-compare')
+    lines = [
+        log(sandbox),
+        log(sandbox, status=1, added=1),
+        log(sandbox, age=93700),
+        log(sandbox, status=18, added='', removed='', changed='', error='no difference: status=0'),
+    ]
+    for head in ('Nov  3 16:46:19 www1.example aide-compare: ', '2026-11-23T16:46:19.123456+00:00 www1 aide-compare[12]: '):
+        left = subprocess.run(
+            ['grep', '-E', '-v', '-f', rules],
+            input=''.join(head + line for line in lines),
+            stdout=subprocess.PIPE,
+            universal_newlines=True,
+        ).stdout
+        sandbox.check('the rule for logcheck', left == ''.join(head + line for line in lines[1:]), left)
+    left = subprocess.run(
+        ['grep', '-E', '-c', '-f', rules],
+        input=head + lines[0][:-1] + ' more\nx' + head + lines[0],
+        stdout=subprocess.PIPE,
+        universal_newlines=True,
+    ).stdout
+    sandbox.check('the rule for logcheck takes whole lines', left == '0\n', left)
+
+
+def try_one_reader(sandbox):
+    """The three commands stand alone, and read the state by the same text."""
+    texts = set()
+    for name in READERS:
+        with open(os.path.join(HERE, name)) as file:
+            texts.update(re.findall(r'^is_number\(\) \{\n.*?^read_state\(\) \{\n.*?^\}$', file.read(), re.M | re.S))
+    sandbox.check('one text reads the state', len(texts) == 1, [len(text) for text in texts])

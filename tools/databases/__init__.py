@@ -1,1 +1,0 @@
-"""Databases with what is to be said of their fields."""

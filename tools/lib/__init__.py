@@ -1,0 +1,1 @@
+"""What trials share: counting, running a program, libraries loaded before it."""

@@ -1,0 +1,78 @@
+"""Running a program and counting what comes out as wanted: what all trials of the built program share."""
+import os
+import subprocess
+import sys
+from concurrent.futures import ThreadPoolExecutor
+
+from tools.oracle.session import Answer, Unread, answer_of
+
+TIME_LIMIT = 120
+
+
+def file_at(path):
+    """The bytes of a file of the machine, as the definitions ask for them."""
+    try:
+        with open(path, 'rb') as file:
+            return file.read()
+    except IsADirectoryError:
+        return Unread
+    except (OSError, ValueError):
+        return None
+
+
+def run(program, words, **streams):
+    """What a program answers."""
+    done = subprocess.run([program] + words, stdin=subprocess.DEVNULL, timeout=TIME_LIMIT,
+                          **{'stdout': subprocess.PIPE, 'stderr': subprocess.PIPE, **streams})
+    return Answer(done.stdout, done.stderr, done.returncode)
+
+
+def wanted(words, files=file_at):
+    return answer_of(words, files)
+
+
+def shown(text):
+    return '%d bytes, %.600r' % (len(text), text) if isinstance(text, bytes) else repr(text)
+
+
+def difference(given, want):
+    """What of an answer is not as wanted, in words; nothing where all is."""
+    return ['%s: wanted %s\n    given  %s' % (name, shown(two), shown(one))
+            for name, one, two in zip(Answer._fields, given, want) if one != two]
+
+
+class Tally:
+    """How many trials came out as wanted; each other one is printed as it comes."""
+
+    def __init__(self):
+        self.passed = self.failed = 0
+
+    def add(self, label, faults):
+        self.passed, self.failed = self.passed + (not faults), self.failed + bool(faults)
+        for fault in faults:
+            print('%s: %s' % (label, fault), flush=True)
+
+    def check(self, label, given, want):
+        self.add(label, difference(given, want))
+
+    def end(self):
+        """Prints the last line and ends the process. A run in which nothing was tried has failed."""
+        if not self.passed + self.failed:
+            self.add('all', ['nothing was tried'])
+        print('%d passed, %d failed' % (self.passed, self.failed), flush=True)
+        sys.exit(1 if self.failed else 0)
+
+
+def side_by_side(jobs, work, items):
+    """The results of some work over items, so many of them at a time, in the order of the items."""
+    with ThreadPoolExecutor(jobs) as pool:
+        for result in pool.map(work, items):
+            yield result
+
+
+def program_of(path):
+    """The whole path of the program that is tried."""
+    path = os.path.abspath(path)
+    if not os.access(path, os.X_OK):
+        sys.exit('%s is no program' % path)
+    return path.encode()

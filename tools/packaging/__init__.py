@@ -1,0 +1,1 @@
+"""Trials of installing and packing."""

@@ -1,0 +1,143 @@
+"""Completions: every command has them in every shell, with the options that its help names, and the shells read them."""
+import os
+import re
+import shutil
+
+from tools.packaging.installing.trial import HERE, texts, tree
+
+BASH = "share/bash-completion/completions/"
+ZSH = "share/zsh/site-functions/_aide-compare"
+FISH = "share/fish/vendor_completions.d/"
+LEVELS = ["minimal", "summary", "database_attributes", "list_entries", "changed_attributes", "added_removed_attributes",
+          "added_removed_entries"]
+
+# bash-completion reads the file inside of a function of its own.
+ASK_BASH = r"""
+load() { . "$1"; }
+load "$1"
+shift
+COMP_WORDS=("$@") COMP_CWORD=$(($# - 1)) COMPREPLY=()
+complete -p "$1" > /dev/null || exit 9
+_aide_compare
+printf '%s\n' "${COMPREPLY[@]}"
+"""
+
+# zsh completes at a terminal only, so it gets one; the answer is what the line has become.
+ASK_ZSH = r"""
+zmodload zsh/zpty || exit 9
+zpty answering 'TERM=dumb zsh -f -i'
+ask() {
+    zpty -w answering "$1"
+    zpty -r answering answer "*$2*" || exit 8
+}
+ask "PS1=; fpath=($1 \$fpath); autoload -U compinit; compinit -D -u; unsetopt zle_bracketed_paste; print rea''dy" ready
+zpty -w -n answering "$2"$'\t'
+zpty -w -n answering $'\C-a#\n'
+zpty -w answering "print do''ne"
+zpty -r answering answer '*done*' || exit 8
+zpty -d answering
+print -r -- "$answer"
+"""
+
+
+def commands(trial):
+    found = tree(trial.path("first/usr/local"))
+    return sorted(path for path in found if re.match(r"(bin|lib/nagios/plugins)/.", path))
+
+
+def options(trial, path):
+    """The options that a command's help has; the program has no help, its page has them."""
+    if path == "bin/aide-compare":
+        with open(os.path.join(HERE, "man", "aide-compare.1")) as file:
+            found = re.findall(r"^\.It Fl (\w)(?: Ar \w+)? , Fl -([\w-]+)", file.read(), re.M)
+        return ["-" + short for short, _ in found] + ["--" + long for _, long in found]
+    text = trial.run([trial.path("first/usr/local", path), "--help"])[1]
+    found = {"--help"}
+    for line in re.findall(r"^\s+(-.*)$", text, re.M):
+        found |= set(re.findall(r"(?:^|, )(--?[A-Za-z][\w-]*)", line))
+    for line in re.findall(r"^usage: .*(?:\n {4,}.*)*", text, re.M):
+        found |= set(re.findall(r"[\[(| ](--?[A-Za-z][\w-]*)", line))
+    if "ARGUMENTS of aide-compare-run" in text:
+        found |= set(options(trial, "bin/aide-compare-run"))
+    return sorted(found - {"-h"})
+
+
+def try_files(trial):
+    """Each command has its file for bash and fish, and its name in that of zsh."""
+    found = texts(tree(trial.path("first/usr/local")))
+    named = found[ZSH].split("\n")[0].split()
+    trial.check(named[0] == "#compdef", "the first line for zsh", named)
+    for path in commands(trial):
+        name = os.path.basename(path)
+        trial.check(BASH + name in found, "a completion of bash for " + name)
+        trial.check(FISH + name + ".fish" in found, "a completion of fish for " + name)
+        trial.check(name in named, "a completion of zsh for " + name)
+        wanted = options(trial, path)
+        trial.check(len(wanted) > 0, "options of " + name, wanted)
+        fish = found.get(FISH + name + ".fish", "")
+        for option in wanted:
+            form = r"-l %s\b" % option[2:] if option.startswith("--") else r"-(?:s|a '-)\s?%s\b" % option[1:]
+            trial.check(re.search(form, fish), "%s %s in fish" % (name, option))
+            trial.check(re.search(r"[{,'(]%s(?![\w-])|\)%s(?![\w-])" % (option, option), found[ZSH]),
+                        "%s %s in zsh" % (name, option))
+
+
+def ask_bash(trial, name, *words):
+    path = trial.path("first/usr/local", BASH + name)
+    status, output, errors = trial.run(["bash", "--norc", "-c", ASK_BASH, "bash", path, name, *words], cwd=trial.source)
+    trial.check((status, errors) == (0, ""), "bash completes " + " ".join([name, *words]), (status, errors))
+    return output.split()
+
+
+def try_bash(trial):
+    if not shutil.which("bash"):
+        trial.skip("completions of bash: it is not installed")
+        return
+    for path in commands(trial):
+        name = os.path.basename(path)
+        wanted = options(trial, path)
+        given = ask_bash(trial, name, "-")
+        for option in wanted:
+            trial.check(option in given, "bash offers %s %s" % (name, option), given)
+        for option in given:
+            trial.check(option in wanted + ["--"], "%s has the option %s that bash offers" % (name, option), wanted)
+    for words, wanted in ((["aide-compare", "-E", "-A", "report_level", "="], LEVELS),
+                          (["aide-compare", "-E", "-A", "report_level", "=", "su"], ["summary"]),
+                          (["aide-compare", "-E", "-A", "report_l"], ["report_level="]),
+                          (["aide-compare", "-E", "--after", "=", "report_l"], ["report_level="]),
+                          (["aide-compare", "-B", "report_quiet", "=", "y"], ["yes"]),
+                          (["aide-compare", "-E", ""], []),
+                          (["aide-compare", "-c", "VERS"], ["VERSION"]),
+                          (["aide-compare", "--config", "=", "VERS"], ["VERSION"]),
+                          (["aide-compare-sort", "VERS"], ["VERSION"])):
+        given = ask_bash(trial, words[0], *words[1:])
+        trial.check(sorted(given) == sorted(wanted), "bash completes " + " ".join(words), given)
+
+
+def try_zsh(trial):
+    if not shutil.which("zsh"):
+        trial.skip("completions of zsh: it is not installed")
+        return
+    folder = trial.path("first/usr/local", os.path.dirname(ZSH))
+    for line, wanted in (("aide-compare --config-c", "aide-compare --config-check"),
+                         ("aide-compare -E -A report_level=su", "report_level=summary"),
+                         ("aide-compare-sort --h", "aide-compare-sort --help"),
+                         ("aide-compare-sort VERS", "aide-compare-sort VERSION")):
+        done = trial.run(["zsh", "-f", "-c", ASK_ZSH, "zsh", folder, line], cwd=trial.source, timeout=60)
+        trial.check(done[0] == 0 and wanted in done[1].replace("\r", ""), "zsh completes " + line, done)
+
+
+def try_fish(trial):
+    if not shutil.which("fish"):
+        trial.skip("completions of fish: it is not installed")
+        return
+    home = trial.path("home")
+    os.makedirs(home)
+    surroundings = dict(os.environ, HOME=home, XDG_DATA_DIRS=trial.path("first/usr/local/share"),
+                        PATH=trial.path("first/usr/local/bin") + ":" + os.environ["PATH"])
+    for line, wanted in (("aide-compare --config-c", ["--config-check"]), ("aide-compare -A report_level=su", ["report_level=summary"]),
+                         ("aide-compare-sort --h", ["--help"]), ("aide-compare-sort VERS", ["VERSION"]),
+                         ("aide-compare ", [])):
+        done = trial.run(["fish", "-c", "complete -C '%s'" % line], cwd=trial.source, env=surroundings, timeout=60)
+        given = [one.split("\t")[0] for one in done[1].splitlines()]
+        trial.check(done[0] == 0 and given == wanted, "fish completes " + line, done)

@@ -1,0 +1,230 @@
+"""Installing and removing: which files come where, and what is left alone."""
+import os
+import shutil
+import subprocess
+
+from tools.packaging.installing.trial import files, rights, tree
+
+DOCUMENTS = "share/doc/aide-compare"
+MANIFEST = "lib/aide-compare/installed"
+# What has to be there whatever the repository's folders hold.
+KNOWN = ["bin/aide-compare", "bin/aide-compare-sort", "lib/systemd/system/aide-compare.service",
+         "lib/systemd/system/aide-compare.timer", "share/man/man1/aide-compare.1", "share/man/man1/aide-compare-sort.1",
+         "share/man/man5/aide-compare.conf.5", "share/bash-completion/completions/aide-compare",
+         "share/zsh/site-functions/_aide-compare", "share/fish/vendor_completions.d/aide-compare.fish",
+         DOCUMENTS + "/README.md", DOCUMENTS + "/RECIPES.md", DOCUMENTS + "/CHANGELOG.md", DOCUMENTS + "/VERSION",
+         DOCUMENTS + "/examples/cron/aide-compare.cron.d", DOCUMENTS + "/examples/cron/aide-compare.cron.daily"]
+FOLDERS = {"commands/bin": "bin", "commands/lib/aide_compare": "lib/aide-compare/python/aide_compare",
+           "contrib/systemd": "lib/systemd/system", "contrib/completions/bash": "share/bash-completion/completions",
+           "contrib/completions/zsh": "share/zsh/site-functions",
+           "contrib/completions/fish": "share/fish/vendor_completions.d", "docs": DOCUMENTS}
+
+
+def target_of(path, mode):
+    """Where a file of the repository is installed, below the prefix; nothing if it is not."""
+    folder, name = os.path.split(path)
+    if folder in FOLDERS:
+        return FOLDERS[folder] + "/" + name
+    if folder == "contrib/nagios" and name.startswith("check_"):
+        return "lib/nagios/plugins/" + name
+    if folder == "contrib/fleet" and mode == 0o755:
+        return "lib/aide-compare/fleet/" + name
+    if folder == "man":
+        return "share/man/man%s/%s" % (name[-1], name)
+    if path.startswith("contrib/"):
+        return DOCUMENTS + "/examples/" + path[len("contrib/"):]
+    return None if "/" in path else DOCUMENTS + "/" + name
+
+
+def wanted_modes(source):
+    """The permissions of each file that is to be installed, by its path below the prefix."""
+    wanted = {"bin/aide-compare": 0o755, MANIFEST: 0o644}
+    for path, (mode, _) in files(tree(source)).items():
+        mode = 0o755 if mode & 0o100 else 0o644
+        target = target_of(path, mode)
+        if target is not None:
+            wanted[target] = mode
+    return wanted
+
+
+def try_targets(trial):
+    wanted = wanted_modes(trial.source)
+    for target in KNOWN:
+        trial.check(target in wanted, "a file to install: " + target)
+    found = trial.installed("first")
+    prefix = "usr/local/"
+    given = {path[len(prefix):]: mode for path, (mode, _) in files(found).items()}
+    for target in sorted(set(wanted) | set(given)):
+        trial.check(wanted.get(target) == given.get(target), "installed with its mode: " + target,
+                    "wanted %s, given %s" % (show(wanted.get(target)), show(given.get(target))))
+    for path, (mode, data) in sorted(found.items()):
+        if data is None:
+            trial.check(mode == 0o755, "the mode of the folder " + path, show(mode))
+    with open(trial.program, "rb") as file:
+        trial.check(found[prefix + "bin/aide-compare"][1] == file.read(), "the program is installed as it is")
+    for target, mode in sorted(wanted.items()):
+        if mode == 0o755 and target.startswith("bin/"):
+            trial.check(target[4:].startswith("aide-compare"), "the name of the command " + target)
+
+
+def show(mode):
+    return "none" if mode is None else "%o" % mode
+
+
+def try_shells(trial):
+    """Every shell installs the same files, whatever permissions the user gives to new ones."""
+    first = tree(trial.path("first"))
+    for words in (["dash"], ["bash"], ["busybox", "sh"]):
+        if not shutil.which(words[0]):
+            trial.skip("packaging/install under %s: it is not installed" % words[0])
+            continue
+        folder = trial.path(words[0])
+        narrow = ["sh", "-c", 'umask 077; exec "$@"', "sh", *words]
+        done = trial.install("--destdir", folder, "--program", trial.program, shell=narrow)
+        trial.check(done[0] == 0 and done[2] == "", "install under " + words[0], done)
+        different = [path for path, kept in tree(folder).items() if first.get(path) != kept]
+        trial.check(tree(folder) == first, "the same files under " + words[0], different)
+        done = trial.install("--destdir", folder, "--uninstall", shell=words)
+        trial.check(done[0] == 0 and done[2] == "" and tree(folder) == {}, "uninstall under " + words[0], done)
+
+
+def try_again(trial):
+    """A second run replaces files by renaming; what the repository has no more is removed."""
+    folder = trial.path("again")
+    source = trial.copy("changing")
+    more = os.path.join(source, "contrib", "cron", "left out later")
+    shutil.copy(os.path.join(source, "VERSION"), more)
+    target = os.path.join(folder, "usr/local", DOCUMENTS, "examples/cron/left out later")
+    trial.install("--destdir", folder, "--program", trial.program, source=source)
+    trial.check(os.path.exists(target), "a further file of contrib is installed")
+    before = tree(folder)
+    running = open(os.path.join(folder, "usr/local/bin/aide-compare"), "rb")
+    done = trial.install("--destdir", folder, "--program", trial.program, source=source)
+    trial.check(done[0] == 0 and tree(folder) == before, "a second run changes nothing", done)
+    with running:
+        old, new = os.fstat(running.fileno()), os.stat(running.name)
+        trial.check(old.st_ino != new.st_ino, "the program is replaced by another file")
+        trial.check(len(running.read()) == old.st_size > 0, "a run of the old program keeps its file")
+    os.remove(more)
+    done = trial.install("--destdir", folder, "--program", trial.program, source=source)
+    trial.check(done[0] == 0 and not os.path.exists(target), "what is not in the repository any more is removed", done)
+    done = trial.install("--destdir", folder, "--uninstall", source=source)
+    trial.check(done[0] == 0 and tree(folder) == {}, "nothing is left after three runs", sorted(tree(folder)))
+
+
+def try_uninstall(trial):
+    """Exactly what was installed goes."""
+    folder = trial.path("shared")
+    trial.write("shared/usr/local/bin/another", "another's program\n", 0o755)
+    trial.write("shared/etc/kept", "another's file\n")
+    os.makedirs(trial.path("shared/usr/local/share/man/man1"))
+    before = tree(folder)
+    trial.installed("shared")
+    mine = trial.write("shared/usr/local/%s/examples/mine" % DOCUMENTS, "an administrator's\n")
+    outside = trial.write("outside", "another's file\n")
+    with open(os.path.join(folder, "usr/local", MANIFEST), "a") as file:
+        file.write("file /usr/local/../../../outside\nfile /etc/kept\n")
+    done = trial.install("--destdir", folder, "--uninstall")
+    trial.check(done[0] == 0 and done[2] == "", "uninstall beside others", done)
+    left = tree(folder)
+    trial.check(os.path.exists(mine), "a stranger's file in a folder of ours is left")
+    trial.check(os.path.exists(outside), "a file outside the prefix is left")
+    for path, kept in before.items():
+        trial.check(left.get(path) == kept, "what was there before is left: " + path)
+    wanted = set(before) | {os.path.relpath(mine, folder)}
+    trial.check(set(files(left)) == set(files(before)) | {os.path.relpath(mine, folder)}, "no file of ours is left",
+                sorted(left))
+    trial.check(all(any(one == path or one.startswith(path + "/") for one in wanted) for path in left),
+                "no empty folder of ours is left", sorted(left))
+    done = trial.install("--destdir", folder, "--uninstall")
+    trial.check(done[0] == 1 and "nothing is installed" in done[2], "uninstall a second time", done)
+
+
+def try_interrupted(trial):
+    """An installation that stopped half-way can be removed."""
+    source = trial.copy("damaged")
+    last = os.path.join(source, "man", "zzz.1")
+    os.symlink("/proc/self/mem", last + ".target")
+    shutil.copy(os.path.join(source, "VERSION"), last)
+    folder = trial.path("half")
+    words = ["--destdir", folder, "--program", trial.program]
+    script = os.path.join(source, "packaging", "install")
+    with open(script) as file:
+        text = file.read()
+    # This copy of the script stops before its last file, as if it was killed there.
+    with open(script, "w") as file:
+        file.write(text.replace("put() {\n", "put() {\n    case $4 in */zzz.1) kill -9 $$ ;; esac\n"))
+    done = trial.install(*words, source=source)
+    trial.check(done[0] != 0 and len(files(tree(folder))) > 10, "an installation that is killed", done)
+    done = trial.install("--destdir", folder, "--uninstall")
+    trial.check(done[0] == 0 and tree(folder) == {}, "it is removed all the same", sorted(tree(folder)))
+
+
+def try_refusals(trial):
+    """What cannot work is refused before anything is written."""
+    shut = trial.path("shut")
+    os.makedirs(os.path.join(shut, "usr"))
+    os.chmod(os.path.join(shut, "usr"), 0o555)
+    try:
+        done = trial.install("--destdir", shut, "--program", trial.program, **rights())
+    except (OSError, subprocess.SubprocessError) as error:
+        trial.skip("a prefix that cannot be written (%s)" % error)
+    else:
+        good = done[0] == 1 and "cannot write below" in done[2] and "--prefix" in done[2]
+        trial.check(good and list(tree(shut)) == ["usr"], "a prefix that cannot be written", done)
+        done = trial.install("--destdir", shut, env=trial.plain(), **rights())
+        trial.check(done[0] == 1 and "cannot write below" in done[2], "the same before the program is built", done)
+    blocked = trial.path("blocked")
+    os.makedirs(os.path.join(blocked, "usr/local/bin/aide-compare-sort"))
+    before = tree(blocked)
+    done = trial.install("--destdir", blocked, "--program", trial.program)
+    trial.check(done[0] == 1 and "is in the way" in done[2] and tree(blocked) == before, "a folder in the way", done)
+    trial.write("blocked2/usr/local/share", "a file\n")
+    done = trial.install("--destdir", trial.path("blocked2"), "--program", trial.program)
+    trial.check(done[0] == 1 and "is in the way" in done[2] and len(tree(trial.path("blocked2"))) == 3,
+                "a file in the place of a folder", done)
+    for words in (["--prefix", "usr"], ["--prefix", "/a b"], ["--prefix", "/a/../b"], ["--prefix", "/a|b"], ["--prefix"],
+                  ["--destdir"], ["--nonsense"], ["more"], ["--prefix="]):
+        done = trial.install("--destdir", trial.path("refused"), "--program", trial.program, *words)
+        trial.check(done[0] == 2 and done[1] == "" and not os.path.exists(trial.path("refused")),
+                    "refused: " + " ".join(words), done)
+    done = trial.install("--destdir", trial.path("refused"), "--program", trial.path("nowhere"))
+    trial.check(done[0] == 1 and not os.path.exists(trial.path("refused")), "a program that is not there", done)
+    done = trial.install("--help")
+    trial.check(done[0] == 0 and "--uninstall" in done[1] and "8 to 13 minutes" in done[1], "--help", done)
+
+
+def try_build(trial):
+    """Without a built program, or with an old one, it is built first."""
+    source = trial.copy("unbuilt")
+    code = trial.write("unbuilt/crates/aide/src/main.rt", "//! A program.\n")
+    built = os.path.join(source, "crates/aide/out/aide")
+    calls = trial.path("calls")
+    trial.write("stubs/rt", '#!/bin/sh\necho "$PWD $*" >> "%s"\nmkdir -p out && cp "%s" out/aide\n' % (calls, trial.program),
+                0o755)
+    words = ["--destdir", trial.path("built")]
+    done = trial.install(*words, source=source, env=trial.plain())
+    good = done[0] == 1 and "rt" in done[2] and "--program" in done[2] and not os.path.exists(trial.path("built"))
+    trial.check(good, "no program and no rt", done)
+    surroundings = dict(os.environ, PATH=trial.path("stubs") + ":" + trial.plain_path)
+    for name, wanted in (("no program", 1), ("a program that was built after its sources", 1), ("an old program", 2)):
+        if name == "an old program":
+            os.utime(built, (1, 1))
+        done = trial.install(*words, source=source, env=surroundings)
+        with open(calls) as file:
+            lines = file.read().splitlines()
+        trial.check(done[0] == 0 and len(lines) == wanted, name, (done, lines))
+        trial.check(("8 to 13 minutes" in done[2]) == (name != "a program that was built after its sources"),
+                    "it says how long it takes: " + name, done)
+    trial.check(lines[-1] == os.path.dirname(os.path.dirname(code)) + " run -- -D -c /dev/null", "how rt is called", lines)
+    with open(trial.path("built/usr/local/bin/aide-compare"), "rb") as one, open(trial.program, "rb") as two:
+        trial.check(one.read() == two.read(), "what was built is installed")
+    os.remove(built)
+    script = os.path.join(source, "packaging", "make_package")
+    done = trial.run(["sh", script, "--output", trial.path("unbuilt/out")], env=surroundings)
+    good = done[0] == 0 and "8 to 13 minutes" in done[2] and os.path.exists(built)
+    trial.check(good, "make_package builds the program and says how long it takes", done)
+    trial.write("stubs/rt", "#!/bin/sh\nexit 1\n", 0o755)
+    os.remove(built)
+    done = trial.install("--destdir", trial.path("unproved"), source=source, env=surroundings)
+    trial.check(done[0] == 1 and not os.path.exists(trial.path("unproved")), "a program that is not proved", done)

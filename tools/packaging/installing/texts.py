@@ -1,0 +1,166 @@
+"""What is installed works, and its pages, documents, units and files for cron name what is installed."""
+import os
+import re
+import shutil
+
+from tools.packaging.installing.targets import DOCUMENTS
+from tools.packaging.installing.trial import HERE, texts, tree
+
+# The paths below a prefix that the installed texts name.
+OWN_PATH = r"/(?:bin/aide-compare|lib/aide-compare/|lib/nagios|lib/systemd/|share/doc/aide-compare)[\w./-]*"
+# Paths of the repository that mean nothing to a reader of an installed page.
+SOURCE_PATH = re.compile(r"(?<![\w/.-])(?:(?:docs|tools|crates|contrib|man|bench|specs)/[\w.*-]+|\.\./[\w.]+)")
+
+
+def try_programs(trial):
+    """The installed program compares, and each installed command prints a help."""
+    trial.installed("run")
+    folder = trial.path("run/usr/local/bin")
+    words = ["-E", "-c", os.path.join(HERE, "examples", "aide.conf"), "-B", "@@define DIR %s/examples" % HERE]
+    done = trial.run([os.path.join(folder, "aide-compare"), *words])
+    trial.check(done[0] == 7 and done[1].startswith("AIDE found differences"), "the installed program", done)
+    for name in sorted(os.listdir(folder)):
+        if name != "aide-compare":
+            done = trial.run([os.path.join(folder, name), "--help"])
+            good = done[0] == 0 and done[2] == "" and "usage: " + name in done[1]
+            trial.check(good, name + " --help", done)
+    database = trial.write("mixed.db", "@@begin_db\n@@db_spec name attr\n/b 0\n/a-b 0\n/a/b 0\n@@end_db\n")
+    done = trial.run([os.path.join(folder, "aide-compare-sort"), database])
+    wanted = "@@begin_db\n@@db_spec name attr\n/a/b 0\n/a-b 0\n/b 0\n@@end_db\n"
+    trial.check(done == (0, wanted, ""), "aide-compare-sort", done)
+    done = trial.run(["sh", "-c", 'gzip -c "$1" | "$2"', "sh", database, os.path.join(folder, "aide-compare-sort")])
+    trial.check(done == (0, wanted, ""), "aide-compare-sort of gzip", done)
+    trial.write("twice.db", "@@begin_db\n@@db_spec name attr\n/a\\ 0\n/a\\ 0\n@@end_db\n")
+    done = trial.run([os.path.join(folder, "aide-compare-sort"), trial.path("twice.db")])
+    trial.check(done[0] == 1 and done[2] == "aide-compare-sort: stands twice: /a\\134\n", "a path that stands twice", done)
+
+
+def try_pages(trial):
+    """Each command has a page, which has the version and names no file of the repository."""
+    found = texts(tree(trial.path("first/usr/local")))
+    pages = {path: text for path, text in found.items() if path.startswith("share/man/")}
+    trial.check(len(pages) >= 3, "manual pages", sorted(pages))
+    if not shutil.which("man"):
+        trial.skip("what man warns of: it is not installed")
+    commands = [path for path in tree(trial.path("first/usr/local")) if re.match(r"(bin|lib/nagios/plugins)/.", path)]
+    for path in sorted(commands):
+        trial.check("share/man/man1/%s.1" % os.path.basename(path) in pages, "a manual page of " + path)
+    for path, text in pages.items():
+        trial.check(("\n.Os aide-compare %s\n" % trial.version) in text, "the version in " + path)
+        trial.check(not SOURCE_PATH.search(text), "no path of the repository in " + path, SOURCE_PATH.findall(text))
+        for name in re.findall(r"^\.Pa (\S+\.md)", text, re.M):
+            good = name.startswith("/usr/local/") and name[len("/usr/local/"):] in found
+            trial.check(good, "%s names a document that is installed" % path, name)
+        if shutil.which("man"):
+            done = trial.run(["man", "--warnings", "-E", "UTF-8", "-l", "-Tutf8", "-Z", trial.path("first/usr/local", path)])
+            trial.check(done[0] == 0 and done[2] == "", "man --warnings " + path, done[2])
+
+
+def try_documents(trial):
+    """Documents link to one another where they lie now."""
+    found = texts(tree(trial.path("first/usr/local")))
+    count = 0
+    for path, text in found.items():
+        if path.startswith(DOCUMENTS) and path.endswith(".md"):
+            for name in re.findall(r"\]\(([^)#:]*\.md)(?:#[^)]*)?\)", text):
+                folder, name = os.path.split(name)
+                if folder in ("", "docs", "..") and DOCUMENTS + "/" + name in found:
+                    count += 1
+                    trial.check(folder == "", "a link in " + path, folder + "/" + name)
+    trial.check(count > 5, "links between the documents", count)
+
+
+def try_prefix(trial):
+    """With another prefix no text names the usual one, and what the texts name is there."""
+    found = trial.installed("elsewhere", "--prefix", "/opt/aide")
+    prefix = "/opt/aide"
+    count = 0
+    for path, text in texts(found).items():
+        if "/kubernetes" in path:
+            good = "hostPath: {path: %s," % prefix in text and "mountPath: /usr/local," in text
+            trial.check(good, "the job mounts the prefix as /usr/local")
+            continue
+        named = re.findall(r"/usr/local" + OWN_PATH, text)
+        trial.check(not named, "the usual prefix in " + path, named)
+        for name in re.findall(re.escape(prefix) + OWN_PATH, text):
+            if path.endswith(("/installed", "/CHANGELOG.md")) or name.endswith(("-", "/", "/system")):
+                continue
+            count += 1
+            there = any(one == name.rstrip(".")[1:] or one.startswith(name.rstrip(".")[1:] + "/") for one in found)
+            trial.check(there, "what %s names is installed" % path, name)
+    trial.check(count > 4, "texts that name what is installed", count)
+
+
+def try_units(trial):
+    """The units are sound where systemd says so, and call what is installed."""
+    folder = trial.path("first/usr/local/lib/systemd/system")
+    with open(os.path.join(folder, "aide-compare.service")) as file:
+        service = file.read()
+    start = re.findall(r"^ExecStart=(.*)$", service, re.M)
+    trial.check(start == ["/usr/local/bin/aide-compare-mail --age 180000 --state /var/lib/aide-compare/state"], "ExecStart", start)
+    trial.check("\nSuccessExitStatus=1 2 3 4 5 6 7\n" in service, "SuccessExitStatus")
+    if not shutil.which("systemd-analyze"):
+        trial.skip("the units: systemd-analyze is not installed")
+        return
+    release = re.match(r"systemd (\d+)", trial.run(["systemd-analyze", "--version"])[1])
+    if not release or int(release.group(1)) < 252:
+        trial.skip("the units: systemd-analyze is older than 252")
+        return
+    copy = trial.write("units/aide-compare.service", service.replace(start[0], "/bin/true"))
+    shutil.copy(os.path.join(folder, "aide-compare.timer"), os.path.dirname(copy))
+    done = trial.run(["systemd-analyze", "security", "--offline=true", "--threshold=30", copy])
+    trial.check(done[0] == 0, "the service is exposed by 3.0 at most", done[1][-80:])
+    done = trial.run(["systemd-analyze", "verify", "--man=no", copy, os.path.join(os.path.dirname(copy), "aide-compare.timer")])
+    trial.check(done[0] == 0 and "aide-compare" not in done[2], "systemd-analyze verify", done)
+
+
+def try_cron(trial):
+    """The jobs are silent, also where the tool ends with differences or is gone."""
+    folder = trial.path("jobs")
+    trial.installed("unused")
+    done = trial.install("--prefix", folder, "--program", trial.program)
+    trial.check(done[0] == 0, "install below a prefix of its own", done)
+    examples = os.path.join(folder, DOCUMENTS, "examples", "cron")
+    with open(os.path.join(examples, "aide-compare.cron.d")) as file:
+        lines = [line for line in file.read().splitlines() if line and not line.startswith("#")]
+    jobs = [line for line in lines if not re.match(r"\w+=", line)]
+    trial.check(len(jobs) == 1 and re.match(r"(\S+\s+){5}root\s", jobs[0]) and "%" not in jobs[0], "the line of cron.d", jobs)
+    trial.check([line.split("=")[0] for line in lines if line not in jobs] == ["SHELL", "PATH"], "its variables", lines)
+    command = re.split(r"\s+", jobs[0], 6)[6]
+    daily = os.path.join(examples, "aide-compare.cron.daily")
+    tool = os.path.join(folder, "bin", "aide-compare-mail")
+    called = trial.path("called")
+    for status in (0, 5, 18, None):
+        if status is None:
+            os.remove(tool)
+        else:
+            trial.write("jobs/bin/aide-compare-mail", '#!/bin/sh\necho "$0 $*" >> "%s"\nexit %d\n' % (called, status), 0o755)
+        done = trial.run(["sh", "-c", command])
+        trial.check(done[1:] == ("", ""), "cron.d, the tool's status %s" % status, done)
+        done = trial.run([daily])
+        trial.check(done == (0, "", ""), "cron.daily, the tool's status %s" % status, done)
+    with open(called) as file:
+        lines = file.read().splitlines()
+    trial.check(lines == [tool + " --age 180000 --state /var/lib/aide-compare/state"] * 6, "what the jobs call", lines)
+    if shutil.which("run-parts"):
+        for name in ("aide-compare.cron.daily", "aide-compare"):
+            target = trial.path("parts-" + name, name)
+            os.makedirs(os.path.dirname(target))
+            shutil.copy(daily, target)
+            done = trial.run(["run-parts", "--test", os.path.dirname(target)])
+            trial.check((target in done[1]) == (name == "aide-compare"), "run-parts and the name " + name, done)
+    else:
+        trial.skip("the names that run-parts takes: it is not installed")
+
+
+def try_version(trial):
+    """Whatever else names a version agrees with VERSION."""
+    trial.check(re.match(r"\d+\.\d+\.\d+$", trial.version), "the form of VERSION", trial.version)
+    with open(os.path.join(HERE, "CHANGELOG.md")) as file:
+        parts = re.findall(r"^## (\S+)", file.read(), re.M)
+    trial.check(trial.version in parts, "a part of CHANGELOG.md for the version", parts)
+    for name in ("README.md", "docs/RECIPES.md"):
+        with open(os.path.join(HERE, name)) as file:
+            found = re.findall(r"aide-compare[_-]\d[\w.-]*?(?:-x86_64|_amd64)", file.read())
+        wanted = ["aide-compare-%s-x86_64" % trial.version, "aide-compare_%s-1_amd64" % trial.version]
+        trial.check(all(one in wanted for one in found), "the packages that %s names" % name, found)

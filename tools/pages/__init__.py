@@ -1,0 +1,1 @@
+"""Trials of what the pages show: manual pages, recipes, README."""

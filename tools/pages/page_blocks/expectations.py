@@ -1,0 +1,251 @@
+"""What displays need before they are run, and what is looked at after it."""
+import base64
+import hashlib
+import os
+import re
+import stat
+
+from tools.pages.recipes.days import taken
+
+from .pages import HERE, read
+from .sandbox import AIDE, HEAD, OLD, STATE, STORE, SUMMARY
+
+MINIMAL = "AIDE found differences between the two databases.\n"
+HOST = STORE + "/hosts/www/aide.db"
+
+
+def nothing(sandbox, found):
+    """Where there is no more to look at."""
+
+
+def prints(text):
+    """The output is the text, or begins with it if the text is no whole line."""
+
+    def look(sandbox, done):
+        good = done[1] == text if text.endswith("\n") else done[1].lstrip().startswith(text)
+        sandbox.check(good and not done[2], "prints %r" % text, done)
+
+    return look
+
+
+def lists(*paths):
+    """The report lists these paths and no other."""
+
+    def look(sandbox, done):
+        found = sorted(re.findall(r"^\S.{17}: (/.*)$", done[1], re.M))
+        sandbox.check(found == sorted(paths) and not done[2], "the entries of the report", done)
+
+    return look
+
+
+def has_summary(sandbox, done):
+    sandbox.check(done[1].startswith(MINIMAL + "\n" + SUMMARY) and not done[2], "the report", done)
+
+
+def is_minimal(sandbox, done):
+    sandbox.check(done[1] == MINIMAL and not done[2], "the first line of the report and no more", done)
+
+
+def is_refused(words):
+    def look(sandbox, done):
+        sandbox.check(not done[1] and words in done[2], "no report, and: " + words, done)
+
+    return look
+
+
+def compare(sandbox):
+    """What an administrator did before: a comparison that left its state."""
+    done = sandbox.run("aide-compare-run --state %s" % STATE)
+    sandbox.check(done[0] == [7], "a comparison before", done)
+
+
+def put_examples(sandbox):
+    """The databases whose digest the page of aide-compare-accept shows."""
+    sandbox.fill(read("examples/old.db"), read("examples/new.db"))
+
+
+def same_files(sandbox, *names):
+    texts = []
+    for name in names:
+        with open(sandbox.path(name), "rb") as file:
+            texts.append(file.read())
+    return texts[0] == texts[1]
+
+
+def is_accepted(sandbox, done):
+    sandbox.check(same_files(sandbox, AIDE, AIDE + ".new"), "the new database is the baseline", done)
+
+
+def has_page(sandbox, done):
+    text = sandbox.read("/tmp/page.html")
+    sandbox.check(not done[1] and not done[2] and text.endswith("</html>\n") and "/c" in text, "the page", done)
+
+
+def put_json(sandbox):
+    """Entries /0 to /7: what others may do was nothing, and is now what the number says."""
+    line = "/%d 10064%d 1 MA== 1\n"
+    old = "".join(line % (rights, 0) for rights in range(8))
+    new = "".join(line % (rights, rights) for rights in range(8))
+    sandbox.fill(HEAD + old + "@@end_db\n", HEAD + new + "@@end_db\n")
+    sandbox.run("aide-compare-run old.gz new.gz | aide-compare-json > lines.json")
+
+
+def is_logged(sandbox, done):
+    words, _, line = (taken(sandbox.trial, "logged") or "").partition("\n")
+    good = words == "-t aide-compare -p auth.notice"
+    good = good and line.startswith("differences: status=7 added=1 removed=1 changed=2 ")
+    sandbox.check(good and not done[1] and not done[2], "the line in the log", (words, line, done))
+
+
+def is_mailed(address, page):
+    """The mail is for the address, has the report, and a page if there is to be one; the state is written."""
+
+    def look(sandbox, done):
+        mail = taken(sandbox.trial, "mailed") or ""
+        good = "To: %s\n" % address in mail and "Changed entries:         2" in mail and ("text/html" in mail) == page
+        sandbox.check(good and not done[1] and not done[2], "the mail", (mail[:600], done))
+        has_state(sandbox, done)
+
+    return look
+
+
+def has_state(sandbox, done):
+    sandbox.check("\nadded=1\nremoved=1\nchanged=2\n" in sandbox.read(STATE), "the state", done)
+
+
+def metrics(sandbox):
+    return sandbox.read("/var/lib/prometheus/node-exporter/aide.prom")
+
+
+def has_metrics(sandbox, done):
+    text = metrics(sandbox)
+    wanted = ["aide_compare_status 7\n", "aide_compare_added_entries 1\n", "aide_compare_changed_entries 2\n"]
+    sandbox.check(all("\n" + line in text for line in wanted), "the metrics", (text, done))
+
+
+def try_alarms(sandbox, text):
+    """Each metric of the rules is one that is written, and the words of the rules are those of Prometheus."""
+    compare(sandbox)
+    sandbox.run("aide-compare-metrics /var/lib/prometheus/node-exporter/aide.prom")
+    names = set(re.findall(r"\baide_compare_\w+", text))
+    sandbox.check(names and all("\n%s " % name in metrics(sandbox) for name in names), "the metrics of the rules", names)
+    words = set(re.findall(r"^[ -]*(\w+):", text, re.M))
+    sandbox.check(words == {"groups", "name", "rules", "alert", "expr"}, "the words of the rules", words)
+
+
+def is_private(sandbox, done):
+    has_summary(sandbox, done)
+    for name in ("/root/old.db", "/root/new.db"):
+        mode = stat.S_IMODE(os.stat(sandbox.path(name)).st_mode)
+        sandbox.check(mode == 0o600, "others cannot read " + name, oct(mode))
+
+
+def run_with(sandbox, text, words):
+    sandbox.write("/tmp/compare.conf", sandbox.trial.below(text))
+    done = sandbox.trial.run(["aide-compare", "-E", "-c", sandbox.path("/tmp/compare.conf")] + words)
+    return done[0], sandbox.trial.above(done[1]), done[2]
+
+
+def is_configuration(words):
+    """A configuration of the page compares the databases that it names."""
+
+    def look(sandbox, text):
+        done = run_with(sandbox, text, words)
+        sandbox.check(done[0] == 7, "the configuration %r" % text, done)
+        has_summary(sandbox, done)
+
+    return look
+
+
+def is_database(sandbox, text):
+    sandbox.fill(text, text)
+    done = run_with(sandbox, sandbox.pair("/tmp/old.db", "/tmp/new.db"), [])
+    sandbox.check(done[0] == 0 and "NO differences" in done[1] and not done[2], "the database of the page", done)
+
+
+def try_owners_and_modes(sandbox, text):
+    """Times, inodes and attributes of one run only are no change, and nothing is printed; modes are."""
+    spec = "@@begin_db\n@@db_spec name perm uid size mtime inode sha256\n"
+    digest = base64.b64encode(hashlib.sha256(b"").digest()).decode()
+    line = spec + "/c %s 0 0 %s %d %s\n@@end_db\n"
+    with_digest, without = line % ("100644", "MA==", 1, digest), line % ("100644", "MQ==", 2, "0")
+    for old, new in ((with_digest, without), (without, with_digest)):
+        sandbox.fill(old, new)
+        done = run_with(sandbox, text, [])
+        sandbox.check(done == (0, "", ""), "times, inodes, and a digest that one run has", done)
+        sandbox.fill(old, new.replace("100644", "100600"))
+        done = run_with(sandbox, text, [])
+        sandbox.check(done[0] == 4 and "\nf = p" in done[1], "a mode", done)
+
+
+def is_line_of_check(sandbox, text):
+    """The line of the page is that of a state with its counts; the age is that of now."""
+    counts = [int(word) for word in re.findall(r"(\d+) (?:added|removed|changed)", text.partition("|")[0])]
+    sandbox.check(len(counts) == 3, "the counts of the line", text)
+    added = "".join("/a%d 100644 1 MA== 1\n" % k for k in range(counts[0]))
+    removed = "".join("/r%d 100644 1 MA== 1\n" % k for k in range(counts[1]))
+    changed = "".join("/c%d 100644 %%d MA== 1\n" % k for k in range(counts[2]))
+    sizes = [changed % ((size,) * counts[2]) for size in (1, 2)]
+    sandbox.fill(HEAD + sizes[0] + removed + "@@end_db\n", HEAD + added + sizes[1] + "@@end_db\n")
+    sandbox.run("aide-compare-run --state %s" % STATE)
+    done = sandbox.run("/usr/local/lib/nagios/plugins/check_aide_compare")
+    without_age = [re.sub(r"age=\d+s", "age", line) for line in (done[1], text)]
+    sandbox.check(without_age[0] == without_age[1], "the line of the check", done)
+
+
+def put_baseline(sandbox):
+    sandbox.write(HOST, OLD, 0o600)
+
+
+def is_first_of_host(sandbox, done):
+    sandbox.check("SHA-256 " in done[1] + done[2] and os.path.isfile(sandbox.path(HOST)), "the first baseline", done)
+
+
+def compare_host(sandbox):
+    put_baseline(sandbox)
+    done = sandbox.run("compare-hosts /etc/aide-compare/hosts")
+    sandbox.check(done[0] == [7], "a comparison of the host before", done)
+
+
+def is_accepted_for_host(sandbox, done):
+    sandbox.check(same_files(sandbox, HOST, AIDE + ".new"), "the baseline of the host", done)
+
+
+def is_shortened_report(sandbox, text):
+    """The lines of the page are lines of the report, in this order."""
+    folder = os.path.join(HERE, "examples", "small_tree")
+    done = sandbox.trial.run(["aide-compare", "-E", "-c", folder + "/aide.conf", "-B", "@@define DIR " + folder])
+    lines = iter([line.rstrip() for line in done[1].splitlines()])
+    missing = [line for line in text.splitlines() if line.rstrip() not in lines]
+    sandbox.check(done[0] == 7 and not missing, "lines that the report has not, or not in this order", missing)
+
+
+def is_first_answer(sandbox, done):
+    """README says what its first command prints and what it ends with."""
+    said = re.search(r"\(`(\w+=\w+)`\), prints `([^`]+)` and ends with\s+status (\d+)\.", read("README.md"))
+    sandbox.check(said, "the page says the output and the status")
+    if said:
+        sandbox.check([int(said.group(3))] == done[0], "the status, as the page says", done)
+        sandbox.check(done[1].startswith(said.group(2) + "\n"), "the output, as the page says", done)
+        sandbox.check(not sandbox.with_rt or said.group(1) in done[1] + done[2], "what rt says, as the page says", done)
+
+
+def is_package(sandbox, text):
+    name = "aide-compare_%s-1_amd64.deb" % read("VERSION").strip()
+    sandbox.check(text == "dpkg -i %s\n" % name, "the package that packaging/make_package writes", name)
+
+
+def set_pages(sandbox):
+    """The installed pages are those that man finds."""
+    os.environ["MANPATH"] = sandbox.path("/usr/local/share/man")
+
+
+def is_kit(sandbox, done):
+    told = "`%s` (`rt version`)" % done[1].strip()
+    sandbox.check(told in read("README.md"), "the version of the kit, as the page says", done)
+
+
+def are_examples(sandbox, done):
+    said = re.search(r"^All three end with status (\d+):", read("examples/README.md"), re.M)
+    sandbox.check(said and done[0][1:] == [int(said.group(1))] * 3, "the status of all three, as the page says", done)
+    sandbox.check(done[1].count(MINIMAL) == 3 and not done[2], "three reports", done)

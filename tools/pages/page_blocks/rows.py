@@ -1,0 +1,149 @@
+"""How each display of the pages is tried: what its commands end with, and a look at what they print."""
+import os
+import re
+
+from . import expectations
+from .pages import HERE
+
+README, EXAMPLES, RUN, MAIN = "README.md", "examples/README.md", "man/aide-compare-run.1", "man/aide-compare.1"
+CONF, HOSTS = "man/aide-compare.conf.5", "man/compare-hosts.1"
+JSON = "man/aide-compare-json.1"
+
+
+class Row:
+    """The display of a page after the sentences of the key, of which "..." leaves out the rest. A span is its own key."""
+
+    def __init__(self, page, key):
+        self.page, self.key = page, key
+
+    def is_of(self, display):
+        begins = self.key.endswith("...") and display.key.startswith(self.key[:-3])
+        return display.page == self.page and (begins or display.key == self.key)
+
+
+class Commands(Row):
+    """Commands that are run. look(sandbox, done) compares more; needs names a program that may be missing."""
+
+    def __init__(self, page, key, statuses, look=expectations.nothing, prepare=None, folder="/tmp", given=None, needs=None):
+        super().__init__(page, key)
+        self.statuses, self.look, self.prepare, self.folder, self.given, self.needs = (
+            statuses, look, prepare, folder, given, needs)
+
+    def work(self, sandbox, display):
+        if self.needs and not sandbox.has(self.needs):
+            print("skipped: %s %s is not installed" % (display.name(), self.needs))
+            return
+        sandbox.fill()
+        if self.prepare:
+            self.prepare(sandbox)
+        done = sandbox.run(display.text, self.folder, self.given)
+        sandbox.check(done[0] == self.statuses, "ends with %s" % self.statuses, done)
+        said = re.findall(r"\(?status (\d+)", display.key)
+        sandbox.check(not said or [int(word) for word in said] == done[0][-1:], "ends as the page says: %s" % said, done)
+        self.look(sandbox, done)
+
+
+class Shown(Row):
+    """A text that is no command: look(sandbox, text) makes what it shows, and compares."""
+
+    def __init__(self, page, key, look):
+        super().__init__(page, key)
+        self.look = look
+
+    def work(self, sandbox, display):
+        sandbox.fill()
+        self.look(sandbox, display.text)
+
+
+class Elsewhere(Row):
+    """What cannot be run here: the reason, and the file of the repository that tries it instead."""
+
+    def __init__(self, page, key, reason, file, look=expectations.nothing):
+        super().__init__(page, key)
+        self.reason, self.file, self.look = reason, file, look
+
+    def work(self, sandbox, display):
+        sandbox.check(os.path.isfile(os.path.join(HERE, self.file)), "is tried by a file that is there: " + self.file)
+        for name in re.findall(r"^(?:tools|packaging)/\S+", display.text, re.M):
+            sandbox.check(os.access(os.path.join(HERE, name), os.X_OK), "names a command that is there: " + name)
+        self.look(sandbox, display.text)
+
+
+class WithRt(Commands):
+    """Commands of the kit that are run only if this is asked for."""
+
+    def work(self, sandbox, display):
+        if sandbox.with_rt:
+            super().work(sandbox, display)
+        else:
+            print("skipped: %s; --with-rt runs it" % display.name())
+
+
+class FirstAnswer(Commands):
+    """README's first command: by the built program, or in this clone by the kit if this is asked for."""
+
+    def work(self, sandbox, display):
+        self.folder = HERE if sandbox.with_rt else "/tmp/clone"
+        super().work(sandbox, display)
+
+
+LEVELS = ["minimal", "summary", "database_attributes", "list_entries", "changed_attributes", "added_removed_attributes",
+          "added_removed_entries"]
+ROWS = [
+    Commands("man/aide-compare-accept.1", "Accept what the last report showed, on Debian:", [0], expectations.is_accepted,
+             prepare=expectations.compare),
+    Commands("man/aide-compare-accept.1", "Accept by the digest in a report or in a mail:", [0], expectations.is_accepted,
+             prepare=expectations.put_examples),
+    Commands("man/aide-compare-html.1", "A page of the differences between two databases:", [0], expectations.has_page),
+    Commands(JSON, "The paths of all entries that were added:", [0], expectations.prints("/a\n"), needs="jq"),
+    Commands(JSON, "All files whose new permissions let everybody write them:", [0], expectations.prints("/2\n/3\n/6\n/7\n"),
+             prepare=expectations.put_json, given="/tmp/lines.json", needs="jq"),
+    Commands("man/aide-compare-log.1", "EXAMPLES", [0], expectations.is_logged, prepare=expectations.compare),
+    Commands("man/aide-compare-mail.1", "Compare the databases that AIDE's configuration names. ...", [7],
+             expectations.is_mailed("root", False)),
+    Commands("man/aide-compare-mail.1", "The same for another reader, with a page:", [7],
+             expectations.is_mailed("security@example.org", True)),
+    Commands("man/aide-compare-metrics.1", "Write the metrics after each comparison:", [7, 0], expectations.has_metrics),
+    Shown("man/aide-compare-metrics.1", "Rules for alarms, in a file of rules for Prometheus. ...", expectations.try_alarms),
+    Commands(RUN, "Compare two files:", [7], expectations.has_summary),
+    Commands(RUN, "Compare the databases that AIDE's configuration names, and write the result for the check ...", [7],
+             expectations.has_state),
+    Commands(RUN, "Ask only whether there is a difference:", [7], expectations.is_minimal),
+    Commands(RUN, "Show the difference, but not that of access times and inodes:", [7], expectations.lists("/a", "/b", "/c")),
+    Commands(RUN, "Compare a database that comes from another host, of at most one gigabyte:", [7], expectations.has_summary),
+    Commands("man/aide-compare-sort.1", "Sort a database and compare it with the baseline:", [0, 7], expectations.has_summary),
+    Commands(MAIN, "Compare the two databases that AIDE has left on Debian, compressed or not:", [7], expectations.has_summary),
+    Commands(MAIN, "The same by hand, where only you can read the unpacked copies:", [0, 0, 0, 7], expectations.is_private),
+    Commands(MAIN, "With a configuration that names the databases, ask only whether there is a difference:", [7],
+             expectations.is_minimal),
+    Commands(MAIN, "Check a configuration:", [0], expectations.prints("good\n")),
+    Commands(MAIN, "Do not do this. A pipe cannot be read twice, ...", [18], expectations.is_refused("changed while it was read")),
+    Shown(CONF, "The configuration of aide-compare 1 ...", expectations.is_configuration([])),
+    Shown(CONF, "A database is plain text, ...", expectations.is_database),
+    Shown(CONF, "Report only changes of owners, modes and contents, ...", expectations.try_owners_and_modes),
+    Shown(CONF, "One file for all hosts. ...", expectations.is_configuration(["--before=@@define HOST www"])),
+    Shown("man/check_aide_compare.1", "The line has numbers for graphs: ...", expectations.is_line_of_check),
+    Commands("man/check_aide_compare.1", "EXAMPLES", [2], expectations.prints("AIDE CRITICAL: "), prepare=expectations.compare),
+    Commands(HOSTS, "All hosts of a file, 16 at a time:", [7], expectations.prints("www 7 added 1, removed 1, changed 2"),
+             prepare=expectations.put_baseline),
+    Commands(HOSTS, "A new host:", [0], expectations.is_first_of_host),
+    Commands(HOSTS, "The database of the last report becomes the baseline:", [0], expectations.is_accepted_for_host,
+             prepare=expectations.compare_host),
+    Shown(README, "A report of two databases that AIDE has written (`examples/small_tree`), shortened:",
+          expectations.is_shortened_report),
+    FirstAnswer(README, "## First answer in a minute", [7], expectations.is_first_answer),
+    Commands(README, "## Use", [7], expectations.has_summary),
+    Commands(README, "aide-compare-run OLD NEW | aide-compare-json | aide-compare-html > page.html", [0], expectations.has_page),
+    Commands(README, "man aide-compare", [0], expectations.prints("AIDE-COMPARE(1)"), prepare=expectations.set_pages, needs="man"),
+    Commands(README, "man aide-compare.conf", [0], expectations.prints("AIDE-COMPARE.CONF(5)"), prepare=expectations.set_pages,
+             needs="man"),
+    WithRt(README, "rt version", [0], expectations.is_kit),
+    Commands(EXAMPLES, "Each folder has an old database, a new one, and a configuration. ...", [0, 7, 7, 7],
+             expectations.are_examples, folder="/tmp/clone"),
+    Elsewhere(README, "dpkg -i aide-compare_...", "it installs for the whole machine", "tools/packaging/installing/packages.py",
+              expectations.is_package),
+    Elsewhere(README, "From a package: ...", "it builds, and installs for the whole machine", "tools/packaging/try_install.py"),
+    Elsewhere(README, "This runs the program before anything is proved ...", "this script is a part of it", "tools/test"),
+]
+ROWS += [Elsewhere(MAIN, "Cm %s ..." % level, "a report, which is compared level for level", "tools/pages/try_manual.py")
+         for level in LEVELS]

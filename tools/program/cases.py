@@ -1,0 +1,139 @@
+#!/usr/bin/env python3
+"""The stored cases of tools/program/cases: whole sessions, each in one file, with their answers.
+
+usage: python3 -m tools.program.cases PROGRAM [CASE...]    runs the program over the cases; the last line is 'N passed, M failed'
+       cases.py --write CASE...      writes what the definitions answer into the cases
+
+A case begins with a sentence that says what it shows. Then come sections, each under a line `-- NAME --`: `words` (the
+arguments, one a line), files of the folder in which the case is run (`conf`, `old`, `new`), and the right answer:
+`stdout`, `stderr`, `status`. `/@DIR@` is replaced by the folder. A section `NAME (escaped)` is read as one line, with
+backslashes as in C. So are the arguments.
+"""
+import glob
+import os
+import re
+import sys
+import tempfile
+from collections import namedtuple
+
+from tools.oracle.session import Answer
+from tools.lib.tally import Tally, difference, file_at, program_of, run, wanted
+
+HEADER = re.compile(r'^-- (\w+)( \(escaped\))? --$')
+ANSWERS = ['stdout', 'stderr', 'status']
+FOLDER = os.path.join(os.path.dirname(os.path.abspath(__file__)), 'cases')
+DIR = b'/@DIR@'
+
+Case = namedtuple('Case', 'title sections')
+
+
+def lines_of(text):
+    return re.findall(r'[^\n]*\n|[^\n]+', text)
+
+
+def unescaped(text):
+    return text.encode('ascii').decode('unicode_escape').encode('latin-1')
+
+
+def escaped(text):
+    return text.decode('latin-1').encode('unicode_escape').decode()
+
+
+def parse(text):
+    """The title of a case and its sections as bytes."""
+    title, sections, name = [], {}, None
+    for line in lines_of(text):
+        found = HEADER.match(line.rstrip('\n'))
+        if found:
+            name, is_escaped = found.group(1), bool(found.group(2))
+            sections[name] = b''
+        elif name is None:
+            title.append(line)
+        else:
+            sections[name] += unescaped(line.rstrip('\n')) if is_escaped else line.encode()
+    return Case(''.join(title), sections)
+
+
+def is_plain(text):
+    """Whether a text stands in a case as it is."""
+    try:
+        lines = text.decode('utf-8').split('\n')
+    except UnicodeDecodeError:
+        return False
+    return lines[-1] == '' and all(line.replace('\t', '').isprintable() and not HEADER.match(line) for line in lines)
+
+
+def printed(case):
+    parts = [case.title]
+    for name, text in case.sections.items():
+        if is_plain(text):
+            parts.append('-- %s --\n%s' % (name, text.decode()))
+        else:
+            lines = [line.encode('latin-1') for line in lines_of(text.decode('latin-1'))]
+            parts.append('-- %s (escaped) --\n%s' % (name, ''.join(escaped(line) + '\n' for line in lines)))
+    return ''.join(parts)
+
+
+def answers_in(case, folder, answer):
+    """Runs a case in a folder: `answer` is asked for its words."""
+    for name, text in case.sections.items():
+        if name not in ANSWERS + ['words']:
+            with open(os.path.join(folder, name.encode()), 'wb') as file:
+                file.write(text.replace(DIR, folder) if name == 'conf' else text)
+    lines = case.sections['words'].decode().split('\n')[:-1]
+    return answer([unescaped(line).replace(DIR, folder) for line in lines])
+
+
+def stored(case, folder):
+    output, errors, status = (case.sections[name].replace(DIR, folder) for name in ANSWERS)
+    return Answer(output, errors, int(status))
+
+
+def read(path):
+    with open(path, encoding='utf-8') as file:
+        return parse(file.read())
+
+
+def write(path):
+    """Writes what the definitions answer into a case."""
+    case = read(path)
+    with tempfile.TemporaryDirectory() as folder:
+        folder = folder.encode()
+        answer = answers_in(case, folder, wanted)
+        texts = [answer.output, answer.errors, b'%d\n' % answer.status]
+        case.sections.update((name, text.replace(folder, DIR)) for name, text in zip(ANSWERS, texts))
+    with open(path, 'w', encoding='utf-8') as file:
+        file.write(printed(case))
+
+
+def try_cases(program, paths, tally):
+    """Tries the program, and the definitions, over stored cases."""
+    tally.add('the stored cases', [] if paths else ['there is none in ' + FOLDER])
+    for path in paths:
+        case, label = read(path), os.path.relpath(path, FOLDER)
+        with tempfile.TemporaryDirectory() as folder:
+            folder = folder.encode()
+            want = stored(case, folder)
+            tally.check(label, answers_in(case, folder, lambda words: run(program, words)), want)
+            told = difference(wanted(*[answers_in(case, folder, list)], file_at), want)
+            tally.add('the definitions at ' + label, told)
+
+
+def all_cases():
+    return sorted(glob.glob(os.path.join(FOLDER, '*', '*.case')))
+
+
+def main():
+    if len(sys.argv) > 2 and sys.argv[1] == '--write':
+        for path in sys.argv[2:]:
+            write(path)
+        return
+    if len(sys.argv) < 2:
+        sys.exit(__doc__)
+    tally = Tally()
+    try_cases(program_of(sys.argv[1]), sys.argv[2:] or all_cases(), tally)
+    tally.end()
+
+
+if __name__ == '__main__':
+    main()

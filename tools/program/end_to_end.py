@@ -1,0 +1,49 @@
+#!/usr/bin/env python3
+"""Tries the built program over real files, as part of the gate.
+
+usage: python3 -m tools.program.end_to_end PROGRAM [--sessions COUNT] [--seed SEED] [--jobs N]
+
+It tries the examples, the stored cases, random sessions, devices that fail, files that are missing or of another kind,
+folders and arguments of unusual forms, the limits, little memory, little stack, few descriptors, and how often a database
+is opened. The right answers come from the definitions (tools/oracle), from AIDE, or from these files themselves. The last
+line is 'N passed, M failed'.
+"""
+import argparse
+import random
+
+from tools.program import cases
+from tools.program.random_sessions import try_sessions
+from tools.program.real_files.devices import try_devices
+from tools.program.real_files.examples import try_examples
+from tools.program.real_files.fifos import try_fifos
+from tools.program.real_files.limits import try_limits
+from tools.program.real_files.outside import try_quickly
+from tools.program.real_files.paths import try_paths
+from tools.program.real_files.stack import try_stack
+from tools.lib.tally import Tally, program_of
+
+
+def main():
+    parser = argparse.ArgumentParser(description='Tries the built program over real files.')
+    parser.add_argument('program')
+    parser.add_argument('--sessions', type=int, default=200, help='how many random sessions')
+    parser.add_argument('--seed', type=int, default=random.SystemRandom().randrange(10**9),
+                        help='the seed of the random sessions')
+    parser.add_argument('--jobs', type=int, default=2, help='how many random sessions at a time')
+    given = parser.parse_args()
+    program, tally = program_of(given.program), Tally()
+    try_examples(program, tally)
+    cases.try_cases(program, cases.all_cases(), tally)
+    try_devices(program, tally)
+    try_limits(program, tally)
+    try_paths(program, tally)
+    try_fifos(program, tally)
+    try_quickly(program, tally)
+    try_stack(program, tally)
+    print('seed %d' % given.seed, flush=True)
+    try_sessions(program, given.seed, range(given.sessions), given.jobs, tally)
+    tally.end()
+
+
+if __name__ == '__main__':
+    main()

@@ -1,0 +1,127 @@
+#!/usr/bin/env python3
+"""Tries what the built program makes of the fields of a database, by the details of its reports.
+
+usage: python3 -m tools.program.try_fields PROGRAM
+
+The tables in databases/fields.py say what a field means, whether two of them differ, or why one is refused. The
+definitions have to say the same. The last line is 'N passed, M failed'.
+"""
+import argparse
+import base64
+import re
+
+from tools.program import field_rows
+from tools.oracle.session import Answer
+from tools.oracle.texts import printed
+from tools.program.real_files.folder import Folder
+from tools.lib.tally import Tally, difference, program_of, shown
+
+ALL_DETAILS = b'report_level=added_removed_entries\nreport_base16=yes\n'
+CHANGED_DETAILS = b'report_level=changed_attributes\n'
+NOTHING = b'@@begin_db\n@@db_spec name\n@@end_db\n'
+
+# A line of the details: the name of the attribute, or nothing where a value goes on, and the values of both sides.
+LINE = re.compile(rb'^  (.{10})(?:: |  )(.{32}) \| (.*)$', re.MULTILINE)
+
+
+def database(column, field):
+    """A database of one entry with a path and another field."""
+    return b'@@begin_db\n@@db_spec name %s\n/a %s\n@@end_db\n' % (column, field)
+
+
+def details(output):
+    """The old and the new value of each attribute in the details of a report, by its name."""
+    found, name = {}, None
+    for label, old, new in LINE.findall(output):
+        name = label.decode().strip() or name
+        values = found.get(name, (b'', b''))
+        found[name] = tuple(value + more.rstrip(b' ') for value, more in zip(values, (old, new)))
+    return found
+
+
+class Trials:
+    """One pair of databases after another, each in the place of the last."""
+
+    def __init__(self, program, folder, tally):
+        self.program, self.folder, self.tally = program, folder, tally
+
+    def answer(self, label, old, new, options=ALL_DETAILS):
+        """The program's answer to two databases, which the definitions have to give too."""
+        self.folder.pair(old, new, options)
+        answer = self.folder.run(self.program)
+        self.tally.add('the definitions at ' + label, difference(answer, self.folder.wanted()))
+        return answer
+
+    def added(self, column, field):
+        """The values in the details of an added entry."""
+        answer = self.answer(shown(field), NOTHING, database(column, field))
+        self.tally.add(shown(field), [] if answer.status == 1 else ['status %d' % answer.status])
+        return {name: new for name, (_, new) in details(answer.output).items()}
+
+    def check(self, field, given, want):
+        self.tally.add(shown(field), [] if given == want else ['wanted %r, given %r' % (want, given)])
+
+
+def try_values(trials):
+    for column, field, name, value in field_rows.NUMBERS:
+        trials.check(field, trials.added(column, field).get(name), value.encode())
+    for field, value in field_rows.TYPES:
+        trials.check(field, trials.added(b'perm', field).get('Type'), value and value.encode())
+    for field, name in field_rows.LINKS:
+        trials.check(field, trials.added(b'lname', field).get('Lname'), name)
+    for column, field, length, first, last in field_rows.DIGESTS:
+        (text,) = trials.added(column, field).values()
+        value = bytes.fromhex(text.decode())
+        trials.check(field, (len(value), value[0], value[-1]), (length, first, last))
+        trials.check(field, value, base64.b64decode(field))
+        trials.check(field, trials.added(column, b'0'), {})
+
+
+def try_names(trials):
+    for field, path in field_rows.NAMES:
+        text = b'@@begin_db\n@@db_spec name acl\n%s POSIX,0\n@@end_db\n' % field
+        answer = trials.answer(shown(field), NOTHING, text)
+        trials.check(field, re.findall(rb'^\?\+{17}: (.*)$', answer.output, re.MULTILINE), [printed(path)])
+        trials.check(field, details(answer.output), {'ACL': (b'', b'POSIX,0')})
+
+
+def try_lacking(trials):
+    for columns, name, without, having in field_rows.LACKING:
+        trials.check(without, name in trials.added(columns, without), False)
+        trials.check(having, name in trials.added(columns, having), True)
+
+
+def try_pairs(trials):
+    """What has changed from a field to another. An attribute that only one side has is no change of a value."""
+    for column, old, new, changed in field_rows.PAIRS:
+        both = old + b' ' + new
+        answer = trials.answer(shown(both), database(column, old), database(column, new), CHANGED_DETAILS)
+        trials.check(both, list(details(answer.output)), changed)
+
+
+def try_entries(trials):
+    for old, new, values in field_rows.ENTRIES:
+        answer = trials.answer(shown(new), old, new)
+        trials.check(new, details(answer.output), values)
+
+
+def try_refused(trials):
+    for column, field, words in field_rows.REFUSED:
+        answer = trials.answer(shown(field), NOTHING, database(column, field))
+        want = Answer(b'', b'aide: new database:3: %s in column 2\n' % words.encode(), 24)
+        trials.tally.check(shown(field), answer, want)
+
+
+def main():
+    parser = argparse.ArgumentParser(description='Tries what the program makes of the fields of a database.')
+    parser.add_argument('program')
+    given = parser.parse_args()
+    with Folder() as folder:
+        trials = Trials(program_of(given.program), folder, Tally())
+        for trial in (try_values, try_names, try_lacking, try_pairs, try_entries, try_refused):
+            trial(trials)
+    trials.tally.end()
+
+
+if __name__ == '__main__':
+    main()

@@ -1,0 +1,127 @@
+#!/usr/bin/env python3
+"""Checks what the pages of this repository name: links, files, code that was copied in, clauses, tables of files.
+
+usage: python3 -m tools.source.check_docs [--help]
+
+- Each link of a page leads to a file of the repository.
+- Each file that a page names in backquotes exists: below the top, a crate, or a crate's src/. Built files (`out/`) and
+  names with `NAME` in them are left out.
+- A block of code below `<!-- from: FILE -->` is FILE, letter for letter.
+- The table in docs/ARCHITECTURE.md of files that say what is promised has the files that tools/public_specs.py finds.
+- Each clause that docs/LIBRARY.md names for a call is a clause of this call.
+
+Prints what fails and, at the end, `N passed, M failed`.
+"""
+import glob
+import os
+import re
+import subprocess
+import sys
+
+from tools.source import public_specs
+
+TOP = public_specs.TOP
+ENDINGS = r"(?:rt|antt|py|md|sh|c|txt|conf|edit|[15])"
+NAMED = re.compile(r"`((?:[\w.-]+/)*[\w.-]+\.%s)`" % ENDINGS)
+BELOW = re.compile(r"`((?:tools|packaging|commands|docs|crates|examples|contrib|man|bench)/[\w./-]*)`")
+
+
+class Tally:
+    """What was checked, and what was not so."""
+
+    def __init__(self):
+        self.passed, self.failed, self.kinds = 0, 0, {}
+
+    def check(self, kind, good, name):
+        self.kinds[kind] = self.kinds.get(kind, 0) + 1
+        if good:
+            self.passed += 1
+        else:
+            self.failed += 1
+            print("FAILED: %s: %s" % (kind, name))
+
+    def end(self, kinds):
+        for kind in kinds:
+            if not self.kinds.get(kind):
+                self.check(kind, False, "nothing was found to check")
+        print("%d passed, %d failed" % (self.passed, self.failed))
+        return 1 if self.failed else 0
+
+
+def read(name):
+    with open(os.path.join(TOP, name), encoding="utf-8") as file:
+        return file.read()
+
+
+def tracked():
+    """The files of the repository, by git where there is one."""
+    done = subprocess.run(["git", "-C", TOP, "ls-files"], stdout=subprocess.PIPE, stderr=subprocess.DEVNULL)
+    names = done.stdout.decode().split("\n")[:-1]
+    if done.returncode == 0 and names:
+        return names
+    return [os.path.relpath(name, TOP) for name in glob.glob(os.path.join(TOP, "**"), recursive=True)]
+
+
+def is_there(name, page):
+    """Whether a page may name a file so: from the top, beside the page, from a crate, from a crate's src/."""
+    folders = ["", os.path.dirname(page), "crates", "tools", "bench", "man", "contrib", "commands", "commands/bin", "crates/*", "crates/*/src",
+               "crates/*/src/*", "crates/*/proofs", "crates/*/specs", "tools/*", "tools/program/*", "tools/pages/*", "tools/commands/*", "packaging", "examples/*"]
+    # packaging/install puts the folders of contrib/ that are examples into examples/ beside the documents.
+    installed = name.replace("examples/", "contrib/", 1)
+    return any(glob.glob(os.path.join(TOP, folder, each)) for folder in folders for each in (name, installed))
+
+
+def check_names(page, text, tally):
+    for target in re.findall(r"\]\(([^)#]+?)(?:#[^)]*)?\)", text):
+        if "://" not in target:
+            tally.check("link", os.path.exists(os.path.join(TOP, os.path.dirname(page), target)), page + ": " + target)
+    plain = re.sub(r"```.*?```", "", text, flags=re.S)
+    for name in sorted(set(NAMED.findall(plain)) | set(BELOW.findall(plain))):
+        if "NAME" in name or "/out/" in name:
+            continue
+        tally.check("file", is_there(name.rstrip("/"), page), page + ": " + name)
+
+
+def check_copies(page, text, tally):
+    for name, block in re.findall(r"<!-- from: (\S+) -->\n```\w*\n(.*?)```\n", text, re.S):
+        tally.check("copied code", block == read(name), page + ": " + name)
+
+
+def check_promised(tally):
+    found = public_specs.met(public_specs.crates())
+    page = read("docs/ARCHITECTURE.md")
+    table = page[page.index("| Crate | Files of `specs/`"):].split("\n\n")[0]
+    for crate, files in re.findall(r"^\| `(\w+)` \| (.*) \|$", table, re.M):
+        named = sorted(re.findall(r"`([\w.]+)`", files))
+        tally.check("file that says what is promised", named == found.get(crate),
+                    "%s: %s" % (crate, " ".join(sorted(set(named) ^ set(found.get(crate, []))))))
+
+
+def check_clauses(tally):
+    sources = {"run": "crates/aide_report/src/comparison.rt", "session": "crates/aide_session/src/program.rt"}
+    parts = re.split(r"\n### What a caller of `(\w+)` may rely on\n", read("docs/LIBRARY.md"))
+    for call, part in zip(parts[1::2], parts[2::2]):
+        source = read(sources[call])
+        contract = source[source.index("pub fn %s<" % call):].split("\n{\n")[0]
+        for row in re.findall(r"^\| .* \| ((?:`\w+`(?:, )?)+) \|$", part, re.M):
+            for clause in re.findall(r"`(\w+)`", row):
+                tally.check("clause", re.search(r"ensures %s \{" % clause, contract), "%s of %s" % (clause, call))
+
+
+def main():
+    if len(sys.argv) > 1:
+        print(__doc__)
+        return 0 if sys.argv[1] in ("-h", "--help") else 2
+    tally = Tally()
+    for page in tracked():
+        if page.endswith(".md"):
+            text = read(page)
+            check_names(page, text, tally)
+            check_copies(page, text, tally)
+    check_promised(tally)
+    check_clauses(tally)
+    return tally.end(["link", "file", "copied code", "file that says what is promised", "clause"])
+
+
+if __name__ == "__main__":
+    sys.exit(main())
