@@ -55,6 +55,10 @@ class Tally:
     def check(self, label, given, want):
         self.add(label, difference(given, want))
 
+    def holds(self, label, good, got=''):
+        """Counts a condition; `got` is what is printed if it does not hold."""
+        self.add(label, [] if good else ['does not hold %s' % (got,)])
+
     def end(self):
         """Prints the last line and ends the process. A run in which nothing was tried has failed."""
         if not self.passed + self.failed:
@@ -74,5 +78,5 @@ def program_of(path):
     """The whole path of the program that is tried."""
     path = os.path.abspath(path)
     if not os.access(path, os.X_OK):
-        sys.exit('%s is no program' % path)
+        sys.exit('%s is not an executable file' % path)
     return path.encode()

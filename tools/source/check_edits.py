@@ -14,12 +14,12 @@ constant that no other public function names. Four kinds need no edit; docs/CONT
 
 An edit has a name that says what the edited code does, so the words of the function's own name are not enough.
 
-Prints each public function that has no edit and needs one, each edit that changes no line of code, and each that is
-only named after what it changes. With --list, prints every public function with its edits or its kind. The last line
+Prints each public function that has no edit and needs one, each edit that changes no line of code or whose text does not
+stand exactly once in its file, and each that is only named after what it changes. With --list, prints every public function with its edits or its kind. The last line
 is `N passed, M failed`.
 """
-import glob
 import os
+import pathlib
 import re
 import sys
 
@@ -113,7 +113,7 @@ def items_of(text):
 
 def sources_of(folder):
     """The files of a crate's code, as paths below this folder. Tests in a folder of their own are left out."""
-    files = glob.glob("**/*.rt", root_dir=folder, recursive=True)
+    files = (path.relative_to(folder).as_posix() for path in pathlib.Path(folder).rglob("*.rt"))
     return sorted(file for file in files if "/" not in file or "tests" not in file)
 
 
@@ -138,23 +138,29 @@ class Crate:
             return item.is_pub and (file, item.name) in self.exports
         return item.owner in self.types and (item.is_pub if item.trait is None else item.trait in traits)
 
+    def text_of(self, file):
+        """The lines of a file of the crate, which an edit may name beside those of `src/`."""
+        return self.texts[file] if file in self.texts else read_lines(self.name, *file.split("/"))
+
     def edits(self):
-        """Each edit: its name and the lines, as file and number, that it changes."""
+        """Each edit: its name, the lines, as file and number, that it changes, and how often each old text is there."""
         folder = os.path.join(CRATES, self.name, "must-fail")
         for name in sorted(os.listdir(folder)) if os.path.isdir(folder) else []:
-            lines, file = [], None
+            lines, file, counts = [], None, []
             for line in read_lines(self.name, "must-fail", name):
                 word, _, rest = line.partition(": ")
                 if word == "file":
                     file = rest
                 elif word == "old":
-                    lines += [(file, at) for at, code in enumerate(self.texts[file]) if rest.strip() in code]
-            yield name[: -len(".edit")], lines
+                    found = [(file, at) for at, code in enumerate(self.text_of(file)) if rest in code]
+                    counts.append(sum(self.text_of(file)[at].count(rest) for _, at in found))
+                    lines += found
+            yield name[: -len(".edit")], lines, counts
 
     def edits_of_items(self):
         """The names of the edits of each item, and why other edits are wrong."""
         of_item, wrong = {}, {}
-        for name, lines in self.edits():
+        for name, lines, counts in self.edits():
             changed = [
                 item
                 for file, item in self.items
@@ -162,7 +168,9 @@ class Crate:
             ]
             for item in changed:
                 of_item.setdefault(id(item), []).append(name)
-            if not changed:
+            if any(count != 1 for count in counts):
+                wrong[name] = "has an old text that does not stand exactly once in its file"
+            elif not changed:
                 wrong[name] = "changes no line of code"
             elif set(name.split("_")) <= set().union(*(item.words() for item in changed)):
                 wrong[name] = "is named after what it changes, and not after what the edited code does"
