@@ -142,7 +142,7 @@ ROWS = [
              expectations.are_examples, folder="/tmp/clone"),
     Elsewhere(README, "dpkg -i aide-compare_...", "it installs for the whole machine", "tools/packaging/installing/packages.py",
               expectations.is_package),
-    Elsewhere(README, "From a package: ...", "it builds, and installs for the whole machine", "tools/packaging/try_install.py"),
+    Elsewhere(README, "From source, with ...", "it builds, and installs for the whole machine", "tools/packaging/try_install.py"),
     Elsewhere(README, "This runs the program before anything is proved ...", "this script is a part of it", "tools/test"),
 ]
 ROWS += [Elsewhere(MAIN, "Cm %s ..." % level, "a report, which is compared level for level", "tools/pages/try_manual.py")
