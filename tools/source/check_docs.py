@@ -9,9 +9,11 @@ usage: python3 -m tools.source.check_docs [--help]
 - A block of code below `<!-- from: FILE -->` is FILE, letter for letter.
 - The table in docs/ARCHITECTURE.md of files that say what is promised has the files that tools/public_specs.py finds.
 - Each clause that docs/LIBRARY.md names for a call is a clause of this call.
+- Each kind of change in CONTRIBUTING.md names all files that have the text of its example, and no others.
 
 Prints what fails and, at the end, `N passed, M failed`.
 """
+import fnmatch
 import glob
 import os
 import re
@@ -97,6 +99,29 @@ def check_promised(tally):
                     "%s: %s" % (crate, " ".join(sorted(set(named) ^ set(found.get(crate, []))))))
 
 
+def check_changes(tally):
+    """Each kind of change in CONTRIBUTING names just the files that have the text of its example: no other file has it, and
+    each file or pattern finds one that has it."""
+    page = read("CONTRIBUTING.md")
+    part = page[page.index("## What a change touches"):].split("\n## ")[0]
+    texts = {name: read_text(name) for name in tracked() if name != "CONTRIBUTING.md"}
+    for literal, rows in re.findall(r"^### .*\(`([^`]+)`\)\n\n((?:[-|  ].*\n)+)", part, re.M):
+        patterns = [pattern for pattern in re.findall(r"`([^`\s]+)`", rows) if "/" in pattern or pattern.endswith(".md")]
+        having = [name for name, text in texts.items() if literal in text]
+        missed = [name for name in having if not any(fnmatch.fnmatch(name, pattern) for pattern in patterns)]
+        idle = [pattern for pattern in patterns if not any(fnmatch.fnmatch(name, pattern) for name in having)]
+        tally.check("kind of change", having and not missed, "`%s` is also in %s" % (literal, " ".join(missed)))
+        tally.check("kind of change", not idle, "`%s` is not in %s" % (literal, " ".join(idle)))
+
+
+def read_text(name):
+    """The text of a file, and nothing for one that is no text."""
+    try:
+        return read(name)
+    except (UnicodeDecodeError, IsADirectoryError, FileNotFoundError):
+        return ""
+
+
 def check_clauses(tally):
     sources = {"run": "crates/aide_report/src/comparison.rt", "session": "crates/aide_session/src/program.rt"}
     parts = re.split(r"\n### What a caller of `(\w+)` may rely on\n", read("docs/LIBRARY.md"))
@@ -120,7 +145,8 @@ def main():
             check_copies(page, text, tally)
     check_promised(tally)
     check_clauses(tally)
-    return tally.end(["link", "file", "copied code", "file that says what is promised", "clause"])
+    check_changes(tally)
+    return tally.end(["link", "file", "copied code", "file that says what is promised", "clause", "kind of change"])
 
 
 if __name__ == "__main__":
