@@ -15,20 +15,17 @@ KNOWN = ["bin/aide-compare", "bin/aide-compare-sort", "lib/systemd/system/aide-c
          DOCUMENTS + "/README.md", DOCUMENTS + "/RECIPES.md", DOCUMENTS + "/CHANGELOG.md", DOCUMENTS + "/VERSION",
          DOCUMENTS + "/examples/cron/aide-compare.cron.d", DOCUMENTS + "/examples/cron/aide-compare.cron.daily"]
 FOLDERS = {"commands/bin": "bin", "commands/lib/aide_compare": "lib/aide-compare/python/aide_compare",
+           "commands/nagios": "lib/nagios/plugins", "commands/fleet": "lib/aide-compare/fleet",
            "contrib/systemd": "lib/systemd/system", "contrib/completions/bash": "share/bash-completion/completions",
            "contrib/completions/zsh": "share/zsh/site-functions",
            "contrib/completions/fish": "share/fish/vendor_completions.d", "docs": DOCUMENTS}
 
 
-def target_of(path, mode):
+def target_of(path):
     """Where a file of the repository is installed, below the prefix; nothing if it is not."""
     folder, name = os.path.split(path)
     if folder in FOLDERS:
         return FOLDERS[folder] + "/" + name
-    if folder == "contrib/nagios" and name.startswith("check_"):
-        return "lib/nagios/plugins/" + name
-    if folder == "contrib/fleet" and mode == 0o755:
-        return "lib/aide-compare/fleet/" + name
     if folder == "man":
         return "share/man/man%s/%s" % (name[-1], name)
     if path.startswith("contrib/"):
@@ -41,7 +38,7 @@ def wanted_modes(source):
     wanted = {"bin/aide-compare": 0o755, MANIFEST: 0o644}
     for path, (mode, _) in files(tree(source)).items():
         mode = 0o755 if mode & 0o100 else 0o644
-        target = target_of(path, mode)
+        target = target_of(path)
         if target is not None:
             wanted[target] = mode
     return wanted
