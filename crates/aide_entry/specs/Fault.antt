@@ -1,5 +1,5 @@
--- The numbers and the words of faults.
-use Rattle.std.specs.Prelude.{ℕ, List, codes}
+-- The numbers, the words and the columns of faults.
+use Rattle.std.specs.Prelude.{ℕ, List, Option, Some, None, codes}
 use Rattle.aide_entry.specs.declared.fault_kind.DbFaultKind.{DbFaultKind}
 use Rattle.aide_entry.specs.declared.fault_kind.DbFaultKind.TheVariants.{LineTooLong, NoBegin}
 use Rattle.aide_entry.specs.declared.fault_kind.DbFaultKind.TheVariants.{BadDirective, BadSpec}
@@ -44,3 +44,10 @@ words_of_kind NoEnd = codes "no @@end_db"
 words_of_kind Memory = codes "out of memory"
 words_of_kind Read = codes "read failed"
 words_of_kind TooManyBytes = codes "too many bytes"
+
+-- the number of the column that a fault is about, if it is about one
+abbrev pub column_of_kind : DbFaultKind → Option ℕ
+column_of_kind (BadNumber column) = Some column
+column_of_kind (BadTime column) = Some column
+column_of_kind (BadDigest column) = Some column
+column_of_kind _ = None

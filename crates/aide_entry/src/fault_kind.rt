@@ -1,6 +1,6 @@
 //! Why a database is refused.
 ghost use Rattle.std.specs.Prelude.{◌≡◌};
-ghost use Rattle.aide_entry.specs.Fault.{number_of_kind, words_of_kind};
+ghost use Rattle.aide_entry.specs.Fault.{column_of_kind, number_of_kind, words_of_kind};
 
 /// Why a database is refused.
 #[derive(Clone, Copy, Debug, PartialEq, Eq)]
@@ -62,7 +62,19 @@ impl DbFaultKind {
         }
     }
 
-    /// Returns the words that say what is wrong. If the kind has the number of a column, that number follows the words.
+    /// Returns the number of the column that the fault is about, if it is about one.
+    pub fn column(self) -> Option<u32>
+        ensures { result ≡ column_of_kind self }
+    {
+        match self {
+            DbFaultKind::BadNumber { column } => Some(column),
+            DbFaultKind::BadTime { column } => Some(column),
+            DbFaultKind::BadDigest { column } => Some(column),
+            _ => None,
+        }
+    }
+
+    /// Returns the words that say what is wrong. If the fault is about a column, its number follows the words.
     #[tactic(auto, unfolding(crate::specs::Fault::words_of_kind))]
     pub fn words(self) -> &'static [u8]
         ensures { result.now ≡ words_of_kind self }

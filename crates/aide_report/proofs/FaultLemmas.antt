@@ -3,12 +3,10 @@ use Rattle.std.specs.Prelude.{◌≡◌, ◌<◌, ◌≤◌, ℕ, Option, Some, 
 use Rattle.std.proofs.Common.{refl, sym, subst, ap, arith, inl, inr, ◌∙◌}
 use Rattle.aide_report.specs.Asked.{Asked}
 use Rattle.aide_db.specs.Database.{IsSound}
-use Rattle.aide_entry.specs.Cause.{is_outside}
+use Rattle.aide_entry.specs.Cause.{Cause, cause_of, from_outside, is_outside, in_text, in_length, in_memory, in_device}
 use Rattle.aide_db.specs.declared.fault.DbFault.{DbFault}
 use Rattle.aide_entry.specs.declared.fault_kind.DbFaultKind.{DbFaultKind}
-use Rattle.aide_entry.specs.declared.fault_kind.DbFaultKind.TheVariants.{LineTooLong, NoBegin, BadDirective, BadSpec, NoSpec}
-use Rattle.aide_entry.specs.declared.fault_kind.DbFaultKind.TheVariants.{FieldCount, BadName, OutOfOrder, BadNumber, BadTime}
-use Rattle.aide_entry.specs.declared.fault_kind.DbFaultKind.TheVariants.{BadDigest, NoEnd, Memory, Read, TooManyBytes}
+use Rattle.aide_entry.specs.declared.fault_kind.DbFaultKind.TheVariants.{Memory, Read}
 use Rattle.aide_db.specs.declared.limits.Limits.{Limits}
 use Rattle.aide_db.specs.declared.side.Side.{Side}
 use Rattle.aide_db.specs.declared.side.Side.TheVariants.{Old, New}
@@ -34,29 +32,16 @@ changed_later limits bytes_of fault first inside text told sound =
     first_fault_unsound limits text fault.line fault.kind (first text told inside) sound
 
 later_at : (limits : Limits) (bytes_of : Side → Option (List ℕ)) (fault : DbFault) → HasFault limits bytes_of fault
-    → (kind : DbFaultKind) → fault.kind ≡ kind → IsLater limits bytes_of (later_by kind fault)
-later_at limits bytes_of fault first LineTooLong is = changed_later limits bytes_of fault first (ap is_outside is)
-later_at limits bytes_of fault first NoBegin is = changed_later limits bytes_of fault first (ap is_outside is)
-later_at limits bytes_of fault first BadDirective is = changed_later limits bytes_of fault first (ap is_outside is)
-later_at limits bytes_of fault first BadSpec is = changed_later limits bytes_of fault first (ap is_outside is)
-later_at limits bytes_of fault first NoSpec is = changed_later limits bytes_of fault first (ap is_outside is)
-later_at limits bytes_of fault first FieldCount is = changed_later limits bytes_of fault first (ap is_outside is)
-later_at limits bytes_of fault first BadName is = changed_later limits bytes_of fault first (ap is_outside is)
-later_at limits bytes_of fault first OutOfOrder is = changed_later limits bytes_of fault first (ap is_outside is)
-later_at limits bytes_of fault first (BadNumber column) is =
-    changed_later limits bytes_of fault first (ap is_outside is)
-later_at limits bytes_of fault first (BadTime column) is = changed_later limits bytes_of fault first (ap is_outside is)
-later_at limits bytes_of fault first (BadDigest column) is =
-    changed_later limits bytes_of fault first (ap is_outside is)
-later_at limits bytes_of fault first NoEnd is = changed_later limits bytes_of fault first (ap is_outside is)
-later_at limits bytes_of fault first Memory is = ap is_outside is
-later_at limits bytes_of fault first Read is = ap is_outside is
-later_at limits bytes_of fault first TooManyBytes is = changed_later limits bytes_of fault first (ap is_outside is)
+    → (cause : Cause) → cause_of fault.kind ≡ cause → IsLater limits bytes_of (later_by cause fault)
+later_at limits bytes_of fault first in_text is = changed_later limits bytes_of fault first (ap from_outside is)
+later_at limits bytes_of fault first in_length is = changed_later limits bytes_of fault first (ap from_outside is)
+later_at limits bytes_of fault first in_memory is = ap from_outside is
+later_at limits bytes_of fault first in_device is = ap from_outside is
 
 -- a fault of the text after the first readings shows that its side is not sound
 pub later_fault : (limits : Limits) (bytes_of : Side → Option (List ℕ)) (fault : DbFault)
     → HasFault limits bytes_of fault → IsLater limits bytes_of (later_of fault)
-later_fault limits bytes_of fault first = later_at limits bytes_of fault first fault.kind refl
+later_fault limits bytes_of fault first = later_at limits bytes_of fault first (cause_of fault.kind) refl
 
 true_false : true ≡ false → ⊥
 true_false e = cc
@@ -72,21 +57,9 @@ right_later limits before after same sound (Write written) later = tt
 
 causes_of : (rose first : Type 0) (kind : DbFaultKind) → (kind ≡ Read → rose) → (is_outside kind ≡ false → first)
     → Causes kind rose first
-causes_of rose first LineTooLong read inside = inside refl
-causes_of rose first NoBegin read inside = inside refl
-causes_of rose first BadDirective read inside = inside refl
-causes_of rose first BadSpec read inside = inside refl
-causes_of rose first NoSpec read inside = inside refl
-causes_of rose first FieldCount read inside = inside refl
-causes_of rose first BadName read inside = inside refl
-causes_of rose first OutOfOrder read inside = inside refl
-causes_of rose first (BadNumber column) read inside = inside refl
-causes_of rose first (BadTime column) read inside = inside refl
-causes_of rose first (BadDigest column) read inside = inside refl
-causes_of rose first NoEnd read inside = inside refl
 causes_of rose first Memory read inside = tt
 causes_of rose first Read read inside = read refl
-causes_of rose first TooManyBytes read inside = inside refl
+causes_of rose first kind read inside = inside refl
 
 -- why a run fails
 pub has_cause : (limits : Limits) (task : Asked) (bytes_of : Side → Option (List ℕ)) (sources sink : Type 0) (fault : RunFault)
@@ -103,23 +76,12 @@ has_cause limits task bytes_of sources sink (Write written) caused answer right 
 
 -- ---- the end of a pass
 
-pub caused_at : (sources sink : Type 0) (fault : DbFault) → (fault.kind ≡ Read → sources) → (kind : DbFaultKind)
-    → IsCaused sources sink (later_by kind fault)
-caused_at sources sink fault read LineTooLong = tt
-caused_at sources sink fault read NoBegin = tt
-caused_at sources sink fault read BadDirective = tt
-caused_at sources sink fault read BadSpec = tt
-caused_at sources sink fault read NoSpec = tt
-caused_at sources sink fault read FieldCount = tt
-caused_at sources sink fault read BadName = tt
-caused_at sources sink fault read OutOfOrder = tt
-caused_at sources sink fault read (BadNumber column) = tt
-caused_at sources sink fault read (BadTime column) = tt
-caused_at sources sink fault read (BadDigest column) = tt
-caused_at sources sink fault read NoEnd = tt
-caused_at sources sink fault read Memory = read
-caused_at sources sink fault read Read = read
-caused_at sources sink fault read TooManyBytes = tt
+pub caused_at : (sources sink : Type 0) (fault : DbFault) → (fault.kind ≡ Read → sources) → (cause : Cause)
+    → IsCaused sources sink (later_by cause fault)
+caused_at sources sink fault read in_text = tt
+caused_at sources sink fault read in_length = tt
+caused_at sources sink fault read in_memory = read
+caused_at sources sink fault read in_device = read
 
 -- what has risen since a later count has risen since an earlier one
 pub rose_since : (before middle after : ℕ) → before ≤ middle → Rose middle after → Rose before after
@@ -128,41 +90,19 @@ rose_since before middle after le rose below = let risen = rose below in omega (
 pub none_failed : (n : ℕ) → n ≡ 0 → 0 < n → ⊥
 none_failed n none some = omega (arith, none, some)
 
-pub reliable_at : (bytes_of : Side → Option (List ℕ)) (fault : DbFault) → (fault.kind ≡ Read → ⊥) → (kind : DbFaultKind)
-    → IsOfReliable bytes_of (later_by kind fault)
-reliable_at bytes_of fault unread LineTooLong = tt
-reliable_at bytes_of fault unread NoBegin = tt
-reliable_at bytes_of fault unread BadDirective = tt
-reliable_at bytes_of fault unread BadSpec = tt
-reliable_at bytes_of fault unread NoSpec = tt
-reliable_at bytes_of fault unread FieldCount = tt
-reliable_at bytes_of fault unread BadName = tt
-reliable_at bytes_of fault unread OutOfOrder = tt
-reliable_at bytes_of fault unread (BadNumber column) = tt
-reliable_at bytes_of fault unread (BadTime column) = tt
-reliable_at bytes_of fault unread (BadDigest column) = tt
-reliable_at bytes_of fault unread NoEnd = tt
-reliable_at bytes_of fault unread Memory = unread
-reliable_at bytes_of fault unread Read = unread
-reliable_at bytes_of fault unread TooManyBytes = tt
+pub reliable_at : (bytes_of : Side → Option (List ℕ)) (fault : DbFault) → (fault.kind ≡ Read → ⊥) → (cause : Cause)
+    → IsOfReliable bytes_of (later_by cause fault)
+reliable_at bytes_of fault unread in_text = tt
+reliable_at bytes_of fault unread in_length = tt
+reliable_at bytes_of fault unread in_memory = unread
+reliable_at bytes_of fault unread in_device = unread
 
-pub written_at : (pen : Pen) (fault : DbFault) (kind : DbFaultKind) → pen.failed ≡ false
-    → HasPenWritten pen (later_by kind fault)
-written_at pen fault LineTooLong unfailed = unfailed
-written_at pen fault NoBegin unfailed = unfailed
-written_at pen fault BadDirective unfailed = unfailed
-written_at pen fault BadSpec unfailed = unfailed
-written_at pen fault NoSpec unfailed = unfailed
-written_at pen fault FieldCount unfailed = unfailed
-written_at pen fault BadName unfailed = unfailed
-written_at pen fault OutOfOrder unfailed = unfailed
-written_at pen fault (BadNumber column) unfailed = unfailed
-written_at pen fault (BadTime column) unfailed = unfailed
-written_at pen fault (BadDigest column) unfailed = unfailed
-written_at pen fault NoEnd unfailed = unfailed
-written_at pen fault Memory unfailed = unfailed
-written_at pen fault Read unfailed = unfailed
-written_at pen fault TooManyBytes unfailed = unfailed
+pub written_at : (pen : Pen) (fault : DbFault) (cause : Cause) → pen.failed ≡ false
+    → HasPenWritten pen (later_by cause fault)
+written_at pen fault in_text unfailed = unfailed
+written_at pen fault in_length unfailed = unfailed
+written_at pen fault in_memory unfailed = unfailed
+written_at pen fault in_device unfailed = unfailed
 
 -- ---- a fault of the first reading of a side
 

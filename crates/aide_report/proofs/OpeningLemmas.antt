@@ -4,10 +4,7 @@ use Rattle.std.specs.Io.KnownBytes.{Appends}
 use Rattle.aide_db.specs.Count.{one_more, sum_of}
 use Rattle.aide_db.specs.Side.{by_side}
 use Rattle.aide_db.specs.declared.fault.DbFault.{DbFault}
-use Rattle.aide_entry.specs.declared.fault_kind.DbFaultKind.{DbFaultKind}
-use Rattle.aide_entry.specs.declared.fault_kind.DbFaultKind.TheVariants.{LineTooLong, NoBegin, BadDirective, BadSpec, NoSpec}
-use Rattle.aide_entry.specs.declared.fault_kind.DbFaultKind.TheVariants.{FieldCount, BadName, OutOfOrder, BadNumber, BadTime}
-use Rattle.aide_entry.specs.declared.fault_kind.DbFaultKind.TheVariants.{BadDigest, NoEnd, Memory, Read, TooManyBytes}
+use Rattle.aide_entry.specs.Cause.{Cause, in_text, in_length, in_memory, in_device}
 use Rattle.aide_db.specs.declared.limits.Limits.{Limits}
 use Rattle.aide_db.specs.declared.side.Side.{Side}
 use Rattle.aide_db.specs.declared.side.Side.TheVariants.{Old, New}
@@ -51,23 +48,12 @@ refused_later before middle after n (Database fault) opens is = tt
 refused_later before middle after n (Changed side) opens is = tt
 refused_later before middle after n (Write written) opens is = tt
 
-pub refused_by : (before after : Side → ℕ) (fault : DbFault) (kind : DbFaultKind)
-    → IsRefusedThere before after (later_by kind fault)
-refused_by before after fault LineTooLong = tt
-refused_by before after fault NoBegin = tt
-refused_by before after fault BadDirective = tt
-refused_by before after fault BadSpec = tt
-refused_by before after fault NoSpec = tt
-refused_by before after fault FieldCount = tt
-refused_by before after fault BadName = tt
-refused_by before after fault OutOfOrder = tt
-refused_by before after fault (BadNumber column) = tt
-refused_by before after fault (BadTime column) = tt
-refused_by before after fault (BadDigest column) = tt
-refused_by before after fault NoEnd = tt
-refused_by before after fault Memory = tt
-refused_by before after fault Read = tt
-refused_by before after fault TooManyBytes = tt
+pub refused_by : (before after : Side → ℕ) (fault : DbFault) (cause : Cause)
+    → IsRefusedThere before after (later_by cause fault)
+refused_by before after fault in_text = tt
+refused_by before after fault in_length = tt
+refused_by before after fault in_memory = tt
+refused_by before after fault in_device = tt
 
 -- the old side was opened
 pub comes_opened : (before after : ℕ) (fault : RunFault) → after ≡ one_more before → ComesOpened before after fault
@@ -112,19 +98,9 @@ unsent_begun before middle after old new (Changed side) is opened = unsent_opene
 unsent_begun before middle after old new (Write written) is opened = tt
 
 -- a fault of a reading is not that of an opening
-pub not_given_by : (was_given : Side → Bool) (fault : DbFault) (kind : DbFaultKind) → IsNotGiven was_given (later_by kind fault)
-not_given_by was_given fault LineTooLong = tt
-not_given_by was_given fault NoBegin = tt
-not_given_by was_given fault BadDirective = tt
-not_given_by was_given fault BadSpec = tt
-not_given_by was_given fault NoSpec = tt
-not_given_by was_given fault FieldCount = tt
-not_given_by was_given fault BadName = tt
-not_given_by was_given fault OutOfOrder = tt
-not_given_by was_given fault (BadNumber column) = tt
-not_given_by was_given fault (BadTime column) = tt
-not_given_by was_given fault (BadDigest column) = tt
-not_given_by was_given fault NoEnd = tt
-not_given_by was_given fault Memory = tt
-not_given_by was_given fault Read = tt
-not_given_by was_given fault TooManyBytes = tt
+pub not_given_by : (was_given : Side → Bool) (fault : DbFault) (cause : Cause)
+    → IsNotGiven was_given (later_by cause fault)
+not_given_by was_given fault in_text = tt
+not_given_by was_given fault in_length = tt
+not_given_by was_given fault in_memory = tt
+not_given_by was_given fault in_device = tt

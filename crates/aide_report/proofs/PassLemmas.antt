@@ -1,6 +1,7 @@
 -- What passes keep: none, one after others, one that stops early, and a merge between its opening and its closing.
 use Rattle.std.specs.Prelude.{ℕ, ◌≡◌, ◌<◌, ◌≤◌, ◌+◌, ◌++◌, true, false, Option, List, Result, Ok, Err}
 use Rattle.std.proofs.Common.{refl, sym, subst, arith, ◌∙◌}
+use Rattle.aide_entry.specs.Cause.{cause_of}
 use Rattle.aide_db.specs.DeskView.{DeskView}
 use Rattle.aide_db.specs.declared.fault.DbFault.{DbFault}
 use Rattle.aide_db.specs.declared.limits.Limits.{Limits}
@@ -234,14 +235,14 @@ pass_failed {r = r} {limits = limits} {a = a} {b = b} {c = c} {d = d} {e = e} {n
     let opens = opens_kept same p.opens in
     pass_ends p opened keeps closes same (record {
       begun = comes_opened (a.openings Old) (c.openings Old) (later_of fault) opens.of_old;
-      refused = refused_by a.openings c.openings fault fault.kind;
-      not_given = not_given_by c.was_given fault fault.kind;
+      refused = refused_by a.openings c.openings fault (cause_of fault.kind);
+      not_given = not_given_by c.was_given fault (cause_of fault.kind);
       later = later_fault limits a.bytes_of fault (λ text told. subst (λ (l : Limits). IsFaultOf l text fault) (opened.limits_of fault.side)
           (is.first text (opened.stands fault.side text told)));
       caused = caused_at (Rose a.failures c.failures) next fault
-          (λ read. rose_since a.failures b.failures c.failures p.sources.never_falls (rose (is.read read))) fault.kind;
+          (λ read. rose_since a.failures b.failures c.failures p.sources.never_falls (rose (is.read read))) (cause_of fault.kind);
       reliable = λ reliable. reliable_at a.bytes_of fault
-          (λ read. none_failed (reels_failed r.failures n) (unfailed (p.sources.reliable_same ∙ reliable)) (is.read read)) fault.kind;
+          (λ read. none_failed (reels_failed r.failures n) (unfailed (p.sources.reliable_same ∙ reliable)) (is.read read)) (cause_of fault.kind);
       memory = λ le. later_room fault (is.memory (λ side. still_fits limits (limits_at m side) d.room e.room (opened.limits_of side) p.desk.room le));
     })
 
@@ -261,7 +262,7 @@ pass_stopped passes.Write sent pen p opened keeps closes same rose unfailed is =
 -- a pass that stops has told what was written
 pub stop_written : {R : Type 0} (r : Reels R) (m n : Merge R) (d : DeskView) (pen : Pen) (fault : PassFault)
     → IsStopOf r m n d pen fault → HasPenWritten pen (pass_fault_of fault pen.sent)
-stop_written r m n d pen (passes.Database fault) is = written_at pen fault fault.kind is.0
+stop_written r m n d pen (passes.Database fault) is = written_at pen fault (cause_of fault.kind) is.0
 stop_written r m n d pen passes.Write is = (is, refl)
 
 -- nor where no sink was there to fail

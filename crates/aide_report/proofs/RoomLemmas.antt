@@ -1,12 +1,8 @@
 -- Where a line fits into the room that was reserved, memory is never wanted.
 use Rattle.std.proofs.Common.{◌≡◌, ◌≤◌, ℕ, Bool, true, false, refl, subst, sym}
-use Rattle.aide_entry.specs.Cause.{is_memory}
+use Rattle.aide_entry.specs.Cause.{Cause, cause_of, is_memory, in_text, in_length, in_memory, in_device}
 use Rattle.aide_db.specs.Memory.{wanted_memory}
 use Rattle.aide_db.specs.declared.fault.DbFault.{DbFault}
-use Rattle.aide_entry.specs.declared.fault_kind.DbFaultKind.{DbFaultKind}
-use Rattle.aide_entry.specs.declared.fault_kind.DbFaultKind.TheVariants.{LineTooLong, NoBegin, BadDirective, BadSpec, NoSpec}
-use Rattle.aide_entry.specs.declared.fault_kind.DbFaultKind.TheVariants.{FieldCount, BadName, OutOfOrder, BadNumber, BadTime}
-use Rattle.aide_entry.specs.declared.fault_kind.DbFaultKind.TheVariants.{BadDigest, NoEnd, Memory, Read, TooManyBytes}
 use Rattle.aide_db.specs.declared.limits.Limits.{Limits}
 use Rattle.aide_db.specs.declared.stage.Stage.{Stage}
 use Rattle.aide_db.specs.declared.stage.Stage.TheVariants.{Start, Begun, Entries, Ended, Failed}
@@ -32,23 +28,12 @@ pub still_fits : (a b : Limits) (m n : ℕ) → b ≡ a → n ≡ m → a.line �
 still_fits a b m n same kept le =
     subst (λ (limits : Limits). limits.line ≤ n) (sym same) (subst (λ x. a.line ≤ x) (sym kept) le)
 
-later_at : (fault : DbFault) → IsNotMemory fault → (kind : DbFaultKind) → IsNotOfMemory (later_by kind fault)
-later_at fault is LineTooLong = tt
-later_at fault is NoBegin = tt
-later_at fault is BadDirective = tt
-later_at fault is BadSpec = tt
-later_at fault is NoSpec = tt
-later_at fault is FieldCount = tt
-later_at fault is BadName = tt
-later_at fault is OutOfOrder = tt
-later_at fault is (BadNumber column) = tt
-later_at fault is (BadTime column) = tt
-later_at fault is (BadDigest column) = tt
-later_at fault is NoEnd = tt
-later_at fault is Memory = is
-later_at fault is Read = is
-later_at fault is TooManyBytes = tt
+later_at : (fault : DbFault) → IsNotMemory fault → (cause : Cause) → IsNotOfMemory (later_by cause fault)
+later_at fault is in_text = tt
+later_at fault is in_length = tt
+later_at fault is in_memory = is
+later_at fault is in_device = is
 
 -- nor does a later fault
 pub later_room : (fault : DbFault) → IsNotMemory fault → IsNotOfMemory (later_of fault)
-later_room fault is = later_at fault is fault.kind
+later_room fault is = later_at fault is (cause_of fault.kind)
