@@ -5,7 +5,7 @@ use Rattle.aide_db.specs.declared.limits.Limits.{Limits}
 use Rattle.aide_db.specs.declared.side.Side.{Side}
 use Rattle.aide_db.specs.declared.side.Side.TheVariants.{Old, New}
 use Rattle.aide_text.specs.Failures.{CountsFlush, Rose}
-use Rattle.aide_text.specs.PenSheet.{sheet}
+pub use Rattle.aide_text.specs.PenSheet.{on_sheet}
 use Rattle.aide_text.specs.Sheet.{Sheet, WritesSome}
 use Rattle.aide_text.specs.declared.pen.Pen.{Pen}
 use Rattle.aide_text.specs.declared.sink.Sink.{Ghosts as Sinks}
@@ -64,10 +64,6 @@ pub record Passes {T : Type 0} (limits : Limits) (count : ℕ) (a b : Seen) (d e
   pub fault : IfErr result (IsPassFault limits a b d.room sink)
 
 -- ---- the pen and the sink
-
--- a pen on a sink of any kind
-abbrev pub on_sheet : {W : Type 0} → Sinks W → W → Pen → Sheet
-on_sheet w out pen = sheet w.delivered w.failures w.flushes out pen
 
 -- What a pass leaves of its pen.
 pub record KeepsPen {T : Type 0} (a b : Sheet) (pen : Pen)

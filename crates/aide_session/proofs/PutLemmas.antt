@@ -1,5 +1,5 @@
 -- What was put on standard error, piece by piece.
-use Rattle.std.proofs.Common.{◌≡◌, ◌∙◌, ℕ, ◌+◌, ◌≤◌, List, [], ◌∷◌, ◌++◌, Option, Some, None, sym, ap, append_assoc}
+use Rattle.std.proofs.Common.{◌≡◌, ◌∙◌, ℕ, ◌+◌, ◌≤◌, List, [], ◌∷◌, ◌++◌, Bool, Option, Some, None, true, false, sym, ap}
 use Rattle.std.proofs.Common.{arith, suc}
 use Rattle.std.proofs.Math.Path.{subst}
 use Rattle.std.proofs.lemmas.Grind.{flat_map-append}
@@ -8,26 +8,15 @@ use Rattle.std.specs.List.{flat_map}
 use Rattle.std.proofs.KnownBytes.{Appends-kept}
 use Rattle.std.specs.Io.KnownBytes.{Appends, Keeps}
 use Rattle.aide_db.specs.declared.side.Side.{Side}
+use Rattle.aide_text.specs.Sheet.{Sheet, WroteBy, Wrote}
+use Rattle.aide_text.specs.declared.pen.Pen.{Pen}
+use Rattle.aide_text.proofs.Sheets.{wrote_as, wrote_more, wrote_nothing}
 use Rattle.aide_session.specs.Lines.{below, line_if_skipped}
 use Rattle.aide_session.specs.Put.{Put}
-
-pub appends_more : (a b c : Option (List ℕ)) (xs ys : List ℕ) → Appends a b xs → Appends b c ys → Appends a c (xs ++ ys)
-appends_more None b c xs ys h k = tt
-appends_more (Some x) None c xs ys h k = absurd h
-appends_more (Some x) (Some y) None xs ys h k = absurd k
-appends_more (Some x) (Some y) (Some z) xs ys h k = k ∙ ap (λ (l : List ℕ). l ++ ys) h ∙ append_assoc x xs ys
 
 pub appends_none : (a : Option (List ℕ)) → Appends a a []
 appends_none None = tt
 appends_none (Some x) = sym (append-nil x)
-
-pub put_more : {a b c : Option (List ℕ)} {m n k : ℕ} {xs ys : List ℕ} → Put xs a b m n → Put ys b c n k
-    → Put (xs ++ ys) a c m k
-put_more {a} {b} {c} {m} {n} {k} {xs} {ys} p q = record {
-  never_falls = let h = p.never_falls in let i = q.never_falls in omega arith;
-  exact = λ unfailed. let h = p.never_falls in let i = q.never_falls in
-      appends_more a b c xs ys (p.exact (omega (arith, unfailed.0, unfailed.1), omega (arith, unfailed.0, unfailed.1))) (q.exact (omega (arith, unfailed.0, unfailed.1), omega (arith, unfailed.0, unfailed.1)));
-}
 
 pub put_none : (a : Option (List ℕ)) (n : ℕ) → Put [] a a n n
 put_none a n = record { never_falls = omega arith; exact = λ _. appends_none a }
@@ -56,19 +45,38 @@ lines_more side columns n =
     ∙ ap (λ (l : List ℕ). flat_map (line_if_skipped side columns) (below n) ++ l) (append-nil (line_if_skipped side columns n))
 
 -- the lines of the columns so far, and the next one
-pub put_next_column : (side : Side) (columns index : ℕ) (a b c : Option (List ℕ)) (m n k : ℕ)
-    → Put (flat_map (line_if_skipped side columns) (below index)) a b m n → Put (line_if_skipped side columns index) b c n k
-    → Put (flat_map (line_if_skipped side columns) (below (index + 1))) a c m k
-put_next_column side columns index a b c m n k p q =
-    subst (λ (l : List ℕ). Put l a c m k) (sym (lines_more side columns index)) (put_more p q)
+pub next_column : (side : Side) (columns index : ℕ) {a b c : Sheet}
+    → Wrote (flat_map (line_if_skipped side columns) (below index)) a b → Wrote (line_if_skipped side columns index) b c
+    → Wrote (flat_map (line_if_skipped side columns) (below (index + 1))) a c
+next_column side columns index p q = wrote_as (sym (lines_more side columns index)) (wrote_more p q)
 
-pub no_columns : (side : Side) (columns : ℕ) (a : Option (List ℕ)) (n : ℕ)
-    → Put (flat_map (line_if_skipped side columns) (below 0)) a a n n
+pub no_columns : (side : Side) (columns : ℕ) (a : Sheet)
+    → Wrote (flat_map (line_if_skipped side columns) (below 0)) a a
 unfolding below
-no_columns side columns a n = put_none a n
+no_columns side columns a = wrote_nothing a
 
-pub put_to : (side : Side) (columns index end : ℕ) (a b : Option (List ℕ)) (m n : ℕ) → index ≡ end
-    → Put (flat_map (line_if_skipped side columns) (below index)) a b m n
-    → Put (flat_map (line_if_skipped side columns) (below end)) a b m n
-put_to side columns index end a b m n e p =
-    subst (λ (k : ℕ). Put (flat_map (line_if_skipped side columns) (below k)) a b m n) e p
+pub columns_to : (side : Side) (columns index end : ℕ) {a b : Sheet} → index ≡ end
+    → Wrote (flat_map (line_if_skipped side columns) (below index)) a b
+    → Wrote (flat_map (line_if_skipped side columns) (below end)) a b
+columns_to side columns index end {a} {b} e p =
+    subst (λ (k : ℕ). Wrote (flat_map (line_if_skipped side columns) (below k)) a b) e p
+
+-- ---- from a pen to its sink
+
+true_false : true ≡ false → ⊥
+true_false e = cc
+
+put_by : (text : List ℕ) (a b : Sheet) (f h : Bool) → f ≡ false → WroteBy f h text a b
+    → Put text a.bytes b.bytes a.failures b.failures
+put_by text a b true h fresh p = absurd (true_false fresh)
+put_by text a b false true fresh p = record {
+  never_falls = omega (arith, p.failures);
+  exact = λ unfailed. absurd (omega (arith, p.failures, unfailed.0, unfailed.1));
+}
+put_by text a b false false fresh p =
+    record { never_falls = omega (arith, p.1); exact = λ unfailed. p.0.bytes }
+
+-- what a new pen has written is put on its sink
+pub put_written : (text : List ℕ) (a b : Sheet) (pen : Pen) → pen ≡ record { sent = 0; failed = false }
+    → a.failed ≡ pen.failed → Wrote text a b → Put text a.bytes b.bytes a.failures b.failures
+put_written text a b pen fresh same p = put_by text a b a.failed b.failed (same ∙ ap (λ (x : Pen). x.failed) fresh) p.as_flags

@@ -10,7 +10,7 @@ ghost use Rattle.aide_session.specs.Devices.{devices_between};
 ghost use Rattle.aide_session.specs.Held.{IsPeakOf};
 ghost use Rattle.aide_session.specs.Lines.{run_fault_line};
 ghost use Rattle.aide_session.specs.Premises.{AsksForSides, ComparesSides};
-ghost use Rattle.aide_session.specs.Put.{Put};
+ghost use Rattle.aide_session.specs.Put.{PutOn};
 
 use crate::lines::{
     put_changed_line, put_database_line, put_memory_line, put_open_line, put_outcome_lines,
@@ -44,8 +44,8 @@ fn path_of<'a>(task: &Task<'a>, side: Side) -> &'a str
 
 /// Puts the line that says why a run failed.
 fn put_run_fault<E: Sink>(err: &mut E, task: &Task<'_>, fault: RunFault)
-    ensures { Put (run_fault_line task.now.old_path.now task.now.new_path.now fault)
-        (E.delivered err.old) (E.delivered err.new) (E.failures err.old) (E.failures err.new) }
+    ensures { PutOn (run_fault_line task.now.old_path.now task.now.new_path.now fault)
+        E.Sink err.old err.new }
 {
     match fault {
         RunFault::Open(side) => put_open_line(err, side, path_of(task, side)),

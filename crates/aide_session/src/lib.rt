@@ -8,7 +8,6 @@ mod lines;
 mod machine;
 mod memory_site;
 mod paged_sink;
-mod pieces;
 mod pointed;
 mod program;
 mod put;

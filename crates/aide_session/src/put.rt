@@ -1,35 +1,15 @@
-//! Texts on standard error, whose failures change nothing.
-ghost use Rattle.std.specs.Prelude.{◌≡◌, ◌≤◌, ℕ, List, decimal, true};
+//! Standard error: what is put there, and that it is passed on. Failures change nothing.
+ghost use Rattle.std.specs.Prelude.{◌≡◌, ◌≤◌, true};
 ghost use Rattle.std.specs.Io.KnownBytes.{Keeps};
-ghost use Rattle.aide_report.specs.Printed.{printed};
-ghost use Rattle.aide_session.specs.Put.{HasNoFailure, Put};
+ghost use Rattle.aide_session.specs.Put.{HasNoFailure, PutOn};
 
-use aide_report::{Sink, emit, emit_path};
-use itoa::Buffer;
+use aide_text::{Pen, Sink, put};
 
-/// Puts these bytes on standard error.
-pub(crate) fn put<E: Sink>(err: &mut E, bytes: &[u8])
-    ensures { Put bytes.now (E.delivered err.old) (E.delivered err.new)
-        (E.failures err.old) (E.failures err.new) }
+/// Puts a line without holes on standard error.
+pub(crate) fn put_fixed<E: Sink>(err: &mut E, line: &[u8])
+    ensures { PutOn line.now E.Sink err.old err.new }
 {
-    if let Err(_) = emit(err, bytes) {}
-}
-
-/// Puts a path on standard error, in its printed form.
-pub(crate) fn put_path<E: Sink>(err: &mut E, path: &[u8])
-    ensures { Put (printed path.now) (E.delivered err.old) (E.delivered err.new)
-        (E.failures err.old) (E.failures err.new) }
-{
-    if let Err(_) = emit_path(err, path) {}
-}
-
-/// Puts a number on standard error, in decimal.
-pub(crate) fn put_number<E: Sink>(err: &mut E, number: u64)
-    ensures { Put (decimal number) (E.delivered err.old) (E.delivered err.new)
-        (E.failures err.old) (E.failures err.new) }
-{
-    let mut buffer = Buffer::new();
-    put(err, buffer.format(number).as_bytes());
+    put(err, &mut Pen::new(), line);
 }
 
 /// Passes on what was put on standard error.

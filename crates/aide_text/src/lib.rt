@@ -26,7 +26,7 @@ pub use feed::{Feed, Printed};
 pub use lines::put_side_by_side;
 pub use memory_sink::MemorySink;
 pub use overview::put_overview;
-pub use pen::{Pen, emit_path, put, put_newline, put_path_end};
+pub use pen::{Pen, emit_path, put, put_newline, put_number, put_path, put_path_end};
 pub use ready::Ready;
 pub use section::{Contents, Section};
 pub use sink::{Sink, WriteSink};

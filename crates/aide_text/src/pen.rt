@@ -54,7 +54,7 @@ pub fn put<W: Sink>(out: &mut W, pen: &mut Pen, bytes: &[u8])
 }
 
 /// Writes the bytes of a feed in the way that a path is printed.
-fn put_path<W: Sink, B: Feed>(out: &mut W, pen: &mut Pen, path: B)
+pub fn put_path<W: Sink, B: Feed>(out: &mut W, pen: &mut Pen, path: B)
     ensures { Wrote (printed (B.rest path)) (sheet W.delivered W.failures W.flushes out.old pen.old)
         (sheet W.delivered W.failures W.flushes out.new pen.new) }
 {
@@ -84,7 +84,7 @@ pub fn emit_path<W: Sink>(out: &mut W, bytes: &[u8]) -> Result<(), u64>
 }
 
 /// Writes a number in decimal.
-pub(crate) fn put_number<W: Sink>(out: &mut W, pen: &mut Pen, number: u64)
+pub fn put_number<W: Sink>(out: &mut W, pen: &mut Pen, number: u64)
     ensures { Wrote (decimal number) (sheet W.delivered W.failures W.flushes out.old pen.old)
         (sheet W.delivered W.failures W.flushes out.new pen.new) }
 {

@@ -1,9 +1,11 @@
-use Rattle.std.proofs.Common.{◌∙◌}
+use Rattle.std.proofs.Common.{refl}
 use Rattle.aide_session.specs.Lines.{changed_line}
-use Rattle.aide_session.proofs.PutLemmas.{put_more, put_as}
+use Rattle.aide_session.proofs.PutLemmas.{put_written}
+use Rattle.aide_text.proofs.Sheets.{wrote_as, wrote_more}
 use Rattle.aide_session.proofs.lines.put_changed_line.Goals as goal
 
 pub returns : goal.returns
 unfolding changed_line
 returns g c =
-    put_more c.put_changed_start.ensures (put_more (put_as _ _ (c.as_bytes.ensures.value ∙ c.side_name.ensures) c.put.ensures) c.put_changed_end.ensures)
+    put_written _ _ _ c.new-pen.result c.new-pen.ensures refl
+    (wrote_more c.put.ensures (wrote_more (wrote_as c.side_name.ensures c.put-2.ensures) c.put-3.ensures))

@@ -1,10 +1,12 @@
-use Rattle.std.proofs.Common.{◌∙◌, ap}
-use Rattle.aide_report.specs.Printed.{printed}
+use Rattle.std.proofs.Common.{◌∙◌, ap, refl}
+use Rattle.aide_text.specs.Printed.{printed}
 use Rattle.aide_session.specs.Lines.{open_line}
-use Rattle.aide_session.proofs.PutLemmas.{put_more, put_as}
+use Rattle.aide_session.proofs.PutLemmas.{put_written}
+use Rattle.aide_text.proofs.Sheets.{wrote_as, wrote_more}
 use Rattle.aide_session.proofs.lines.put_open_line.Goals as goal
 
 pub returns : goal.returns
 unfolding open_line
 returns g c =
-    put_more c.put_open_start.ensures (put_more (put_as _ _ (c.as_bytes.ensures.value ∙ c.side_name.ensures) c.put.ensures) (put_more c.put_database_blank.ensures (put_more (put_as _ _ (ap printed c.as_bytes-2.ensures.value) c.put_path.ensures) c.put_end_of_line.ensures)))
+    put_written _ _ _ c.new-pen.result c.new-pen.ensures refl
+    (wrote_more c.put.ensures (wrote_more (wrote_as c.side_name.ensures c.put-2.ensures) (wrote_more c.put-3.ensures (wrote_more (wrote_as (ap printed (c.of.ensures ∙ c.as_bytes.ensures.value)) c.put_path.ensures) c.put-4.ensures))))

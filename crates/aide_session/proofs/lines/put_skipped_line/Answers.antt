@@ -1,9 +1,8 @@
-use Rattle.std.proofs.Common.{◌∙◌}
 use Rattle.aide_session.specs.Lines.{skipped_line}
-use Rattle.aide_session.proofs.PutLemmas.{put_more, put_as}
+use Rattle.aide_text.proofs.Sheets.{wrote_as, wrote_more}
 use Rattle.aide_session.proofs.lines.put_skipped_line.Goals as goal
 
 pub returns : goal.returns
 unfolding skipped_line
 returns g c =
-    put_more c.put_program_word.ensures (put_more (put_as _ _ (c.as_bytes.ensures.value ∙ c.side_name.ensures) c.put.ensures) (put_more c.put_column_start.ensures (put_more c.put_number.ensures c.put_skipped_end.ensures)))
+    wrote_more c.put.ensures (wrote_more (wrote_as c.side_name.ensures c.put-2.ensures) (wrote_more c.put-3.ensures (wrote_more c.put_number.ensures c.put-4.ensures)))
