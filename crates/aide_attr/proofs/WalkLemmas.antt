@@ -342,11 +342,6 @@ at_plain look acc BeforeName s i (b ∷ bs) q h k n = rw (k, n refl) refl
 at_plain look acc InName s i (b ∷ bs) q h k n = rw k refl
 at_plain look acc AfterName s i (b ∷ bs) q h k n = rw k refl
 
-pub at_front : (look : Lookup) (acc : Attr → Bool) (p : Stage) (s : Bool) (i : ℕ)
-    → walk look acc p s i [] ≡ finish p acc i
-unfolding walk
-at_front look acc p s i = refl
-
 -- the end of the text
 pub ends_wanting_more : (look : Lookup) (acc : Attr → Bool) (p : Stage) (s : Bool) (text : List ℕ) (i : ℕ)
     → length text ≤ i → i ≤ length text

@@ -1,7 +1,7 @@
 -- Lines with more than one fault, and the one that is reported.
 use Rattle.std.proofs.Common.{◌≡◌, ℕ, List, [], ◌∷◌, refl, length, true, false, Some}
 use Rattle.std.specs.Prelude.{codes}
-use Rattle.percent_encoding.specs.Percent.{percent_decode}
+use Rattle.aide_entry.proofs.Literals.{percent_encoding_on_literals}
 use Rattle.aide_attr.specs.Attr.{row, row_of, attr_of_column}
 use Rattle.aide_entry.specs.Text.{fields}
 use Rattle.aide_entry.specs.Path.{path_cmp}
@@ -51,16 +51,16 @@ unfolding has_fault kind_of kind_of_field fields column_named attr_of_column row
 time_no_number = refl
 
 first_column_told : fault_of 65536 before (codes "/c 1x y") ≡ Some (BadTime 2)
-unfolding fault_of kind_of kind_of_field fields column_named attr_of_column row_of row is_path percent_decode path_cmp time_of number_of natural_of
+unfolding fault_of kind_of kind_of_field fields column_named attr_of_column row_of row is_path percent_encoding_on_literals path_cmp time_of number_of natural_of
 first_column_told = refl
 
 -- an entry out of path order with a bad number, and with a field too few
 order_bad : has_fault 65536 before (codes "/a 1 y") OutOfOrder ≡ true
-unfolding has_fault kind_of kind_of_field fields column_named attr_of_column row_of row percent_decode path_cmp
+unfolding has_fault kind_of kind_of_field fields column_named attr_of_column row_of row percent_encoding_on_literals path_cmp
 order_bad = refl
 
 order_told : fault_of 65536 before (codes "/a 1 y") ≡ Some OutOfOrder
-unfolding fault_of kind_of kind_of_field fields column_named attr_of_column row_of row is_path percent_decode path_cmp
+unfolding fault_of kind_of kind_of_field fields column_named attr_of_column row_of row is_path percent_encoding_on_literals path_cmp
 order_told = refl
 
 count_told : fault_of 65536 before (codes "/a y") ≡ Some FieldCount

@@ -5,11 +5,8 @@ use Rattle.aide_db.specs.NextChunk.{Gives}
 use Rattle.aide_db.specs.Keeping.{TellsOn}
 use Rattle.aide_db.specs.Told.{told, tells}
 use Rattle.aide_db.specs.declared.reel.Reel.{Ghosts as Reels}
-use Rattle.aide_db.proofs.PieceLemmas.{gives_more, gives_none}
+use Rattle.aide_db.proofs.PieceLemmas.{gives_more}
 use Rattle.aide_db.proofs.TakesLemmas.{takes_more}
-
-pub tells_none : {R : Type 0} (r : Reels R) (a : ChunkReaderView R) → TellsOn r a a
-tells_none r a = record { goes_on = λ t. t; gives = λ t. gives_none (told (r.to_come a.reel)) a.hash }
 
 pub tells_more : {R : Type 0} {r : Reels R} {a b c : ChunkReaderView R} → TellsOn r a b
     → (tells (r.to_come b.reel) ≡ true → tells (r.to_come c.reel) ≡ true)

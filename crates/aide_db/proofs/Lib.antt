@@ -1,5 +1,4 @@
 mod DatabaseExamples
-mod ValueExamples
 mod FaultOrderExamples
 pub mod LinesLemmas
 pub mod ChunkReaderLemmas

@@ -1,4 +1,6 @@
 mod Examples
+mod ValueExamples
+pub mod Literals
 pub mod BlankLemmas
 pub mod SpanLemmas
 pub mod ShapeLemmas

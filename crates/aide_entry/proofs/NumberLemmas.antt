@@ -9,7 +9,7 @@ use Rattle.std.proofs.lemmas.Bool.{le-ltb, lt-ltb, ltb-true, leb-true, ne_eqb, a
 use Rattle.std.proofs.Math.Nat.{pow-suc, pow-zero, pow-le-pow_right}
 use Rattle.aide_entry.specs.Text.{is_filled}
 use Rattle.aide_entry.specs.Numbers.{is_digit, are_digits, positional, digits_of, natural_of, mode_of, number_of, bits_of}
-use Rattle.aide_entry.specs.Numbers.{not_negative, minus_of, plain_of, minus}
+use Rattle.aide_entry.specs.Numbers.{not_negative, plain_of}
 
 module _ (base bound : ℕ) where
   -- the number so far, a digit further
@@ -105,14 +105,6 @@ module _ (base bound : ℕ) where
 pub bits_plain : (o : Option ℕ) → not_negative (plain_of o) ≡ o
 bits_plain None = refl
 bits_plain (Some n) = refl
-
-bits_below : (n : ℕ) (b : Bool) → not_negative (cond b (Some (minus (suc n))) None) ≡ None
-bits_below n true = refl
-bits_below n false = refl
-
-pub bits_minus : (n : ℕ) → 0 < n → not_negative (minus_of (Some n)) ≡ None
-bits_minus zero h = absurd (omega arith)
-bits_minus (suc n) h = bits_below n (nat_le (suc n) (2 ^ 63))
 
 some_plain : (o : Option ℕ) → is_some (plain_of o) ≡ is_some o
 some_plain None = refl

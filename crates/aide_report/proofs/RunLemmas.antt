@@ -1,5 +1,5 @@
 -- From the pass over two texts to the report over their maps.
-use Rattle.std.specs.Prelude.{◌≡◌, ℕ, Option, Result, Ok, Err, List, [], length, count_by}
+use Rattle.std.specs.Prelude.{◌≡◌, ℕ, Option, Result, Ok, List, [], length, count_by}
 use Rattle.std.proofs.Common.{refl, sym, ap, subst, ◌∙◌, arith}
 use Rattle.std.specs.FinMap.{len}
 use Rattle.std.specs.Io.KnownBytes.{Appends}
@@ -29,7 +29,6 @@ use Rattle.aide_text.specs.declared.counts.Counts.{Counts}
 use Rattle.aide_report.proofs.FirstFaults.{Runs-unique}
 use Rattle.aide_report.proofs.Laws.{added_count, removed_count, changed_count, total_count}
 use Rattle.aide_report.proofs.MergeLemmas.{changes-merged}
-use Rattle.aide_text.proofs.Sending.{Appends-nothing}
 
 -- of sound texts, the pass goes over the comparison of the maps
 pub pass_is_changes : (limits : Limits) (old new : List ℕ) → IsSound limits old → IsSound limits new
@@ -106,8 +105,3 @@ pub ends_early : (limits : Limits) (task : Task) (finding : Finding) (old new : 
 ends_early limits task finding old new before after sound_old sound_new is digests sent r runs =
     subst (λ answer. EndsEarly answer before after) (right_report limits task old new sound_old sound_new r runs)
     (subst (λ text. SendsPart text before after) (text_is limits task finding old new sound_old sound_new is digests) sent)
-
--- nothing is a front of every answer
-pub nothing_early : (r : Result Report DbFault) (bytes : Option (List ℕ)) → EndsEarly r bytes bytes
-nothing_early (Ok report) bytes = record { front = []; rest = report.text; whole = refl; bytes = Appends-nothing bytes }
-nothing_early (Err fault) bytes = Appends-nothing bytes

@@ -1,37 +1,8 @@
 -- Reading a file whole.
-use Rattle.std.proofs.Common.{◌≡◌, ◌∙◌, ℕ, ◌≤◌, List, [], ◌++◌, Option, Some, None, refl, sym, ap, append_assoc, arith}
-use Rattle.std.proofs.Common.{length, length-append, true, false}
+use Rattle.std.proofs.Common.{◌≡◌, ℕ, ◌≤◌, List, Option, Some, None, sym, ap, arith, true, false}
 use Rattle.std.proofs.Math.Path.{subst}
-use Rattle.std.proofs.lemmas.List.{append-nil}
-use Rattle.std.specs.Io.KnownBytes.{Consumes, IsAtEnd}
 use Rattle.aide_db.specs.Count.{one_more, sum_of}
 use Rattle.aide_session.specs.Files.{GivesFile, IsLarge, is_too_large}
-
-pub consumes_more : (a b c : Option (List ℕ)) (xs ys : List ℕ) → Consumes a b xs → Consumes b c ys
-    → Consumes a c (xs ++ ys)
-consumes_more None b c xs ys h k = tt
-consumes_more (Some x) None c xs ys h k = absurd h
-consumes_more (Some x) (Some y) None xs ys h k = absurd k
-consumes_more (Some x) (Some y) (Some z) xs ys h k = h ∙ ap (λ (l : List ℕ). xs ++ l) k ∙ sym (append_assoc xs ys z)
-
-pub consumes_none : (a : Option (List ℕ)) → Consumes a a []
-consumes_none None = tt
-consumes_none (Some x) = refl
-
-consumed_some : (b : Option (List ℕ)) (xs text : List ℕ) → Consumes (Some xs) b text → IsAtEnd b → xs ≡ text
-consumed_some None xs text h e = absurd h
-consumed_some (Some y) xs text h e = h ∙ ap (λ (l : List ℕ). text ++ l) e ∙ append-nil text
-
-pub consumed_all : (a b : Option (List ℕ)) (xs text : List ℕ) → a ≡ Some xs → Consumes a b text → IsAtEnd b → xs ≡ text
-consumed_all a b xs text is h e = consumed_some b xs text (subst (λ (o : Option (List ℕ)). Consumes o b text) is h) e
-
-longer_some : (b : Option (List ℕ)) (xs text : List ℕ) → Consumes (Some xs) b text → length text ≤ length xs
-longer_some None xs text h = absurd h
-longer_some (Some y) xs text h = rw h (simp (length-append) (omega arith))
-
-pub consumed_length : (a b : Option (List ℕ)) (xs text : List ℕ) → a ≡ Some xs → Consumes a b text
-    → length text ≤ length xs
-consumed_length a b xs text is h = longer_some b xs text (subst (λ (o : Option (List ℕ)). Consumes o b text) is h)
 
 pub given_file : (file to_come : Option (List ℕ)) (text : List ℕ) → GivesFile file to_come
     → ((xs : List ℕ) → to_come ≡ Some xs → (xs ≡ text) × (is_too_large xs ≡ false))

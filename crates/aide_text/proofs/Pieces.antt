@@ -119,29 +119,6 @@ single_first name a = ap (λ n. single_lines (heading name) n a) count
     count : max 1 (piece_count a) ≡ suc (piece_count (drop 32 a))
     count = omega (arith, length-drop 32 a)
 
--- whether the text has a byte
-abbrev pub has_bytes : List ℕ → Bool
-has_bytes a = not (length a == 0)
-
--- the next line below the first one, if the text has more bytes
-unfoldable pub next_single : List ℕ → List ℕ
-next_single a = if has_bytes a then single_line margin (take 32 a) else []
-
-pub single_next : (a : List ℕ) → later_single a ≡ next_single a ++ later_single (drop 32 a)
-unfolding next_single
-single_next a = by_more (has_bytes a) refl
-  where
-    by_more : (m : Bool) → has_bytes a ≡ m
-        → later_single a ≡ (if m then single_line margin (take 32 a) else []) ++ later_single (drop 32 a)
-    by_more true e = single_some a (grind (arith, e))
-    by_more false e = single_none a (no_length a (grind (arith, e))) ∙ sym (single_none (drop 32 a) (drop_all 32 a (grind (arith, e))))
-
-pub single_ended : (a : List ℕ) → has_bytes a ≡ false → later_single (drop 32 a) ≡ []
-single_ended a e = single_none (drop 32 a) (drop_all 32 a (grind (arith, e)))
-
-pub single_falls : (a : List ℕ) → has_bytes a ≡ true → length (drop 32 a) < length a
-single_falls a e = grind (arith, e, length-drop 32 a)
-
 -- a text that is not empty gets shorter
 pub single_shorter : (a : List ℕ) → 0 < length a → length (drop 32 a) < length a
 single_shorter a some = omega (arith, length-drop 32 a)
