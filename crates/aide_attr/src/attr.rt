@@ -28,9 +28,9 @@ pub enum Attr {
     Gid,
     /// When the file was last read, in seconds since 1970-01-01 UTC.
     Atime,
-    /// When the file's content last changed, in the same seconds.
+    /// When the file's content last changed, in seconds since 1970-01-01 UTC.
     Mtime,
-    /// When the file's inode last changed, in the same seconds.
+    /// When the file's inode last changed, in seconds since 1970-01-01 UTC.
     Ctime,
     /// The inode's number.
     Inode,
@@ -173,8 +173,8 @@ impl Attr {
         self.row().column
     }
 
-    /// Returns the bit of the column `attr` that says whether an entry has the attribute, if there
-    /// is such a bit.
+    /// Returns which bit of the column `attr` says whether an entry has the attribute, if there is
+    /// such a bit. The lowest bit is bit 0.
     pub fn bit(self) -> Option<u32>
         ensures same { result ≡ bit_of self }
         ensures small { IfSome result (λ k. k < most_bits) }

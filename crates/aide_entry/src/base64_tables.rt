@@ -1,4 +1,5 @@
-//! The tables for decoding base64. They are made once and serve many fields.
+//! The tables for decoding base64. A cursor makes them once for all lines that it judges; a value that is shown or
+//! compared makes its own.
 ghost use Rattle.std.specs.Prelude.{◌≡◌, ◌≤◌, IfErr, IfOk, length};
 ghost use Rattle.base64.specs.Engines.{standard};
 ghost use Rattle.base64.specs.GeneralPurpose.{IsDecodedInto, decode_of, decoded_of};

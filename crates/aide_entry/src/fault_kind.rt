@@ -9,7 +9,7 @@ pub enum DbFaultKind {
     LineTooLong,
     /// Another line, or the end of the text, comes before `@@begin_db`.
     NoBegin,
-    /// A line begins with `@@` and is neither the first `@@db_spec` nor `@@end_db`.
+    /// After `@@begin_db`, a line begins with `@@` and is neither the first `@@db_spec` nor `@@end_db`.
     BadDirective,
     /// `@@db_spec` names no column, more than 64 columns, a known column twice, or no column `name`.
     BadSpec,

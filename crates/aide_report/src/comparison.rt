@@ -87,18 +87,18 @@ fn compare<S: Sources, A: Allocator + Copy>(
 ///   configured paths, the digests and the two maps of entries. It was flushed after its last byte, and the outcome
 ///   is its own.
 /// - After a fault the beginning of the report has gone out, and nothing if a text is not sound. [`RunFault::Write`]
-///   has the number of bytes. Until a side is opened a third time, only a failed write can have let bytes out.
-/// - If it is told that a side is not there, nothing goes out, and the answer is [`RunFault::Open`]: of the old side,
-///   or of the new one after a sound old text. The first fault of the old text comes before a new side that is not
-///   there.
+///   has the number of bytes. A run that ends with a fault before the old side is opened a third time has sent
+///   nothing, unless a write failed.
+/// - If the sources say that a side is missing, nothing goes out, and the answer is [`RunFault::Open`]: of the old
+///   side, or of the new one after a sound old text. The first fault of the old text comes before a missing new side.
 /// - A fault has a cause: a device that failed, an allocation that failed, the first fault of a text (the old one's
 ///   before the new one's), or a side that no longer gives what it first gave. After the first reading of a side, a
 ///   fault of its text or another digest is [`RunFault::Changed`]. A side whose openings all agree is never called
 ///   changed.
 /// - Each side is opened twice, and once more for each section of entries: at most six times.
-/// - What an earlier run left on the desk is let go before anything is read. At no moment does the desk hold more
-///   than the entry line of each side and the line that is being read, even if the answer is a fault. A moment is
-///   between two calls of the desk; its peak is the most that it ever held.
+/// - The desk is emptied before anything is read. At no moment does it hold more than the entry line of each side
+///   and the line that is being read, even if the answer is a fault. A moment is between two calls of the desk; its
+///   peak is the most that it ever held.
 /// - If `limits.line` is at most the room that was reserved on the desk, the run never lacks memory for a line.
 pub fn run<S: Sources, W: Sink, A: Allocator + Copy>(
     task: &Task<'_>,

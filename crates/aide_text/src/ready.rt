@@ -17,7 +17,7 @@ pub struct Ready {
 impl Ready {
     ghost use Rattle.aide_text.specs.ReadyRest.{ready_rest};
 
-    /// Returns a feed of a copy of this text.
+    /// Returns a feed of a copy of this text, which has at most 128 bytes.
     pub fn of(text: &[u8]) -> Ready
         requires { length text.now ≤ 128 }
         ensures { ready_rest result ≡ text.now }

@@ -72,7 +72,7 @@ fn listed(added: bool, removed: bool, changed: bool) -> Contents
     }
 }
 
-/// Returns whether lists that are grouped or not are as a section wants them.
+/// Returns whether the option `report_grouped` has the value that a section needs, if it needs one.
 fn fits(wanted: Option<bool>, grouped: bool) -> bool
     ensures { result ≡ fits wanted grouped }
 {

@@ -86,7 +86,8 @@ fn octal_digit(n: u128) -> u8
 
 ghost use Rattle.std.specs.Prelude.{◌+◌, ◌%◌};
 
-/// Returns a mode as four octal digits, or the empty text if there is no mode.
+/// Returns the low twelve bits of a mode as four octal digits, or the empty text if there is no mode. A mode below zero
+/// has the digits of its absolute value.
 pub fn mode_of(mode: Option<i128>) -> Ready
     ensures { ready_rest result ≡ option_text mode_text mode }
 {
