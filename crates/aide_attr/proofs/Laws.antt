@@ -1,10 +1,10 @@
 -- Laws of the definitions, which hold of any sets and any groups.
 use Rattle.std.proofs.Common.{ℕ, ◌≡◌, ◌∙◌, true, false, List, Option, Some, refl, sym, ap, get_or}
-use Rattle.std.specs.Prelude.{find, length, map, nat_eq, unwrap_or}
+use Rattle.std.specs.Prelude.{◌==◌, find, length, map, nat_eq, unwrap_or}
 use Rattle.std.specs.Cmp.Lexicographic.{pointwise}
-use Rattle.std.specs.List.{range_with_len}
+use Rattle.std.specs.List.{list_any, range_with_len}
 use Rattle.aide_attr.specs.Attr.{all_attrs, row, row_of, name_of, detail_name_of, column_of, holder_of, attr_named}
-use Rattle.aide_attr.specs.Attr.{attr_of_column}
+use Rattle.aide_attr.specs.Attr.{attr_of_column, slot_of}
 use Rattle.aide_attr.specs.declared.attr.Attr.{Attr}
 use Rattle.aide_attr.specs.declared.attr.Attr.TheVariants as attr
 use Rattle.aide_attr.specs.declared.set.AttrSet.{AttrSet}
@@ -14,6 +14,7 @@ use Rattle.aide_attr.specs.declared.level.Level.{Level}
 use Rattle.aide_attr.specs.declared.level.Level.TheVariants as level
 use Rattle.aide_attr.specs.declared.level.TheConstants.Level.{ALL as all_levels}
 use Rattle.aide_attr.specs.Level.{level_name, level_named, rank}
+use Rattle.aide_attr.specs.Summary.{summary_slots}
 use Rattle.aide_attr.specs.Set.{has}
 use Rattle.aide_attr.specs.Expression.{Lookup, IsMeaning, IsFault}
 use Rattle.aide_attr.proofs.SetLemmas.{same_set}
@@ -99,3 +100,9 @@ attr_of_its_detail _ = refl
 pub one_of_a_detail_name : (a b : Attr) → detail_name_of a ≡ detail_name_of b → a ≡ b
 one_of_a_detail_name a b same =
     same_attr a b (sym (attr_of_its_detail a) ∙ ap attr_detailed same ∙ attr_of_its_detail b)
+
+-- the slot of each attribute is one of a summary string
+pub slot_in_summary : (a : Attr) → list_any (λ slot. slot == slot_of a) summary_slots ≡ true
+unfolding row_of row
+slot_in_summary attr.Ftype = refl
+slot_in_summary _ = refl
