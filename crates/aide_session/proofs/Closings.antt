@@ -133,7 +133,7 @@ cause_by : (files : Files) (words : List (List ℕ)) (named : Named) (closing : 
     → (site → more) → ClosingCause files words named closing site out
     → ClosingCause files words named closing more out
 cause_by files words named no_config site more out then cause = (cause.0, then cause.1)
-cause_by files words named (bad_run fault) site more out then cause =
+cause_by files words named (bad_run options fault) site more out then cause =
     (cause.0, run_cause_by files named fault site more out then cause.1)
 cause_by files words named no_job site more out then cause = cause
 cause_by files words named no_memory site more out then cause = cause

@@ -41,7 +41,7 @@ pub data Closing : Type 0 where
   large_config : Closing
   bad_config : ConfFault → Closing
   good_config : Closing
-  bad_run : RunFault → Closing
+  bad_run : Options → RunFault → Closing
   good_run : Options → Outcome → Closing
 
 -- the exit status
@@ -52,7 +52,7 @@ closing_status no_config = 18
 closing_status large_config = 17
 closing_status (bad_config fault) = 17
 closing_status good_config = 0
-closing_status (bad_run fault) = fault_status fault
+closing_status (bad_run options fault) = fault_status fault
 closing_status (good_run options outcome) = status_of outcome.added outcome.removed outcome.changed
 
 -- what is put on standard error
@@ -63,7 +63,7 @@ closing_line named no_config = unread_line named.config
 closing_line named large_config = too_large_line
 closing_line named (bad_config fault) = conf_line fault
 closing_line named good_config = []
-closing_line named (bad_run fault) = run_fault_line named.old_path named.new_path fault
+closing_line named (bad_run options fault) = run_fault_line named.old_path named.new_path fault
 closing_line named (good_run options outcome) = outcome_lines outcome
 
 -- How often each side was opened and the output was flushed, before and after. Also whether the
@@ -98,7 +98,7 @@ abbrev pub ClosingOutput : Closing → Course → Option (List ℕ) → Option (
 ClosingOutput (good_run options outcome) course before after =
     IsOfOutcome options outcome before after
     × (course.is_flushed ≡ true) × (course.flushes_after ≡ one_more course.flushes_before)
-ClosingOutput (bad_run fault) course before after =
+ClosingOutput (bad_run options fault) course before after =
     HasSentNothing (course.opened_before Old) (course.opened_after Old) before after fault
     × IsRefusedThere course.opened_before course.opened_after fault
     × (course.flushes_after ≡ course.flushes_before)
@@ -166,7 +166,8 @@ ClosingCause files words named (bad_config fault) site out = (compare : Bool)
     × AsksAndReads files words named.config compare (Err fault)
 ClosingCause files words named good_config site out = (s : Configured)
     × AsksAndReads files words named.config false (Ok s)
-ClosingCause files words named (bad_run fault) site out = AsksToCompare files words named
+ClosingCause files words named (bad_run options fault) site out =
+    ((asks : AsksToCompare files words named) × (asks.settings.options ≡ options))
     × RunCause files named fault site out
 ClosingCause files words named (good_run options outcome) site out =
     ((asks : AsksToCompare files words named) × (asks.settings.options ≡ options))
@@ -174,17 +175,22 @@ ClosingCause files words named (good_run options outcome) site out =
 
 -- How often the sides were opened. In a good run each side is opened to be read whole, to count,
 -- and once for each section of entries. The outcome gives this number, and so do both texts if they
--- are known. In a run that ends with the first fault of a text, no side is opened more than once.
--- In a run that could not open a side, the last opening of that side was refused.
+-- are known. A run with a fault opens no side more often than this, if both texts are known and
+-- sound. In a run that ends with the first fault of a text, no side is opened more than once. In a
+-- run that could not open a side, the last opening of that side was refused.
 abbrev pub ClosingOpens : Files → Named → Closing → Course → Type 0
 ClosingOpens files named (good_run options outcome) course =
     OpensByOutcome options outcome course.opened_before course.opened_after
     × ((old new : List ℕ) → HasText files named Old old → HasText files named New new
     → OpensExactly course.opened_before course.opened_after
     (openings_over (asked_by options named) old new))
-ClosingOpens files named (bad_run fault) course =
+ClosingOpens files named (bad_run options fault) course =
     OpensFirst course.opened_before course.opened_after fault
     × IsNotGiven course.given_after fault
+    × ((old new : List ℕ) → HasText files named Old old → HasText files named New new
+    → IsSound limits old → IsSound limits new
+    → OpensAtMost course.opened_before course.opened_after
+    (openings_over (asked_by options named) old new))
 ClosingOpens files named _ course = ⊤
 
 -- The status, the lines on standard error and the output are those of one closing, whose cause

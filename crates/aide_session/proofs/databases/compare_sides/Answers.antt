@@ -48,12 +48,17 @@ returns-in-Err-clause-closes g c = λ words for.
     let files = g.S.Sources.file_at c.args.site.now in
     let bytes_of = g.S.Sources.bytes_of c.args.site.now in
     record {
-      closing = bad_run fault;
+      closing = bad_run c.args.task.now.options fault;
       named = for.named;
-      cause = (for.asks, run_cause files for.named bytes_of fault _ _ _ _ for.gives c.in-Err.ensures.cause c.in-Err.ensures.right (c.in-Err.ensures.memory c.requires.room));
+      cause = ((for.asks, for.options_are), run_cause files for.named bytes_of fault _ _ _ _ for.gives c.in-Err.ensures.cause c.in-Err.ensures.right (c.in-Err.ensures.memory c.requires.room));
       status_is = c.status-in-Err.ensures;
       output = (c.in-Err.ensures.unsent, c.in-Err.ensures.refused, c.in-Err.ensures.flushes);
-      opens = (c.in-Err.ensures.opens_first, c.in-Err.ensures.not_given);
+      opens = (
+        c.in-Err.ensures.opens_first,
+        c.in-Err.ensures.not_given,
+        λ old new has_old has_new sound_old sound_new.
+            rw (for.old_is, for.new_is) (c.run.ensures.opens_within old new (for.gives Old old has_old) (for.gives New new has_new) sound_old sound_new),
+      );
       opens_some = c.run.ensures.opens_some;
       put = put_paths fault for.named c.args.task.now.old_path.now c.args.task.now.new_path.now _ _ _ _ for.old_is for.new_is c.put_run_fault.ensures;
     }
