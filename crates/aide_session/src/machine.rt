@@ -1,8 +1,9 @@
 //! A session on the machine: its arguments, its files and its streams.
 use crate::file_site::FileSite;
 use crate::paged_sink::PagedSink;
-use crate::program::session;
+use crate::program::session_on;
 use crate::site::Site;
+use aide_db::Desk;
 use aide_report::{Sink, WriteSink};
 use aide_words::{Memory, Words};
 use std::alloc::Global;
@@ -20,8 +21,8 @@ fn take_words(rt: &HostRuntime, alloc: Global) -> Result<Words, Memory> {
     Ok(words)
 }
 
-/// Runs a session whose output and lines each go through a page. Memory for both pages is reserved
-/// before any file is opened.
+/// Runs a session whose output and lines each go through a page, on a desk of its own. Memory for
+/// both pages is reserved before any file is opened.
 fn run_paged<S: Site, W: Sink + Drop, E: Sink + Drop>(
     alloc: Global,
     words: &Words,
@@ -31,7 +32,8 @@ fn run_paged<S: Site, W: Sink + Drop, E: Sink + Drop>(
 ) -> Result<u8, Memory> {
     let mut out = PagedSink::new(alloc, out)?;
     let mut err = PagedSink::new(alloc, err)?;
-    Ok(session(alloc, words, site, &mut out, &mut err))
+    let mut desk = Desk::new(alloc);
+    Ok(session_on(alloc, words, &mut desk, site, &mut out, &mut err))
 }
 
 /// Runs the session of the command line over the machine's files.
