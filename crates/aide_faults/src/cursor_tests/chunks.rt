@@ -4,6 +4,7 @@ ghost use Rattle.std.specs.Prelude.{◌≡◌, Some};
 use super::{LIMITS, Wanted, assert_read, digest, read_whole, start, step};
 use aide_db::{DbFaultKind as Kind, Desk, DeviceFault, Limits, ReadReel, Reel, Side, Step};
 use std::alloc::{AllocError, Global};
+use std::io::{self, ErrorKind, Read};
 use std::test::Fail;
 
 /// A reel over a slice that fills each request as far as it can. Notes its first answers.
@@ -165,6 +166,49 @@ fn reads_of_a_reader(rt: HostRuntime) {
     assert!(rt; reel.read(&mut buffer) == Ok(2));
     assert!(rt; reel.failures() == 0);
     assert!(rt; reel.into_reader() == b"c".as_slice());
+}
+
+/// A reader over a slice, one of whose reads fails. The reads before and after it give bytes.
+#[derive(Drop)]
+struct StumblingReader<'a> {
+    bytes: &'a [u8],
+    reads: u32,
+    failing: u32,
+}
+
+impl<'a> Read for StumblingReader<'a> {
+    fn read(&mut self, buffer: &mut [u8]) -> io::Result<usize> {
+        let number = self.reads;
+        self.reads = number.saturating_add(1);
+        if number == self.failing {
+            return Err(io::Error::from(ErrorKind::Other));
+        }
+        let count = self.bytes.len().min(buffer.len()).min(8);
+        let (front, back) = self.bytes.split_at(count);
+        buffer[..count].copy_from_slice(front);
+        self.bytes = back;
+        Ok(count)
+    }
+}
+
+#[test]
+fn a_reader_that_fails_once(rt: HostRuntime) {
+    let mut desk = Desk::new(rt.alloc());
+    // six reads give 45 bytes, eight at a time, and the seventh finds the end
+    for failing in 0u32..7 {
+        let reader = StumblingReader {
+            bytes: b"@@begin_db\n@@db_spec name size\n/a 1\n@@end_db\n",
+            reads: 0,
+            failing,
+        };
+        let (_, answer, reel) = read_whole(&rt, ReadReel::new(reader), LIMITS, &mut desk);
+        assert!(rt;
+            answer.is_err_and(|fault| fault.kind == Kind::Read),
+            "read {failing}"
+        );
+        assert!(rt; reel.failures() == 1, "read {failing}");
+        assert!(rt; reel.into_reader().reads == failing + 1, "read {failing}");
+    }
 }
 
 /// A database of two entries out of order. The first one's line ends after this number of bytes.
