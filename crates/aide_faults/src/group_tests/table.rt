@@ -315,6 +315,18 @@ fn check_line(rt: &impl Abort, line: &Line) {
     assert!(rt; is_word(line.name) && !is_group_name(line.name));
 }
 
+/// Whether the table has a line for an attribute.
+fn is_in_the_table(attr: Attr) -> bool {
+    LINES.iter().any(|line| line.name == attr.name())
+}
+
+#[test]
+fn each_attribute_is_in_the_table(rt: HostRuntime) {
+    for attr in &Attr::ALL {
+        assert!(rt; is_in_the_table(*attr), "attribute {}", attr.number());
+    }
+}
+
 #[test]
 fn the_table_of_attributes(rt: HostRuntime) -> Result<(), Fail> {
     for line in &LINES {
