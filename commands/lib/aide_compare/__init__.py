@@ -1,1 +1,3 @@
-"""The modules of the commands around aide-compare."""
+"""What the commands of aide-compare share. Python 3.9 or later, standard library alone."""
+
+VERSION = "0.1.0"

@@ -1,0 +1,113 @@
+"""How a command ends: its statuses, its error lines, and never with a status that the interpreter chose."""
+import os
+import sys
+from enum import IntEnum
+
+from aide_compare.escapes import guarded
+
+
+class Status(IntEnum):
+    """The statuses of a command itself. 0 to 7 also are those of a comparison; a failure never has one of these."""
+    OK = 0
+    USAGE = 15
+    CONFIGURATION = 17
+    DEVICE = 18
+    MEMORY = 22
+    DATABASE = 24
+
+    def __str__(self):  # Before Python 3.11 it is the name, and not the number.
+        return str(self.value)
+
+
+class Fault(Exception):
+    """Why a command cannot do its work: a status, a line, and more lines. Names of others are `shown` in them already."""
+
+    def __init__(self, status, text, *more):
+        super().__init__(text)
+        self.status, self.text, self.more = status, text, more
+
+
+class Done(Exception):
+    """The command has ended before its work, as after --help."""
+
+
+_name = "aide-compare"
+
+
+def write_all(descriptor, data):
+    """Writes all bytes; Python's own buffers would keep some and fail once more at the end."""
+    rest = memoryview(data)
+    while rest:
+        rest = rest[os.write(descriptor, rest):]
+
+
+def say(text):
+    """Writes a line with the name of the command to standard error. If that cannot be written, nothing else changes."""
+    try:
+        write_all(2, ("%s: %s\n" % (_name, guarded(text))).encode("utf-8", "backslashreplace"))
+    except OSError:
+        pass
+
+
+def take_standard_descriptors():
+    """Takes 0, 1 and 2 if they are closed, so that no file becomes one of them. Their use fails, as it should."""
+    while True:
+        descriptor = os.open("/dev/null", os.O_RDONLY)
+        if descriptor > 2:
+            os.close(descriptor)
+            return
+        if descriptor == 0:
+            os.close(descriptor)
+            descriptor = os.open("/dev/null", os.O_WRONLY)
+        os.set_inheritable(descriptor, True)
+
+
+def _heed_interrupts():
+    """^C ends the command by its signal, without a traceback. All other signals have their default already."""
+    import signal
+    if signal.getsignal(signal.SIGINT) is signal.default_int_handler:
+        signal.signal(signal.SIGINT, signal.SIG_DFL)
+
+
+def reason(error):
+    """The cause of an OSError in words, without a path."""
+    return error.strerror or guarded(str(error)) or type(error).__name__
+
+
+def _status_of(main):
+    try:
+        take_standard_descriptors()
+        _heed_interrupts()
+        status = main(sys.argv[1:])
+        for stream in (sys.stdout, sys.stderr):
+            if stream is not None:
+                stream.flush()
+        return status if isinstance(status, int) else Status.DEVICE
+    except Done:
+        return Status.OK
+    except Fault as fault:
+        for text in (fault.text,) + fault.more:
+            say(text)
+        return fault.status
+    except MemoryError:
+        say("out of memory")
+        return Status.MEMORY
+    except OSError as error:
+        name = error.filename
+        where = ": " + guarded(os.fsdecode(name)) if isinstance(name, (str, bytes)) else ""
+        say("a call of the system failed%s: %s" % (where, reason(error)))
+    except BaseException as error:  # Also KeyboardInterrupt, SystemExit and RecursionError.
+        say("a fault of this command: %s: %s" % (type(error).__name__, guarded(str(error))[:300]))
+    return Status.DEVICE
+
+
+def command(name, main):
+    """Runs `main(arguments)` and returns the status with which the command ends."""
+    global _name
+    _name = name
+    try:
+        return int(_status_of(main)) & 255
+    except MemoryError:
+        return int(Status.MEMORY)
+    except BaseException:
+        return int(Status.DEVICE)

@@ -1,0 +1,60 @@
+"""Bytes of others as people may see them. Every command that shows such bytes uses `shown` or `shown_lines`.
+
+Escaped, as a backslash and three octal digits for each byte, as paths are in reports: control bytes and the backslash,
+bytes that are no UTF-8, and the characters that a terminal or a reader obeys in place of showing them: the controls U+0080
+to U+009F, the separators of lines and paragraphs, and all format controls, such as those that turn the direction of text.
+"""
+
+# The characters of the category Cf (Unicode 15), with the two separators of the categories Zl and Zp.
+_FORMAT_CONTROLS = (
+    (0xAD, 0xAD), (0x600, 0x605), (0x61C, 0x61C), (0x6DD, 0x6DD), (0x70F, 0x70F), (0x890, 0x891), (0x8E2, 0x8E2),
+    (0x180E, 0x180E), (0x200B, 0x200F), (0x2028, 0x202E), (0x2060, 0x206F), (0xFEFF, 0xFEFF), (0xFFF0, 0xFFFB),
+    (0x110BD, 0x110BD), (0x110CD, 0x110CD), (0x13430, 0x1343F), (0x1BCA0, 0x1BCA3), (0x1D173, 0x1D17A),
+    (0xE0000, 0xE007F),
+)
+
+
+def _escaped(data):
+    return "".join("\\%03o" % byte for byte in data)
+
+
+def _table():
+    """What stands in place of each character that is escaped. Bytes that are no UTF-8 are U+DC80 to U+DCFF."""
+    table = {code: _escaped(bytes([code])) for code in list(range(32)) + [92, 127]}
+    table.update((0xDC00 + byte, _escaped(bytes([byte]))) for byte in range(128, 256))
+    for first, last in ((0x80, 0x9F),) + _FORMAT_CONTROLS:
+        table.update((code, _escaped(chr(code).encode())) for code in range(first, last + 1))
+    return table
+
+
+_ALL = _table()
+_BUT_BACKSLASHES = {code: text for code, text in _ALL.items() if code != 92}
+_BUT_LINES = {code: text for code, text in _BUT_BACKSLASHES.items() if code not in (9, 10)}
+
+
+def _bytes_of(text):
+    """The bytes that a text means. A surrogate that means no byte becomes three bytes, which are no UTF-8."""
+    if not isinstance(text, str):
+        return bytes(text)
+    try:
+        return text.encode("utf-8", "surrogateescape")
+    except UnicodeEncodeError:
+        kinds = ("surrogateescape" if "\udc80" <= letter <= "\udcff" else "surrogatepass" for letter in text)
+        return b"".join(letter.encode("utf-8", kind) for letter, kind in zip(text, kinds))
+
+
+def shown(text, most=5000):
+    """Bytes or text of others in one line, cut after `most` characters with "..."."""
+    letters = _bytes_of(text[:4 * most + 4]).decode("utf-8", "surrogateescape")
+    cut = letters[:most].translate(_ALL)
+    return cut + "..." if len(letters) > most else cut
+
+
+def guarded(text):
+    """A line of ours in which names are `shown` already: all else that is escaped, but not the backslash."""
+    return _bytes_of(text).decode("utf-8", "surrogateescape").translate(_BUT_BACKSLASHES)
+
+
+def shown_lines(data):
+    """Whole lines: newlines and tabs stay, and backslashes, since the reports and error lines have escapes of their own."""
+    return _bytes_of(data).decode("utf-8", "surrogateescape").translate(_BUT_LINES)

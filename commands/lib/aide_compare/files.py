@@ -1,0 +1,204 @@
+"""Files that are opened without trust: read, made without a name, or replaced in one step. How a path is followed is in
+folders.py."""
+import errno
+import os
+import stat
+
+from aide_compare.ending import Fault, Status, reason, write_all
+from aide_compare.escapes import shown
+from aide_compare.folders import ANYBODY, Folder, failure, open_folder, walked  # noqa: F401 (for those who use this module)
+
+NO_TMPFILE = (errno.EOPNOTSUPP, errno.EISDIR, errno.EINVAL)
+NEW_FILE = os.O_CREAT | os.O_EXCL | os.O_RDWR | os.O_NOFOLLOW | os.O_CLOEXEC
+KINDS = ((stat.S_ISDIR, "a folder"), (stat.S_ISFIFO, "a FIFO"), (stat.S_ISSOCK, "a socket"), (stat.S_ISCHR, "a device"),
+         (stat.S_ISBLK, "a device"), (stat.S_ISLNK, "a link"))
+
+
+def kind_of(mode):
+    return next((name for test, name in KINDS if test(mode)), "a file")
+
+
+def reopened(descriptor, flags):
+    """The same file, opened once more by its descriptor, whatever its name is now."""
+    try:
+        return os.open("/proc/self/fd/%d" % descriptor, flags | os.O_CLOEXEC)
+    except FileNotFoundError:
+        raise Fault(Status.DEVICE, "/proc is not mounted, so no file can be opened by its descriptor")
+
+
+def open_regular(path, what=""):
+    """A descriptor of a regular file, to be read. All else is a Fault at once, also a FIFO that has no writer. `what` comes
+    before the name in the text of the Fault, such as "the new database "."""
+    try:
+        folder, file = walked(path)
+        folder.close()
+        if file is None:
+            raise failure(errno.EISDIR, "it is a folder")
+        try:
+            mode = os.fstat(file).st_mode
+            if not stat.S_ISREG(mode):
+                raise failure(errno.EINVAL, "it is %s and no regular file" % kind_of(mode))
+            return reopened(file, os.O_RDONLY | os.O_NONBLOCK | os.O_NOCTTY)
+        finally:
+            os.close(file)
+    except OSError as error:
+        raise Fault(Status.DEVICE, "cannot open %s%s: %s" % (what, shown(path), reason(error)))
+
+
+def random_name():
+    return ".aide-compare-" + os.urandom(12).hex()
+
+
+def private_folder():
+    """The path of the folder in which private files without a name are made."""
+    return os.environ.get("TMPDIR") or "/var/tmp"
+
+
+def _nameless_in(folder):
+    try:
+        return os.open(".", os.O_TMPFILE | os.O_EXCL | os.O_RDWR | os.O_CLOEXEC, 0o600, dir_fd=folder)
+    except OSError as error:
+        if error.errno not in NO_TMPFILE:
+            raise
+    name = random_name()
+    descriptor = os.open(name, NEW_FILE, 0o600, dir_fd=folder)
+    os.unlink(name, dir_fd=folder)
+    return descriptor
+
+
+def nameless(room=None):
+    """A private file that has no name, open for reading and writing. Nothing is left of it however the command ends."""
+    room = room or private_folder()
+    try:
+        folder = os.open(room, os.O_PATH | os.O_DIRECTORY | os.O_CLOEXEC)
+        try:
+            return _nameless_in(folder)
+        finally:
+            os.close(folder)
+    except OSError as error:
+        raise Fault(Status.DEVICE, "cannot make a private file in %s: %s; name another folder by TMPDIR"
+                    % (shown(room), reason(error)))
+
+
+class Replacement:
+    """A file that is replaced in one step: others see the former one or the whole new one. `begin` finds out before the
+    work whether the file can be written. Where another user can write in the folder, or in one above it, both work with
+    the rights of that user, who gains nothing then from what he puts there."""
+
+    def __init__(self, path, mode=0o644, what="the file"):
+        self.path, self.mode, self.what, self.folder = path, mode, what, None
+        self.name = os.path.basename(path)
+
+    def begin(self):
+        """Opens the folder, which is made if it is missing, and tries that a file can be made there."""
+        if not self.name or os.path.isdir(self.path):
+            raise Fault(Status.USAGE, "%s is a folder: %s" % (self.what, shown(self.path)))
+        try:
+            self.folder = open_folder(os.path.dirname(self.path) or ".", make=True)
+            self._work(self._try)
+        except Fault as fault:
+            raise self._fault(fault.text)
+        return self
+
+    def commit(self, data):
+        """Puts these bytes in the place of the file, on the disk before this returns."""
+        try:
+            self._work(lambda: self._put(data))
+        except Fault as fault:
+            raise self._fault(fault.text)
+
+    def close(self):
+        if self.folder:
+            self.folder.close()
+            self.folder = None
+
+    def _fault(self, text):
+        return Fault(Status.DEVICE, "cannot write %s %s: %s" % (self.what, shown(self.path), text))
+
+    def _work(self, work):
+        """Runs the work with the rights that the folder asks for."""
+        others = set() if self.folder.is_safe() else self.folder.others
+        if not others:
+            try:
+                return work()
+            except OSError as error:
+                raise Fault(Status.DEVICE, reason(error))
+        if len(others) > 1 or ANYBODY in others or os.geteuid() != 0:
+            raise Fault(Status.DEVICE, "other users can write in its folder or above it")
+        from aide_compare.rights import with_rights_of
+        return with_rights_of(min(others), work, keep=(self.folder.fd,))
+
+    def _refuse_other_kinds(self):
+        """A regular file is replaced, or no file at all: never a device, a link or a FIFO, such as /dev/null."""
+        try:
+            mode = os.stat(self.name, dir_fd=self.folder.fd, follow_symlinks=False).st_mode
+        except FileNotFoundError:
+            return
+        if not stat.S_ISREG(mode):
+            raise failure(errno.EINVAL, "it is %s and no regular file" % kind_of(mode))
+
+    def _try(self):
+        self._refuse_other_kinds()
+        part, name = self._part()
+        os.close(part)
+        if name:
+            os.unlink(name, dir_fd=self.folder.fd)
+
+    def _part(self):
+        """A new file in the folder, and its name: none where the file system knows files without one."""
+        try:
+            return os.open(".", os.O_TMPFILE | os.O_RDWR | os.O_CLOEXEC, 0o600, dir_fd=self.folder.fd), None
+        except OSError as error:
+            if error.errno not in NO_TMPFILE:
+                raise
+        name = random_name()
+        return os.open(name, NEW_FILE, 0o600, dir_fd=self.folder.fd), name
+
+    def _put(self, data):
+        part, name = self._part()
+        try:
+            write_all(part, data)
+            os.fchmod(part, self.mode)
+            os.fsync(part)
+            self._refuse_other_kinds()
+            if name:
+                self._rename(name)
+            else:
+                self._link(part)
+            name = None
+            self._sync_folder()
+        finally:
+            os.close(part)
+            if name:
+                self._unlink(name)
+
+    def _link(self, part):
+        """Gives the file its name. A name cannot be linked over, so an old file is replaced by way of a fixed second name:
+        what a killed command left there is replaced by the next one, and of several at once each is whole."""
+        source, second, fault = "/proc/self/fd/%d" % part, ".%s.part" % self.name, None
+        for _ in range(100):
+            try:
+                os.link(source, second, dst_dir_fd=self.folder.fd)
+                return self._rename(second)
+            except FileExistsError as error:
+                fault = error
+                self._unlink(second)
+            except FileNotFoundError as error:  # Another command has put it in place already, or removed it.
+                fault = error
+        raise fault
+
+    def _unlink(self, name):
+        try:
+            os.unlink(name, dir_fd=self.folder.fd)
+        except FileNotFoundError:
+            pass
+
+    def _rename(self, name):
+        os.rename(name, self.name, src_dir_fd=self.folder.fd, dst_dir_fd=self.folder.fd)
+
+    def _sync_folder(self):
+        folder = os.open(".", os.O_RDONLY | os.O_DIRECTORY | os.O_CLOEXEC, dir_fd=self.folder.fd)
+        try:
+            os.fsync(folder)
+        finally:
+            os.close(folder)

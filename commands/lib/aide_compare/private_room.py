@@ -1,0 +1,139 @@
+"""A private folder for the temporary files of a program, which is removed however the command ends.
+
+The folder is locked as long as the command, or the program that it started, lives. A folder without a lock was left by a
+command that was killed: the next one removes it.
+"""
+import fcntl
+import os
+import re
+import signal
+import stat
+
+from aide_compare.ending import Fault, Status, reason
+from aide_compare.escapes import shown
+from aide_compare.files import open_folder, private_folder, reopened
+
+SIGNALS = (signal.SIGHUP, signal.SIGINT, signal.SIGQUIT, signal.SIGTERM)
+FOLDER = os.O_RDONLY | os.O_DIRECTORY | os.O_NOFOLLOW | os.O_CLOEXEC
+
+
+class Stopped(BaseException):
+    """A signal that ends the command, when what it has made is removed."""
+
+    def __init__(self, number):
+        super().__init__(number)
+        self.number = number
+
+
+def _stop(number, _):
+    for other in SIGNALS:
+        signal.signal(other, signal.SIG_IGN)
+    raise Stopped(number)
+
+
+class Unbroken:
+    """No signal comes in between what is done here; one that came is heeded at the end."""
+
+    def __enter__(self):
+        self.mask = signal.pthread_sigmask(signal.SIG_BLOCK, SIGNALS)
+
+    def __exit__(self, *_):
+        signal.pthread_sigmask(signal.SIG_SETMASK, self.mask)
+
+
+def stoppable(work):
+    """Does the work. A signal ends it in order: what it has made is removed, then the process ends by the signal."""
+    for number in SIGNALS:
+        if signal.getsignal(number) is not signal.SIG_IGN:
+            signal.signal(number, _stop)
+    try:
+        return work()
+    except Stopped as stopped:
+        signal.signal(stopped.number, signal.SIG_DFL)
+        os.kill(os.getpid(), stopped.number)
+        raise
+
+
+def _locked(descriptor):
+    """Whether this process has the lock of the folder now."""
+    try:
+        fcntl.flock(descriptor, fcntl.LOCK_EX | fcntl.LOCK_NB)
+        return True
+    except BlockingIOError:
+        return False
+
+
+class PrivateRoom:
+    """A folder `.NAME-..` in $TMPDIR or /var/tmp; only files whose names `pattern` fits are ever removed in it."""
+
+    def __init__(self, name, pattern):
+        self.beginning, self.pattern = ".%s-" % name, re.compile(pattern)
+        self.name = self.fd = self.parent = None
+
+    def __enter__(self):
+        path = private_folder()
+        with Unbroken():
+            try:
+                with open_folder(path) as folder:
+                    self.parent = reopened(folder.fd, os.O_RDONLY | os.O_DIRECTORY)
+                    if folder.is_safe():
+                        self._sweep()
+                while self.fd is None:
+                    self._make()
+            except OSError as error:
+                raise Fault(Status.DEVICE, "cannot make a private folder in %s: %s; name another folder by TMPDIR"
+                            % (shown(path), reason(error)))
+        return self
+
+    def __exit__(self, *_):
+        with Unbroken():
+            self._remove(self.name, self.fd)
+            os.close(self.fd)
+            os.close(self.parent)
+
+    def _make(self):
+        """Makes the folder and locks it. Another command may sweep it away in between: then it is made once more."""
+        name = self.beginning + os.urandom(12).hex()
+        os.mkdir(name, 0o700, dir_fd=self.parent)
+        descriptor = self._opened(name)
+        if descriptor is None or not _locked(descriptor) or not self._is_named(name, descriptor):
+            return
+        self.name, self.fd = name, descriptor
+
+    def _opened(self, name):
+        """A folder of this user that nobody else may enter, or None."""
+        try:
+            descriptor = os.open(name, FOLDER, dir_fd=self.parent)
+        except OSError:
+            return None
+        found = os.fstat(descriptor)
+        if found.st_uid == os.geteuid() and stat.S_IMODE(found.st_mode) == 0o700:
+            return descriptor
+        os.close(descriptor)
+        return None
+
+    def _is_named(self, name, descriptor):
+        try:
+            return os.path.samestat(os.stat(name, dir_fd=self.parent, follow_symlinks=False), os.fstat(descriptor))
+        except FileNotFoundError:
+            return False
+
+    def _sweep(self):
+        """Removes the folders of commands that were killed."""
+        for name in os.listdir(self.parent):
+            if not name.startswith(self.beginning):
+                continue
+            descriptor = self._opened(name)
+            if descriptor is not None:
+                if _locked(descriptor):
+                    self._remove(name, descriptor)
+                os.close(descriptor)
+
+    def _remove(self, name, descriptor):
+        for file in os.listdir(descriptor):
+            if self.pattern.fullmatch(file):
+                os.unlink(file, dir_fd=descriptor)
+        try:
+            os.rmdir(name, dir_fd=self.parent)
+        except OSError:
+            pass  # Something else is in it, or it is gone.

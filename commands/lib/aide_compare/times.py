@@ -1,0 +1,34 @@
+"""Times with units, as every command takes and shows them."""
+import time
+
+from aide_compare.ending import Fault, Status
+from aide_compare.escapes import shown
+
+UNITS = {"s": 1, "m": 60, "h": 3600, "d": 86400}
+MOST_SECONDS = 30 * 86400
+
+
+def seconds_of(text):
+    """The seconds of "90", "90s", "15m", "26h" or "3d", at most 30 days; a Fault otherwise."""
+    digits, unit = (text[:-1], UNITS[text[-1]]) if text[-1:] in UNITS else (text, 1)
+    if not (digits.isascii() and digits.isdigit() and len(digits) <= 9):
+        raise Fault(Status.USAGE, "no time: %s; write a number and s, m, h or d, as in 26h" % (shown(text, 100) or "''"))
+    seconds = int(digits) * unit
+    if seconds > MOST_SECONDS:
+        raise Fault(Status.USAGE, "more than 30 days: %s" % shown(text, 100))
+    return seconds
+
+
+def date_of(seconds):
+    """A time since 1970 as "2026-11-25T12:00:00Z"; a time that has no date as "@" and its seconds."""
+    try:
+        return time.strftime("%Y-%m-%dT%H:%M:%SZ", time.gmtime(seconds))
+    except (OverflowError, ValueError, OSError):
+        return "@%d" % seconds
+
+
+def age_in_words(seconds):
+    for name, unit, most in (("seconds", 1, 120), ("minutes", 60, 120), ("hours", 3600, 72)):
+        if seconds < unit * most:
+            return "%d %s" % (seconds // unit, name)
+    return "%d days" % (seconds // 86400)

@@ -1,0 +1,196 @@
+"""Paths that are walked, files that are replaced, private files, the rights of others, private copies, and the program."""
+import gzip
+import hashlib
+import os
+import stat
+import time
+
+from tools.commands.base.calls import expect, expect_fault, outcome
+
+from aide_compare import files, program, rights, unpack
+from aide_compare.folders import ANYBODY, open_folder
+
+OTHER = 65534
+
+
+def try_files(tally, folder):
+    for name in ("own", "own/inner", "his", "his/roots", "sticky", "sticky/own", "group"):
+        os.mkdir(os.path.join(folder, name))
+    for name, mode in (("sticky", 0o1777), ("group", 0o775)):
+        os.chmod(os.path.join(folder, name), mode)
+    for part in (try_walks, try_links, try_replacements, try_nameless, try_copies, try_programs) + (
+            (try_rights,) if os.getuid() == 0 else ()):
+        part(tally, folder)
+
+
+def others_of(path):
+    with open_folder(path) as folder:
+        return sorted(folder.others), folder.is_safe()
+
+
+def try_walks(tally, folder):
+    for name, want in (("own", ([], True)), ("own/../own/./inner", ([], True)), ("sticky", ([ANYBODY], True)), ("sticky/own", ([], True)),
+                       ("group", ([ANYBODY], False))):
+        expect(tally, "the folder " + name, outcome(others_of, os.path.join(folder, name)), want)
+    if os.getuid() == 0:
+        os.chown(os.path.join(folder, "his"), OTHER, OTHER)
+        expect(tally, "a folder of another user", outcome(others_of, folder + "/his"), ([OTHER], False))
+        expect(tally, "a folder below it", outcome(others_of, folder + "/his/roots"), ([OTHER], False))
+    expect_fault(tally, "a missing folder", outcome(others_of, folder + "/none"), 18, "No such file")
+    expect_fault(tally, "no folder", outcome(others_of, "/etc/passwd"), 18, "Not a directory")
+
+
+def text_of(path):
+    descriptor = files.open_regular(path)
+    try:
+        return os.read(descriptor, 100)
+    finally:
+        os.close(descriptor)
+
+
+def try_links(tally, folder):
+    for name in ("own/file", "sticky/file"):
+        with open(os.path.join(folder, name), "wb") as file:
+            file.write(b"text")
+    os.mkfifo(folder + "/own/fifo")
+    for name, target in (("own/short", "file"), ("own/whole", folder + "/own/file"), ("own/up", ".."), ("own/loop", "loop"),
+                         ("sticky/mine", "file"), ("group/link", "../own/file"), ("his/link", "../own/file"), ("sticky/his", "file")):
+        os.symlink(target, os.path.join(folder, name))
+    for name in ("own/file", "own/short", "own/whole", "own/up/own/up/own/short", "sticky/mine"):
+        expect(tally, "the file " + name, outcome(text_of, os.path.join(folder, name)), b"text")
+    wrong = [("own/loop", "Too many"), ("own/file/", "Not a directory"), ("own/file/x", "Not a directory"), ("own/fifo", "a FIFO"),
+             ("own", "a folder"), ("none", "No such file"), ("group/link", "not followed")]
+    if os.getuid() == 0:
+        os.chown(folder + "/sticky/his", OTHER, OTHER, follow_symlinks=False)
+        wrong += [("his/link", "not followed"), ("sticky/his", "not followed")]
+    for name, part in wrong:
+        expect_fault(tally, "the file " + name, outcome(text_of, os.path.join(folder, name)), 18, part)
+    expect_fault(tally, "a device", outcome(text_of, "/dev/zero"), 18, "a device")
+
+
+def replaced(path, *texts):
+    new = files.Replacement(path, what="the file").begin()
+    for text in texts:
+        new.commit(text)
+    new.close()
+    found = os.lstat(path)
+    with open(path, "rb") as file:
+        return file.read(), stat.S_IMODE(found.st_mode), found.st_uid, sorted(os.listdir(os.path.dirname(path)))
+
+
+def try_replacements(tally, folder):
+    mask = os.umask(0o077)
+    me = os.getuid()
+    expect(tally, "a new file", outcome(replaced, folder + "/new/deep/state", b"one"), (b"one", 0o644, me, ["state"]))
+    expect(tally, "an old file", outcome(replaced, folder + "/new/deep/state", b"two", b"three"), (b"three", 0o644, me, ["state"]))
+    with open(folder + "/new/deep/.state.part", "w") as file:
+        file.write("left by a killed command")
+    expect(tally, "after a killed one", outcome(replaced, folder + "/new/deep/state", b"four"), (b"four", 0o644, me, ["state"]))
+    os.umask(mask)
+    expect(tally, "the modes of new folders", stat.S_IMODE(os.stat(folder + "/new").st_mode), 0o755)
+    for name, status, part in (("own", 15, "is a folder"), ("own/fifo", 18, "a FIFO"), ("own/short", 18, "a link"), ("group/state", 18, "other users"),
+                               ("own/file/state", 18, "Not a directory"), ("group/none/state", 18, "No such file")):
+        expect_fault(tally, "the replacement of " + name, outcome(replaced, os.path.join(folder, name), b""), status, part)
+    late = files.Replacement(folder + "/own/late", what="the file").begin()
+    os.mkfifo(folder + "/own/late")
+    expect_fault(tally, "a FIFO that came later", outcome(late.commit, b"x"), 18, "a FIFO")
+    expect(tally, "it stays", stat.S_ISFIFO(os.lstat(folder + "/own/late").st_mode), True)
+    os.remove(folder + "/own/late")
+    expect(tally, "a sticky folder", outcome(replaced, folder + "/sticky/state", b"x")[:3], (b"x", 0o644, me))
+    if me == 0:
+        expect(tally, "a folder of another user", outcome(replaced, folder + "/his/state", b"x")[:3], (b"x", 0o644, OTHER))
+        expect_fault(tally, "a folder of root in one of his", outcome(replaced, folder + "/his/roots/state", b"x"), 18, "Permission denied (with")
+
+
+def try_nameless(tally, folder):
+    room = os.path.join(folder, "room")
+    os.mkdir(room)
+    descriptor = files.nameless(room)
+    found = os.fstat(descriptor)
+    expect(tally, "a nameless file", (stat.S_IMODE(found.st_mode), found.st_nlink, os.listdir(room)), (0o600, 0, []))
+    os.close(descriptor)
+    known, files.os.O_TMPFILE = os.O_TMPFILE, os.O_DIRECTORY  # As on a file system that does not know files without a name.
+    try:
+        descriptor = files.nameless(room)
+        found = os.fstat(descriptor)
+        expect(tally, "the other way", (stat.S_IMODE(found.st_mode), found.st_nlink, os.listdir(room)), (0o600, 0, []))
+        os.close(descriptor)
+        expect(tally, "a replacement", outcome(replaced, room + "/state", b"x"), (b"x", 0o644, os.getuid(), ["state"]))
+    finally:
+        files.os.O_TMPFILE = known
+    expect_fault(tally, "a missing room", outcome(files.nameless, room + "/none"), 18, "TMPDIR")
+
+
+def try_rights(tally, _):
+    def look():
+        with open("/proc/self/status") as file:
+            capabilities = [line.split()[1] for line in file if line.startswith(("CapEff", "CapPrm"))]
+        return repr((os.getresuid(), os.getgroups(), capabilities, len(os.listdir("/proc/self/fd")))).encode()
+
+    want = repr(((OTHER,) * 3, [], ["0" * 16] * 2, 5)).encode()
+    groups = os.getgroups()
+    os.setgroups([0, 4])
+    expect(tally, "the rights of another user", outcome(rights.with_rights_of, OTHER, look), want)
+    os.setgroups(groups)
+    for label, work, part in (("a fault", lambda: files.open_regular("/etc/shadow"), "ermission denied"), ("an error", lambda: 1 // 0, "division"),
+                              ("no answer", lambda: os._exit(0), "without an answer"), ("no end", lambda: time.sleep(60), "more than 1 seconds")):
+        begun = time.monotonic()
+        expect_fault(tally, "work that ends by " + label, outcome(rights.with_rights_of, OTHER, work, 1), 18, part)
+        tally.add("the time of " + label, [] if time.monotonic() - begun < 10 else ["too long"])
+
+
+def copied(path, most=1 << 40):
+    copy = unpack.copy_database("new", path, most)
+    text = os.pread(copy.fd, copy.size + 1, 0)
+    os.close(copy.fd)
+    return text if copy.sha256 == hashlib.sha256(text).hexdigest() else "another SHA-256"
+
+
+def try_copies(tally, folder):
+    path, text = os.path.join(folder, "db"), b"".join(b"/a/%d %d\n" % (number, number ** 3) for number in range(60000))
+    whole, half = gzip.compress(text), gzip.compress(text[:9999])
+    for label, packed in (("plain", text), ("gzip", whole), ("members", half + gzip.compress(text[9999:])), ("level 0", gzip.compress(text, 0)),
+                          ("zeros between", half + b"\0" * 600000 + gzip.compress(text[9999:]) + b"\0")):
+        with open(path, "wb") as file:
+            file.write(packed)
+        expect(tally, "a copy, " + label, outcome(copied, path), text)
+        expect(tally, "a copy of the allowed size, " + label, outcome(copied, path, len(text)), text)
+        expect_fault(tally, "a copy that is too large, " + label, outcome(copied, path, len(text) - 1), 18, "has more than")
+    for label, packed, part in [("cut to %d" % size, whole[:size], "cut short") for size in (3, 18, 5000, len(whole) - 8, len(whole) - 1)] + [
+            ("text behind", whole + b"x", "cut short"), ("a wrong bit", whole[:-5] + bytes([whole[-5] ^ 1]) + whole[-4:], "damaged"),
+            (".Z", b"\x1f\x9d" + text, "compress")]:
+        with open(path, "wb") as file:
+            file.write(packed)
+        expect_fault(tally, "a copy, " + label, outcome(copied, path), 18, part)
+    with open(path, "wb") as file:
+        file.write(gzip.compress(b"") * 80000)
+    expect_fault(tally, "members without end", outcome(copied, path, 1000), 18, "has more than")
+
+
+def try_programs(tally, folder):
+    def stub(body):
+        path = os.path.join(folder, "stub", "aide-compare")
+        os.makedirs(os.path.dirname(path), exist_ok=True)
+        with open(path, "w") as file:
+            file.write("#!/bin/sh\n" + body + "\n")
+        os.chmod(path, 0o755)
+        return path
+
+    path = stub("echo why >&2; exit 1")
+    expect_fault(tally, "a program that does not start", outcome(program.accepts, path), 18, "does not run here: why")
+    expect(tally, "the program beside", outcome(program.find_program, folder + "/stub"), path)
+    output, old, new = files.nameless(folder), files.nameless(folder), files.nameless(folder)
+    os.write(old, b"old\n"), os.write(new, b"new\n")
+    path = stub('cat /proc/self/fd/3 /proc/self/fd/4; echo "$LC_ALL $1"; exit 5')
+    for databases in ((old, new), (new, old)):
+        os.ftruncate(output, 0)
+        os.lseek(output, 0, os.SEEK_SET)
+        ended = program.run_program(path, ["a b"], databases, output, output)
+        want = b"old\nnew\nC a b\n" if databases[0] == old else b"new\nold\nC a b\n"
+        expect(tally, "the descriptors of the program", (ended.status, ended.signal, os.pread(output, 100, 0)), (5, None, want))
+    for body, status, number in (("kill -9 $$", None, 9), ("exit 99", 99, None)):
+        ended = program.run_program(stub(body), [], (old, new), output, output)
+        expect(tally, "the end by " + body, (ended.status, ended.signal), (status, number))
+        expect_fault(tally, "the refusal of " + body, outcome(ended.refuse_unknown, path), 18)
+    for descriptor in (output, old, new):
+        os.close(descriptor)
