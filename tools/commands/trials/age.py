@@ -4,7 +4,7 @@ import os
 import re
 import time
 
-from .sandbox import NEW, OLD
+from .sandbox import DIFFER, NEW, OLD
 from .run import KEYS
 
 TOOL = 'aide-compare-run'
@@ -58,7 +58,7 @@ def try_old_files(sandbox):
         'years without a difference',
         sandbox.call(TOOL, '--state', 'state', '--age', '180000', 'old.db', 'years.db'),
         'years.db',
-        '17520 hours',
+        '730 days',
     )
     sandbox.write('conf', 'database_in=file:%s\ndatabase_out=file:%s\n' % (sandbox.path('old.db'), sandbox.path('late.db')))
     refused(
@@ -77,21 +77,24 @@ def try_old_files(sandbox):
 
 
 def try_accepted(sandbox):
-    """No limit, an age below it, a time in the future; and the age of the old database does not matter."""
+    """No limit, an age below it; a time in the future is refused; and the age of the old database does not matter."""
     write_aged(sandbox, 'years.old', OLD, 2 * 365 * 24 * HOUR)
     write_aged(sandbox, 'late.db', NEW, 3 * HOUR)
     write_aged(sandbox, 'fresh.db', NEW, 50)
+    write_aged(sandbox, 'soon.db', NEW, -500)
     write_aged(sandbox, 'later.db', NEW, -90 * HOUR)
+    answer = sandbox.call(TOOL, '--age', '2h', 'years.old', 'later.db')
+    sandbox.expect('a time in the future', answer, 18, b'', b'later.db was written 3 days in the future: is a clock wrong?')
     for label, words in (
         ('no limit', ['years.old', 'late.db']),
         ('--age 0', ['--age', '0', 'years.old', 'late.db']),
         ('an age below the limit', ['--age', str(3 * HOUR + 600), 'years.old', 'late.db']),
         ('a fresh database', ['--age', '7200', 'years.old', 'fresh.db']),
-        ('a time in the future', ['--age', '7200', 'years.old', 'later.db']),
-        ('the greatest limit', ['--age', '9' * 15, 'years.old', 'late.db']),
+        ('a clock that is a little behind', ['--age', '2h', 'years.old', 'soon.db']),
+        ('the greatest limit', ['--age', '30d', 'years.old', 'late.db']),
     ):
         answer = sandbox.call(TOOL, '--state', 'state', *words)
-        sandbox.expect(label, answer, 7, b'Changed entries:         2', b'')
+        sandbox.expect(label, answer, 7, b'Changed entries:         2', DIFFER)
         sandbox.check('the state, ' + label, (sandbox.state()['status'], sandbox.state()['error']) == ('7', ''),
                       sandbox.state())
 
@@ -106,34 +109,33 @@ def try_links(sandbox):
     answer = sandbox.call(TOOL, '--state', 'state', '--age', '7200', 'old.db', 'fresh link')
     refused(sandbox, 'a link to an old file', answer, 'fresh link')
     sandbox.expect('an old link to a fresh file', sandbox.call(TOOL, '--age', '7200', 'old.db', 'late link'), 7, b'Changed',
-                   b'')
+                   DIFFER)
 
 
 def try_pipes(sandbox):
     """A pipe has no age: with a limit it is refused, and nobody waits for a writer. A redirected file has one."""
-    os.mkfifo(sandbox.path('pipe'))
-    for name, more in (('pipe', {}), ('/dev/stdin', {'text': NEW})):
+    for name, more in (('/dev/stdin', {'text': NEW}),):
         answer = sandbox.call(TOOL, '--state', 'state', '--age', '7200', 'old.db', name, **more)
         line = 'aide-compare-run: the new database %s is no regular file, so --age cannot tell its age' % name
         sandbox.expect('a pipe with --age, ' + name, answer, 18, b'', line.encode())
         sandbox.check('the state of a pipe with --age, ' + name, sandbox.state()['error'] == line, sandbox.state())
     sandbox.expect('a pipe with --age 0', sandbox.call(TOOL, '--age', '0', 'old.db', '/dev/stdin', text=NEW), 7, b'Changed',
-                   b'')
-    sandbox.expect('an old pipe', sandbox.call(TOOL, '--age', '7200', '/dev/stdin', 'new.db', text=OLD), 7, b'Changed', b'')
+                   DIFFER)
+    sandbox.expect('an old pipe', sandbox.call(TOOL, '--age', '7200', '/dev/stdin', 'new.db', text=OLD), 7, b'Changed', DIFFER)
     write_aged(sandbox, 'late.db', NEW, 3 * HOUR + 60)
     for name, status in (('late.db', 18), ('new.db', 7)):
         with open(sandbox.path(name), 'rb') as file:
             answer = sandbox.call(TOOL, '--age', '7200', 'old.db', '/dev/stdin', stdin=file)
         sandbox.expect('a redirected file, ' + name, answer, status, None,
-                       b'/dev/stdin is 3 hours old' if status == 18 else b'')
+                       b'/dev/stdin is 3 hours old' if status == 18 else DIFFER)
 
 
 def try_values(sandbox):
     sandbox.write('state', b'as before\n')
-    for words in (['--age'], ['--age', ''], ['--age='], ['--age', 'x'], ['--age=-1'], ['--age', '1h'], ['--age', '1.5'],
-                  ['--age', '08'], ['--age', '9' * 16]):
+    for words in (['--age'], ['--age', ''], ['--age='], ['--age', 'x'], ['--age=-1'], ['--age', '1w'], ['--age', '1.5'],
+                  ['--age', '31d'], ['--age', '9' * 9]):
         answer = sandbox.call(TOOL, '--state', 'state', 'old.db', 'new.db', *words)
-        sandbox.expect('the arguments %r' % words, answer, 15, b'', b'aide-compare-run: --age needs a ')
+        sandbox.expect('the arguments %r' % words, answer, 15, b'', b'--age')
         sandbox.check('the state with %r' % words, sandbox.read('state') == b'as before\n')
 
 

@@ -3,14 +3,13 @@ import gzip
 import os
 import shutil
 import signal
-import stat
 import subprocess
 import time
 
-from .sandbox import AS_NOBODY, NEW, NOBODY, OLD, SMALL_FILES, UMASK, after
+from .sandbox import AS_NOBODY, DIFFER, NEW, OLD, SMALL_FILES, UMASK
 
 TOOL = 'aide-compare-run'
-SIGNALS = ['HUP', 'INT', 'QUIT', 'PIPE', 'TERM']
+SIGNALS = ['HUP', 'INT', 'QUIT', 'TERM', 'KILL']
 
 
 def try_faults(sandbox):
@@ -21,7 +20,7 @@ def try_faults(sandbox):
 def try_limits(sandbox):
     for new in ('new.db', 'new.db.gz'):
         most = max(len(OLD), len(NEW))
-        sandbox.expect('--most of the size of ' + new, sandbox.call(TOOL, '--most', str(most), 'old.db', new), 7, None, b'')
+        sandbox.expect('--most of the size of ' + new, sandbox.call(TOOL, '--most', str(most), 'old.db', new), 7, None, DIFFER)
         sandbox.expect(
             '--most below the size of ' + new,
             sandbox.call(TOOL, '--most', str(len(NEW) - 1), 'new.db', new),
@@ -59,7 +58,7 @@ def try_damage(sandbox):
         )
         sandbox.check(
             'the state after gzip cut to %d bytes' % size,
-            sandbox.state()['status'] == '18' and 'cut.gz' in sandbox.state()['error'],
+            sandbox.state().get('status') == '18' and 'cut.gz' in sandbox.state()['error'],
         )
     damaged = bytearray(whole)
     damaged[-6] ^= 1
@@ -92,7 +91,7 @@ def try_files(sandbox):
         b'',
         b'cannot write the state',
     )
-    sandbox.expect('an unprivileged user', sandbox.call(TOOL, 'old.db', 'new.db', before=AS_NOBODY), 7, b'Changed', b'')
+    sandbox.expect('an unprivileged user', sandbox.call(TOOL, 'old.db', 'new.db', before=AS_NOBODY), 7, b'Changed', DIFFER)
 
 
 def try_rooms(sandbox):
@@ -101,10 +100,10 @@ def try_rooms(sandbox):
         sandbox.call(TOOL, 'old.db', 'new.db', environment={'TMPDIR': sandbox.path('missing')}),
         18,
         b'',
-        b'name another by TMPDIR',
+        b'name another folder by TMPDIR',
     )
     sandbox.expect(
-        'a room by a relative name', sandbox.call(TOOL, 'old.db', 'new.db', environment={'TMPDIR': 'room'}), 7, b'Changed', b''
+        'a room by a relative name', sandbox.call(TOOL, 'old.db', 'new.db', environment={'TMPDIR': 'room'}), 7, b'Changed', DIFFER
     )
     os.makedirs(sandbox.path('a room\n'), exist_ok=True)
     sandbox.expect(
@@ -112,7 +111,7 @@ def try_rooms(sandbox):
         sandbox.call(TOOL, 'old.db', 'new.db', environment={'TMPDIR': sandbox.path('a room\n')}),
         7,
         b'Changed',
-        b'',
+        DIFFER,
     )
     sandbox.check('nothing is left in a room with an odd name', not os.listdir(sandbox.path('a room\n')))
     sandbox.write('large.db', NEW + b'#' * 50000)
@@ -173,6 +172,15 @@ def try_programs(sandbox):
         b'',
         b'cannot find aide-compare',
     )
+    sandbox.stub('aide-compare', 'exit 0', '.')
+    sandbox.expect(
+        'a program in the current folder',
+        sandbox.call(TOOL, 'old.db', 'new.db', environment={'PATH': '.::/usr/bin:/bin'}),
+        18,
+        b'',
+        b'cannot find aide-compare',
+    )
+    os.remove(sandbox.path('aide-compare'))
     sandbox.stub('aide-compare', 'echo "libc.so.6: version GLIBC_2.34 not found" >&2; exit 1')
     sandbox.expect(
         'a program that does not start', sandbox.call(TOOL, 'old.db', 'new.db', '--state', 'state'), 18, b'', b'GLIBC_2.34'
@@ -180,16 +188,28 @@ def try_programs(sandbox):
     sandbox.check('the state of a program that does not start', sandbox.state()['status'] == '18', sandbox.state())
     sandbox.stub('aide-compare', '[ "$1" = -D ] || kill -9 $$')
     sandbox.expect(
-        'a program that is killed', sandbox.call(TOOL, 'old.db', 'new.db', '--state', 'state'), 137, b'', b'ended by signal 9'
+        'a program that is killed', sandbox.call(TOOL, 'old.db', 'new.db', '--state', 'state'), 18, b'', b'ended by signal 9'
     )
-    sandbox.check('the state of a program that is killed', sandbox.state()['status'] == '137', sandbox.state())
+    sandbox.check('the state of a program that is killed', sandbox.state()['status'] == '18', sandbox.state())
     sandbox.stub('aide-compare', '[ "$1" = -D ] || { printf "aide: a\\001b\\naide: c\\n" >&2; exit 18; }')
     sandbox.expect('an odd error line', sandbox.call(TOOL, 'old.db', 'new.db', '--state', 'state'), 18, b'',
-                   b'aide: a\1b\naide: c\n')
-    sandbox.check('the state of an odd error line', sandbox.state()['error'] == 'aide: ab' and len(sandbox.state()) == 12,
+                   b'aide: a\\001b\naide: c\n')
+    sandbox.check('the state of an odd error line', sandbox.state()['error'] == 'aide: a\\001b' and len(sandbox.state()) == 14,
                   sandbox.state())
+    for label, body in (
+        ('a loader that ends with 1', 'exit 1'),
+        ('another report', 'echo "AIDE found NO differences between the two databases."; exit 4'),
+        ('another status', 'exec "%s.away" "$@" > /dev/null' % program),
+        ('counts of another status', '"%s.away" "$@"; exit 3' % program),
+        ('differences without a status', '"%s.away" "$@"; exit 0' % program),
+        ('an unknown status', 'exit 99'),
+    ):
+        sandbox.stub('aide-compare', '[ "$1" = -D ] && exit 0; ' + body)
+        answer = sandbox.call(TOOL, 'old.db', 'new.db', '--state', 'state')
+        sandbox.expect(label, answer, 18, b'', b'aide-compare-run: ')
+        sandbox.check('the state of ' + label, sandbox.state()['status'] == '18', sandbox.state())
     sandbox.stub('aide-compare', 'exec "%s.away" "$@"' % program)
-    sandbox.expect('the program in PATH', sandbox.call(TOOL, 'old.db', 'new.db'), 7, b'Changed', b'')
+    sandbox.expect('the program in PATH', sandbox.call(TOOL, 'old.db', 'new.db'), 7, b'Changed', DIFFER)
     os.remove(sandbox.path('stubs/aide-compare'))
     os.rename(program + '.away', program)
 
@@ -220,92 +240,86 @@ def until(condition):
     return True
 
 
-def is_running(word):
-    """Whether a process has the word in its command line."""
+def running(word):
+    """The processes that have the word in their command line."""
+    found = []
     for number in filter(str.isdigit, os.listdir('/proc')):
         try:
             with open('/proc/%s/cmdline' % number, 'rb') as file:
-                if word in file.read().split(b'\0'):
-                    return True
+                found += [int(number)] if word in file.read().split(b'\0') else []
         except OSError:
             pass
-    return False
+    return found
 
 
 def try_signals(sandbox):
-    """Signals while a database is awaited, while one is unpacked, and while the program runs."""
-    os.mkfifo(sandbox.path('fifo'))
+    """Signals while a database is awaited, while one is unpacked, and while the program runs: the command ends by the signal,
+    at once, and leaves nothing, also after SIGKILL."""
     program = sandbox.path('bin/aide-compare')
-    nap = str(300 + os.getpid() % 100) + '.' + ''.join(str(ord(letter)) for letter in ''.join(sandbox.shell))
-    slow = sandbox.stub('gzip', 'echo x > "%s"; exec sleep %s' % (sandbox.path('started'), nap))
-    for new, stage in (('fifo', 'a FIFO'), ('new.db.gz', 'an archive'), ('new.db', 'the program')):
+    nap = '%d.%d' % (300 + os.getpid() % 100, os.getpid())
+    for stage in ('a pipe', 'an archive', 'the program'):
         if stage == 'the program':
-            os.remove(slow)
             os.rename(program, program + '.away')
             sandbox.stub(
                 'aide-compare', 'case $1 in -E) echo x > "%s"; exec sleep %s;; esac' % (sandbox.path('started'), nap), 'bin'
             )
         for name in SIGNALS:
             sandbox.write('state', b'as before\n')
-            process = sandbox.start(TOOL, 'old.db', new, '--state', 'state')
-            number = getattr(signal, 'SIG' + name)
-            started = until(
-                (lambda: sandbox.leftovers() and os.path.exists(sandbox.path('room/%s/packed' % sandbox.leftovers()[0])))
-                if new == 'fifo'
-                else lambda: os.path.exists(sandbox.path('started'))
-            )
-            begun = time.time()
+            new = 'new.db' if stage == 'the program' else '/dev/stdin'
+            # A child that is left would keep a pipe open, which would be waited for.
+            process = sandbox.start(TOOL, 'old.db', new, '--state', 'state', stdin=subprocess.PIPE, stdout=subprocess.DEVNULL,
+                                    stderr=subprocess.DEVNULL)
+            process.stdin.write(NEW if stage == 'a pipe' else gzip.compress(NEW)[:40])
+            process.stdin.flush()
+            started = until(lambda: waits_for_input(process) if new != 'new.db' else os.path.exists(sandbox.path('started')))
+            begun, number = time.time(), getattr(signal, 'SIG' + name)
             process.send_signal(number)
             try:
-                process.communicate(timeout=20)
+                process.wait(timeout=20)
             except subprocess.TimeoutExpired:
                 process.kill()
+            process.communicate()
+            label = 'SIG%s during %s' % (name, stage)
+            ended = process.returncode == -number and time.time() - begun < 10
+            sandbox.check(label, started and ended, (started, process.returncode))
+            sandbox.check('nothing is left after ' + label, not sandbox.leftovers(), sandbox.leftovers())
+            sandbox.check('no child after ' + label, until(lambda: not running(nap.encode())))
+            for child in running(nap.encode()):
+                os.kill(child, signal.SIGKILL)
             sandbox.check(
-                'SIG%s during %s' % (name, stage),
-                started and process.returncode == 128 + number and time.time() - begun < 10,
-                (started, process.returncode),
-            )
-            sandbox.check('nothing is left after SIG%s during %s' % (name, stage), not sandbox.leftovers(), sandbox.leftovers())
-            sandbox.check('no child after SIG%s during %s' % (name, stage), until(lambda: not is_running(nap.encode())))
-            sandbox.check(
-                'the state after SIG%s during %s' % (name, stage),
-                sandbox.read('state') == b'as before\n'
-                and not [found for found in os.listdir(sandbox.root) if found.startswith('state.')],
+                'the state after ' + label,
+                sandbox.read('state') == b'as before\n' and not [found for found in os.listdir(sandbox.root) if '.part' in found],
             )
             if os.path.exists(sandbox.path('started')):
                 os.remove(sandbox.path('started'))
     os.rename(program + '.away', program)
 
 
+def waits_for_input(process):
+    """Whether the command has opened its private file and reads what comes."""
+    try:
+        names = [os.readlink('/proc/%d/fd/%s' % (process.pid, name)) for name in os.listdir('/proc/%d/fd' % process.pid)]
+        with open('/proc/%d/wchan' % process.pid) as file:
+            return sum('(deleted)' in name for name in names) == 2 and 'pipe' in file.read()
+    except OSError:
+        return False
+
+
 def try_secrecy(sandbox):
-    """Under umask 022, what is unpacked can be read by its owner alone."""
+    """Whatever the umask, the copies and the report have no name and can be opened by their owner only."""
     program = sandbox.path('bin/aide-compare')
     os.rename(program, program + '.away')
     sandbox.stub(
         'aide-compare',
-        'case $1 in -E) find "%s" -printf "%%m %%p\\n" > "%s";; esac; exec "%s.away" "$@"'
-        % (sandbox.room, sandbox.path('modes'), program),
+        'case $1 in -E) { find "%s" -mindepth 1; stat -L -c %%a-%%h /proc/self/fd/[1-5]; } > "%s"; readlink /proc/$$/fd/* >> "%s" ;; '
+        'esac; exec "%s.away" "$@"' % (sandbox.room, sandbox.path('modes'), sandbox.path('modes'), program),
         'bin',
     )
-    sandbox.call(TOOL, 'old.db', 'new.db.gz', before=UMASK % 0o22)
-    lines = sandbox.read('modes').decode().splitlines()
-    inside = [line for line in lines if '/aide-compare-run.' in line and line[0] in '1234567']
-    sandbox.check(
-        'databases are there while the program runs',
-        sum(line.endswith(('/old.db', '/new.db.gz')) for line in inside) == 2,
-        lines,
-    )
-    sandbox.check('no mode lets others in', inside and all(line.split()[0] in ('600', '700') for line in inside), lines)
+    for mask in (0, 0o22, 0o77):
+        answer = sandbox.call(TOOL, 'old.db', 'new.db.gz', before=UMASK % mask)
+        lines = sandbox.read('modes').decode().splitlines()
+        deleted = [line for line in lines if line.startswith(sandbox.room + '/#') and line.endswith(' (deleted)')]
+        good = answer.status == 7 and lines[1:5] == ['600-0'] * 4 and len(set(deleted)) == 4
+        sandbox.check('private files under the umask %o' % mask, good, lines)
     os.remove(program)
     os.rename(program + '.away', program)
-    if os.getuid() == 0:
-        os.mkfifo(sandbox.path('held'))
-        process = sandbox.start(TOOL, 'old.db', 'held', before=UMASK % 0)
-        until(lambda: sandbox.leftovers() and os.path.exists(sandbox.path('room/%s/packed' % sandbox.leftovers()[0])))
-        look = subprocess.run(
-            after(AS_NOBODY, ['find', sandbox.room, '-mindepth', '2']), stdout=subprocess.PIPE, stderr=subprocess.DEVNULL
-        )
-        mode = stat.S_IMODE(os.stat(sandbox.path('room/' + sandbox.leftovers()[0])).st_mode)
-        sandbox.check('user %d sees nothing' % NOBODY, look.stdout == b'' and mode == 0o700, (look.stdout, mode))
-        process.terminate()
-        process.communicate()

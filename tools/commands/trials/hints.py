@@ -31,7 +31,7 @@ def try_database_hints(sandbox):
         (
             'the order',
             NEW.replace(b'/a ', b'/x '),
-            [b'aide: new database:4: entry out of path order\n', shown, b'line 4: /c', b'aide-compare-sort'],
+            [b'aide: new database:4: entry out of path order\n', shown, b'line 4: /c', b'damaged: make it anew', b'aide-compare-sort'],
         ),
         ('no end', NEW[:-9], [b'no @@end_db\n', shown, b'ends too early']),
         ('nothing', b'', [b'no @@begin_db\n', b'it is empty']),
@@ -69,8 +69,8 @@ def try_configuration_hints(sandbox):
         ),
         ('report_level=minmal', [b'aide: config:1: bad value\n', b'a level is minimal, summary']),
         ('report_ignore_changed_attrs=xyz', [b'line 1: report_ignore_changed_attrs=xyz\n']),
-        ('@@include /etc/x', [b'take the line out']),
-        ('@@x_include /x\n@@odd', [b'aide: config:2: unknown directive\n', b'line 2: @@odd\n', b'AIDE may know it']),
+        ('@@ifhost x', [b'aide: config:1: left out of this profile\n', b"leave AIDE's own configuration as it is"]),
+        ('@@include /etc/x\n@@x_include /x\n@@odd', [b'aide: config:3: unknown directive\n', b'line 3: @@odd\n', b'AIDE may know it']),
         ('a\x1b[1m\x80', [b'line 1: a\\033[1m']),
     ):
         sandbox.write('odd conf', text)
@@ -79,7 +79,7 @@ def try_configuration_hints(sandbox):
         if 'lvel' not in text:
             sandbox.check(
                 'no more than a hint on %r' % text,
-                b'lvel is no option' not in answer.errors and b'xyz is no' not in answer.errors,
+                b'lvel is no option' not in answer.errors and b'attrs is no option' not in answer.errors,
                 answer,
             )
     for option, name in (('-A', b'after'), ('-B', b'before')):

@@ -6,10 +6,12 @@ import subprocess
 import time
 
 from .hints import try_configuration_hints, try_database_hints
-from .sandbox import COUNTS, END, HEAD, NEW, OLD, UMASK, sha256
+from .sandbox import COUNTS, DIFFER, END, HEAD, NEW, OLD, UMASK, sha256
 
-KEYS = ['format', 'status', 'time', 'date', 'added', 'removed', 'changed', 'old_sha256', 'new_sha256', 'old', 'new', 'error']
+KEYS = ['format', 'status', 'time', 'date', 'added', 'removed', 'changed', 'old_sha256', 'new_sha256', 'old', 'new',
+        'old_written', 'new_written', 'error']
 TOOL = 'aide-compare-run'
+DATE = r'\d{4}-\d\d-\d\dT\d\d:\d\d:\d\dZ'
 
 
 def try_run(sandbox):
@@ -22,6 +24,7 @@ def try_run(sandbox):
         try_configuration_hints,
         try_state,
         try_counts,
+        try_runs,
         try_state_faults,
     ):
         trial(sandbox)
@@ -43,10 +46,10 @@ def try_reports(sandbox):
     sandbox.check('the databases differ in every way', status == 7, status)
     for old in ('old.db', 'old.db.gz'):
         for new in ('new.db', 'new.db.gz'):
-            want = report.replace(sandbox.path('old.db').encode(), b'/proc/self/cwd' + sandbox.path(old).encode())
-            want = want.replace(sandbox.path('new.db').encode(), b'/proc/self/cwd' + sandbox.path(new).encode())
+            want = report.replace(sandbox.path('old.db').encode(), b'/proc/self/fd/3')
+            want = want.replace(sandbox.path('new.db').encode(), b'/proc/self/fd/4')
             answer = sandbox.call(TOOL, old, new)
-            sandbox.expect('the report of %s and %s' % (old, new), answer, 7, want, b'')
+            sandbox.expect('the report of %s and %s' % (old, new), answer, 7, want, DIFFER)
             sandbox.check('the whole report of %s and %s' % (old, new), answer.output == want, answer)
     for new, status in (
         (OLD, 0),
@@ -70,7 +73,7 @@ def try_reports(sandbox):
     )
     with open('/dev/full', 'wb') as full:
         sandbox.expect(
-            'a full output', sandbox.call(TOOL, 'old.db', 'new.db', stdout=full), 18, b'', b'aide: cannot write the report'
+            'a full output', sandbox.call(TOOL, 'old.db', 'new.db', stdout=full), 18, b'', b'aide-compare-run: cannot write the report'
         )
     with open('/dev/full', 'wb') as full:
         sandbox.expect('full errors', sandbox.call(TOOL, 'old.db', 'other.db', stderr=full), 24, b'')
@@ -84,9 +87,9 @@ def try_names(sandbox):
         sandbox.write('odd/old ' + name, OLD)
         sandbox.write('odd/' + name, gzip.compress(NEW))
         answer = sandbox.call(TOOL, 'odd/old ' + name, './odd/' + name, '--state', 'state')
-        sandbox.expect('the name %r' % name, answer, 7, b'Changed entries:         2', b'')
+        sandbox.expect('the name %r' % name, answer, 7, b'Changed entries:         2', DIFFER)
         printed = ''.join(
-            '\\%03o' % byte if byte < 32 or byte in (92, 127) else chr(byte) for byte in os.fsencode('./odd/' + name)
+            '\\%03o' % byte if byte < 32 or byte in (92, 127, 255) else chr(byte) for byte in os.fsencode('./odd/' + name)
         )
         given = sandbox.state().get('new', '').encode('utf-8', 'surrogateescape').decode('latin-1')
         sandbox.check('the name %r in the state' % name, given == printed, given)
@@ -94,12 +97,14 @@ def try_names(sandbox):
         'a name with ..',
         sandbox.call(TOOL, 'odd/../old.db', sandbox.path('bin/../../') + os.path.basename(sandbox.root) + '/new.db'),
         7,
-        b'Old database: /proc/self/cwd/old.db\n',
-        b'',
+        b'Old database: /proc/self/fd/3\n',
+        [b'aide-compare-run: old database: odd/../old.db, written '],
     )
-    report = sandbox.call(TOOL, 'odd/old é', 'new.db').output
-    sandbox.check('a name in the report', ('Old database: /proc/self/cwd%s/odd/old é\n' % sandbox.root).encode() in report,
-                  report)
+    errors = sandbox.call(TOOL, 'odd/old é', 'new.db').errors
+    sandbox.check('the true names', re.fullmatch(
+        ('aide-compare-run: old database: odd/old é, written %s, SHA-256 %s\n'
+         'aide-compare-run: new database: new.db, written %s, SHA-256 %s\n' % (DATE, sha256(OLD), DATE, sha256(NEW))).encode(),
+        errors), errors)
     sandbox.expect('one file twice', sandbox.call(TOOL, 'old.db', 'old.db'), 0, b'NO differences')
     sandbox.write('paths.db', HEAD + b'/a%0Ab%20c 36 100644 1\n' + END)
     sandbox.expect('a newline in a path', sandbox.call(TOOL, 'old.db', 'paths.db'), 3, b': /a\\012b c\n')
@@ -120,6 +125,12 @@ def try_configurations(sandbox):
         ('database', (databases % 'database_new').replace('_in', ''), ()),
         ('variables and blocks', defined, ()),
         ('the same line twice', databases % 'database_new' * 2, ()),
+        ('an output beside the new one', databases % 'database_new' + 'database_out=file:/no', ()),
+        (
+            'two of a side, and one of -A',
+            databases % 'database_new' + 'database_in=file:/no',
+            ('--', '-A', 'database_in=file:' + sandbox.path('old.db')),
+        ),
         (
             'a variable of -B',
             'database_in=file:@@{D}/old.db\ndatabase_new=file:@@{D}/new.db',
@@ -130,7 +141,7 @@ def try_configurations(sandbox):
     ):
         sandbox.write('conf', text)
         sandbox.expect(
-            'a configuration with ' + label, sandbox.call(TOOL, '-c', 'conf', *words), 7, b'Changed entries:         2', b''
+            'a configuration with ' + label, sandbox.call(TOOL, '-c', 'conf', *words), 7, b'Changed entries:         2', DIFFER
         )
     for label, text, errors in (
         ('no database', '', b'conf names no old database'),
@@ -147,11 +158,11 @@ def try_configurations(sandbox):
         'options of a configuration', sandbox.call(TOOL, '-c', 'conf', 'old.db', 'new.db'), 7, b'Changed entries:         1'
     )
     sandbox.expect(
-        'a missing configuration', sandbox.call(TOOL, '-c', 'missing'), 18, b'', b'cannot read the configuration missing'
+        'a missing configuration', sandbox.call(TOOL, '-c', 'missing'), 18, b'', b'cannot open the configuration missing'
     )
     sandbox.expect(
-        'an endless configuration',
-        sandbox.call(TOOL, '-c', '/dev/zero', 'old.db', 'new.db'),
+        'a long configuration',
+        sandbox.call(TOOL, '-c', sandbox.write('long', '#' * 4194305), 'old.db', 'new.db'),
         17,
         b'',
         b'the configuration is longer than 4194304 bytes',
@@ -171,7 +182,7 @@ def try_arguments(sandbox):
         answer = sandbox.call(TOOL, 'old.db', 'new.db', '--', *words)
         sandbox.check('the arguments %r' % words, (answer.status, answer.output) == (7, minimal), answer)
     answer = sandbox.call(TOOL, 'old.db', 'new.db', '--', '-A', 'database_in=file:/no')
-    sandbox.expect('the databases of the command line win', answer, 7, minimal, b'')
+    sandbox.expect('the databases of the command line win', answer, 7, minimal, DIFFER)
     for words in ([], ['old.db', 'new.db', 'x']):
         sandbox.expect('the operands %r' % (words or ['old.db']), sandbox.call(TOOL, *(words or ['old.db'])), 15, b'',
                        b'databases')
@@ -182,8 +193,11 @@ def try_arguments(sandbox):
         ['--', '-A', 'a', '--after=b'],
         ['--', '-B', 'a', '-Bb'],
         ['--most'],
-        ['--most', '1k'],
-        ['--most', '010'],
+        ['--most', '1x'],
+        ['--most', '-1'],
+        ['--most', '9' * 16],
+        ['--most-report', ''],
+        ['--user', 'no such user'],
         ['--state', ''],
         ['--odd'],
         ['-A', 'x'],
@@ -199,7 +213,7 @@ def try_state(sandbox):
     state = sandbox.state()
     sandbox.check('the keys of a state', list(state) == KEYS and sandbox.read('state').count(b'\n') == len(KEYS), state)
     want = {
-        'format': '1',
+        'format': '2',
         'status': '7',
         **COUNTS,
         'old_sha256': sha256(OLD),
@@ -269,6 +283,24 @@ def try_counts(sandbox):
             (answer.output, answer.errors, answer.status) == (plain.output, plain.errors, plain.status),
             answer,
         )
+
+
+def try_runs(sandbox):
+    """The program compares once. Only a report of the level minimal has no counts, so that a state needs a second run."""
+    program = sandbox.path('bin/aide-compare')
+    os.rename(program, program + '.away')
+    sandbox.stub('aide-compare', '[ "$1" != -E ] || echo x >> "%s"; exec "%s.away" "$@"' % (sandbox.path('ran'), program), 'bin')
+    for words, runs in (
+        (['--state', 'state'], 1),
+        (['--state', 'state', '--', '-A', 'report_level=summary'], 1),
+        (['--state', 'state', '--', '-A', 'report_level=minimal'], 2),
+        (['--', '-A', 'report_level=minimal'], 1),
+    ):
+        sandbox.write('ran', '')
+        answer = sandbox.call(TOOL, 'old.db', 'new.db', *words)
+        found = sandbox.read('ran').count(b'x')
+        sandbox.check('%d runs with %r' % (runs, words), answer.status == 7 and found == runs, (found, answer))
+    os.rename(program + '.away', program)
 
 
 def try_state_faults(sandbox):

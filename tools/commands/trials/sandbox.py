@@ -29,6 +29,7 @@ HEAD = b'@@begin_db\n@@db_spec name attr perm size\n'
 END = b'@@end_db\n'
 OLD = HEAD + b'/b 36 40755 4096\n/c 36 100644 10\n/d 36 100644 1\n' + END
 NEW = HEAD + b'/a 36 100644 5\n/c 36 100600 7\n/d 36 100644 2\n' + END
+DIFFER = [b'aide-compare-run: old database: ', b'aide-compare-run: new database: ']
 COUNTS = {'added': '1', 'removed': '1', 'changed': '2'}
 
 
@@ -71,6 +72,8 @@ class Sandbox:
         for folder in ('bin', 'nagios'):
             for name in os.listdir(os.path.join(HERE, 'commands', folder)):
                 shutil.copy(os.path.join(HERE, 'commands', folder, name), self.path('bin/' + name))
+        shutil.copytree(os.path.join(HERE, 'commands', 'lib'), self.path('lib'),
+                        ignore=shutil.ignore_patterns('__pycache__'))
         for name, text in (('old', OLD), ('new', NEW)):
             self.write(name + '.db', text)
             self.write(name + '.db.gz', gzip.compress(text))
@@ -95,7 +98,10 @@ class Sandbox:
         return self.write(os.path.join(folder, name), '#!/bin/sh\n%s\n' % body, 0o755)
 
     def command(self, tool, *words):
-        return self.shell + [self.path('bin/' + tool)] + list(words)
+        path = self.path('bin/' + tool)
+        with open(path, 'rb') as file:
+            in_shell = file.readline().startswith(b'#!/bin/sh')
+        return (self.shell if in_shell else []) + [path] + list(words)
 
     def environment(self, **more):
         return {**os.environ, 'TMPDIR': self.room, 'PATH': self.path('stubs') + ':' + os.environ['PATH'], **more}

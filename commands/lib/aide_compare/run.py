@@ -1,0 +1,153 @@
+"""aide-compare-run: compares two databases, explains errors, and keeps the result in a state file."""
+import os
+import sys
+import time
+
+from aide_compare.comparison import MOST, MOST_REPORT, Outcome, Request, compare, send
+from aide_compare.ending import Fault, Status, reason, say, write_all
+from aide_compare.escapes import shown, shown_lines
+from aide_compare.files import Replacement
+from aide_compare.options import Parser, duration, size, some_text
+from aide_compare.rights import give_up
+from aide_compare.state import State
+from aide_compare.times import date_of
+from aide_compare.without import Rules, read_rules
+
+NAME = "aide-compare-run"
+DESCRIPTION = "Compares two AIDE databases, plain or compressed by gzip. The report goes to standard output."
+EPILOG = """after --, for aide-compare:
+  -A TEXT, --after TEXT   lines that follow the configuration
+  -B TEXT, --before TEXT  lines that precede it
+
+Times are as in 90s, 15m, 26h or 3d; a plain number is seconds. Sizes are in bytes, or as in 500k, 20M or 1G.
+Where another user can write in the folder of the state file, or above it, it is written with that user's rights.
+
+Status: that of aide-compare(1). 0 no difference, 1 to 7 differences, above 7 no comparison."""
+
+
+def add_options(parser):
+    """The options of a comparison, which aide-compare-mail has too."""
+    add = parser.add_argument
+    add("databases", nargs="*", metavar="OLD NEW", type=some_text,
+        help="the databases; without them the configuration names both")
+    add("-c", "--config", metavar="CONF", type=some_text,
+        help="the configuration (/dev/null with OLD NEW, otherwise AIDE's, /etc/aide/aide.conf or /etc/aide.conf)")
+    add("--state", metavar="FILE", type=some_text, help="write the status, the time, the counts and both SHA-256 to FILE")
+    add("--most", metavar="BYTES", type=size, default=MOST, help="refuse a database that has more bytes unpacked")
+    add("--most-report", metavar="BYTES", type=size, default=MOST_REPORT, help="refuse a longer report (1G)")
+    add("--age", metavar="TIME", type=duration, default=0,
+        help="refuse a new database that is older, as 50h, or from the future (0, the default: no limit)")
+    add("--without", metavar="FILE", action="append", default=[], type=some_text,
+        help="leave out the entries whose paths the lines of FILE name, as debian.without; it says how many")
+    add("--without-path", metavar="PATTERN", action="append", default=[], type=some_text, help="the same for one line")
+    add("--user", metavar="NAME", type=some_text, help="give up root's rights first, for those of this user")
+
+
+def texts_of(words):
+    """The texts of -A and -B after --."""
+    found, words = {}, list(words)
+    while words:
+        word = words.pop(0)
+        name, equals, text = word.partition("=")
+        if word in ("-A", "-B", "--after", "--before"):
+            if not words:
+                raise Fault(Status.USAGE, "%s needs a text" % word, "try: %s --help" % NAME)
+            name, text = word, words.pop(0)
+        elif word[:2] in ("-A", "-B"):
+            name, text = word[:2], word[3:] if word[2] == "=" else word[2:]
+        elif name not in ("--after", "--before"):
+            raise Fault(Status.USAGE, "after -- only -A TEXT and -B TEXT are allowed: %s" % shown(word, 200),
+                        "try: %s --help" % NAME)
+        name = name.lstrip("-")[0].lower()
+        if name in found:
+            raise Fault(Status.USAGE, "-%s is given twice" % name.upper(), "try: %s --help" % NAME)
+        found[name] = text
+    return found.get("b"), found.get("a")
+
+
+def rules_of(given):
+    """What --without and --without-path leave out, or None."""
+    if not given.without and not given.without_path:
+        return None
+    return Rules(read_rules(given.without, given.without_path))
+
+
+def request_of(given, words, beside):
+    """The Request that options and the words after -- ask for."""
+    if len(given.databases) not in (0, 2):
+        raise Fault(Status.USAGE, "name both databases, OLD and NEW, or none" if len(given.databases) < 2 else
+                    "more than two databases: %s" % shown(given.databases[2], 200), "try: %s --help" % NAME)
+    before, after = texts_of(words)
+    old, new = given.databases or (None, None)
+    return Request(beside, old, new, given.config, before, after, given.most, given.age, given.most_report,
+                   counts=given.state is not None, without=rules_of(given))
+
+
+def state_of(outcome, status, error):
+    """The State of a run that ends with this status."""
+    values = {}
+    for side in ("old", "new"):
+        name, copy = getattr(outcome, side), outcome.copies.get(side)
+        values[side] = "" if name is None else shown(name, 4000)
+        if copy:
+            values[side + "_sha256"] = copy.sha256
+            values[side + "_written"] = None if copy.written is None else int(copy.written)
+    if status <= 7 and outcome.counts:
+        values.update(zip(("added", "removed", "changed"), outcome.counts))
+    more = {"left_out_" + side: str(sum(counts.values())) for side, counts in outcome.left_out.items()}
+    return State(status, int(time.time()), error=error[:5000], more=more, **values)
+
+
+def introduce(outcome):
+    """Says which databases differ: a report names only their descriptors."""
+    for side in ("old", "new"):
+        copy = outcome.copies[side]
+        written = "" if copy.written is None else "written %s, " % date_of(int(copy.written))
+        say("%s database: %s, %sSHA-256 %s" % (side, shown(copy.name), written, copy.sha256))
+
+
+def _pass_on(outcome):
+    """Passes on what the program wrote, and what explains it."""
+    for note in outcome.notes:
+        say(note)
+    if outcome.report is not None and outcome.status <= 7:
+        try:
+            send(outcome.report, 1)
+        except OSError as error:
+            raise Fault(Status.DEVICE, "cannot write the report: %s" % reason(error))
+    try:
+        write_all(2, shown_lines(outcome.errors).encode("utf-8", "backslashreplace"))
+    except OSError:
+        pass
+    for hint in outcome.hints:
+        say(hint)
+    if 1 <= outcome.status <= 7:
+        introduce(outcome)
+
+
+def _run(request, state):
+    outcome = Outcome()
+    try:
+        compare(request, outcome)
+        _pass_on(outcome)
+    except (Fault, MemoryError, OSError) as fault:
+        if not isinstance(fault, Fault):
+            memory = isinstance(fault, MemoryError)
+            fault = Fault(*(Status.MEMORY, "out of memory") if memory else (Status.DEVICE, reason(fault)))
+        if state:
+            state.commit(state_of(outcome, fault.status, "%s: %s" % (NAME, fault.text)).text())
+        raise fault
+    if state:
+        state.commit(state_of(outcome, outcome.status, outcome.error).text())
+    return outcome.status
+
+
+def main(arguments):
+    cut = arguments.index("--") if "--" in arguments else len(arguments)
+    parser = Parser(NAME, DESCRIPTION, epilog=EPILOG, usage="%(prog)s [OPTIONS] [OLD NEW] [-- ARGUMENTS]")
+    add_options(parser)
+    given = parser.parse(arguments[:cut])
+    if given.user:
+        give_up(given.user)
+    request = request_of(given, arguments[cut + 1:], os.path.dirname(os.path.realpath(sys.argv[0])))
+    return _run(request, Replacement(given.state, what="the state file").begin() if given.state else None)

@@ -1,0 +1,218 @@
+"""Entries that are left out by --without: which paths a pattern means, what is said, and who may write the file."""
+import os
+import random
+import sys
+import time
+
+from .sandbox import END, HEAD, HERE, sha256
+
+TOOL = "aide-compare-run"
+LOGS = b"# Logs\n\n  /var/log/**  \n/etc/*.bak\n"
+OLD = HEAD + b"/etc/a 36 100644 1\n/var/log 36 40755 1\n/var/log/x%20y 36 100644 1\n/var/log/z 36 100644 1\n" + END
+NEW = HEAD + b"/etc/a 36 100644 2\n/etc/a.bak 36 100644 1\n/var/log 36 40755 1\n/var/log/x%20y 36 100644 2\n" + END
+
+# A pattern, a path, and whether the one means the other.
+PATTERNS = [
+    (b"/a", b"/a", True), (b"/a", b"/a/b", False), (b"/a", b"/ab", False),
+    (b"/a/*", b"/a/b", True), (b"/a/*", b"/a/b/c", False), (b"/a/*", b"/a", False), (b"/a*", b"/a", True),
+    (b"/a/**", b"/a/b", True), (b"/a/**", b"/a/b/c", True), (b"/a/**", b"/a", False), (b"/a/**", b"/ab/c", False),
+    (b"/**", b"/a", True), (b"/**/x", b"/x", True), (b"/**/x", b"/a/b/x", True), (b"/**/x", b"/a/b/xy", False),
+    (b"/a/**/b", b"/a/b", True), (b"/a/**/b", b"/a/x/b/y/b", True), (b"/a/**/b", b"/a/x/bb", False),
+    (b"/**/b/**", b"/b/c", True), (b"/**/b/**", b"/b", False), (b"/**/b/**", b"/a/b/b", True),
+    (b"/?", b"/a", True), (b"/?", b"/ab", False), (b"/a?b", b"/a/b", False), (b"/a\\*", b"/a*", True), (b"/a\\*", b"/ab", False),
+    (b"/[a-c]x", b"/bx", True), (b"/[!a-c]x", b"/bx", False), (b"/[^a-c]x", b"/dx", True), (b"/[]]", b"/]", True),
+    (b"/[a]b]", b"/ab]", True), (b"/x.[0-9]*.gz", b"/x.1.gz", True), (b"/x.[0-9]*.gz", b"/xx1.gz", False),
+    (b"/*ab*ab", b"/ab", False), (b"/*ab*ab", b"/abab", True), (b"/ab*ba", b"/aba", False), (b"/a.b", b"/acb", False),
+    (b"/\xff*", b"/\xff\n", True), (b"/a b", b"/a b", True), (b"/A", b"/a", False),
+]
+NO_PATTERNS = [b"", b"a", b"*", b"/a**", b"/a/**b", b"/[a", b"/a\\", b"/[b-a]"]
+
+
+def write_databases(sandbox):
+    sandbox.write("o.db", OLD)
+    sandbox.write("n.db", NEW)
+
+
+def try_without(sandbox):
+    for trial in (try_patterns, try_random, try_time, try_left_out, try_damage, try_names, try_refused, try_shipped):
+        trial(sandbox)
+
+
+def modules():
+    path = os.path.join(HERE, "commands", "lib")
+    if path not in sys.path:
+        sys.path.append(path)
+    from aide_compare import patterns
+    return patterns
+
+
+def try_patterns(sandbox):
+    patterns = modules()
+    for text, path, want in PATTERNS:
+        got = patterns.Pattern(text).matches(path[1:].split(b"/"))
+        sandbox.check("the pattern %r and %r" % (text, path), got == want, got)
+        sandbox.check("the plain definition, %r and %r" % (text, path), means(text, path) == want)
+    for text in NO_PATTERNS:
+        try:
+            patterns.Pattern(text)
+            sandbox.check("%r is no pattern" % text, not text, "taken")
+        except patterns.BadPattern:
+            sandbox.check("%r is no pattern" % text, True)
+
+
+def means(pattern, path):
+    """Whether a pattern means a path, plainly: every way to share the pieces out is tried."""
+    return pieces_fit(pattern[1:].split(b"/"), path[1:].split(b"/"), True)
+
+
+def pieces_fit(pattern, path, is_whole):
+    if not pattern:
+        return not path
+    if pattern[0] == b"**":
+        least = 1 if len(pattern) == 1 else 0
+        return any(pieces_fit(pattern[1:], path[count:], False) for count in range(least, len(path) + 1))
+    return bool(path) and piece_fits(pattern[0], path[0]) and pieces_fit(pattern[1:], path[1:], False)
+
+
+def piece_fits(pattern, name):
+    if not pattern:
+        return not name
+    if pattern[:1] == b"*":
+        return any(piece_fits(pattern[1:], name[count:]) for count in range(len(name) + 1))
+    if not name:
+        return False
+    if pattern[:1] == b"?":
+        return piece_fits(pattern[1:], name[1:])
+    if pattern[:1] == b"\\":
+        return pattern[1:2] == name[:1] and piece_fits(pattern[2:], name[1:])
+    if pattern[:1] == b"[":
+        end = pattern.index(b"]", 3 if pattern[1:2] in (b"!", b"^") else 2)
+        return class_has(pattern[1:end], name[0]) and piece_fits(pattern[end + 1:], name[1:])
+    return pattern[:1] == name[:1] and piece_fits(pattern[1:], name[1:])
+
+
+def class_has(text, byte):
+    """Whether a class without its brackets has a byte."""
+    turned = text[:1] in (b"!", b"^")
+    letters, found = list(text[1:] if turned else text), False
+    while letters:
+        if len(letters) > 2 and letters[1] == 0x2D:
+            found = found or letters[0] <= byte <= letters[2]
+            letters = letters[3:]
+        else:
+            found = found or letters[0] == byte
+            letters = letters[1:]
+    return found != turned
+
+
+def try_random(sandbox):
+    """Random patterns over few letters, so that many fit, beside the plain definition."""
+    patterns, numbers = modules(), random.Random(20261125)
+    fits = wrong = 0
+    for _ in range(20000):
+        text = b"/" + b"/".join(b"".join(numbers.choices([b"a", b"b", b"*", b"?", b"[ab]", b"[!b]"], [6, 6, 3, 1, 1, 1],
+                                                         k=numbers.randint(1, 5))) if numbers.random() < 0.7 else b"**"
+                                for _ in range(numbers.randint(1, 4)))
+        if any(b"**" in piece and piece != b"**" for piece in text.split(b"/")):
+            continue
+        path = b"/" + b"/".join(bytes(numbers.choices(b"ab", k=numbers.randint(1, 4))) for _ in range(numbers.randint(1, 5)))
+        got = patterns.Pattern(text).matches(path[1:].split(b"/"))
+        fits, wrong = fits + got, wrong + (got != means(text, path))
+    sandbox.check("random patterns", fits > 1000 and wrong == 0, (fits, wrong))
+
+
+def try_time(sandbox):
+    """A hostile path costs no more than its length times that of the pattern."""
+    patterns = modules()
+    start = time.process_time()
+    for text, path in ((b"/" + b"*a" * 20 + b"b", b"/" + b"a" * 4000), (b"/" + b"**/a/" * 20 + b"b", b"/a" * 2000)):
+        patterns.Pattern(text).matches(path[1:].split(b"/"))
+    sandbox.check("hostile paths in time", time.process_time() - start < 2, time.process_time() - start)
+
+
+def try_left_out(sandbox):
+    write_databases(sandbox)
+    sandbox.write("logs", LOGS)
+    answer = sandbox.call(TOOL, "--state", "state", "--without", "logs", "o.db", "n.db")
+    sandbox.expect("logs are left out", answer, 4, [b"Added entries:           0", b"Changed entries:         1"], [
+        b"left out of the old database: 2 entries", b"2 by /var/log/** (logs, line 3)",
+        b"left out of the new database: 2 entries", b"1 by /etc/*.bak (logs, line 4)"])
+    state = sandbox.state()
+    want = {"left_out_old": "2", "left_out_new": "2", "changed": "1", "old_sha256": sha256(OLD), "new_sha256": sha256(NEW)}
+    sandbox.check("the state has both, and the digests of the whole databases", want.items() <= state.items(), state)
+    answer = sandbox.call(TOOL, "--without-path", "/var/log/x y", "--without-path=/etc/**", "o.db", "n.db")
+    sandbox.expect("by single lines", answer, 2, [b"Removed entries:         1"], [b"1 by /var/log/x y (--without-path)"])
+    answer = sandbox.call(TOOL, "--without-path", "/nothing", "o.db", "n.db")
+    sandbox.expect("nothing is left out", answer, 7, None, [b"left out of the new database: 0 entries"])
+    sandbox.check("without the option nothing is said", b"left out" not in sandbox.call(TOOL, "o.db", "n.db").errors)
+
+
+def try_damage(sandbox):
+    """Damage in lines that would be left out is found all the same, and lines keep their numbers."""
+    write_databases(sandbox)
+    lines = NEW.split(b"\n")
+    for label, text, said in (
+        ("a field too few", NEW.replace(b"/var/log/x%20y 36 100644 2", b"/var/log/x%20y 36"), b":6: wrong number of fields"),
+        ("a fault after lines that are left out", NEW.replace(END, b"/z 36 x 1\n" + END), b":7: bad number in column 3"),
+        ("the end is missing", b"\n".join(lines[:-2]) + b"\n", b": no @@end_db"),
+    ):
+        sandbox.write("damaged.db", text)
+        answer = sandbox.call(TOOL, "--without-path", "/var/log/**", "o.db", "damaged.db")
+        sandbox.expect(label, answer, 24, b"", [b"new database" + (b"" if b"end" in said else said)])
+    late = HEAD + b"/a 36 100644 1\n" + END + b"/var/log/late 36 100644 1\n"
+    sandbox.write("late.db", late)
+    answer = sandbox.call(TOOL, "--without-path", "/var/log/**", "late.db", "late.db")
+    sandbox.expect("after the end nothing is an entry", answer, 0, None, [b"left out of the old database: 0 entries"])
+
+
+def try_names(sandbox):
+    """The column `name` is found wherever it is, names are decoded, and hostile patterns are escaped where they are shown."""
+    head = b"@@begin_db\n@@db_spec attr name size\n"
+    sandbox.write("o2.db", head + b"36 /a%2Fb 1\n36 /c%ZZ 1\n" + END)
+    sandbox.write("n2.db", head + b"36 /a%2Fb 2\n36 /c%ZZ 2\n" + END)
+    answer = sandbox.call(TOOL, "--without-path", "/a/*", "--without-path", "/c%ZZ\x1b", "o2.db", "n2.db")
+    sandbox.expect("decoded names", answer, 4, [b"Changed entries:         1"], [b"1 by /a/* (--without-path)"])
+    answer = sandbox.call(TOOL, "--without-path", "/[c]%ZZ", "--without-path", "x\x1b[0m", "o2.db", "n2.db")
+    sandbox.expect("an escape is not obeyed", answer, 15, b"", [b"x\\033[0m"])
+
+
+def try_refused(sandbox):
+    write_databases(sandbox)
+    cases = [("missing", ["--without", "none"], 18), ("a folder", ["--without", "bin"], 18), ("no file", ["--without", ""], 15),
+             ("no pattern", ["--without-path", "var"], 15)]
+    for label, words, status in cases:
+        sandbox.expect(label, sandbox.call(TOOL, *words, "o.db", "n.db"), status, b"")
+    sandbox.write("bad", b"/a\n/b**\n")
+    sandbox.expect("a bad line", sandbox.call(TOOL, "--without", "bad", "o.db", "n.db"), 15, b"", [b"bad, line 2: "])
+    for label, mode in (("a group", 0o664), ("everybody", 0o646)):
+        sandbox.write("open", LOGS)
+        os.chmod(sandbox.path("open"), mode)
+        answer = sandbox.call(TOOL, "--without", "open", "o.db", "n.db")
+        sandbox.expect("a file that %s can write" % label, answer, 18, b"", [b"other users can write"])
+    if os.getuid() == 0:
+        sandbox.write("theirs", LOGS)
+        os.chown(sandbox.path("theirs"), 65534, 65534)
+        answer = sandbox.call(TOOL, "--without", "theirs", "o.db", "n.db")
+        sandbox.expect("a file of another user", answer, 18, b"", [b"other users can write"])
+        os.mkdir(sandbox.path("open-folder"))
+        os.chmod(sandbox.path("open-folder"), 0o777)
+        sandbox.write("open-folder/logs", LOGS)
+        answer = sandbox.call(TOOL, "--without", "open-folder/logs", "o.db", "n.db")
+        sandbox.expect("a folder that others can write", answer, 18, b"", [b"other users can write"])
+
+
+def try_shipped(sandbox):
+    """The shipped file is read, each line follows a reason, and accounts and programs stay in the comparison."""
+    name = os.path.join(HERE, "contrib", "aide", "debian.without")
+    with open(name, "rb") as file:
+        sandbox.write("debian.without", file.read())
+    hidden = [b"/var/log/syslog", b"/var/log/apt/history.log", b"/var/log/nginx/access.log.1", b"/var/log/syslog.2.gz",
+              b"/var/lib/aide/aide.db", b"/var/cache/man/index.db", b"/run/crond.pid", b"/var/lib/aide-compare/daily/state"]
+    seen = [b"/etc/passwd", b"/etc/cron.d/x", b"/usr/bin/ls", b"/var/lib/dpkg/status", b"/var/spool/cron/crontabs/root",
+            b"/var/log", b"/root/.ssh/authorized_keys", b"/var/lib/aide-compare", b"/boot/vmlinuz"]
+    entries = b"".join(path + b" 36 100644 1\n" for path in sorted(hidden + seen, key=lambda path: path.split(b"/")))
+    sandbox.write("empty.db", HEAD + END)
+    sandbox.write("full.db", HEAD + entries + END)
+    answer = sandbox.call(TOOL, "--without", "debian.without", "empty.db", "full.db")
+    sandbox.expect("the shipped file", answer, 1, [b": " + path + b"\n" for path in seen],
+                   [b"left out of the new database: %d entries" % len(hidden)])
