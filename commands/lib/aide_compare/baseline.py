@@ -1,0 +1,199 @@
+"""The baseline in its folder, and how another file takes its place: the former one is never lost.
+
+The folder is opened once and locked against other runs. Where another user can write in it, or above it, every change
+is made with the rights of that user, who gains nothing then from what he puts there meanwhile.
+"""
+import errno
+import fcntl
+import os
+import stat
+import time
+
+from aide_compare.ending import Fault, Status, reason, write_all
+from aide_compare.escapes import shown
+from aide_compare.exchange import exchange
+from aide_compare.files import ANYBODY, NEW_FILE, NO_TMPFILE, failure, kind_of, open_folder, reopened
+
+BLOCK = 1 << 20
+FILE_MODES = 0o666
+FIRST_MODE = 0o600
+SECONDS_FOR_LOCK = 60
+SECONDS_FOR_WORK = 60
+BYTES_A_SECOND = 5 << 20
+PART = ".%s.part"
+PREVIOUS = "%s.previous"
+CHANGED = "another process has changed it meanwhile"
+
+
+def identity(found):
+    return found.st_dev, found.st_ino
+
+
+class Baseline:
+    """The file of a path, or the place where it will be. `former` is what fstat says of it, None without a file."""
+
+    def __init__(self, path):
+        self.path, self.name = path, os.path.basename(path)
+        if self.name in ("", ".", ".."):
+            raise Fault(Status.USAGE, "the baseline needs the name of a file: %s" % (shown(path) or "''"))
+        self.previous, self.part = PREVIOUS % self.name, PART % self.name
+        self.place = os.path.dirname(path) or "."
+        with open_folder(self.place) as folder:
+            self.owner = self._owner_of(folder)
+            self.folder = self._opened(folder)
+        self._lock()
+        self.descriptor, self.former = self._find()
+
+    def _owner_of(self, folder):
+        """The user with whose rights the folder is changed; None for the caller's own."""
+        if not folder.others:
+            return None
+        if ANYBODY in folder.others or len(folder.others) > 1:
+            raise self.fault("more than one user can write in its folder, or above it; only its owner should")
+        if os.geteuid() != 0:
+            raise self.fault("its folder, or one above it, belongs to another user; run this as that user or as root")
+        return min(folder.others)
+
+    def _opened(self, folder):
+        try:
+            return os.open(".", os.O_RDONLY | os.O_DIRECTORY | os.O_CLOEXEC, dir_fd=folder.fd)
+        except OSError as error:
+            raise self.fault("its folder cannot be read: %s" % reason(error))
+
+    def _lock(self):
+        """Waits for another run, but not for ever: the owner of the folder could keep the lock."""
+        limit = time.monotonic() + SECONDS_FOR_LOCK
+        while True:
+            try:
+                return fcntl.flock(self.folder, fcntl.LOCK_EX | fcntl.LOCK_NB)
+            except BlockingIOError:
+                if time.monotonic() > limit:
+                    raise self.fault("its folder has been locked by another process for %d seconds" % SECONDS_FOR_LOCK)
+                time.sleep(0.02)
+            except OSError as error:
+                raise self.fault("its folder cannot be locked: %s" % reason(error))
+
+    def _find(self):
+        try:
+            descriptor = os.open(self.name, os.O_PATH | os.O_NOFOLLOW | os.O_CLOEXEC, dir_fd=self.folder)
+        except FileNotFoundError:
+            return None, None
+        except OSError as error:
+            raise self.fault(reason(error))
+        found = os.fstat(descriptor)
+        if not stat.S_ISREG(found.st_mode):
+            hint = ", which is not followed: name the file itself" if stat.S_ISLNK(found.st_mode) else ""
+            raise self.fault("it is %s and no regular file%s" % (kind_of(found.st_mode), hint))
+        return descriptor, found
+
+    def reading(self):
+        """A descriptor to read the former baseline; None if there is none, or if the caller may not read it."""
+        try:
+            return None if self.former is None else reopened(self.descriptor, os.O_RDONLY | os.O_NONBLOCK)
+        except OSError:
+            return None
+
+    def fault(self, text):
+        return Fault(Status.DEVICE, "cannot write the baseline %s: %s" % (shown(self.path), text))
+
+    def replace(self, source, size):
+        """Makes a copy of an open file the baseline. Returns the numbers of the user and group that it belongs to."""
+        try:
+            if self.owner is None:
+                answer = self._replace(source)
+            else:
+                from aide_compare.rights import with_rights_of
+                answer = with_rights_of(self.owner, lambda: self._replace(source),
+                                        SECONDS_FOR_WORK + size // BYTES_A_SECOND, (self.folder, source))
+            self._check_place(answer)
+        except Fault as fault:
+            raise self.fault(fault.text)
+        except OSError as error:
+            raise self.fault(reason(error))
+        return tuple(map(int, answer.split()[2:]))
+
+    def _check_place(self, answer):
+        """The path still leads to the new baseline. Its folder could have been renamed."""
+        with open_folder(self.place) as folder:
+            found = os.stat(self.name, dir_fd=folder.fd, follow_symlinks=False)
+        if list(identity(found)) != [int(number) for number in answer.split()[:2]]:
+            raise Fault(Status.DEVICE, CHANGED)
+
+    def _replace(self, source):
+        """The work in the folder. From here on only names in the open folder and descriptors are used."""
+        self._unlink(self.part)
+        new, name = self._new_file()
+        try:
+            self._copy(source, new)
+            os.fsync(new)
+            found = os.fstat(new)
+            if not name:
+                os.link("/proc/self/fd/%d" % new, self.part, dst_dir_fd=self.folder)
+            self._put_in_place(found)
+            os.fsync(self.folder)
+        except BaseException:
+            self._unlink(self.part)
+            raise
+        finally:
+            os.close(new)
+        return b"%d %d %d %d" % (identity(found) + (found.st_uid, found.st_gid))
+
+    def _new_file(self):
+        """A new file in the folder, and whether it has the name of the part: not where it can be made without one."""
+        try:
+            return os.open(".", os.O_TMPFILE | os.O_RDWR | os.O_CLOEXEC, 0o600, dir_fd=self.folder), False
+        except OSError as error:
+            if error.errno not in NO_TMPFILE:
+                raise
+        return os.open(self.part, NEW_FILE, 0o600, dir_fd=self.folder), True
+
+    def _copy(self, source, new):
+        """Copies the bytes, then the owner where the caller can give it, then the mode."""
+        place = 0
+        while True:
+            block = os.pread(source, BLOCK, place)
+            if not block:
+                break
+            write_all(new, block)
+            place += len(block)
+        if self.former and self.owner is None:
+            self._give(new, self.former.st_uid if os.geteuid() == 0 else -1, self.former.st_gid)
+        os.fchmod(new, self.former.st_mode & FILE_MODES if self.former else FIRST_MODE)
+
+    def _give(self, new, user, group):
+        try:
+            os.fchown(new, user, group)
+        except PermissionError:
+            if os.geteuid() == 0:
+                raise
+
+    def _put_in_place(self, new):
+        if self.former is None:
+            os.link(self.part, self.name, src_dir_fd=self.folder, dst_dir_fd=self.folder, follow_symlinks=False)
+            return self._unlink(self.part)
+        self._check(self.name, self.former)
+        self._rename(self.part, self.previous)
+        if not exchange(self.folder, self.previous, self.name):
+            self._exchange_by_links()
+        self._check(self.previous, self.former)
+        self._check(self.name, new)
+
+    def _exchange_by_links(self):
+        """For file systems that cannot exchange two names. The baseline has its name, or a new one, at every moment."""
+        self._rename(self.previous, self.part)
+        os.link(self.name, self.previous, src_dir_fd=self.folder, dst_dir_fd=self.folder, follow_symlinks=False)
+        self._rename(self.part, self.name)
+
+    def _check(self, name, wanted):
+        found = os.stat(name, dir_fd=self.folder, follow_symlinks=False)
+        if identity(found) != identity(wanted):
+            raise failure(errno.ESTALE, CHANGED)
+
+    def _rename(self, name, other):
+        os.rename(name, other, src_dir_fd=self.folder, dst_dir_fd=self.folder)
+
+    def _unlink(self, name):
+        try:
+            os.unlink(name, dir_fd=self.folder)
+        except FileNotFoundError:
+            pass

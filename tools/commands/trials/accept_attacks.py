@@ -1,0 +1,135 @@
+"""Attacks on aide-compare-accept by the user who owns the folder of the baseline: what is root's stays as it is."""
+import gzip
+import os
+import time
+
+from .accepting import accept, accept_at, contents, fresh, is_tried, library
+from .others_folder import BASELINE, SECRET, Swapping, call, harm, put, roots
+from .sandbox import NEW, NOBODY, OLD, sha256
+
+ROUNDS = 200
+MOST_CALLS = 120
+FOR_THE_CALL, FOR_GOOD = 2, 3
+
+
+def try_accept_attacks(sandbox):
+    if not is_tried(sandbox):
+        return
+    try_swapped_database(sandbox)
+    if os.getuid() != 0:
+        return print("skipped: attacks on aide-compare-accept by another user (they need root)")
+    for trial in (try_baseline_at_calls, try_folder_at_calls, try_moved_folder, try_baseline_in_a_loop,
+                  try_folder_in_a_loop, try_names_taken):
+        trial(sandbox)
+
+
+def at_call(sandbox, kind, settings, number, way, child):
+    """Two names change places before one call of the command: its answer, what is harmed, and whether they did."""
+    one, other, _ = put(sandbox, kind)
+    before, mark = roots(sandbox), sandbox.path("marks/swapped")
+    if os.path.isdir(mark):
+        os.rmdir(mark)
+    done = call(sandbox, **settings, AT_NUMBER=number, AT_WAY=way, AT_CHILD=child, AT_ONE=one, AT_OTHER=other,
+                AT_MARK=mark)
+    return done, harm(sandbox, before), os.path.isdir(mark)
+
+
+def at_all_calls(sandbox, kind, child, ways=(FOR_THE_CALL, FOR_GOOD), allowed=(0, 18)):
+    """The names change places before each call in turn, until one does harm. Returns the statuses."""
+    settings, statuses, harmed, number, swapped = library(sandbox), [], [], 0, True
+    os.makedirs(sandbox.path("marks"), exist_ok=True)
+    os.chmod(sandbox.path("marks"), 0o777)
+    while settings and swapped and not harmed and number < MOST_CALLS:
+        number += 1
+        for way in ways:
+            done, found, swapped = at_call(sandbox, kind, settings, number, way, child)
+            if swapped:
+                statuses.append(done.status)
+            if found or done.status not in (allowed if swapped else (0,)):
+                harmed.append((number, way, done, found))
+    name = "the %s swapped before each call of %s" % (kind, "the child" if child else "the command")
+    sandbox.check(name + ", and root's files stay", not harmed, harmed[:2])
+    is_whole = len(statuses) > 12 * len(ways) and number < MOST_CALLS
+    sandbox.check(name + ", at %d moments" % len(statuses), is_whole, number)
+    return set(statuses)
+
+
+def try_baseline_at_calls(sandbox):
+    for child in (0, 1):
+        statuses = at_all_calls(sandbox, "baseline", child)
+        sandbox.check("some swaps of the baseline are refused, child %d" % child, statuses == {0, 18}, statuses)
+
+
+def try_folder_at_calls(sandbox):
+    for child in (0, 1):
+        statuses = at_all_calls(sandbox, "folder", child)
+        sandbox.check("some swaps of the folder are refused, child %d" % child, statuses == {0, 18}, statuses)
+
+
+def try_moved_folder(sandbox):
+    """The folder gets another name: the bytes go where it goes. It is told if that happens while the child works."""
+    at_all_calls(sandbox, "moved folder", 0, (FOR_GOOD,))
+    at_all_calls(sandbox, "moved folder", 1, (FOR_GOOD,), (18,))
+
+
+def in_a_loop(sandbox, kind):
+    one, other, target = put(sandbox, kind)
+    before, begun, statuses, harmed, busy = roots(sandbox), time.time(), [], [], 0
+    with Swapping(sandbox, one, other, target) as swapping:
+        while len(statuses) < ROUNDS and not harmed:
+            database = NEW.replace(b" 5\n", b" %d\n" % (1000 + len(statuses)))
+            sandbox.write("new", database, 0o600)
+            count = swapping.count()
+            done = call(sandbox, database)
+            busy += swapping.count() > count
+            statuses.append(done.status)
+            found = harm(sandbox, before)
+            if found or done.status not in (0, 18):
+                harmed.append((len(statuses), done, found))
+        count, user = swapping.count(), swapping.user()
+    name = "the %s swapped by another user" % kind
+    sandbox.check("%s, %d rounds" % (name, ROUNDS), not harmed, harmed)
+    told = "%d swaps by the user %s, some in %d of %d rounds, done %d, refused %d, %.0f seconds" % (
+        count, user, busy, len(statuses), statuses.count(0), statuses.count(18), time.time() - begun)
+    print("%s: %s" % (name, told), flush=True)
+    is_busy = count > 20 * len(statuses) and busy > 0.9 * len(statuses)
+    sandbox.check(name + ", again and again", user == NOBODY and is_busy, told)
+    sandbox.check(name + ", and some are refused", harmed or 18 in statuses, told)
+
+
+def try_baseline_in_a_loop(sandbox):
+    in_a_loop(sandbox, "baseline")
+
+
+def try_folder_in_a_loop(sandbox):
+    in_a_loop(sandbox, "folder")
+
+
+def try_names_taken(sandbox):
+    """At each name that is used lies a link of either sort to a file of root."""
+    for name in ("aide.db", ".aide.db.part", "aide.db.previous"):
+        for make in (os.link, os.symlink):
+            put(sandbox, "folder")
+            path = os.path.join(os.path.dirname(sandbox.path(BASELINE)), name)
+            if os.path.exists(path):
+                os.remove(path)
+            make(sandbox.path("root/secret"), path)
+            before = roots(sandbox)
+            done = call(sandbox)
+            good = roots(sandbox) == before and sandbox.read("root/secret") == SECRET and done.status in (0, 18)
+            sandbox.check("%s to a file of root at %s" % (make.__name__, name), good, done)
+
+
+def try_swapped_database(sandbox):
+    """NEW changes its place with another database while it is read: what is accepted has the digest."""
+    settings, ends, name = library(sandbox), set(), sandbox.path("base/aide.db.new")
+    for number in range(1, 40) if settings else ():
+        fresh(sandbox)
+        other = sandbox.write("base/other", gzip.compress(OLD + b"more\n"))
+        done = accept_at(sandbox, settings, AT_NUMBER=number, AT_WAY=FOR_GOOD, AT_ONE=name, AT_OTHER=other)
+        ends.add(done.status)
+        good = contents(sandbox)[0] == (NEW if done.status == 0 else OLD) and done.status in (0, 24)
+        sandbox.check("the database is swapped before call %d" % number, good, (done, contents(sandbox)))
+    sandbox.check("the swapped database is accepted or refused", ends == {0, 24}, ends)
+    fresh(sandbox)
+    sandbox.expect("the digest of another database", accept(sandbox, sha256(OLD + b"more\n")), 24, b"")

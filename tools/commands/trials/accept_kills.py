@@ -1,0 +1,76 @@
+"""aide-compare-accept is killed before each of its calls, also on an old file system; and what is on the disk when."""
+import fcntl
+import os
+
+from .accepting import BASE, OLDER, accept_at, contents, fresh, is_tried, library
+from .sandbox import NEW, NOBODY, OLD
+
+KILLED = 1
+MOST_CALLS = 120
+
+
+def try_accept_kills(sandbox):
+    if is_tried(sandbox):
+        try_order(sandbox)
+        try_kills(sandbox)
+
+
+def try_order(sandbox):
+    """The new file is on the disk before it has a name, and the folder after the last name has changed."""
+    settings = library(sandbox)
+    for old in (0, 1) if settings else ():
+        fresh(sandbox)
+        done = accept_at(sandbox, settings, AT_NOTES=1, AT_OLD=old)
+        calls = done.output.decode().split()
+        if "fsync" not in calls:
+            sandbox.check("the new file is written to the disk, old %d" % old, False, calls)
+            continue
+        first, last = calls.index("fsync"), len(calls) - 1 - calls[::-1].index("fsync")
+        names = [place for place, call in enumerate(calls) if call in ("linkat", "renameat", "renameat2")]
+        in_order = names and first < min(names) and max(names) < last
+        sandbox.check("the order of fsync and names, old %d" % old, in_order, calls)
+        found = contents(sandbox)
+        sandbox.check("accepted, old %d" % old, done.status == 0 and found == (NEW, OLD, NEW, 3), (done, found))
+
+
+def wait_for_child(sandbox):
+    """A child that works with the rights of another user holds the lock of the folder until it ends."""
+    folder = os.open(sandbox.path("base"), os.O_RDONLY)
+    fcntl.flock(folder, fcntl.LOCK_EX)
+    os.close(folder)
+
+
+def try_kills(sandbox):
+    settings = library(sandbox)
+    if not settings:
+        return
+    forms = [("in the caller's folder", None, 0, 0), ("on an old file system", None, 0, 1)]
+    if os.getuid() == 0:
+        forms += [("in another user's folder", NOBODY, 0, 0), ("in the child", NOBODY, 1, 0)]
+    for form, owner, child, old in forms:
+        number = 1
+        while number < MOST_CALLS and kill_at(sandbox, settings, number, form, owner, child, old):
+            number += 1
+        sandbox.check("killed at every call " + form, 12 < number < MOST_CALLS, number)
+
+
+def kill_at(sandbox, settings, number, form, owner, child, old):
+    """Whether the command was killed at a call, and the baseline is then whole. The next run is right."""
+    fresh(sandbox, owner)
+    mark = sandbox.path("marks/%s %d" % (form, number))
+    os.makedirs(os.path.dirname(mark), exist_ok=True)
+    os.chmod(os.path.dirname(mark), 0o777)
+    done = accept_at(sandbox, settings, AT_NUMBER=number, AT_WAY=KILLED, AT_CHILD=child, AT_OLD=old, AT_MARK=mark)
+    if not os.path.isdir(mark):
+        return False
+    wait_for_child(sandbox)
+    baseline, former, new, _ = contents(sandbox)
+    kept = former == OLD if baseline == NEW else former in (OLD, OLDER, NEW) or (old and former is None)
+    path = sandbox.path(BASE + "aide.db")
+    whole = baseline in (OLD, NEW) and kept and new == NEW and os.stat(path).st_mode & 0o777 == 0o600
+    ended = done.status == (18 if child else -9)
+    sandbox.check("killed %s before call %d" % (form, number), ended and whole, (done, baseline, former))
+    again = accept_at(sandbox, settings, AT_NUMBER=0)
+    sandbox.check("the next run, killed %s before call %d" % (form, number),
+                  again.status == 0 and contents(sandbox) == (NEW, OLD, NEW, 3), (again, contents(sandbox)))
+    return ended and whole
