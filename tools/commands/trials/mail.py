@@ -1,208 +1,290 @@
-"""aide-compare-mail: which mail goes out, whole and readable, and what its status says."""
+"""aide-compare-mail: which mail goes out, whole and readable, within its bound, and what its status says."""
 import email
 import os
-import signal
+import shutil
+import socket
+import stat
 import subprocess
 import time
 
-from .faults import until
-from .sandbox import END, NEW, OLD
+from .sandbox import END, HEAD, HERE, NEW, OLD, Answer, sha256
 
-TOOL = 'aide-compare-mail'
-SUBJECT = 'aide on %s: ' % os.uname().nodename
+TOOL = "aide-compare-mail"
+SUBJECT = "aide on %s: " % "".join(letter for letter in os.uname().nodename if letter.isalnum() or letter in "._-")
+COUNTS = "differences (1 added, 1 removed, 2 changed)"
 
 
 def try_mail(sandbox):
-    sandbox.stub('sendmail', 'echo "$*" > "%s"; exec cat > "%s"' % (sandbox.path('sent.words'), sandbox.path('sent')))
-    for name in ('aide-compare-json', 'aide-compare-html'):
-        if os.path.exists(sandbox.path('bin/' + name)):
-            os.remove(sandbox.path('bin/' + name))
-    for trial in (try_texts, try_long_lines, try_pages, try_mailers, try_mail_signals):
+    if sandbox.shell != ["sh"]:  # The command is no script of a shell, so once is enough.
+        return
+    for trial in (try_texts, try_hostile, try_bounds, try_refusals, try_journal, try_room, try_queue, try_test_and_weekly,
+                  try_pages, try_units):
         trial(sandbox)
+
+
+def prepare(sandbox):
+    """The modules as they are, but for the places of the logs; a sendmail that keeps the mail; and an empty database."""
+    shutil.rmtree(sandbox.path("lib"), ignore_errors=True)
+    shutil.copytree(os.path.join(HERE, "commands", "lib"), sandbox.path("lib"))
+    for name in ("LOG, JOURNAL = \"/dev/log\", \"/run/systemd/journal/socket\"",):
+        edit(sandbox, "sending", name, "LOG, JOURNAL = %r, %r" % (sandbox.path("log"), sandbox.path("journal")))
+    take_mail(sandbox)
+    sandbox.write("empty.db", HEAD + END)
+
+
+def edit(sandbox, module, old, new):
+    """The copied module with one text replaced, such as the folder of sendmail by one of the trial."""
+    name = "lib/aide_compare/%s.py" % module
+    text = sandbox.read(name).decode()
+    sandbox.check("a text of the module " + module, old in text, old)
+    sandbox.write(name, text.replace(old, new))
+
+
+def take_mail(sandbox, before=""):
+    sandbox.stub("sendmail", '%s echo "$*" > "%s"; cat > "%s.part" && mv "%s.part" "%s"' % (
+        (before, sandbox.path("words")) + (sandbox.path("sent"),) * 3))
+
+
+def call(sandbox, *words, environment=None):
+    more = sandbox.environment(**(environment or {}))
+    done = subprocess.run([sandbox.path("bin/" + TOOL)] + list(words), cwd=sandbox.root, env=more, stdin=subprocess.DEVNULL,
+                          stdout=subprocess.PIPE, stderr=subprocess.PIPE, timeout=120)
+    return Answer(done.stdout, done.stderr, done.returncode)
 
 
 def sent(sandbox):
     """The mail that went out, or None; it is taken away."""
-    if not os.path.exists(sandbox.path('sent')):
+    if not os.path.exists(sandbox.path("sent")):
         return None
-    text = sandbox.read('sent')
-    os.remove(sandbox.path('sent'))
-    sandbox.check(
-        'lines of a mail', all(len(line) <= 998 for line in text.split(b'\n')) and b'\r' not in text and b'\0' not in text
-    )
+    text = sandbox.read("sent")
+    os.remove(sandbox.path("sent"))
+    good = all(len(line) <= 998 for line in text.split(b"\n")) and b"\r" not in text and b"\0" not in text
+    sandbox.check("the lines of a mail", good)
     return email.message_from_bytes(text)
 
 
 def body(message):
-    return message.get_payload(decode=True)
+    while message is not None and message.is_multipart():
+        message = message.get_payload()[0]
+    return message.get_payload(decode=True) if message is not None else b""
+
+
+def subject(message):
+    return message["Subject"] if message is not None else None
 
 
 def try_texts(sandbox):
-    report = sandbox.call('aide-compare-run', 'old.db', 'new.db.gz').output
-    for words, to in (([], 'root'), (['--to', 'a@b.example'], 'a@b.example'), (['--to=x, y'], 'x, y')):
-        sandbox.expect('a mail to ' + to, sandbox.call(TOOL, 'old.db', 'new.db.gz', *words), 7, b'', b'')
+    prepare(sandbox)
+    report = subprocess.run([sandbox.path("bin/aide-compare-run"), "old.db", "new.db"], cwd=sandbox.root,
+                            stdout=subprocess.PIPE, stderr=subprocess.DEVNULL).stdout
+    accept = "aide-compare-accept --sha256 %s %s %s\n" % (sha256(NEW), sandbox.path("new.db"), sandbox.path("old.db"))
+    written = time.strftime("%Y-%m-%dT%H:%M:%SZ", time.gmtime(os.stat(sandbox.path("new.db")).st_mtime))
+    for words, to in (([], "root"), (["--to", "a@b.example"], "a@b.example"), (["--to=x, y"], "x, y")):
+        sandbox.expect("a mail to " + to, call(sandbox, "old.db", "new.db", *words), 7, b"", b"")
         message = sent(sandbox)
-        sandbox.check(
-            'the head of a mail to ' + to,
-            message and (message['To'], message['Subject']) == (to, SUBJECT + 'differences (added, removed, changed)'),
-            message,
-        )
-        sandbox.check(
-            'the form of a mail to ' + to,
-            message
-            and message.get_content_type() == 'text/plain'
-            and message.get_content_charset() == 'utf-8'
-            and message['MIME-Version'] == '1.0'
-            and message['Auto-Submitted'] == 'auto-generated',
-            message,
-        )
-        sandbox.check('the report of a mail to ' + to, message and body(message) == report, message)
-        sandbox.check('how sendmail is called', sandbox.read('sent.words') == b'-oi -t\n')
-    sandbox.expect('no mail', sandbox.call(TOOL, 'old.db', 'old.db', '--state', 'state', '--to', 'x'), 0, b'', b'')
-    sandbox.check('no mail without a difference', sent(sandbox) is None and sandbox.state()['status'] == '0')
-    sandbox.write('column.db', OLD.replace(b'perm size', b'perm odd'))
-    sandbox.expect('no mail for a skipped column', sandbox.call(TOOL, 'column.db', 'column.db'), 0, b'', b'')
-    sandbox.check('no mail was sent', sent(sandbox) is None)
-    sandbox.expect('a skipped column', sandbox.call(TOOL, 'old.db', 'column.db'), 4, b'', b'')
-    message = sent(sandbox)
-    sandbox.check(
-        'a mail with a skipped column',
-        message
-        and message['Subject'] == SUBJECT + 'differences (changed)'
-        and body(message).endswith(b'=\n\naide: new database: column 4 skipped\n'),
-        message,
-    )
-    os.utime(sandbox.write('late.db', OLD), (time.time() - 3 * 3600 - 60,) * 2)
-    for words, status, line in (
-        (['old.db', 'missing é'], 18, 'aide-compare-run: cannot open the new database missing é'),
-        (['old.db', '/dev/null'], 24, 'aide: new database:1:'),
-        (['--odd'], 15, 'aide-compare-run: unknown option --odd'),
-        (['-c', '/dev/null'], 17, 'aide-compare-run: /dev/null names no old'),
-        (['--age', '7200', 'old.db', 'late.db'], 18, 'aide-compare-run: the new database late.db is 3 hours old, more than --age'),
-        (['old.db', 'new.db', '--age', '--help'], 15, 'aide-compare-run: --age needs a number'),
-    ):
-        sandbox.expect('an error %d' % status, sandbox.call(TOOL, *words), status, b'', b'')
+        sandbox.check("the head of a mail to " + to, message and (message["To"], subject(message)) == (to, SUBJECT + COUNTS))
+        sandbox.check("the form of a mail", message and message.get_content_type() == "text/plain" and message["MIME-Version"]
+                      == "1.0" and message["Auto-Submitted"] == "auto-generated" and message["Date"])
+        text = body(message)
+        sandbox.check("the report of a mail", report in text and len(report) > 500, text)
+        sandbox.check("the command that accepts", accept.encode() in text.partition(b"\n\n")[0] + b"\n", text)
+        sandbox.check("when it was written", b"New database: new.db, written %s\n" % written.encode() in text, text)
+        sandbox.check("how sendmail is called", sandbox.read("words") == b"-oi -t\n")
+    sandbox.expect("no mail", call(sandbox, "old.db", "old.db", "--state", "state"), 0, b"", b"")
+    sandbox.check("no mail without a difference", sent(sandbox) is None and sandbox.state()["status"] == "0")
+    for words, status in ((["old.db", "missing"], 18), (["old.db", "/dev/null"], 18), (["--odd"], 15),
+                          (["old.db", "new.db", "--age", "x"], 15)):
+        sandbox.expect("an error of %s" % words, call(sandbox, *words), status, b"", b"")
         message = sent(sandbox)
-        sandbox.check(
-            'a mail of an error %d' % status,
-            message
-            and message['Subject'] == SUBJECT + 'no comparison (status %d)' % status
-            and body(message).startswith(line.encode()),
-            message,
-        )
-    for words in (['--to'], ['--to', ''], ['--to', 'a\nBcc: b'], ['--to', '-x']):
-        sandbox.expect(
-            'the arguments %r' % words, sandbox.call(TOOL, 'old.db', 'new.db', *words), 15, b'', b'--to needs an address'
-        )
-    sandbox.expect(
-        'arguments after --', sandbox.call(TOOL, '--to', 'x', 'old.db', 'new.db', '--', '-A', 'report_level=minimal'), 7, b'',
-        b''
-    )
+        good = subject(message) == SUBJECT + "no comparison (status %d)" % status and body(message).startswith(b"aide-compare-run")
+        sandbox.check("a mail of an error of %s" % words, good, message)
+    for words in (["--to"], ["--to", ""], ["--to", "a\nBcc: b"], ["--to", "-x"], ["--to", "é"], ["--most-mail", "x"],
+                  ["--weekly", "--", "x"], ["--weekly=Foo"]):
+        answer = call(sandbox, "old.db", "new.db", *words)
+        sandbox.check("the arguments %r" % words, answer.status == 15 and sent(sandbox) is None, answer)
+    sandbox.expect("after --", call(sandbox, "--to", "x", "old.db", "new.db", "--", "-A", "report_level=minimal"), 7, b"", b"")
     message = sent(sandbox)
-    sandbox.check(
-        'a mail with arguments after --',
-        message and body(message) == b'AIDE found differences between the two databases.\n',
-        message,
-    )
-    sandbox.call(TOOL, 'old.db', 'new.db', '--state', 'state')
-    sandbox.check('the state with a mail', sandbox.state()['status'] == '7' and sent(sandbox) is not None)
+    sandbox.check("the subject without counts", subject(message) == SUBJECT + "differences (added, removed, changed)", message)
+    sandbox.expect("an alarm is success", call(sandbox, "old.db", "new.db", "--alarm-sent-is-success"), 0, b"", b"")
+    sandbox.check("the mail of an alarm", subject(sent(sandbox)) == SUBJECT + COUNTS)
 
 
-def try_long_lines(sandbox):
-    long = ('/e' + 'é%20=' * 1500).encode()
-    for label, line in (
-        ('a long line', long),
-        ('a long line of other bytes', b'/e\xff\xfe%20' + b'\xe9' * 3000),
-        ('a dot', b'/e%20.'),
-    ):
-        sandbox.write('long.db', OLD.replace(END, line + b' 36 100644 1\n' + END))
-        report = sandbox.call('aide-compare-run', 'old.db', 'long.db').output
-        sandbox.expect(label, sandbox.call(TOOL, 'old.db', 'long.db'), 1, b'', b'')
-        message = sent(sandbox)
-        sandbox.check('the mail of ' + label, message and body(message) == report and len(report) > 500, message)
+def try_hostile(sandbox):
+    """Names with C1 controls, turned text, long lines, and boundaries of mails."""
+    prepare(sandbox)
+    for name in (b"/e%c2%9b31m", b"/e%e2%80%aetxt", b"/" + b"e%c3%a9" * 1500, b"/e%0a.%0aBcc:%20x", b"/e%ff" * 9, b"/e%0d%0a"):
+        sandbox.write("hostile.db", HEAD + name + b" 36 100644 1\n" + END)
+        sandbox.expect("a hostile name", call(sandbox, "empty.db", "hostile.db"), 1, b"", b"")
+        text = body(sent(sandbox)).decode("utf-8", "surrogateescape")
+        bad = [letter for letter in text if ord(letter) in range(0x7F, 0xA0) or ord(letter) in range(0x202A, 0x202F)
+               or ord(letter) > 0xDC7F and ord(letter) < 0xDD00]
+        sandbox.check("the mail of a hostile name", not bad and "Added entries" in text and "\nBcc" not in text, text[:900])
+
+
+def try_bounds(sandbox):
+    """A report over the bound: the counts, 1,000 paths, how many were cut, and the command for the rest."""
+    prepare(sandbox)
+    lines = b"".join(b"/f%06d 36 100644 1\n" % number for number in range(60000))
+    sandbox.write("large.db", HEAD + lines + END)
+    sandbox.expect("a large report", call(sandbox, "empty.db", "large.db"), 1, b"", b"")
+    size = os.stat(sandbox.path("sent")).st_size if os.path.exists(sandbox.path("sent")) else 0
+    message = sent(sandbox)
+    text = body(message)
+    sandbox.check("the size of a cut mail", 10000 < size <= 1 << 20, size)
+    sandbox.check("the counts of a cut mail", b"Added entries:           60000" in text and "60000 added" in subject(message))
+    sandbox.check("the paths of a cut mail", text.count(b": /f0") == 1000, text.count(b": /f0"))
+    sandbox.check("what was cut", b"1000 paths are listed, 59000 are left out" in text, text[-500:])
+    command = sandbox.path("bin/aide-compare-run").encode() + b" empty.db large.db\n"
+    sandbox.check("the command for the rest", command in text, text[-500:])
+    sandbox.expect("a small bound", call(sandbox, "empty.db", "large.db", "--most-mail", "8k"), 1, b"", b"")
+    size = os.stat(sandbox.path("sent")).st_size if os.path.exists(sandbox.path("sent")) else 0
+    sandbox.check("the size by a small bound", 1000 < size <= 8192, size)
+    sent(sandbox)
+
+
+def try_refusals(sandbox):
+    """sendmail that refuses, refuses only large mails, hangs, or is missing."""
+    prepare(sandbox)
+    refuse = 'cat > "%s"; [ "$(wc -c < "%s")" -lt 3000 ] || { echo "message file too big" >&2; exit 75; };' % (
+        (sandbox.path("got"),) * 2)
+    sandbox.write("many.db", HEAD + b"".join(b"/f%04d 36 100644 1\n" % number for number in range(500)) + END)
+    sandbox.stub("sendmail", refuse + ' mv "%s" "%s"' % (sandbox.path("got"), sandbox.path("sent")))
+    answer = call(sandbox, "empty.db", "many.db")
+    sandbox.expect("a short mail", answer, 1, b"", [b"only a short mail was sent", b"too big"])
+    message = sent(sandbox)
+    good = subject(message) == SUBJECT + "differences (500 added)" and b"message file too big" in body(message)
+    sandbox.check("what a short mail says", good and b"aide-compare-accept --sha256" in body(message), message)
+    sandbox.stub("sendmail", 'cat > /dev/null; echo "no route" >&2; exit 75')
+    sandbox.expect("a mailer that fails", call(sandbox, "old.db", "new.db"), 18, b"",
+                   [b"cannot send the mail", b"status 75", b"no route"])
+    sandbox.stub("sendmail", "exit 1")
+    sandbox.expect("a mailer without a reason", call(sandbox, "empty.db", "many.db"), 18, b"", [b"it gave no reason"])
+    sandbox.stub("sendmail", 'echo "warning: retrying" >&2; sleep 50 & sleep 50')
+    start = time.monotonic()
+    sandbox.expect("a mailer that hangs", call(sandbox, "old.db", "new.db", "--mail-time", "1s"), 18, b"",
+                   [b"did not end within 1 seconds"])
+    sandbox.check("the time limit", time.monotonic() - start < 20, time.monotonic() - start)
+    os.remove(sandbox.path("stubs/sendmail"))
+    edit(sandbox, "sending", '("/usr/sbin/sendmail", "/usr/lib/sendmail")', "()")
+    path = {"PATH": sandbox.path("stubs") + ":/usr/bin:/bin"}
+    for new, status in (("new.db", "7"), ("old.db", "0")):
+        answer = call(sandbox, "old.db", new, "--state", "state", environment=path)
+        sandbox.expect("no mailer, " + new, answer, 18, b"", [b"cannot find sendmail", b"ended with status " + status.encode()])
+        sandbox.check("the state without a mailer", sandbox.state()["status"] == status)
+    take_mail(sandbox)
+
+
+def try_journal(sandbox):
+    """Without any mail, a line at priority alert goes to the system log, or to systemd's journal."""
+    prepare(sandbox)
+    sandbox.stub("sendmail", "exit 75")
+    for name, wanted in (("log", b"<33>aide-compare-mail: no mail could be sent"), ("journal", b"PRIORITY=1\n")):
+        with socket.socket(socket.AF_UNIX, socket.SOCK_DGRAM) as log:
+            log.bind(sandbox.path(name))
+            log.settimeout(5)
+            sandbox.expect("no mail but a line", call(sandbox, "old.db", "new.db"), 18, b"", [b"has a line at priority alert"])
+            try:
+                line = log.recv(10000)
+            except socket.timeout:
+                line = b""
+        os.remove(sandbox.path(name))
+        sandbox.check("the line in " + name, line.startswith(wanted) and COUNTS.encode() in line, line)
+    sandbox.expect("no log either", call(sandbox, "old.db", "new.db"), 18, b"", [b"no system log either"])
+    take_mail(sandbox)
+
+
+def try_room(sandbox):
+    """A TMPDIR of each size: a mail goes out, or the status says that none did; never a difference without a mail."""
+    prepare(sandbox)
+    if os.geteuid() != 0:
+        return print("skipped: a small TMPDIR (only root can mount one)")
+    folder = sandbox.path("small")
+    os.mkdir(folder)
+    sandbox.write("half.db", HEAD + b"".join(b"/f%05d 36 100644 1\n" % number for number in range(4000)) + END)
+    for size in range(16, 1000, 96):
+        if subprocess.run(["mount", "-t", "tmpfs", "-o", "size=%dk" % size, "none", folder], stderr=subprocess.PIPE).returncode:
+            return print("skipped: a small TMPDIR (nothing can be mounted here)")
+        try:
+            answer, message = call(sandbox, "empty.db", "half.db", environment={"TMPDIR": folder}), sent(sandbox)
+            good = message is not None and (answer.status == 1 and "differences (4000 added)" in subject(message)
+                                            or answer.status == 18 and "no comparison (status 18)" in subject(message))
+            sandbox.check("a mail with %d kB" % size, good and not os.listdir(folder), (answer, message))
+        finally:
+            subprocess.run(["umount", folder])
+
+
+def try_queue(sandbox):
+    prepare(sandbox)
+    queue = ["--queue", "queue", "--alarm-sent-is-success"]
+    sandbox.expect("a mail that waits", call(sandbox, "old.db", "new.db", *queue), 0, b"", b"")
+    names = os.listdir(sandbox.path("queue")) if os.path.isdir(sandbox.path("queue")) else []
+    mode = stat.S_IMODE(os.stat(sandbox.path("queue/" + names[0])).st_mode) if names else None
+    sandbox.check("what waits", len(names) == 1 and mode == 0o600 and sent(sandbox) is None, (names, mode))
+    sandbox.stub("sendmail", "exit 75")
+    sandbox.expect("it cannot be sent", call(sandbox, "--send-queue", "queue"), 18, b"", [b"cannot send the mail"])
+    sandbox.check("it waits on", os.listdir(sandbox.path("queue")) == names)
+    take_mail(sandbox)
+    sandbox.expect("it is sent", call(sandbox, "--send-queue", "queue"), 0, b"", b"")
+    sandbox.check("what was sent", subject(sent(sandbox)) == SUBJECT + COUNTS and not os.listdir(sandbox.path("queue")))
+    os.symlink(sandbox.path("old.db"), sandbox.path("queue/1.mail"))
+    sandbox.check("a link that waits", call(sandbox, "--send-queue", "queue").status == 18 and sent(sandbox) is None)
+    if os.path.lexists(sandbox.path("queue/1.mail")):
+        os.remove(sandbox.path("queue/1.mail"))
+    failed = {"MONITOR_SERVICE_RESULT": "exit-code", "MONITOR_UNIT": "x.service", "MONITOR_EXIT_STATUS": "18"}
+    call(sandbox, "--send-queue", "queue", environment=failed)
+    message = sent(sandbox)
+    sandbox.check("a unit that failed", "failed" in (subject(message) or "") and b"x.service" in body(message), message)
+    for number in range(64):
+        sandbox.write("queue/%d.mail" % number, "x")
+    sandbox.expect("a full queue", call(sandbox, "old.db", "new.db", *queue), 18, b"", [b"64 mails wait already"])
+    shutil.rmtree(sandbox.path("queue"))
+
+
+def try_test_and_weekly(sandbox):
+    prepare(sandbox)
+    sandbox.expect("a test", call(sandbox, "--test"), 0, b"", b"")
+    sandbox.check("the test mail", subject(sent(sandbox)) == SUBJECT + "test")
+    day, other = time.strftime("%a", time.localtime()), time.strftime("%a", time.localtime(time.time() + 2 * 86400))
+    words = ["old.db", "old.db", "--state", "weekly.state", "--weekly"]
+    for _ in range(2):
+        sandbox.expect("another day", call(sandbox, *words, other), 0, b"", b"")
+        sandbox.check("no sign of life on another day", sent(sandbox) is None)
+    sandbox.expect("the day", call(sandbox, *words, day), 0, b"", b"")
+    sandbox.check("the sign of life", subject(sent(sandbox)) == SUBJECT + "no difference in 3 runs")
+    sandbox.expect("the day again", call(sandbox, *words, day), 0, b"", b"")
+    sandbox.check("only once a day", sent(sandbox) is None)
 
 
 def try_pages(sandbox):
-    report = sandbox.call('aide-compare-run', 'old.db', 'new.db').output
-    note = b'\naide-compare-mail: there is no page: '
-    sandbox.expect('no page', sandbox.call(TOOL, '--html', 'old.db', 'new.db'), 7, b'', b'')
+    prepare(sandbox)
+    note = b"\naide-compare-mail: there is no page: "
+    for name in ("json", "html"):
+        sandbox.stub("aide-compare-" + name, "cat", "bin")
+    sandbox.write("bin/aide-compare-html", '#!/bin/sh\ncat > /dev/null; printf "<p>%s</p>" "$*"\n', 0o755)
+    sandbox.expect("a page", call(sandbox, "--html", "old.db", "new.db"), 7, b"", b"")
     message = sent(sandbox)
-    sandbox.check('the mail without a page', message and body(message).startswith(report + note), message)
-    sandbox.stub('aide-compare-json', 'echo "an odd report" >&2; exit 3', 'bin')
-    sandbox.stub('aide-compare-html', 'exit 0', 'bin')
-    sandbox.expect('a page that fails', sandbox.call(TOOL, '--html', 'old.db', 'new.db'), 7, b'', b'')
-    message = sent(sandbox)
-    sandbox.check('the mail without a page that fails', message and body(message) == report + note + b'an odd report\n',
-                  message)
-    page = '<p>é</p>\n<p>%s</p>\n' % ('x' * 2000)
-    sandbox.write('page', page)
-    sandbox.stub('aide-compare-json', 'sed "s/^/json /"', 'bin')
-    sandbox.stub('aide-compare-html', 'cat > "%s"; cat "%s"' % (sandbox.path('lines'), sandbox.path('page')), 'bin')
-    sandbox.write('email.py', 'raise SystemExit("a module of the folder was taken")')
-    for to in ('root', 'x@y'):
-        sandbox.expect('a page', sandbox.call(TOOL, '--html', '--to', to, 'old.db', 'new.db'), 7, b'', b'')
-        message = sent(sandbox)
-        parts = message.get_payload() if message and message.is_multipart() else []
-        sandbox.check(
-            'the parts of a mail',
-            message
-            and message.get_content_type() == 'multipart/alternative'
-            and message['To'] == to
-            and [part.get_content_type() for part in parts] == ['text/plain', 'text/html'],
-            message,
-        )
-        sandbox.check(
-            'the texts of a mail',
-            len(parts) == 2
-            and body(parts[0]) == report
-            and body(parts[1]) == page.encode()
-            and {part.get_content_charset() for part in parts} == {'utf-8'},
-            message,
-        )
-        sandbox.check('what the page was made of', sandbox.read('lines').startswith(b'json AIDE found differences'))
-    sandbox.expect('an error with --html', sandbox.call(TOOL, '--html', 'old.db', 'missing'), 18, b'', b'')
-    message = sent(sandbox)
-    sandbox.check('a mail of an error with --html', message and message.get_content_type() == 'text/plain', message)
+    parts = message.get_payload() if message is not None and message.is_multipart() else []
+    kinds = [each.get_content_type() for each in parts]
+    sandbox.check("the parts", kinds == ["text/plain", "text/html"], message)
+    sandbox.check("a plain page with the host", len(parts) == 2 and b"--plain --title File changes on " in body(parts[1]), parts)
+    sandbox.stub("aide-compare-json", 'echo "an odd report" >&2; exit 3', "bin")
+    sandbox.expect("a page that fails", call(sandbox, "--html", "old.db", "new.db"), 7, b"", b"")
+    sandbox.check("a mail without a page", body(sent(sandbox)).endswith(note + b"an odd report\n"))
 
 
-def try_mailers(sandbox):
-    sandbox.stub('sendmail', 'echo "no route" >&2; exit 75')
-    sandbox.expect(
-        'a mailer that fails',
-        sandbox.call(TOOL, 'old.db', 'new.db'),
-        18,
-        b'',
-        [b'cannot send the mail to root', b'75', b'no route'],
-    )
-    sandbox.expect('a mailer that fails, without a difference', sandbox.call(TOOL, 'old.db', 'old.db'), 0, b'', b'')
-    os.remove(sandbox.path('stubs/sendmail'))
-    whole = sandbox.read('bin/aide-compare-mail')
-    sandbox.write(
-        'bin/aide-compare-mail', whole.replace(b'/usr/sbin/sendmail /usr/lib/sendmail', sandbox.path('none').encode()), 0o755
-    )
-    for new in ('new.db', 'old.db'):
-        answer = sandbox.call(
-            TOOL, 'old.db', new, '--state', 'state', environment={'PATH': sandbox.path('stubs') + ':/usr/bin:/bin'}
-        )
-        sandbox.expect('no mailer, ' + new, answer, 18, b'', b'cannot find sendmail')
-        sandbox.check('the state without a mailer, ' + new, sandbox.state()['status'] == ('7' if new == 'new.db' else '0'))
-    sandbox.write('bin/aide-compare-mail', whole, 0o755)
-
-
-def try_mail_signals(sandbox):
-    sandbox.stub('sendmail', 'exec cat > "%s"' % sandbox.path('sent'))
-    os.mkfifo(sandbox.path('fifo'))
-    for name in ('HUP', 'INT', 'TERM'):
-        process = sandbox.start(TOOL, 'old.db', 'fifo')
-        started = until(
-            lambda: [folder for folder in sandbox.leftovers() if os.path.exists(sandbox.path('room/%s/packed' % folder))]
-        )
-        number = getattr(signal, 'SIG' + name)
-        process.send_signal(number)
-        try:
-            process.communicate(timeout=20)
-        except subprocess.TimeoutExpired:
-            process.kill()
-        sandbox.check('SIG%s' % name, started and process.returncode == 128 + number, process.returncode)
-        sandbox.check('nothing is left after SIG%s' % name, not sandbox.leftovers() and sent(sandbox) is None,
-                      sandbox.leftovers())
+def try_units(sandbox):
+    """What must not come back: set-ID programs fail below filters, and 1 to 7 of the interpreter are no success."""
+    folder = os.path.join(HERE, "contrib", "systemd")
+    text = {name: open(os.path.join(folder, name)).read() for name in os.listdir(folder)}
+    plain = [line for line in text["aide-compare-mail.service"].splitlines() if not line.startswith("#")]
+    for word in ("NoNewPrivileges", "RestrictAddressFamilies", "SystemCall", "PrivateDevices", "ProtectKernel", "ProtectClock",
+                 "RestrictNamespaces", "RestrictSUIDSGID", "LockPersonality", "MemoryDeny", "ProtectHostname", "DynamicUser",
+                 "RestrictRealtime"):
+        sandbox.check("the sending unit without " + word, not any(line.startswith(word) for line in plain))
+    for line in ("KillMode=process", "ReadWritePaths=-/var/mail -/var/spool -/var/log", "User=_aide", "Type=oneshot"):
+        sandbox.check("the sending unit: " + line, line in plain)
+    daily = text["aide-compare.service"].splitlines()
+    for line in ("NoNewPrivileges=yes", "CapabilityBoundingSet=", "User=_aide", "After=dailyaidecheck.service",
+                 "OnSuccess=aide-compare-mail.service", "OnFailure=aide-compare-failed.service"):
+        sandbox.check("the daily unit: " + line, line in daily)
+    sandbox.check("no status of differences is a success", not any(line.startswith("SuccessExitStatus") for line in daily))

@@ -1,0 +1,156 @@
+"""The mails of aide-compare-mail: built from a report and its error lines, and never larger than allowed.
+
+The text is written by the rules of RFC 5322 and MIME. The package email of the standard library takes 60 ms to load and adds
+nothing here: each header is ASCII of our own, and the text is one part.
+"""
+import os
+import re
+import shlex
+import time
+
+from aide_compare.escapes import shown_lines
+from aide_compare.reports import HEAD_BYTES, counts_of
+
+MOST_PATHS = 1000
+MOST_LINE = 1000
+ENTRY = re.compile(rb"[^ :\n][^\n]{17}: ")
+SECTION = re.compile(rb"(?:Added|Removed|Changed) entries:$")
+DATABASE = re.compile(r"^aide-compare-run: (old|new) database: (.*), written (\S+), SHA-256 ([0-9a-f]{64})$", re.M)
+KINDS = ((1, "added"), (2, "removed"), (4, "changed"))
+
+
+def host():
+    """The name of this machine, with only those bytes that a subject may have."""
+    return re.sub(r"[^A-Za-z0-9._-]", "", os.uname().nodename)[:200] or "unknown"
+
+
+def differences(status, counts):
+    """The counts, or only the kinds if the report has no counts."""
+    if counts:
+        return ", ".join("%d %s" % (count, name) for (_, name), count in zip(KINDS, counts) if count)
+    return ", ".join(name for bit, name in KINDS if status & bit)
+
+
+class Result:
+    """What a comparison left: its status, the report (a descriptor and its size), and the bytes of its error lines."""
+
+    def __init__(self, status, report, errors):
+        self.status, self.report, self.errors = status, report, errors
+        self.size = os.fstat(report).st_size
+        self.counts = counts_of(os.pread(report, HEAD_BYTES, 0))
+        text = errors.decode("utf-8", "surrogateescape")
+        self.databases = {side: (name, date, digest) for side, name, date, digest in DATABASE.findall(text)}
+
+    @property
+    def differs(self):
+        return 1 <= self.status <= 7 and self.size > 0
+
+    def subject(self):
+        if self.differs:
+            return "aide on %s: differences (%s)" % (host(), differences(self.status, self.counts))
+        return "aide on %s: no comparison (status %d)" % (host(), self.status)
+
+
+def opening(result):
+    """The first lines of a mail: which databases, when each was written, and the command that accepts what was read."""
+    if len(result.databases) != 2:
+        return ""
+    lines = ["%s database: %s, written %s" % (side.capitalize(), name, date)
+             for side, (name, date, _) in sorted(result.databases.items(), reverse=True)]
+    old, new = result.databases["old"][0], result.databases["new"][0]
+    if "\\" in old + new:  # An escaped name is not the name, so no command is given that could mean another file.
+        lines.append("To accept what is reported here: aide-compare-accept --sha256 %s NEW BASELINE" % result.databases["new"][2])
+    else:
+        lines += ["To accept what is reported here, and nothing else:", "    aide-compare-accept --sha256 %s %s %s"
+                  % (result.databases["new"][2], shlex.quote(os.path.abspath(new)), shlex.quote(os.path.abspath(old)))]
+    return "\n".join(lines) + "\n\n"
+
+
+class CutReport:
+    """The beginning of a report that is too large: its head, and the first paths of its lists."""
+
+    def __init__(self, result, most):
+        self.lines, self.paths, self.left_out, self.room = [], 0, 0, most
+        with open(os.dup(result.report), "rb") as file:
+            file.seek(0)
+            for line in self._lines(file):
+                if line.startswith(b"Detailed information about changes"):
+                    break
+                self._take(line)
+
+    def _lines(self, file):
+        """Each line, or its first bytes if it is long: a line may have 12 MB."""
+        is_start = True
+        while True:
+            line = file.readline(MOST_LINE)
+            if not line:
+                return
+            if is_start:
+                yield line if line.endswith(b"\n") else line + b"...\n"
+            is_start = line.endswith(b"\n")
+
+    def _take(self, line):
+        is_entry = ENTRY.match(line) is not None
+        size = 4 * len(line)
+        if (is_entry and self.paths >= MOST_PATHS) or size > self.room:
+            self.left_out += is_entry
+            return
+        self.room -= size
+        self.paths += is_entry
+        self.lines.append(line)
+
+    def text(self, command):
+        return b"".join(self.lines) + (
+            "\nThis mail is cut: %d paths are listed, %d are left out, and no details are shown.\n"
+            "This command prints the whole report:\n    %s\n" % (self.paths, self.left_out, command)).encode()
+
+
+def text_of(result, most, command):
+    """The text of the mail, in bytes: whole if it fits, cut otherwise. All bytes of others are escaped."""
+    errors = DATABASE.sub("", result.errors[:most // 8 + 1].decode("utf-8", "surrogateescape")).strip("\n")
+    if not result.differs:
+        return clean((errors + "\n").encode("utf-8", "surrogateescape"))
+    report = os.pread(result.report, most + 1, 0) if result.size <= most // 2 else b""
+    text = clean(report) if report else b""
+    if not text or len(text) > most - most // 4:
+        text = clean(CutReport(result, most // 2).text(command))
+    tail = clean(("\n" + errors + "\n").encode("utf-8", "surrogateescape")) if errors else b""
+    return clean(opening(result).encode("utf-8", "surrogateescape")) + text + tail
+
+
+def clean(data):
+    return shown_lines(data).encode("utf-8", "backslashreplace")
+
+
+def part(data, kind="plain"):
+    """The headers and the body of a part. Lines that are too long for mail need quoted-printable."""
+    import binascii
+    is_short = all(len(line) <= 990 for line in data.split(b"\n")) and b"\0" not in data and b"\r" not in data
+    body = data if is_short else binascii.b2a_qp(data)
+    return ("Content-Type: text/%s; charset=utf-8\nContent-Transfer-Encoding: %s\n\n"
+            % (kind, "8bit" if is_short else "quoted-printable")).encode() + body
+
+
+def build(address, subject, text, page=None):
+    """The bytes of a mail: a text, or a text and its page."""
+    date = time.strftime("%a, %d %b %Y %H:%M:%S +0000", time.gmtime())
+    head = "To: %s\nSubject: %s\nDate: %s\nAuto-Submitted: auto-generated\nMIME-Version: 1.0\n" % (address, subject, date)
+    if page is None:
+        return head.encode() + part(text)
+    mark = "aide-compare-" + os.urandom(16).hex()
+    head += "Content-Type: multipart/alternative; boundary=\"%s\"\n\n" % mark
+    between = ("\n--%s\n" % mark).encode()
+    return head.encode() + between[1:] + part(text) + between + part(page, "html") + ("\n--%s--\n" % mark).encode()
+
+
+def shortened(message, why):
+    """A short mail in the place of one that was refused: its headers, its first lines, and the reason. It is made of the
+    whole one, since that is all that a queue has."""
+    import email
+    import email.policy
+    whole = email.message_from_bytes(message, policy=email.policy.compat32)
+    first = next((each for each in whole.walk() if each.get_content_type() == "text/plain"), whole)
+    lines = (first.get_payload(decode=True) or b"").split(b"\n")[:25]
+    reason = "The whole mail of %d bytes was refused: %s\nThe first lines of it:\n\n" % (len(message), why)
+    text = clean(reason.encode("utf-8", "surrogateescape") + b"\n".join(line[:300] for line in lines) + b"\n")
+    return build(str(whole["To"]), str(whole["Subject"]), text)

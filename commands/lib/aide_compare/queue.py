@@ -1,0 +1,68 @@
+"""Mails that wait in a folder for the unit that sends them. Each is a file with the whole message, put there in one step."""
+import os
+import stat
+import time
+
+from aide_compare.ending import Fault, Status
+from aide_compare.escapes import shown
+from aide_compare.files import Replacement, open_folder
+from aide_compare.sending import alert, deliver
+
+MOST_WAITING = 64
+MOST_BYTES = 64 << 20
+
+
+def names_in(folder):
+    """The names of the messages that wait, the oldest first."""
+    listing = os.open(".", os.O_RDONLY | os.O_DIRECTORY | os.O_CLOEXEC, dir_fd=folder.fd)
+    try:
+        return sorted(name for name in os.listdir(listing) if name.endswith(".mail") and not name.startswith("."))
+    finally:
+        os.close(listing)
+
+
+class Queue:
+    """A way for messages, as Sendmail is: the message is kept for the second unit."""
+
+    def __init__(self, path):
+        self.path = path
+        with open_folder(path, make=True) as folder:
+            if len(names_in(folder)) >= MOST_WAITING:
+                alert("%d mails wait in %s: none can be sent" % (MOST_WAITING, path))
+                raise Fault(Status.DEVICE, "%d mails wait already in %s: none is sent" % (MOST_WAITING, shown(path)))
+
+    def send(self, message):
+        try:
+            name = "%020d-%d.mail" % (time.time_ns(), os.getpid())
+            file = Replacement(os.path.join(self.path, name), 0o600, "the mail that waits").begin()
+            try:
+                file.commit(message)
+            finally:
+                file.close()
+        except Fault as fault:
+            return fault.text
+        return None
+
+
+def _read(folder, name):
+    """A message; a Fault if the name is anything else than a regular file of the caller."""
+    descriptor = os.open(name, os.O_RDONLY | os.O_NOFOLLOW | os.O_NONBLOCK | os.O_CLOEXEC, dir_fd=folder.fd)
+    with open(descriptor, "rb") as file:
+        found = os.fstat(descriptor)
+        if not stat.S_ISREG(found.st_mode) or found.st_uid != os.geteuid() or found.st_size > MOST_BYTES:
+            raise Fault(Status.DEVICE, "%s is no mail that this user has put there" % shown(name))
+        return file.read()
+
+
+def send_all(path, way):
+    """Sends what waits, the oldest first. What cannot be sent stays, and is tried again the next time."""
+    failed = None
+    with open_folder(path, make=True) as folder:
+        for name in names_in(folder):
+            try:
+                deliver(way, _read(folder, name))
+                os.unlink(name, dir_fd=folder.fd)
+            except Fault as fault:
+                failed = fault
+    if failed:
+        raise failed
