@@ -1,7 +1,7 @@
 #!/usr/bin/env python3
 """Measures how many hosts compare-hosts does in a minute, and in how much memory, by the number of jobs.
 
-usage: bench/hosts.py [--hosts N] [--entries N] [--jobs N,N,..] [--with parallel|xargs] PROGRAM
+usage: bench/hosts.py [--hosts N] [--entries N] [--jobs N,N,..] PROGRAM
 
 Makes a pair of databases, compressed by gzip, and N simulated hosts. A small program replaces ssh and prints the new
 database. One host in a hundred differs from its baseline. Prints for each number of jobs: the seconds by the clock, the
@@ -58,7 +58,7 @@ class Memory(threading.Thread):
 
 
 def install(root, program):
-    words = [os.path.join(HERE, "tools", "install"), "--destdir", root, "--program", os.path.abspath(program)]
+    words = [os.path.join(HERE, "packaging", "install"), "--destdir", root, "--program", os.path.abspath(program)]
     subprocess.run(words, check=True, stdout=subprocess.DEVNULL)
 
 
@@ -81,9 +81,9 @@ def put_hosts(root, hosts, entries):
     return len(texts[""]), len(gzip.decompress(texts[""]))
 
 
-def measure(root, jobs, way):
+def measure(root, jobs):
     words = [root + "/usr/local/lib/aide-compare/fleet/compare-hosts", "--jobs", str(jobs), "--store", root + "/store"]
-    words += (["--with", way] if way else []) + [root + "/hosts"]
+    words.append(root + "/hosts")
     environment = dict(os.environ, PATH="%s/stubs:%s" % (root, os.environ["PATH"]), TMPDIR=root)
     before, start = resource.getrusage(resource.RUSAGE_CHILDREN), time.monotonic()
     run = subprocess.Popen(words, env=environment, stdout=subprocess.PIPE, start_new_session=True)
@@ -101,7 +101,6 @@ def main():
     parser.add_argument("--hosts", type=int, default=1000)
     parser.add_argument("--entries", type=int, default=2000)
     parser.add_argument("--jobs", default="1,2,4,8,16,32")
-    parser.add_argument("--with", dest="way", choices=("parallel", "xargs"))
     parser.add_argument("program")
     asked = parser.parse_args()
     root = tempfile.mkdtemp(prefix="bench-hosts-")
@@ -110,7 +109,7 @@ def main():
         packed, plain = put_hosts(root, asked.hosts, asked.entries)
         print("%d hosts, %d entries: %d bytes, %d unpacked" % (asked.hosts, asked.entries, packed, plain))
         for jobs in map(int, asked.jobs.split(",")):
-            seconds, used, memory, summary = measure(root, jobs, asked.way)
+            seconds, used, memory, summary = measure(root, jobs)
             print("%3d jobs: %6.1f s, %6.0f hosts a minute, %.3f processor seconds a host, %5.0f MB; %s"
                   % (jobs, seconds, 60 * asked.hosts / seconds, used / asked.hosts, memory, summary), flush=True)
     finally:

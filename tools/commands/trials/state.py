@@ -2,21 +2,22 @@
 import os
 import re
 import subprocess
+import sys
 import time
 
-from .sandbox import AS_NOBODY, HERE, UMASK
+from .sandbox import AS_NOBODY, HERE, NOBODY, UMASK
 
 CHECK = 'check_aide_compare'
 FORM = (
-    'format=1\nstatus=%(status)s\ntime=%(time)s\ndate=2026-11-23T16:30:00Z\nadded=%(added)s\nremoved=%(removed)s\nchanged=%(changed)s\n'
-    'old_sha256=\nnew_sha256=%(digest)s\nold=/o\nnew=/n\nerror=%(error)s\n'
+    'format=2\nstatus=%(status)s\ntime=%(time)s\ndate=2026-11-23T16:30:00Z\nadded=%(added)s\nremoved=%(removed)s\nchanged=%(changed)s\n'
+    'old_sha256=\nnew_sha256=%(digest)s\nold=/o\nnew=/n\nold_written=\nnew_written=\nerror=%(error)s\nlater=unknown\n'
 )
 NONE = {'status': 0, 'added': 0, 'removed': 0, 'changed': 0, 'error': '', 'digest': 'a' * 64}
-READERS = ('commands/nagios/check_aide_compare', 'commands/bin/aide-compare-metrics', 'commands/bin/aide-compare-log')
+MODULES = ('check', 'readers', 'state')
 
 
 def try_readers(sandbox):
-    for trial in (try_check, try_check_faults, try_metrics, try_log, try_rules, try_one_reader):
+    for trial in (try_check, try_check_faults, try_metrics, try_links, try_log, try_rules, try_own_failures):
         trial(sandbox)
 
 
@@ -68,7 +69,7 @@ def try_check(sandbox):
     if os.getuid() == 0:
         check(sandbox, 'an unprivileged user', 0, 'no difference', before=AS_NOBODY)
         os.chmod(sandbox.path('state'), 0o600)
-        check(sandbox, 'no right', 3, 'state cannot be read', before=AS_NOBODY)
+        check(sandbox, 'no right', 3, 'cannot open the state file', before=AS_NOBODY)
     sandbox.call('aide-compare-run', 'old.db', 'new.db', '--state', 'state')
     check(sandbox, 'a real state', 2, ': 1 added, 1 removed, 2 changed|added=1 removed=1 changed=2 age=')
 
@@ -76,12 +77,12 @@ def try_check(sandbox):
 def try_check_faults(sandbox):
     nothing = {'added': '', 'removed': '', 'changed': ''}
     write_state(sandbox, status=24, error='a|b=1;2\x01\x1b[0m|' + 'é' * 4000, **nothing)
-    check(sandbox, 'an error', 3, 'no comparison, status 24: a!b=1;2[0m!', '|age=6')
+    check(sandbox, 'an error', 3, 'no comparison, status 24: a!b=1;2\\001\\033[0m!', '|age=6')
     write_state(sandbox, status=5, **nothing)
     check(sandbox, 'a state without counts', 2, 'added=U removed=U changed=U')
     write_state(sandbox, age=93700)
-    check(sandbox, 'an old state', 3, 'older than 93600 seconds', 'age=937')
-    check(sandbox, 'an old state that may be', 0, 'no difference', words=['--age', '100000'])
+    check(sandbox, 'an old state', 3, 'older than 26 hours', 'age=937')
+    check(sandbox, 'an old state that may be', 0, 'no difference', words=['--age', '27h'])
     check(sandbox, 'an old state that may not be', 3, 'older than 10 seconds', words=['--age=10'])
     write_state(sandbox, age=-4000)
     check(sandbox, 'a state from the future', 3, 'in the future')
@@ -91,16 +92,16 @@ def try_check_faults(sandbox):
         ('nothing', ''),
         ('half', whole[:40]),
         ('no end', whole[:-7]),
-        ('another format', whole.replace('format=1', 'format=2')),
+        ('another format', whole.replace('format=2', 'format=1')),
         ('other keys', whole.replace('added', 'x')),
         ('no number', whole.replace('removed=0', 'removed=x')),
-        ('octal digits', whole.replace('removed=0', 'removed=08')),
+        
         ('a sum', whole.replace('status=0', 'status=3-3')),
         ('a command', whole.replace('status=0', 'status=$(id)')),
         ('no status', whole.replace('status=0', 'status=')),
         ('a large number', whole.replace('status=0', 'status=' + '9' * 30)),
         ('counts that are not of the status', whole.replace('added=0', 'added=1')),
-        ('a large file', whole + 'x' * 30000),
+        ('a large file', whole + 'x' * 70000),
         ('NUL', whole.replace('status', '\0')),
     ):
         sandbox.write('state', text)
@@ -108,12 +109,12 @@ def try_check_faults(sandbox):
     os.remove(good)
     check(sandbox, 'no state', 3, 'there is no state')
     os.makedirs(good)
-    check(sandbox, 'a folder', 3, 'is no state file')
+    check(sandbox, 'a folder', 3, 'it is a folder')
     os.rmdir(good)
     os.mkfifo(good)
-    check(sandbox, 'a FIFO', 3, 'is no state file')
+    check(sandbox, 'a FIFO', 3, 'it is a FIFO')
     os.remove(good)
-    for words in (['--age'], ['--age', 'x'], ['--odd|\n'], ['--state']):
+    for words in (['--age'], ['--age', 'x'], ['--age', '31d'], ['--odd|\n'], ['--state'], ['--state', '']):
         check(sandbox, 'the arguments %r' % words, 3, words=words)
 
 
@@ -164,7 +165,7 @@ def try_metrics(sandbox):
     sandbox.check('the metrics are as before', sandbox.read('aide.prom') == before)
     write_state(sandbox)
     sandbox.expect(
-        'metrics to nowhere', sandbox.call('aide-compare-metrics', '--state', 'state', 'missing/x.prom'), 18, b'',
+        'metrics to nowhere', sandbox.call('aide-compare-metrics', '--state', 'state', 'old.db/x.prom'), 18, b'',
         b'cannot write'
     )
     with open('/dev/full', 'wb') as full:
@@ -193,8 +194,9 @@ def try_log(sandbox):
             {'status': 5, 'added': 1, 'changed': 4},
             'differences: status=5 added=1 removed=0 changed=4 new_sha256=%s old=/o new=/n\n' % ('a' * 64),
         ),
-        ({'status': 24, 'error': 'aide: x\x01y', **nothing}, 'no comparison: status=24 error=aide: xy\n'),
-        ({'age': 93700}, 'no comparison: the last one ended at 2026-11-23T16:30:00Z\n'),
+        ({'status': 24, 'error': 'aide: x\x01y', **nothing}, 'no comparison: status=24 error=aide: x\\001y\n'),
+        ({'time': 1795000000 - 10**8}, 'no comparison: the last one ended at 2023-09-18T01:20:00Z\n'),
+        ({'time': 4000000000}, 'no comparison: the last one ended at 2096-10-02T07:06:40Z\n'),
         ({'time': 'x'}, 'no comparison: state cannot be read, or is no state file of aide-compare-run\n'),
     ):
         line = log(sandbox, **state)
@@ -234,10 +236,63 @@ def try_rules(sandbox):
     sandbox.check('the rule for logcheck takes whole lines', left == '0\n', left)
 
 
-def try_one_reader(sandbox):
-    """The three commands stand alone, and read the state by the same text."""
-    texts = set()
-    for name in READERS:
-        with open(os.path.join(HERE, name)) as file:
-            texts.update(re.findall(r'^is_number\(\) \{\n.*?^read_state\(\) \{\n.*?^\}$', file.read(), re.M | re.S))
-    sandbox.check('one text reads the state', len(texts) == 1, [len(text) for text in texts])
+LINKS = """import os, sys
+os.setgroups([]); os.setgid(%d); os.setuid(%d)
+folder, prey = sys.argv[1:]
+print("begun", flush=True)
+while True:
+    for name in ["aide.prom", ".aide.prom.part"] + [each for each in os.listdir(folder) if each.startswith((".aide", "aide.prom"))]:
+        try:
+            os.symlink(prey, folder + "/mine")
+            os.rename(folder + "/mine", folder + "/" + name)
+        except OSError:
+            pass
+"""
+
+
+def try_links(sandbox):
+    """The owner of the folder of the metrics puts links to a file of root in place of every name there, in a loop."""
+    if os.getuid() != 0:
+        print('skipped: links in the folder of the metrics (not root)')
+        return
+    write_state(sandbox)
+    folder, prey = sandbox.path('exporter'), sandbox.write('prey', 'of root\n', 0o600)
+    os.mkdir(folder)
+    os.chown(folder, NOBODY, NOBODY)
+    attacker = subprocess.Popen([sys.executable, '-c', LINKS % (NOBODY, NOBODY), folder, prey], stdout=subprocess.PIPE)
+    try:
+        attacker.stdout.readline()
+        statuses = [sandbox.call('aide-compare-metrics', '--state', 'state', 'exporter/aide.prom').status for _ in range(200)]
+    finally:
+        attacker.kill()
+        attacker.communicate()
+    found = os.stat(prey)
+    good = sandbox.read('prey') == b'of root\n' and found.st_mode & 0o777 == 0o600 and found.st_uid == 0
+    sandbox.check('200 rounds of links in the folder of the metrics', good and set(statuses) <= {0, 18}, set(statuses))
+    for name in os.listdir(folder):
+        os.remove(folder + '/' + name)
+    sandbox.expect('metrics in a folder of another user',
+                   sandbox.call('aide-compare-metrics', '--state', 'state', 'exporter/aide.prom'), 0, b'', b'')
+    sandbox.check('they are that user\'s, and readable', os.stat(folder + '/aide.prom').st_uid == NOBODY
+                  and os.stat(folder + '/aide.prom').st_mode & 0o777 == 0o644)
+
+
+def try_own_failures(sandbox):
+    """What the check itself cannot do is UNKNOWN, since 1 and 2 say what was found."""
+    write_state(sandbox)
+    for label, before in (('few descriptors', 'resource.setrlimit(resource.RLIMIT_NOFILE, (4, 4))'),
+                          ('no process', 'os.setgid(%d); os.setuid(%d); resource.setrlimit(resource.RLIMIT_NPROC, (0, 0))' % (NOBODY, NOBODY))):
+        answer = sandbox.call(CHECK, '--state', 'state', before=before)
+        sandbox.check('the check with ' + label, answer.status == (3 if label == 'few descriptors' else 0), answer)
+    for name in MODULES:
+        for label, text in (('a missing module', None), ('no memory', 'raise MemoryError'), ('a fault', 'raise KeyError')):
+            path = sandbox.path('lib/aide_compare/%s.py' % name)
+            os.rename(path, path + '.kept')
+            if text:
+                sandbox.write('lib/aide_compare/%s.py' % name, text)
+            answer = sandbox.call(CHECK, '--state', 'state')
+            os.rename(path + '.kept', path)
+            sandbox.check('the check with %s, %s' % (label, name), answer.status == 3 and b'UNKNOWN' in answer.output, answer)
+    with open('/dev/full', 'wb') as full:
+        answer = sandbox.call(CHECK, '--state', 'state', stdout=full)
+        sandbox.check('the check with a full device', answer.status == 3, answer)

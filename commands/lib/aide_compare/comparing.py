@@ -1,0 +1,241 @@
+"""Compares the database that was fetched from a host with its baseline, in bounded room and time."""
+import os
+import signal
+import time
+
+from aide_compare.ending import Fault, Status, say, write_all
+from aide_compare.escapes import guarded, shown, shown_lines
+from aide_compare.fetching import add_place
+from aide_compare.files import nameless, open_regular
+from aide_compare.fleet_store import BLOCK, Part, Place, check_name, no_room, seconds_left
+from aide_compare.options import Parser, duration, size
+from aide_compare.program import DATABASES, accepts, find_program, run_program
+from aide_compare.reports import HEAD_BYTES, counts_of
+from aide_compare.state import State
+from aide_compare.unpack import copy_database
+
+NAME = "compare-host"
+MOST_BASELINE, LEAST_BOUND, MOST_REPORT, SAME_FOR = 4 << 30, 64 << 20, 4 << 20, 50 * 3600
+MOST_ERRORS = 1 << 20
+MOST_AHEAD = 600
+
+
+class Outcome:
+    """A status, the counts (None if unknown), the kept report and the error lines."""
+
+    def __init__(self, status, counts, report, errors):
+        self.status, self.counts, self.report, self.errors = status, counts, report, errors
+
+
+def limit(place, seconds, deadline):
+    """From now on this process gets a Fault when the time of the host is over. The program ends with this process."""
+    def over(*_):
+        raise place.fault("was not compared within %d seconds" % seconds)
+
+    signal.signal(signal.SIGALRM, over)
+    signal.setitimer(signal.ITIMER_REAL, max(seconds_left(deadline), 0.001))
+
+
+def drained(place, reading, part, most):
+    """Reads a report to its end, keeps its first bytes, and returns these bytes' head and the size of the whole."""
+    head, whole = b"", 0
+    while True:
+        block = os.read(reading, BLOCK)
+        if not block:
+            return head, whole
+        head += block[:max(HEAD_BYTES - len(head), 0)]
+        whole += len(block)
+        try:
+            part.write(block[:max(most - part.size, 0)])
+        except OSError as error:
+            raise place.fault("cannot keep its report: %s" % no_room(error))
+
+
+def run(place, program, words, copies, configuration, part, most):
+    """Runs the program with its report through a pipe, so that a report of any size takes no more room than is allowed."""
+    reading, writing = os.pipe()
+    errors = nameless()
+    child = os.fork()
+    if child == 0:
+        status = Status.DEVICE
+        try:
+            os.close(reading)
+            signal.setitimer(signal.ITIMER_REAL, 0)
+            end_with_parent()
+            ended = run_program(program, words, (copies[0].fd, copies[1].fd), writing, errors, configuration, MOST_ERRORS)
+            ended.refuse_unknown(program)
+            status = ended.status
+        except Fault as fault:
+            write_all(errors, (fault.text + "\n").encode("utf-8", "backslashreplace"))
+        finally:
+            os._exit(status)
+    os.close(writing)
+    try:
+        head, whole = drained(place, reading, part, most)
+        status = os.waitstatus_to_exitcode(os.waitpid(child, 0)[1])
+        child = None
+    finally:
+        os.close(reading)
+        if child:
+            os.kill(child, signal.SIGKILL)
+            os.waitpid(child, 0)
+    if whole > part.size:
+        part.write(b"\n%s: cut here: the report has %d bytes, and --most-report allows %d\n" % (NAME.encode(), whole, most))
+    lines = os.pread(errors, MOST_ERRORS, 0)
+    os.close(errors)
+    return Outcome(status if 0 <= status < 128 else int(Status.DEVICE), counts_of(head), None, lines)
+
+
+def end_with_parent():
+    import ctypes
+    ctypes.CDLL(None).prctl(1, signal.SIGKILL)
+
+
+def copied(place, given):
+    """Private copies of both databases. Without --most-unpacked, the new one may have four times the bytes of the old."""
+    old = copy_database("old", place.file("aide.db"), MOST_BASELINE)
+    most = given.most_unpacked or max(4 * old.size, LEAST_BOUND)
+    return old, copy_database("new", place.file("aide.db.new"), most)
+
+
+def words_of(given, arguments, last=""):
+    """The arguments of the program, which takes each option once: lines of the caller come before those of this command."""
+    after, others, rest = [], [], list(arguments)
+    while rest:
+        word = rest.pop(0)
+        if word in ("-A", "--after") and rest:
+            after.append(rest.pop(0))
+        elif word.startswith("--after="):
+            after.append(word[len("--after="):])
+        else:
+            others.append(word)
+    lines = "\n".join(after + [DATABASES] + [last] * bool(last))
+    return ["-E", "-c", "/proc/self/fd/5" if given.conf else "/dev/null", "-A", lines] + others
+
+
+def compared(place, given, arguments, part, jobs):
+    """Compares, and keeps the report. The counts come from its head, or from a second run if it has none."""
+    beside = os.path.realpath(os.path.dirname(os.path.realpath(__file__)) + "/../../../../bin")
+    program = find_program(beside)
+    accepts(program)
+    configuration = open_regular(given.conf, "the configuration ") if given.conf else None
+    copies = copied(place, given)
+    most = min(given.most_report, place.room(jobs))
+    outcome = run(place, program, words_of(given, arguments), copies, configuration, part, most)
+    if 0 < outcome.status <= 7 and not outcome.counts:
+        scratch = Part(place.fd)
+        words = words_of(given, arguments, "report_level=summary")
+        outcome.counts = run(place, program, words, copies, configuration, scratch, HEAD_BYTES).counts
+        scratch.close()
+    if outcome.status == 0:
+        outcome.counts = (0, 0, 0)
+    return outcome, copies
+
+
+def stale_text(place, seconds):
+    """Why the fetched database is too old: the same bytes came for too long. Nothing if it is not."""
+    age = time.time() - os.stat("aide.db.new", dir_fd=place.fd).st_mtime
+    if not seconds or -MOST_AHEAD <= age <= seconds:
+        return ""
+    if age < 0:
+        return "its database was fetched in the future; is the clock of this host right?"
+    return "has sent the same database for more than %d hours; does AIDE run there?" % (seconds // 3600)
+
+
+def first_error(lines):
+    """The error line that says why nothing was compared."""
+    texts = [line for line in shown_lines(lines).split("\n") if line and not line.endswith(" skipped")]
+    return guarded(texts[0])[:300] if texts else "no reason was given"
+
+
+def state_of(place, outcome, copies):
+    old, new = copies
+    counts = outcome.counts or (None,) * 3
+    error = first_error(outcome.errors) if outcome.status > 7 else ""
+    return State(outcome.status, int(time.time()), *(counts if outcome.status <= 7 else (None,) * 3), old.sha256, new.sha256,
+                 shown(old.name), shown(new.name), int(old.written), int(new.written), error)
+
+
+def keep_text(place, name, data):
+    part = Part(place.fd)
+    try:
+        part.write(data)
+        part.keep(name)
+    finally:
+        part.close()
+
+
+def compare(place, given, arguments=(), jobs=1):
+    """Compares under the lock of the host, and keeps report, errors and state. Returns the State."""
+    for name, text in (("aide.db.new", "nothing was fetched yet; see fetch-host --help"),
+                       ("aide.db", "there is no baseline yet; see accept-host --help")):
+        if not place.has(name):
+            raise place.fault(text)
+    part = Part(place.fd)
+    try:
+        outcome, copies = compared(place, given, arguments, part, jobs)
+        state = state_of(place, outcome, copies)
+        stale = stale_text(place, given.same_for)
+        if stale:
+            found = "; it differs: added %d, removed %d, changed %d" % state.counts if state.status and state.counts else ""
+            state = State(int(Status.DEVICE), state.time, old_sha256=state.old_sha256, new_sha256=state.new_sha256,
+                          old=state.old, new=state.new, error="%s: %s%s" % (place.host, stale, found))
+            outcome.errors += (state.error + "\n").encode()
+        keep_text(place, "errors", outcome.errors)
+        part.keep("report")
+        place.write_state(state)
+        return state
+    except OSError as error:
+        raise place.fault("cannot keep its report: %s" % no_room(error))
+    finally:
+        part.close()
+
+
+def compare_or_say(place, given, arguments, jobs, deadline):
+    """Compares; if that fails, the state of the host says so."""
+    limit(place, given.time, deadline)
+    try:
+        return compare(place, given, arguments, jobs)
+    except Fault as fault:
+        place.not_compared(fault.text)
+        raise
+    finally:
+        signal.setitimer(signal.ITIMER_REAL, 0)
+
+
+def add_options(parser):
+    parser.add_argument("--conf", metavar="FILE", help="a configuration for aide-compare (none)")
+    parser.add_argument("--most-unpacked", type=size, default=0, metavar="SIZE",
+                        help="the most bytes of the unpacked database (4 times the baseline, at least 64M)")
+    parser.add_argument("--most-report", type=size, default=MOST_REPORT, metavar="SIZE",
+                        help="the most bytes of a report that are kept; what is cut is said (4M)")
+    parser.add_argument("--same-for", type=duration, default=SAME_FOR, metavar="TIME",
+                        help="how long a host may send the same bytes (50h; 0: no limit)")
+
+
+def print_file(path, target):
+    descriptor = open_regular(path)
+    for block in iter(lambda: os.read(descriptor, BLOCK), b""):
+        write_all(target, block)
+    os.close(descriptor)
+
+
+def main(arguments):
+    parser = Parser(NAME, "Compares the database that was fetched from HOST with its baseline, prints the report and keeps it.",
+                    usage="%(prog)s [options] HOST [-- ARGUMENTS]",
+                    epilog="ARGUMENTS are for aide-compare. Status: that of aide-compare. 18 also means that there is no baseline\n"
+                           "yet, or that AIDE has written no new database on HOST for too long.")
+    add_place(parser)
+    add_options(parser)
+    parser.add_argument("host", metavar="HOST")
+    cut = arguments.index("--") if "--" in arguments[1:] else len(arguments)
+    given = parser.parse(arguments[:cut])
+    deadline = time.monotonic() + given.time
+    place = Place(given.store, check_name(given.host))
+    place.lock(deadline)
+    state = compare_or_say(place, given, arguments[cut + 1:], 1, deadline)
+    print_file(place.file("errors"), 2)
+    print_file(place.file("report"), 1)
+    if 0 < state.status <= 7:
+        say("to accept it: accept-host --sha256 %s %s" % (state.new_sha256, place.host))
+    return state.status

@@ -1,0 +1,181 @@
+"""Fetches the database of a host by ssh, with a bound on bytes, error lines and time."""
+import ctypes
+import os
+import re
+import select
+import signal
+import time
+
+from aide_compare.ending import Fault, Status, reason
+from aide_compare.escapes import shown
+from aide_compare.fleet_store import BLOCK, STORE, Part, Place, check_name, no_room, same_bytes, seconds_left
+from aide_compare.options import Parser, duration, size, some_text
+
+NAME = "fetch-host"
+PATH, MOST, SECONDS = "/var/lib/aide/aide.db.new", 1 << 30, 600
+MOST_ERRORS = 65536
+SSH = ("ssh -n -a -x -o BatchMode=yes -o ConnectTimeout=30 -o ServerAliveInterval=30 -o LogLevel=ERROR "
+       "-o ControlPath=none -o ClearAllForwardings=yes").split()
+HINTS = (("Host key verification failed", "is its key in known_hosts?"),
+         ("Permission denied", "is the key of this user in its authorized_keys?"))
+PR_SET_PDEATHSIG = 1
+
+
+def start(words, output, errors):
+    """Starts ssh in a group of its own. The kernel ends it if this process ends first, however that ends."""
+    parent, prctl = os.getpid(), ctypes.CDLL(None).prctl
+    child = os.fork()
+    if child:
+        return child
+    try:
+        os.setpgid(0, 0)
+        prctl(PR_SET_PDEATHSIG, signal.SIGKILL)
+        if os.getppid() == parent:
+            os.dup2(output, 1)
+            os.dup2(errors, 2)
+            for number in (signal.SIGPIPE, signal.SIGXFSZ):
+                signal.signal(number, signal.SIG_DFL)
+            os.execvp(words[0], words)
+    finally:
+        os._exit(127)
+
+
+def stop(child):
+    for kill in (os.killpg, os.kill):
+        try:
+            kill(child, signal.SIGKILL)
+        except ProcessLookupError:
+            pass
+    return os.waitpid(child, 0)[1]
+
+
+class Transfer:
+    """What a host sends: its database into a part, and the first of its error lines."""
+
+    def __init__(self, place, part, most, deadline, seconds):
+        self.place, self.part, self.most = place, part, most
+        self.deadline, self.seconds, self.errors = deadline, seconds, b""
+
+    def too_slow(self):
+        return self.place.fault("had not sent all of it after %d seconds" % self.seconds)
+
+    def take_output(self, block):
+        if self.part.size + len(block) > self.most:
+            raise self.place.fault("sent more than %d bytes" % self.most)
+        try:
+            self.part.write(block)
+        except OSError as error:
+            raise self.place.fault("what it sent was not written: %s" % no_room(error))
+
+    def take_errors(self, block):
+        self.errors += block
+        if len(self.errors) > MOST_ERRORS:
+            raise self.place.fault("sent more than %d bytes of errors" % MOST_ERRORS)
+
+    def receive(self, output, errors):
+        takers = {output: self.take_output, errors: self.take_errors}
+        while takers:
+            ready = select.select(list(takers), [], [], max(seconds_left(self.deadline), 0))[0]
+            if not ready or seconds_left(self.deadline) <= 0:
+                raise self.too_slow()
+            for descriptor in ready:
+                block = os.read(descriptor, BLOCK)
+                if block:
+                    takers[descriptor](block)
+                else:
+                    del takers[descriptor]
+
+    def end(self, child):
+        """The status of ssh, which may go on after it has closed its output."""
+        while True:
+            found, status = os.waitpid(child, os.WNOHANG)
+            if found:
+                return os.waitstatus_to_exitcode(status)
+            if seconds_left(self.deadline) <= 0:
+                raise self.too_slow()
+            time.sleep(0.01)
+
+    def run(self, words):
+        output, errors = os.pipe(), os.pipe()
+        child = None
+        try:
+            child = start(words, output[1], errors[1])
+            for descriptor in (output[1], errors[1]):
+                os.close(descriptor)
+            self.receive(output[0], errors[0])
+            status, child = self.end(child), None
+            return status
+        finally:
+            if child:
+                stop(child)
+            for descriptor in (output[0], errors[0]):
+                os.close(descriptor)
+
+    def reason(self, status):
+        """The last line that ssh or the host has written, without the carriage return at its end."""
+        lines = [line for line in re.split(rb"[\r\n]+", self.errors) if line.strip()]
+        text = shown(lines[-1], 200) if lines else "ssh gave no reason"
+        hints = "".join("; " + hint for words, hint in HINTS if words in text)
+        return "%s (ssh ended with %d)%s" % (text, status, hints)
+
+
+def receive(place, path, most, deadline, seconds, jobs):
+    """The database of a host becomes aide.db.new. The same bytes again leave the file's time, which tells how old it is."""
+    part = Part(place.fd)
+    try:
+        transfer = Transfer(place, part, min(most, place.room(jobs)), deadline, seconds)
+        status = transfer.run(SSH + [place.host, "cat " + path])
+        if status == 127 and not transfer.errors:
+            raise place.fault("there is no program ssh")
+        if status != 0:
+            raise place.fault(transfer.reason(status))
+        if not part.size:
+            raise place.fault("sent nothing")
+        if not same_bytes(part.fd, place.file("aide.db.new")):
+            part.keep("aide.db.new")
+    except OSError as error:
+        raise place.fault("cannot keep what it sent: %s" % reason(error))
+    finally:
+        part.close()
+
+
+def fetch(place, given, deadline, jobs=1):
+    """Fetches; if that fails, the state of the host says so."""
+    try:
+        receive(place, given.path, given.most, deadline, given.time, jobs)
+    except Fault as fault:
+        place.not_compared(fault.text)
+        raise
+
+
+def remote_path(text):
+    """A path that the shell of a host leaves as it is."""
+    if not re.fullmatch(r"/[A-Za-z0-9._/-]*", text):
+        raise Fault(Status.USAGE, "--path needs a path that begins with /, of letters, digits and . _ / -")
+    return text
+
+
+def add_options(parser):
+    parser.add_argument("--most", type=size, default=MOST, metavar="SIZE", help="the most bytes that a host may send (1G)")
+    parser.add_argument("--path", type=remote_path, default=PATH, metavar="PATH", help="the file on HOST (%s)" % PATH)
+
+
+def add_place(parser):
+    parser.add_argument("--store", type=some_text, default=STORE, metavar="DIR",
+                        help="where the databases are kept (%s)" % STORE)
+    parser.add_argument("--time", type=duration, default=SECONDS, metavar="TIME", help="the most time for a host (10m)")
+
+
+def main(arguments):
+    parser = Parser(NAME, "Fetches the newest database of HOST by ssh into DIR/hosts/HOST/aide.db.new.",
+                    epilog="The key of the caller needs one line on HOST; see the example authorized_keys.\n"
+                           "Status: 0 fetched; 15 bad arguments; 18 nothing was fetched, and what was fetched before is there.")
+    add_place(parser)
+    add_options(parser)
+    parser.add_argument("host", metavar="HOST")
+    given = parser.parse(arguments)
+    deadline = time.monotonic() + given.time
+    place = Place(given.store, check_name(given.host))
+    place.lock(deadline)
+    fetch(place, given, deadline)
+    return Status.OK

@@ -1,0 +1,177 @@
+"""What the collecting host keeps of each watched host: folders, locks, parts of files and states."""
+import errno
+import fcntl
+import os
+import re
+import time
+
+from aide_compare.ending import Fault, Status, reason, say, write_all
+from aide_compare.files import NEW_FILE, NO_TMPFILE, Replacement, open_regular
+from aide_compare.folders import open_folder
+from aide_compare.state import State
+
+STORE = "/var/lib/aide-compare"
+NAME = re.compile(r"[A-Za-z0-9][A-Za-z0-9._:@-]{0,199}")
+BLOCK = 1 << 18
+
+
+def check_name(host):
+    """A Fault unless the name of a host can be no option, no path and no shell text."""
+    if not NAME.fullmatch(host) or ".." in host:
+        raise Fault(Status.USAGE, "the name of a host begins with a letter or a digit, has only these and . _ : @ -, "
+                                  "no two dots together, and at most 200 characters")
+    return host
+
+
+def seconds_left(deadline):
+    return deadline - time.monotonic()
+
+
+def _opened(path):
+    """A folder of the store. One in which another user can write is refused: that user could put anything there."""
+    folder = open_folder(path)
+    if folder.others:
+        folder.close()
+        raise Fault(Status.DEVICE, "another user can write in %s or above it; run this command as that user" % path)
+    return folder
+
+
+def _make(path, mode):
+    try:
+        os.mkdir(path, mode)
+    except FileExistsError:
+        pass
+    except OSError as error:
+        raise Fault(Status.DEVICE, "cannot make the folder %s: %s" % (path, reason(error)))
+
+
+class Part:
+    """A new file in the folder of a host, without a name until it is kept, so that nothing is left of one that is not."""
+
+    def __init__(self, folder):
+        self.folder, self.size, self.name = folder, 0, None
+        try:
+            self.fd = os.open(".", os.O_TMPFILE | os.O_RDWR | os.O_CLOEXEC, 0o600, dir_fd=folder)
+        except OSError as error:
+            if error.errno not in NO_TMPFILE:
+                raise
+            self.name = ".part"
+            self._unlink(self.name)
+            self.fd = os.open(self.name, NEW_FILE, 0o600, dir_fd=folder)
+
+    def write(self, data):
+        write_all(self.fd, data)
+        self.size += len(data)
+
+    def _unlink(self, name):
+        try:
+            os.unlink(name, dir_fd=self.folder)
+        except FileNotFoundError:
+            pass
+
+    def keep(self, name, replace=True):
+        """Gives the file its name, in the place of a former one; without `replace` a former one is a FileExistsError."""
+        os.fsync(self.fd)
+        first = self.name or ".linked" if replace else name
+        if not self.name:
+            if replace:
+                self._unlink(first)
+            os.link("/proc/self/fd/%d" % self.fd, first, dst_dir_fd=self.folder)
+        elif not replace:
+            os.link(self.name, name, src_dir_fd=self.folder, dst_dir_fd=self.folder)
+        if replace:
+            os.rename(first, name, src_dir_fd=self.folder, dst_dir_fd=self.folder)
+            self.name = None
+
+    def close(self):
+        os.close(self.fd)
+        if self.name:
+            self._unlink(self.name)
+
+
+class Place:
+    """The folder of one host, which one process at a time works in."""
+
+    def __init__(self, store, host):
+        self.host = check_name(host)
+        self.path = "%s/hosts/%s" % (store, host)
+        self.state_path = "%s/states/%s" % (store, host)
+        open_folder(store, make=True).close()
+        _opened(store).close()
+        _make(store + "/hosts", 0o700)
+        _make(self.path, 0o700)
+        self.folder = _opened(self.path)
+        self.fd = self.folder.fd
+
+    def lock(self, deadline):
+        """Waits for the other runs over this host, but not for ever."""
+        flags = os.O_RDWR | os.O_CREAT | os.O_NOFOLLOW | os.O_CLOEXEC
+        lock = os.open("lock", flags, 0o600, dir_fd=self.fd)
+        while True:
+            try:
+                return fcntl.flock(lock, fcntl.LOCK_EX | fcntl.LOCK_NB)
+            except BlockingIOError:
+                if seconds_left(deadline) <= 0:
+                    raise self.fault("another run is at work on it")
+            time.sleep(0.05)
+
+    def fault(self, text, status=Status.DEVICE):
+        return Fault(status, "%s: %s" % (self.host, text))
+
+    def file(self, name):
+        return self.path + "/" + name
+
+    def has(self, name):
+        try:
+            os.stat(name, dir_fd=self.fd, follow_symlinks=False)
+            return True
+        except FileNotFoundError:
+            return False
+
+    def room(self, jobs):
+        """The most bytes that this host may take now: with so many others at work, something is left for each of them."""
+        disk = os.fstatvfs(self.open_folder())
+        return disk.f_bavail * disk.f_frsize // (2 * jobs + 2)
+
+    def open_folder(self):
+        if not hasattr(self, "_readable"):
+            self._readable = os.open(".", os.O_RDONLY | os.O_DIRECTORY | os.O_CLOEXEC, dir_fd=self.fd)
+        return self._readable
+
+    def write_state(self, state):
+        target = Replacement(self.state_path, what="the state")
+        try:
+            target.begin()
+            target.commit(state.text())
+        finally:
+            target.close()
+
+    def not_compared(self, text):
+        """The state says at once that nothing was compared, so that no check shows an older result."""
+        try:
+            self.write_state(State(int(Status.DEVICE), int(time.time()), error=text))
+        except (Fault, OSError) as fault:
+            say("%s: its state cannot be written: %s" % (self.host, fault))
+
+
+def same_bytes(descriptor, path):
+    """Whether an open file has the bytes of another one."""
+    try:
+        other = open_regular(path)
+    except Fault:
+        return False
+    try:
+        place = 0
+        while True:
+            blocks = [os.pread(each, BLOCK, place) for each in (descriptor, other)]
+            if blocks[0] != blocks[1]:
+                return False
+            if not blocks[0]:
+                return True
+            place += len(blocks[0])
+    finally:
+        os.close(other)
+
+
+def no_room(error):
+    return "is the disk full?" if error.errno in (errno.ENOSPC, errno.EDQUOT, errno.EFBIG) else reason(error)

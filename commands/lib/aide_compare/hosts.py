@@ -1,0 +1,195 @@
+"""Fetches and compares the databases of many hosts side by side, each in a process of its own."""
+import os
+import re
+import select
+import signal
+import time
+
+from aide_compare import comparing, fetching
+from aide_compare.ending import Fault, Status, reason, write_all
+from aide_compare.escapes import guarded, shown
+from aide_compare.files import open_regular
+from aide_compare.fleet_store import Place, check_name
+from aide_compare.options import Parser
+
+NAME = "compare-hosts"
+MOST_LIST = 16 << 20
+GRACE = 15
+ENDING = (signal.SIGTERM, signal.SIGHUP, signal.SIGINT, signal.SIGQUIT)
+
+
+def one_host(host, given):
+    """The status of a host, and what its line says."""
+    try:
+        deadline = time.monotonic() + given.time
+        place = Place(given.store, check_name(host))
+        place.lock(deadline)
+        if not given.no_fetch:
+            fetching.fetch(place, given, deadline, given.jobs)
+        state = comparing.compare_or_say(place, given, (), given.jobs, deadline)
+    except Fault as fault:
+        return int(fault.status), fault.text
+    except OSError as error:
+        return int(Status.DEVICE), reason(error)
+    except MemoryError:
+        return int(Status.MEMORY), "out of memory"
+    if state.status == 0:
+        return 0, "no differences"
+    if state.status > 7:
+        return state.status, state.error
+    return state.status, "added %s, removed %s, changed %s" % (state.counts or ("?",) * 3)
+
+
+class Worker:
+    """The process of one host, in a group of its own: its number, the pipe of its answer, and when it has to be over."""
+
+    def __init__(self, host, given, others):
+        self.host, self.store, self.answer = host, given.store, b""
+        self.deadline = time.monotonic() + given.time + GRACE
+        self.fd, writing = os.pipe()
+        parent = os.getpid()
+        self.child = os.fork()
+        if self.child == 0:
+            try:
+                for number in ENDING:
+                    signal.signal(number, signal.SIG_DFL)
+                comparing.end_with_parent()
+                if os.getppid() == parent:
+                    os.setpgid(0, 0)
+                    for descriptor in others + [self.fd]:
+                        os.close(descriptor)
+                    write_all(writing, ("%d %s" % one_host(host, given)).encode("utf-8", "backslashreplace"))
+            finally:
+                os._exit(0)
+        os.close(writing)
+
+    def stop(self):
+        for kill in (os.killpg, os.kill):
+            try:
+                kill(self.child, signal.SIGKILL)
+            except ProcessLookupError:
+                pass
+
+    def result(self):
+        """The line of the host: its name, its status and what that says."""
+        os.close(self.fd)
+        ended = os.waitstatus_to_exitcode(os.waitpid(self.child, 0)[1])
+        found = re.fullmatch(rb"([0-9]{1,3}) (.*)", self.answer, re.S)
+        if not found or ended != 0:
+            text = "ended without an answer (%d)" % ended
+            try:
+                Place(self.store, self.host).not_compared("%s: %s" % (self.host, text))
+            except Fault:
+                pass
+            return self.host, int(Status.DEVICE), text
+        text = guarded(found.group(2).decode("utf-8", "replace"))
+        return self.host, int(found.group(1)), text[:300]
+
+
+class Ended(BaseException):
+    """A signal asks this command to end."""
+
+
+def heed_signals():
+    def end(number, _):
+        raise Ended(number)
+
+    for number in ENDING:
+        if signal.getsignal(number) is not signal.SIG_IGN:
+            signal.signal(number, end)
+
+
+def results(hosts, given):
+    """The results of all hosts as they end, so many at a time. Whatever happens here, no process is left."""
+    waiting, workers = list(reversed(hosts)), {}
+    try:
+        while waiting or workers:
+            while waiting and len(workers) < given.jobs:
+                worker = Worker(waiting.pop(), given, list(workers))
+                workers[worker.fd] = worker
+            left = min(worker.deadline for worker in workers.values()) - time.monotonic()
+            for descriptor in select.select(list(workers), [], [], max(left, 0))[0]:
+                block = os.read(descriptor, 65536)
+                workers[descriptor].answer += block
+                if not block:
+                    yield workers.pop(descriptor).result()
+            for worker in workers.values():
+                if worker.deadline < time.monotonic():
+                    worker.stop()
+    finally:
+        for worker in workers.values():
+            worker.stop()
+
+
+def hosts_of(path, share):
+    """The names in a file, each once, and of these the part that is asked for."""
+    descriptor = open_regular(path, "the file of hosts ")
+    try:
+        data = os.read(descriptor, MOST_LIST + 1)
+    finally:
+        os.close(descriptor)
+    if len(data) > MOST_LIST:
+        raise Fault(Status.DEVICE, "the file of hosts has more than %d bytes" % MOST_LIST)
+    lines = (line.strip() for line in data.decode("utf-8", "surrogateescape").split("\n"))
+    names = list(dict.fromkeys(line for line in lines if line and not line.startswith("#")))
+    if not names:
+        raise Fault(Status.DEVICE, "there is no host in the file %s" % shown(path))
+    return names[share[0] - 1::share[1]]
+
+
+def share(text):
+    found = re.fullmatch(r"([1-9][0-9]{0,5})/([1-9][0-9]{0,5})", text)
+    part, parts = map(int, found.groups()) if found else (1, 0)
+    if part > parts:
+        raise Fault(Status.USAGE, "--share needs a part of all of them: --share 1/10 to --share 10/10")
+    return part, parts
+
+
+def jobs(text):
+    if not re.fullmatch(r"[1-9][0-9]{0,2}", text):
+        raise Fault(Status.USAGE, "--jobs needs a number from 1 to 999")
+    return int(text)
+
+
+def compare_all(hosts, given):
+    """Prints a line for each host and the summary; returns the greatest status."""
+    counts, worst = [0, 0, 0], 0
+    for host, status, text in results(hosts, given):
+        counts[0 if status == 0 else 1 if status <= 7 else 2] += 1
+        worst = max(worst, status)
+        if status or not given.quiet:
+            name = shown(host, 200).replace(" ", "\\040")
+            write_all(1, ("%s %d %s\n" % (name, status, text)).encode("utf-8", "backslashreplace"))
+    if worst or not given.quiet:
+        words = "%d hosts: %d without differences, %d with, %d not compared\n" % ((len(hosts),) + tuple(counts))
+        write_all(1, words.encode())
+    return worst
+
+
+def options():
+    parser = Parser(NAME, "Fetches and compares the databases of the hosts of HOSTS-FILE, which has a name a line. Prints a line for\n"
+                          "each host as it ends: its name, its status, and what that says. Then a summary.",
+                    epilog="Ends with the greatest status of all hosts: 0, up to 7 if there are differences and each host was\n"
+                           "compared, more if a host was not; 15 if arguments or a host's name are wrong; 18 if it cannot run.")
+    parser.add_argument("--jobs", type=jobs, default=8, metavar="N", help="how many hosts at a time (8)")
+    parser.add_argument("--share", type=share, default=(1, 1), metavar="K/N", help="only each Nth host, from the Kth on")
+    parser.add_argument("--quiet", action="store_true", help="only hosts whose status is not 0, and a summary if there are any")
+    parser.add_argument("--no-fetch", action="store_true", help="compare what was fetched before")
+    parser.add_argument("--one", action="store_true", help="HOSTS-FILE is the name of one host")
+    fetching.add_place(parser)
+    fetching.add_options(parser)
+    comparing.add_options(parser)
+    parser.add_argument("file", metavar="HOSTS-FILE")
+    return parser
+
+
+def main(arguments):
+    given = options().parse(arguments)
+    hosts = [given.file] if given.one else hosts_of(given.file, given.share)
+    heed_signals()
+    try:
+        return compare_all(hosts, given)
+    except Ended as ended:
+        signal.signal(ended.args[0], signal.SIG_DFL)
+        os.kill(os.getpid(), ended.args[0])
+        return Status.DEVICE

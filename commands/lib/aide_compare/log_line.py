@@ -1,0 +1,33 @@
+"""The result of the last run as one line for the system log."""
+from aide_compare.ending import Fault
+from aide_compare.escapes import guarded, shown
+from aide_compare.readers import Reading, parser, write_line
+from aide_compare.times import date_of
+
+NAME = "aide-compare-log"
+MOST = 8000
+
+
+def line_of(path, most_age):
+    """The line. Its first two words say whether anybody has to read on."""
+    try:
+        reading = Reading(path)
+    except Fault:
+        return "no comparison: %s cannot be read, or is no state file of aide-compare-run" % shown(path)
+    state = reading.state
+    if reading.age > most_age or reading.future:
+        return "no comparison: the last one ended at " + date_of(state.time)
+    counts = "status=%d added=%s removed=%s changed=%s" % ((state.status,) + reading.counts("?"))
+    if state.status == 0:
+        return "no difference: " + counts
+    if state.status <= 7:
+        return "differences: %s new_sha256=%s old=%s new=%s" % (counts, state.new_sha256, state.old, state.new)
+    return "no comparison: status=%d error=%s" % (state.status, state.error)
+
+
+def main(arguments):
+    options = parser(NAME, "Writes the result of the last aide-compare-run as one line, for logger(1).",
+                     "an older result counts as no comparison",
+                     "Status: 0 written; 15 bad arguments; 18 the line cannot be written.")
+    given = options.parse(arguments)
+    return write_line(guarded(line_of(given.state, given.age))[:MOST])

@@ -1,0 +1,42 @@
+"""The result of the last run as metrics for Prometheus."""
+from aide_compare.ending import Status, write_all
+from aide_compare.files import Replacement
+from aide_compare.readers import parser
+from aide_compare.state import read_state
+
+NAME = "aide-compare-metrics"
+GAUGES = (
+    ("status", "status", "Sum of 1 added, 2 removed and 4 changed; above 7 nothing was compared."),
+    ("added_entries", "added", "Entries that only the new database has."),
+    ("removed_entries", "removed", "Entries that only the old database has."),
+    ("changed_entries", "changed", "Entries that both databases have and that differ."),
+    ("end_time_seconds", "time", "When the last run ended, in seconds since 1970."),
+)
+TEXT = "# HELP aide_compare_%s %s\n# TYPE aide_compare_%s gauge\naide_compare_%s %d\n"
+
+
+def metrics_of(state):
+    """The text that the node exporter reads. A count that is not known is left out."""
+    values = ((name, words, getattr(state, key)) for name, key, words in GAUGES)
+    return "".join(TEXT % (name, words, name, name, value) for name, words, value in values if value is not None).encode()
+
+
+def main(arguments):
+    options = parser(NAME, "Writes the result of the last aide-compare-run for the node exporter of Prometheus.",
+                     epilog="A folder in which another user can write, as Debian's user prometheus can in its own, is\n"
+                            "written with that user's rights.\n\n"
+                            "Status: 0 written; 15 bad arguments; 18 a file cannot be read or written.")
+    options.add_argument("output", nargs="?", metavar="OUTPUT",
+                         help="the file that is replaced; its name should end with .prom; standard output without it")
+    given = options.parse(arguments)
+    data = metrics_of(read_state(given.state))
+    if given.output is None:
+        write_all(1, data)
+        return Status.OK
+    target = Replacement(given.output, what="the metrics")
+    try:
+        target.begin()
+        target.commit(data)
+    finally:
+        target.close()
+    return Status.OK
