@@ -11,6 +11,7 @@ from aide_compare.shown_text import PLAIN, note_of, shown
 LINE_LIMIT = 2 ** 25
 KINDS = ['added', 'removed', 'changed']
 LETTERS, PERMISSIONS = re.compile('[A-Za-z?!<>=:.+ -]{18}'), re.compile('[0-7]{4}')
+DATE = re.compile('[0-9]{4}-[0-9]{2}-[0-9]{2}T[0-9]{2}:[0-9]{2}:[0-9]{2}Z')
 
 # An entry as it is shown. Each row is [label, old value, new value, note on the old one, note on the new one].
 Entry = namedtuple('Entry', 'kind doubtful path letters rows')
@@ -46,6 +47,8 @@ def row_of(label, fields):
     demand(label in FORMS, 'this attribute is unknown')
     demand(label != 'Perm' or all(value is None or PERMISSIONS.fullmatch(value) for value in (old, new)),
            'permissions are four digits')
+    for date in (fields.get('old_time'), fields.get('new_time')):
+        demand(date is None or DATE.fullmatch(date), 'a time has another form')
     return [label, old, new, note_of(label, fields, 'old'), note_of(label, fields, 'new')]
 
 

@@ -3,7 +3,8 @@
 (() => {
   const KINDS = ['added', 'removed', 'changed'];
   const SIGNS = ['+', '\u2212', '~'];
-  const PAGE = 100, CHILDREN = 200, FEW = 25;
+  // So many nested folders are open at first: very deep elements are too much for some browsers.
+  const PAGE = 100, CHILDREN = 200, FEW = 25, DEEP = 20;
   const find = (id) => document.getElementById(id);
   const data = JSON.parse(find('data').textContent);
   const labels = data.labels;
@@ -21,15 +22,20 @@
   }
 
   // Folders: node 0 is the root; a node comes after its parent. An entry that is itself a folder belongs to its node.
-  const nodes = [{ name: '', path: '', parent: -1, children: new Map() }];
+  const nodes = [{ name: '', parent: -1, children: new Map() }];
   function childOf(parent, name) {
     let child = nodes[parent].children.get(name);
     if (child === undefined) {
       child = nodes.length;
-      nodes.push({ name, path: nodes[parent].path + '/' + name, parent, children: new Map() });
+      nodes.push({ name, parent, children: new Map() });
       nodes[parent].children.set(name, child);
     }
     return child;
+  }
+  function pathOf(node) {
+    const names = [];
+    for (; node > 0; node = nodes[node].parent) names.push('/' + nodes[node].name);
+    return names.reverse().join('');
   }
   for (const entry of entries) {
     for (const name of entry.path.split('/').slice(1, -1)) entry.node = childOf(entry.node, name);
@@ -62,7 +68,7 @@
       for (let kind = 0; kind < 3; kind += 1) counts[3 * nodes[node].parent + kind] += counts[3 * node + kind];
     }
     if (state.folder !== null) {
-      const path = nodes[state.folder].path;
+      const path = pathOf(state.folder);
       matching = matching.filter((entry) => entry.path === path || entry.path.startsWith(path + '/'));
     }
     state.page = 0;
@@ -111,7 +117,7 @@
     return place;
   }
 
-  function folderItem({ node, name, leaf }, whole) {
+  function folderItem({ node, name, leaf }, whole, waiting) {
     const item = make('li'), row = make('div', 'folder'), choose = make('button');
     const fold = make(leaf ? 'span' : 'button', leaf ? '' : 'fold');
     choose.type = 'button';
@@ -126,23 +132,30 @@
       const show = () => {
         fold.setAttribute('aria-expanded', String(opened.has(node)));
         list.hidden = !opened.has(node);
-        if (opened.has(node) && !list.firstChild) fill(list, node);
       };
       fold.type = 'button';
       fold.setAttribute('aria-label', 'Folders in ' + name);
       fold.addEventListener('click', () => {
         if (!opened.delete(node)) opened.add(node);
         show();
+        if (opened.has(node) && !list.firstChild) fill(list, node);
       });
       show();
+      if (opened.has(node)) waiting.push([list, node, 0]);
       item.append(list);
     }
     return item;
   }
 
-  function fill(list, node, from = 0) {
+  // Folders that are open are filled one after another: a call within a call could go too deep.
+  function fill(...first) {
+    const waiting = [first];
+    while (waiting.length) fillOne(waiting, ...waiting.pop());
+  }
+
+  function fillOne(waiting, list, node, from = 0) {
     const children = shownChildren(node), whole = total(node);
-    children.slice(from, from + CHILDREN).forEach((child) => list.append(folderItem(child, whole)));
+    children.slice(from, from + CHILDREN).forEach((child) => list.append(folderItem(child, whole, waiting)));
     const left = children.length - from - CHILDREN;
     if (left > 0) {
       const more = make('li'), button = make('button', '', number(left) + ' more folders');
@@ -212,7 +225,7 @@
   function showList() {
     const from = state.page * PAGE, pages = Math.max(1, Math.ceil(matching.length / PAGE));
     find('list').replaceChildren(...matching.slice(from, from + PAGE).map(entryItem));
-    const where = state.folder === null ? '' : ' in ' + nodes[state.folder].path + '/';
+    const where = state.folder === null ? '' : ' in ' + pathOf(state.folder) + '/';
     find('found').textContent = (matching.length === entries.length ? number(entries.length) + ' entries'
       : number(matching.length) + ' of ' + number(entries.length) + ' entries') + where;
     find('whole').hidden = state.folder === null;
@@ -293,7 +306,8 @@
   find('previous').addEventListener('click', () => turn(-1));
   find('next').addEventListener('click', () => turn(1));
   filter();
-  for (let first = shownChildren(0); first.length === 1 && !first[0].leaf; first = shownChildren(first[0].node)) opened.add(first[0].node);
+  for (let first = shownChildren(0); first.length === 1 && !first[0].leaf && opened.size < DEEP;
+    first = shownChildren(first[0].node)) opened.add(first[0].node);
   refresh();
   find('waiting').remove();
   find('view').hidden = false;

@@ -1,9 +1,9 @@
 """The entries of a report as a page has them: plain lists in their folders, and the data of the page's script."""
 import json
-import tempfile
 from array import array
 from html import escape
 
+from aide_compare.files import nameless
 from aide_compare.json_lines import KINDS
 from aide_compare.report_values import FORMS
 from aide_compare.shown_text import shown, shown_path
@@ -38,7 +38,7 @@ def bar(counts, whole):
 def cell(value, note):
     if value is None:
         return '<td class="none">none'
-    return '<td>%s%s' % (escape(value), '<small>%s</small>' % note if note else '')
+    return '<td>%s%s' % (escape(value), '<small>%s</small>' % escape(note) if note else '')
 
 
 def item_of(entry, name):
@@ -61,7 +61,7 @@ class PlainLists:
     """
 
     def __init__(self):
-        self.file, self.waiting = tempfile.TemporaryFile(), None
+        self.file, self.waiting = open(nameless(), 'w+b'), None
         self.names, self.places, self.counts = [b''], [0], array('Q', [0, 0, 0])
 
     def add(self, entry):
@@ -72,25 +72,32 @@ class PlainLists:
     def put(self, entry, is_folder):
         names = entry.path.split(b'/')
         folder = names if is_folder else names[:-1]
-        while folder[:len(self.names)] != self.names:
-            self.names.pop()
-            self.places.pop()
-            self.file.write(b'</ul></details>\n')
+        common = next((depth for depth, pair in enumerate(zip(self.names, folder)) if pair[0] != pair[1]),
+                      min(len(self.names), len(folder)))
+        self.leave(common)
         while len(self.names) < len(folder):
             self.names.append(folder[len(self.names)])
             self.places.append(len(self.counts))
             self.counts.extend([0, 0, 0])
             self.file.write(FOLDER + shown(self.names[-1]).encode() + b'\n')
-        for place in self.places:
-            self.counts[place + entry.kind] += 1
+        self.counts[self.places[-1] + entry.kind] += 1
         name = shown(names[-1]) if names[-1] and not is_folder else shown_path(entry.path)
         self.file.write(item_of(entry, name).encode())
+
+    def leave(self, depth):
+        """Closes the open folders from a depth on, and adds their counts to those around them."""
+        while len(self.names) > depth:
+            self.names.pop()
+            place = self.places.pop()
+            for kind in range(len(KINDS)):
+                self.counts[self.places[-1] + kind] += self.counts[place + kind]
+            self.file.write(b'</ul></details>\n')
 
     def parts(self):
         """Yields the lists."""
         if self.waiting:
             self.put(self.waiting, False)
-        self.file.write(b'</ul></details>\n' * (len(self.names) - 1))
+        self.leave(1)
         self.file.seek(0)
         totals, place = [sum(self.counts[:3])], 0
         yield b'<ul class="plain">\n'
@@ -112,7 +119,7 @@ class Embedded:
     """The entries for the script, written so that they cannot end its element."""
 
     def __init__(self):
-        self.file, self.places = tempfile.TemporaryFile(), {label: place for place, label in enumerate(FORMS)}
+        self.file, self.places = open(nameless(), 'w+b'), {label: place for place, label in enumerate(FORMS)}
 
     def add(self, entry):
         rows = [[self.places[label], old, new] + ([old_note, new_note] if old_note or new_note else [])

@@ -2,9 +2,9 @@
 import base64
 import heapq
 import re
-import tempfile
 from collections import namedtuple
 
+from aide_compare.files import nameless
 from aide_compare.report_lines import LINE_LIMIT, RULE, Refused, put_bytes, unprinted
 from aide_compare.report_marks import misfit
 from aide_compare.report_values import FORMS, PIECE, TYPES, Block, Digests, attribute_of
@@ -89,7 +89,7 @@ class Section:
 
     def __init__(self, lines, counts):
         lines.expect(b'')
-        self.file, self.number, self.counts = tempfile.TemporaryFile(), lines.number, counts
+        self.file, self.number, self.counts = open(nameless(), 'w+b'), lines.number, counts
         self.possible, self.summarized = dict.fromkeys(KINDS, 0), None
         for _ in range(sum(counts.values())):
             found = lines.match(LISTED, 'an entry of this list')

@@ -1,6 +1,8 @@
 """How names and values are shown on a page: nothing in them is invisible, and nothing changes what stands around it."""
 import re
 
+from aide_compare import escapes
+
 # Printable ASCII without the backslash, and without blanks at its ends.
 PLAIN = re.compile(r'[!-\[\]-~](?:[ -\[\]-~]*[!-\[\]-~])?')
 PLAIN_PATH = re.compile(rb'[!-\[\]-~]*')
@@ -17,14 +19,14 @@ def octal(character):
 def shown(value):
     """Bytes as text: as the report prints them, and in the same way all that has no shape of its own.
 
-    These are control and format characters (such as those that turn the direction of writing), bytes that are not
-    UTF-8, unusual blanks, and blanks at the beginning and at the end.
+    To what all commands escape come unusual blanks, letters that no font has, and blanks at the beginning and the end.
     """
-    text = value.decode('utf-8', 'surrogateescape')
+    text = escapes.shown(value, len(value))
     if PLAIN.fullmatch(text):
         return text
-    text = ''.join(character if character.isprintable() and character != '\\' and character not in BLANK_LETTERS
-                   else octal(character) for character in text)
+    if not text.isprintable() or any(letter in text for letter in BLANK_LETTERS):
+        text = ''.join(character if character.isprintable() and character not in BLANK_LETTERS else octal(character)
+                       for character in text)
     inner = text.strip(' ')
     if not inner:
         return octal(text)

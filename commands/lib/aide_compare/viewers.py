@@ -1,0 +1,88 @@
+"""The commands that show a report in other forms: aide-compare-json and aide-compare-html."""
+import os
+import stat
+
+from aide_compare.ending import Fault, Status, reason
+from aide_compare.escapes import shown
+from aide_compare.files import nameless, open_regular
+from aide_compare.options import Parser
+from aide_compare.report_lines import Refused
+
+REFUSED = 65
+BLOCK = 1 << 18
+STREAMS = ("-", "/dev/stdin")
+
+
+def parser_of(name, what, does, more):
+    parser = Parser(name, does, epilog=more)
+    parser.add_argument("file", nargs="?", default="-", help="%s; standard input if it is left out or \"-\"" % what)
+    return parser
+
+
+def _opened(path):
+    """The input: a regular file, or what the caller has opened, named as /dev/stdin or /dev/fd/N."""
+    number = path[8:] if path.startswith("/dev/fd/") else "0" if path in STREAMS else ""
+    if not (number.isascii() and number.isdigit() and len(number) < 8):
+        return open(open_regular(path), "rb", buffering=BLOCK)
+    if stat.S_ISDIR(os.fstat(int(number)).st_mode):
+        raise Fault(Status.DEVICE, "cannot read %s: it is a folder" % shown(path))
+    return open(int(number), "rb", buffering=BLOCK, closefd=False)
+
+
+def _run(path, work):
+    """Does the work over the input and standard output. What is no whole input is refused with a status of its own."""
+    try:
+        with _opened(path) as source, open(1, "wb", buffering=BLOCK, closefd=False) as target:
+            work(source, target)
+            target.flush()
+    except Refused as refused:
+        raise Fault(REFUSED, str(refused)) from None
+    except OSError as error:
+        raise Fault(Status.DEVICE, "cannot read or write: %s" % reason(error)) from None
+    return Status.OK
+
+
+def _write_json(source, target, given):
+    """Writes the objects of a report: the summary's first, though it is known last."""
+    import json
+    from aide_compare.report_lines import Lines
+    from aide_compare.report_parts import judge, read_report
+    encode, count, summary = json.JSONEncoder(separators=(",", ":")).encode, 0, None
+    with open(nameless(), "w+b", buffering=BLOCK) as body:
+        for count, fields in enumerate(read_report(Lines(source)), 1):
+            if fields["record"] == "summary":
+                summary = fields
+            else:
+                body.write(encode(fields).encode() + b"\n")
+        judge(summary, given.least, given.empty)
+        body.seek(0)
+        target.write(encode({**summary, "lines": count}).encode() + b"\n")
+        for block in iter(lambda: body.read(BLOCK), b""):
+            target.write(block)
+
+
+def json_main(arguments):
+    from aide_compare.report_parts import LEVELS
+    parser = parser_of("aide-compare-json", "the report", "Reads a report of aide-compare and writes it as JSON, one object a line.",
+                       "The manual page aide-compare-json(1) describes the objects.")
+    parser.add_argument("--least", choices=LEVELS, metavar="LEVEL",
+                        help="refuse a report of a lower level; from database_attributes on, every cut is seen")
+    parser.add_argument("--empty", action="store_true",
+                        help="take an empty report for one without differences (report_quiet)")
+    given = parser.parse(arguments)
+    return _run(given.file, lambda source, target: _write_json(source, target, given))
+
+
+def _write_page(source, target, given):
+    from aide_compare.page import page
+    for part in page(source, given.title, given.plain):
+        target.write(part)
+
+
+def html_main(arguments):
+    parser = parser_of("aide-compare-html", "the lines", "Makes a page to look at from the lines of aide-compare-json.",
+                       "Example: aide-compare-run old.gz new.gz | aide-compare-json | aide-compare-html > page.html")
+    parser.add_argument("--title", metavar="TEXT", help="the heading of the page, such as the name of the host")
+    parser.add_argument("--plain", action="store_true", help="no script: the lists only, as for mail")
+    given = parser.parse(arguments)
+    return _run(given.file, lambda source, target: _write_page(source, target, given))

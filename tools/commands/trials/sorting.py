@@ -1,0 +1,174 @@
+"""aide-compare-sort: path order by a plain definition, and its bounds."""
+import gzip
+import os
+import random
+import signal
+import subprocess
+import sys
+import time
+from bisect import bisect_left
+
+from tools.commands.trials.sandbox import HERE
+
+COMMAND = os.path.join(HERE, "commands", "bin", "aide-compare-sort")
+BEGIN, END = b"# c\n@@begin_db\n@@db_spec attr name size\n", b"@@end_db\nrest\n\nmore"
+PIECES = [b"a", b"b", b"%2f", b"%2F", b"%00", b"%01", b"%02", b"%0a", b"%09", b"%20", b"%", b"%4", b"\x01", b"\x02", b"\x0b", b"\r",
+          b"\x00", b"!", b".", b"-", b"0", b"\\", b"\x7f", b"\xff", b"\xc3\xa9", b"A"]
+# It prints the most memory, in kB, of a command and of what that has started.
+MEASURE = """import os, resource, subprocess, sys
+status = subprocess.call(sys.argv[1:])
+sys.stderr.write("memory %d\\n" % resource.getrusage(resource.RUSAGE_CHILDREN).ru_maxrss)
+sys.exit(status)"""
+BUSYBOX = "#!/bin/sh\necho \"sort: unrecognized option: version\" >&2\nexit 1\n"
+
+
+def decoded(field):
+    """A path by its definition: from the left, `%` and two digits in base 16 are a byte."""
+    out, place = [], 0
+    while place < len(field):
+        digits = field[place + 1:place + 3]
+        is_escape = field[place] == 37 and len(digits) == 2 and all(digit in b"0123456789abcdefABCDEF" for digit in digits)
+        out.append(int(digits, 16) if is_escape else field[place])
+        place += 3 if is_escape else 1
+    return bytes(out)
+
+
+def pieces_of(entry):
+    fields = [field for field in entry.replace(b"\t", b" ").split(b" ") if field]
+    return decoded(fields[1]).split(b"/")
+
+
+def sorted_text(lines):
+    """The database of some lines in path order, as the definition has it; and how few entries have to move."""
+    entries = [line for line in lines if line.strip(b" \t") and not line.lstrip(b" \t").startswith((b"#", b"@@"))]
+    rest = [line for line in lines if line not in entries]
+    ordered = sorted(range(len(entries)), key=lambda place: (pieces_of(entries[place]), place))
+    ends = []
+    for place in ordered:
+        where = bisect_left(ends, place)
+        ends[where:where + 1] = [place]
+    text = BEGIN + b"".join(line + b"\n" for line in rest + [entries[place] for place in ordered]) + END
+    return text, len(entries) - len(ends)
+
+
+def text_of(lines):
+    return BEGIN + b"".join(line + b"\n" for line in lines) + END
+
+
+def random_lines(pick, count):
+    paths = {b"/" + b"".join(pick.choice(PIECES + [b"/"]) for _ in range(pick.randint(0, 6))) for _ in range(count)}
+    known, lines = set(), []
+    for path in sorted(paths, key=lambda path: pick.random()):
+        if decoded(path) not in known:
+            known.add(decoded(path))
+            lines.append(pick.choice([b"", b" ", b"\t"]) + b"36" + pick.choice([b" ", b"\t", b" \t "]) + path + b" 1")
+            lines += pick.choice([[], [], [b""], [b"# note"], [b" \t"]])
+    return lines
+
+
+def call(words, text, room, environment=None):
+    done = subprocess.run(words, input=text, stdout=subprocess.PIPE, stderr=subprocess.PIPE, timeout=120,
+                          env={**os.environ, "TMPDIR": room, **(environment or {})})
+    return done.returncode, done.stdout, done.stderr
+
+
+def expect(sandbox, label, done, status, output=None, errors=()):
+    good = done[0] == status and (output is None or done[1] == output) and all(part in done[2] for part in errors)
+    good = good and b"Traceback" not in done[2] and not os.listdir(sandbox.room)
+    sandbox.check("sort: " + label, good, (done[0], done[1][:300], done[2][:600], os.listdir(sandbox.room)))
+
+
+def try_order(sandbox):
+    pick = random.Random(5)
+    for number in range(12):
+        lines = random_lines(pick, 400)
+        wanted, moved = sorted_text(lines)
+        text = text_of(lines)
+        done = call([COMMAND], gzip.compress(text[:9]) + gzip.compress(text[9:]) if number % 2 else text, sandbox.room)
+        expect(sandbox, "order %d" % number, done, 0, wanted, [b"moved %d of " % moved])
+    lines = [b"36 /%05d 1" % number for number in range(13257)]
+    lines = lines[:100] + lines[101:9000] + [lines[100]] + lines[9000:]
+    expect(sandbox, "one line moved", call([COMMAND], text_of(lines), sandbox.room), 0, sorted_text(lines)[0],
+           [b": moved 1 of 13,257 lines\n", b"straight from AIDE, it is damaged", b"make it anew"])
+    whole = sorted_text(lines)[0]
+    done = call([COMMAND], whole, sandbox.room)
+    expect(sandbox, "nothing moved", done, 0, whole, [b"moved 0 of 13,257 lines\n"])
+    sandbox.check("sort: no advice where nothing moved", b"damaged" not in done[2], done[2])
+
+
+def try_refused(sandbox):
+    twice = [b"1 /b\\ 1", b"2 /a 2", b"3 /b%5C 3", b"4 /b\\ 4"]
+    expect(sandbox, "a path twice", call([COMMAND], text_of(twice), sandbox.room), 24,
+           text_of([twice[1], twice[0]] + twice[2:]), [b"aide-compare-sort: stands twice: /b\\134\n"])
+    many = [b"1 /%04d 1" % (number // 2) for number in range(400)]
+    done = call([COMMAND], text_of(many), sandbox.room)
+    expect(sandbox, "200 paths twice", done, 24, None, [b"/0099\n", b"more paths that stand twice: 100\n"])
+    whole = text_of([b"1 /%x 1" % number for number in range(5000)])
+    packed = gzip.compress(whole)
+    for label, text, words, status, errors in (
+            ("a cut gzip file", packed[:-20], [], 18, b"cut short or damaged"), ("another sum", packed[:-8] + bytes(8), [], 18, b"damaged"),
+            ("no end", whole[:whole.index(b"@@end")], [], 24, b"no @@end_db"), ("nothing", b"", [], 24, b"no @@end_db"),
+            ("no names", b"@@begin_db\n/a 1\n" + END, [], 24, b"line 2: an entry before @@db_spec"),
+            ("no path", BEGIN + b"36\n" + END, [], 24, b"line 4: no path"),
+            ("a long line", BEGIN + b"36 /" + b"x" * (1 << 20) + b"\n" + END, [], 24, b"line 4: more than 1048576 bytes"),
+            ("too many bytes", whole, ["--most", "9k"], 18, b"more than 9216 bytes unpacked"),
+            ("no such option", whole, ["--other"], 15, b"try: aide-compare-sort --help"),
+            ("no such file", whole, ["/nowhere"], 18, b"cannot open"), ("a folder", whole, ["/"], 18, b"cannot open")):
+        expect(sandbox, label, call([COMMAND] + words, text, sandbox.room), status, b"", [errors])
+    with open("/dev/full", "wb") as full:
+        done = subprocess.run([COMMAND], input=whole, stdout=full, stderr=subprocess.PIPE, env={**os.environ, "TMPDIR": sandbox.room})
+    expect(sandbox, "a full device", (done.returncode, b"", done.stderr), 18, b"", [b"cannot write: No space left"])
+    sandbox.stub("sort", BUSYBOX[10:], "other")
+    done = call([sys.executable, "-I", COMMAND], whole, sandbox.room, {"PATH": sandbox.path("other")})
+    expect(sandbox, "another sort", done, 18, b"", [b"is not that of GNU coreutils"])
+    done = call([sys.executable, "-I", COMMAND], whole, sandbox.room, {"PATH": sandbox.path("empty")})
+    expect(sandbox, "no sort", done, 18, b"", [b"there is no program sort"])
+
+
+def write_large(path, count):
+    """A database whose entries are far from path order."""
+    with open(path, "wb") as file:
+        file.write(BEGIN)
+        for number in range(count):
+            file.write(b"36 /usr/%07d/%s 1\n" % (number * 7919 % count, b"x" * 180))
+        file.write(END)
+
+
+def try_bounds(sandbox):
+    path = sandbox.path("large.db")
+    write_large(path, 600000)
+    done = call([sys.executable, "-c", MEASURE, COMMAND, path], b"", sandbox.room)
+    memory = int(done[2].split(b"memory ")[-1])
+    expect(sandbox, "120 MB", (done[0], b"", done[2]), 0, b"", [b" of 600,000 lines"])
+    keys = [line.split()[1] for line in done[1].splitlines() if line.startswith(b"36 ")]
+    sandbox.check("sort: 120 MB in order", len(keys) == 600000 and keys == sorted(keys), len(keys))
+    sandbox.check("sort: memory", memory < 64000, memory)
+    bomb = subprocess.run("head -c 300000000 /dev/zero | gzip -1", shell=True, stdout=subprocess.PIPE).stdout
+    done = call([sys.executable, "-c", MEASURE, COMMAND, "--most", "20M"], bomb, sandbox.room)
+    expect(sandbox, "300 MB of zeros", (done[0], b"", done[2]), 18, b"", [b"more than 20971520 bytes unpacked"])
+    sandbox.check("sort: memory of zeros", int(done[2].split(b"memory ")[-1]) < 64000, done[2])
+    for number, left in ((signal.SIGTERM, 0), (signal.SIGINT, 0), (signal.SIGHUP, 0), (signal.SIGKILL, 1)):
+        try_signal(sandbox, path, number, left)
+    expect(sandbox, "after KILL", call([COMMAND], text_of([b"1 /a 1"]), sandbox.room), 0)
+
+
+def try_signal(sandbox, path, number, left):
+    process = subprocess.Popen([COMMAND, path], stdout=subprocess.PIPE, stderr=subprocess.DEVNULL,
+                               env={**os.environ, "TMPDIR": sandbox.room})
+    folder, limit = [], time.monotonic() + 60
+    while time.monotonic() < limit and not any(os.listdir(sandbox.path("room/" + name)) for name in folder):
+        time.sleep(0.01)
+        folder = os.listdir(sandbox.room)
+    process.send_signal(number)
+    process.stdout.close()
+    status = process.wait(60)
+    # What sort itself has left may go later than the command, after KILL only.
+    time.sleep(1 if left else 0)
+    sandbox.check("sort: signal %d" % number, status == -number and len(folder) == 1 and len(os.listdir(sandbox.room)) == left,
+                  (status, folder, os.listdir(sandbox.room)))
+
+
+def try_sorting(sandbox):
+    try_order(sandbox)
+    try_refused(sandbox)
+    try_bounds(sandbox)
