@@ -1,53 +1,82 @@
 #!/usr/bin/env python3
-"""Tries the tools of contrib/ with the built program: what aide-compare-run and the commands that use it promise.
+"""Tries the commands with the built program: what their pages promise, attacks, and faults of the machine.
 
-usage: python3 -m tools.commands.try_tools PROGRAM
+usage: python3 -m tools.commands.try_tools [--only NAME] PROGRAM
 
-Each trial runs in a folder of its own, under every shell of this machine that the tools are for (sh, dash, busybox sh). A
-small program replaces sendmail. If root runs this, it also tries what an unprivileged user may do, and a full disk;
-otherwise the output says that these were not tried. The last line is 'N passed, M failed'.
+Each trial runs in a folder of its own. A small program replaces sendmail, another ssh. If root runs this, it also tries what
+an unprivileged user may do, and a full disk; otherwise the output says that these were not tried. The last line is
+'N passed, M failed'.
 """
+import argparse
+import os
+import shutil
 import sys
+import tempfile
 import traceback
 
 from tools.lib import signals
 from tools.commands.trials.accept import try_accept
+from tools.commands.trials.accept_attacks import try_accept_attacks
+from tools.commands.trials.accept_kills import try_accept_kills
+from tools.commands.base.files import try_files
+from tools.commands.base.texts import try_texts
 from tools.commands.trials.age import try_age
+from tools.commands.trials.attacks import try_attacks
+from tools.commands.trials.fleet import try_fleet
 from tools.commands.trials.faults import try_faults, try_signals
 from tools.commands.trials.mail import try_mail
 from tools.commands.trials.sandbox import Sandbox, shells
 from tools.commands.trials.run import try_run
+from tools.commands.trials.sorting import try_sorting
 from tools.commands.trials.state import try_readers
+from tools.commands.trials.without import try_without
 from tools.lib.tally import Tally, program_of, side_by_side
 
-TRIALS = [try_run, try_age, try_faults, try_signals, try_accept, try_mail, try_readers]
+BASE = [try_texts, try_files]
+# The longest come first, so that none of them is left at the end.
+TRIALS = [try_accept_attacks, try_accept_kills, try_sorting, try_readers, try_mail, try_run, try_attacks, try_fleet, try_faults,
+          try_accept, try_without, try_age, try_signals]
+
+
+def try_base(trial, tally):
+    """The trials of some modules that the commands share. They fork, so they run before any thread is started."""
+    folder = tempfile.mkdtemp(prefix="try-base-")
+    os.chmod(folder, 0o755)
+    try:
+        trial(tally, folder)
+    except Exception:
+        tally.add(trial.__name__, [traceback.format_exc()])
+    finally:
+        shutil.rmtree(folder, ignore_errors=True)
 
 
 def try_one(given):
-    """One set of trials under one shell, in a place of its own."""
-    program, shell, trial, tally = given
-    sandbox = Sandbox(program, shell, tally)
+    """One set of trials in a folder of its own."""
+    program, trial, tally = given
+    sandbox = Sandbox(program, shells()[0], tally)
     try:
         trial(sandbox)
     except Exception:
-        tally.add(' '.join(shell), [traceback.format_exc()])
+        tally.add(trial.__name__, [traceback.format_exc()])
     finally:
         sandbox.remove()
 
 
 def main():
-    if len(sys.argv) != 2 or sys.argv[1] in ('-h', '--help'):
-        print(__doc__)
-        sys.exit(0 if sys.argv[1:] in (['-h'], ['--help']) else 15)
+    parser = argparse.ArgumentParser(description="Tries the commands with the built program.")
+    parser.add_argument("--only", metavar="NAME", help="only the trials with this name, such as try_mail")
+    parser.add_argument("program", help="the built program")
+    wanted = parser.parse_args()
     signals.heed()
-    program, tally = program_of(sys.argv[1]), Tally()
-    given = [(program, shell, trial, tally) for trial in TRIALS for shell in shells()]
+    program, tally = program_of(wanted.program), Tally()
+    for trial in BASE:
+        if wanted.only in (None, trial.__name__):
+            try_base(trial, tally)
+    given = [(program, trial, tally) for trial in TRIALS if wanted.only in (None, trial.__name__)]
     for _ in side_by_side(4, try_one, given):
         pass
-    if not tally.passed:
-        tally.add('try_tools.py', ['found nothing to try'])
     tally.end()
 
 
-if __name__ == '__main__':
+if __name__ == "__main__":
     main()
