@@ -45,21 +45,45 @@ def commands(trial):
     return sorted(path for path in found if re.match(r"(bin|lib/nagios/plugins)/.", path))
 
 
+def is_comparison(name):
+    """Whether a command takes arguments for the program after --."""
+    return name in ("aide-compare-run", "aide-compare-mail")
+
+
 def options(trial, path):
-    """The options that a command's help has; the program has no help, its page has them."""
+    """The options that a command's help has; the program has no help, its page has them. aide-compare-mail takes those of
+    aide-compare-run too."""
     if path == "bin/aide-compare":
         with open(os.path.join(HERE, "man", "aide-compare.1")) as file:
             found = re.findall(r"^\.It Fl (\w)(?: Ar \w+)? , Fl -([\w-]+)", file.read(), re.M)
         return ["-" + short for short, _ in found] + ["--" + long for _, long in found]
-    text = trial.run([trial.path("first/usr/local", path), "--help"])[1]
-    found = {"--help"}
-    for line in re.findall(r"^\s+(-.*)$", text, re.M):
-        found |= set(re.findall(r"(?:^|, )(--?[A-Za-z][\w-]*)", line))
+    text = help_of(trial, path)[0]
+    found = {"--help"} | named_in(text)
     for line in re.findall(r"^usage: .*(?:\n {4,}.*)*", text, re.M):
         found |= set(re.findall(r"[\[(| ](--?[A-Za-z][\w-]*)", line))
     if "ARGUMENTS of aide-compare-run" in text:
         found |= set(options(trial, "bin/aide-compare-run"))
     return sorted(found - {"-h"})
+
+
+def options_after(trial):
+    """The options after --, which are for the program. Before it the commands refuse them."""
+    return sorted(named_in(help_of(trial, "bin/aide-compare-run")[1]))
+
+
+def help_of(trial, path):
+    """A command's help, in two parts: its own options, and those after --."""
+    text = trial.run([trial.path("first/usr/local", path), "--help"])[1]
+    own, _, after = text.partition("\nafter --, for aide-compare:\n")
+    return own, after
+
+
+def named_in(text):
+    """The options that lines of a help begin with."""
+    found = set()
+    for line in re.findall(r"^\s+(-.*)$", text, re.M):
+        found |= set(re.findall(r"(?:^|, )(--?[A-Za-z][\w-]*)", line))
+    return found
 
 
 def try_files(trial):
@@ -72,14 +96,15 @@ def try_files(trial):
         trial.check(BASH + name in found, "a completion of bash for " + name)
         trial.check(FISH + name + ".fish" in found, "a completion of fish for " + name)
         trial.check(name in named, "a completion of zsh for " + name)
-        wanted = options(trial, path)
+        wanted = options(trial, path) + (options_after(trial) if is_comparison(name) else [])
         trial.check(len(wanted) > 0, "options of " + name, wanted)
         fish = found.get(FISH + name + ".fish", "")
         for option in wanted:
-            form = r"-l %s\b" % option[2:] if option.startswith("--") else r"-(?:s|a '-)\s?%s\b" % option[1:]
+            form = r"-l %s(?![\w-])" % option[2:] if option.startswith("--") else r"-s %s\b" % option[1:]
+            form += r"|-a '(?:[^']* )?%s[ ']" % option
             trial.check(re.search(form, fish), "%s %s in fish" % (name, option))
-            trial.check(re.search(r"[{,'(]%s(?![\w-])|\)%s(?![\w-])" % (option, option), found[ZSH]),
-                        "%s %s in zsh" % (name, option))
+            # A star says that an option may be given again.
+            trial.check(re.search(r"[{,'(*)]%s(?![\w-])" % option, found[ZSH]), "%s %s in zsh" % (name, option))
 
 
 def ask_bash(trial, name, *words):
@@ -101,6 +126,9 @@ def try_bash(trial):
             trial.check(option in given, "bash offers %s %s" % (name, option), given)
         for option in given:
             trial.check(option in wanted + ["--"], "%s has the option %s that bash offers" % (name, option), wanted)
+        if is_comparison(name):
+            given = ask_bash(trial, name, "--state", "x", "--", "-")
+            trial.check(sorted(given) == options_after(trial) != [], "bash offers what %s takes after --" % name, given)
     for words, wanted in ((["aide-compare", "-E", "-A", "report_level", "="], LEVELS),
                           (["aide-compare", "-E", "-A", "report_level", "=", "su"], ["summary"]),
                           (["aide-compare", "-E", "-A", "report_l"], ["report_level="]),
@@ -109,6 +137,11 @@ def try_bash(trial):
                           (["aide-compare", "-E", ""], []),
                           (["aide-compare", "-c", "VERS"], ["VERSION"]),
                           (["aide-compare", "--config", "=", "VERS"], ["VERSION"]),
+                          (["aide-compare-run", "--without", "VERS"], ["VERSION"]),
+                          (["aide-compare-run", "--without-path", "VERS"], []),
+                          (["aide-compare-mail", "--queue", "pack"], ["packaging"]),
+                          (["aide-compare-mail", "--queue", "VERS"], []),
+                          (["aide-compare-mail", "--", "-A", "report_l"], ["report_level="]),
                           (["aide-compare-sort", "VERS"], ["VERSION"])):
         given = ask_bash(trial, words[0], *words[1:])
         trial.check(sorted(given) == sorted(wanted), "bash completes " + " ".join(words), given)
@@ -121,6 +154,10 @@ def try_zsh(trial):
     folder = trial.path("first/usr/local", os.path.dirname(ZSH))
     for line, wanted in (("aide-compare --config-c", "aide-compare --config-check"),
                          ("aide-compare -E -A report_level=su", "report_level=summary"),
+                         ("aide-compare-run --without-", "aide-compare-run --without-path"),
+                         ("aide-compare-run --without=VERS", "--without=VERSION"),
+                         ("aide-compare-mail --most-r", "aide-compare-mail --most-report"),
+                         ("aide-compare-mail -- --aft", "aide-compare-mail -- --after="),
                          ("aide-compare-sort --h", "aide-compare-sort --help"),
                          ("aide-compare-sort VERS", "aide-compare-sort VERSION")):
         done = trial.run(["zsh", "-f", "-c", ASK_ZSH, "zsh", folder, line], cwd=trial.source, timeout=60)
@@ -137,7 +174,8 @@ def try_fish(trial):
                         PATH=trial.path("first/usr/local/bin") + ":" + os.environ["PATH"])
     for line, wanted in (("aide-compare --config-c", ["--config-check"]), ("aide-compare -A report_level=su", ["report_level=summary"]),
                          ("aide-compare-sort --h", ["--help"]), ("aide-compare-sort VERS", ["VERSION"]),
-                         ("aide-compare ", [])):
+                         ("aide-compare-run --without-", ["--without-path"]), ("aide-compare-mail --most-r", ["--most-report"]),
+                         ("aide-compare-mail -- --aft", ["--after"]), ("aide-compare ", [])):
         done = trial.run(["fish", "-c", "complete -C '%s'" % line], cwd=trial.source, env=surroundings, timeout=60)
         given = [one.split("\t")[0] for one in done[1].splitlines()]
         trial.check(done[0] == 0 and given == wanted, "fish completes " + line, done)

@@ -8,6 +8,7 @@ import shutil
 import subprocess
 import tarfile
 
+from tools.packaging.installing import debian
 from tools.packaging.installing.trial import files, rights, texts, tree
 
 FIXED = 1767225600
@@ -55,6 +56,9 @@ def try_packages(trial):
     if has_dpkg:
         try_debian(trial, trial.path("packages", package), FIXED)
         try_debian(trial, trial.path("dated", package), 4000000000)
+        debian.try_texts(trial, trial.path("packages", package + ".tree"))
+        debian.try_stop(trial, trial.path("packages", package + ".tree"))
+        debian.try_life(trial, trial.path("packages", package))
     else:
         trial.skip("the Debian package: dpkg-deb is not installed")
     done, least = make(trial, "least", env=dict(more, PATH=trial.plain_path))
@@ -114,7 +118,8 @@ def try_debian(trial, path, time):
     done = trial.run(["dpkg-deb", "-f", path])
     fields = dict(re.findall(r"^([\w-]+): (.*)$", done[1], re.M))
     for name, wanted in (("Package", "aide-compare"), ("Version", trial.version + "-1"), ("Architecture", "amd64"),
-                         ("Depends", "libc6 (>= 2.34)"), ("Suggests", "aide")):
+                         ("Depends", "libc6 (>= 2.34), python3:any"), ("Suggests", "aide"),
+                         ("Recommends", "default-mta | mail-transport-agent")):
         trial.check(fields.get(name) == wanted, "the field " + name, fields.get(name))
     folder = path + ".tree"
     done = trial.run(["dpkg-deb", "-R", path, folder])
@@ -122,6 +127,11 @@ def try_debian(trial, path, time):
     found = tree(folder)
     sums = found["DEBIAN/md5sums"][1].decode().splitlines()
     kept = {name: data for name, (_, data) in files(found).items() if not name.startswith("DEBIAN/")}
+    # dpkg itself keeps the sums of what an administrator may change.
+    rules = kept.pop("etc/aide/aide.conf.d/31_aide_aide-compare", None)
+    conffiles = found["DEBIAN/conffiles"][1].decode() if "DEBIAN/conffiles" in found else ""
+    trial.check(rules == kept["usr/share/doc/aide-compare/examples/aide/31_aide_aide-compare"] and
+                conffiles == "/etc/aide/aide.conf.d/31_aide_aide-compare\n", "the rules for AIDE are a configuration file", conffiles)
     trial.check(sorted(sums) == sorted("%s  %s" % (hashlib.md5(data).hexdigest(), name) for name, data in kept.items()),
                 "md5sums")
     installed = {name[len("usr/local/"):] for name in files(tree(trial.path("first")))} - {"lib/aide-compare/installed"}
@@ -129,7 +139,8 @@ def try_debian(trial, path, time):
     for name in installed:
         name = re.sub(r"^(share/man/.*)$", r"\1.gz", name).replace("zsh/site-functions", "zsh/vendor-completions")
         renamed.add("usr/" + name.replace("aide-compare/CHANGELOG.md", "aide-compare/changelog.gz"))
-    renamed |= {"usr/share/doc/aide-compare/changelog.Debian.gz", "usr/share/lintian/overrides/aide-compare"}
+    renamed |= {"usr/share/doc/aide-compare/" + name for name in ("changelog.Debian.gz", "copyright", "README.Debian")}
+    renamed.add("usr/share/lintian/overrides/aide-compare")
     trial.check(set(kept) == renamed, "the package has what is installed", sorted(set(kept) ^ renamed))
     for name, text in texts(found).items():
         named = [] if "/kubernetes" in name else re.findall(r"/usr/local/(?:bin/a|lib/|share/)[\w./-]*", text)

@@ -9,16 +9,19 @@ DOCUMENTS = "share/doc/aide-compare"
 MANIFEST = "lib/aide-compare/installed"
 # What has to be there whatever the repository's folders hold.
 KNOWN = ["bin/aide-compare", "bin/aide-compare-sort", "lib/systemd/system/aide-compare.service",
-         "lib/systemd/system/aide-compare.timer", "share/man/man1/aide-compare.1", "share/man/man1/aide-compare-sort.1",
+         "lib/systemd/system/aide-compare.timer", "lib/systemd/system/aide-compare-mail.service",
+         "lib/systemd/system/aide-compare-failed.service", "share/man/man1/aide-compare.1", "share/man/man1/aide-compare-sort.1",
          "share/man/man5/aide-compare.conf.5", "share/bash-completion/completions/aide-compare",
          "share/zsh/site-functions/_aide-compare", "share/fish/vendor_completions.d/aide-compare.fish",
          DOCUMENTS + "/README.md", DOCUMENTS + "/RECIPES.md", DOCUMENTS + "/CHANGELOG.md", DOCUMENTS + "/VERSION",
-         DOCUMENTS + "/examples/cron/aide-compare.cron.d", DOCUMENTS + "/examples/cron/aide-compare.cron.daily"]
+         DOCUMENTS + "/examples/cron/aide-compare.cron.daily", DOCUMENTS + "/examples/aide/debian.without",
+         DOCUMENTS + "/examples/small_tree/old.db", DOCUMENTS + "/examples/small_tree/new.db"]
 FOLDERS = {"commands/bin": "bin", "commands/lib/aide_compare": "lib/aide-compare/python/aide_compare",
            "commands/nagios": "lib/nagios/plugins", "commands/fleet": "lib/aide-compare/fleet",
            "contrib/systemd": "lib/systemd/system", "contrib/completions/bash": "share/bash-completion/completions",
            "contrib/completions/zsh": "share/zsh/site-functions",
-           "contrib/completions/fish": "share/fish/vendor_completions.d", "docs": DOCUMENTS}
+           "contrib/completions/fish": "share/fish/vendor_completions.d", "docs": DOCUMENTS,
+           "examples/small_tree": DOCUMENTS + "/examples/small_tree"}
 
 
 def target_of(path):
