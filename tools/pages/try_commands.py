@@ -6,7 +6,7 @@ usage: python3 -m tools.pages.try_commands [--with-rt] PROGRAM
 packaging/install puts PROGRAM, the built program, and the tools into a folder of this run. There each display is run as it
 stands, over prepared databases and with the folders that it names put below that folder; the status of each command, and
 what the page says of it, are compared. `ssh`, `sendmail`, `logger` and `rt` are small programs of this script.
-displays/rows.py says of each display how it is tried, or why it is not and what tries it instead. A display without a row
+page_blocks/rows.py says of each display how it is tried, or why it is not and what tries it instead. A display without a row
 fails, and so does a row without a display. The messages that the pages of the tools list under DIAGNOSTICS are looked for
 in the text of the tools. Prints what fails and, at the end, `N passed, M failed`.
 
@@ -28,7 +28,7 @@ def rows_of(displays, check):
     check(displays, "no display was found in any page")
     for display in displays:
         rows = [row for row in ROWS if row.is_of(display)]
-        check(len(rows) == 1, "%s: %d rows of displays/rows.py are about this display" % (display.name(), len(rows)))
+        check(len(rows) == 1, "%s: %d rows of page_blocks/rows.py are about this display" % (display.name(), len(rows)))
         used.update(rows)
         pairs += [(display, row) for row in rows[:1]]
     for row in ROWS:

@@ -9,10 +9,10 @@ raised and raised again, a wrong and the right database are accepted, and all is
 faults are made. `ssh`, `mail` and `logger` are small programs of this script, so nothing leaves the machine. Prints what
 fails and, at the end, `N passed, M failed`.
 
-  --with-packages        also what needs Debian's packages: AIDE, parallel, slurm-wlm, nagios4, cron, openssh-server,
+  --with-packages        also what needs Debian's packages: AIDE, slurm-wlm, nagios4, cron, openssh-server,
                          ansible-core; as root, with daemons on 127.0.0.1 that are stopped at the end
-  --shell INTERPRETER    the installed scripts begin with this instead of /bin/sh, for example "/bin/busybox sh"
-  --only PART            only this part: short, days, faults, hosts, clusters or packages
+  --shell INTERPRETER    the job of cron begins with this instead of /bin/sh, for example "/bin/busybox sh"
+  --only PART            only this part: short, quiet, days, faults, hosts, clusters or packages
 """
 import argparse
 import os
@@ -25,11 +25,13 @@ from tools.pages.recipes.faults import try_faults
 from tools.pages.recipes.hosts import try_hosts
 from tools.pages.recipes.packages import try_packages
 from tools.pages.recipes.page import Page
+from tools.pages.recipes.quiet import try_quiet
 from tools.pages.recipes.short import try_short
 from tools.pages.recipes.trial import Trial
 
 PARTS = {
     "short": try_short,
+    "quiet": try_quiet,
     "days": try_days,
     "faults": try_faults,
     "hosts": try_hosts,

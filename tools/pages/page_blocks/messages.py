@@ -27,7 +27,7 @@ def source(page):
     """The text of the tool that a page is about, and of its modules."""
     name = os.path.basename(page).rpartition(".")[0]
     files = [glob.glob(os.path.join(HERE, "commands", folder, name)) for folder in ("bin", "nagios", "fleet")]
-    if name in ("aide-compare-json", "aide-compare-html"):
+    if any("aide_compare" in read(os.path.relpath(path, HERE)) for some in files for path in some):
         files.append(glob.glob(os.path.join(HERE, "commands/lib/aide_compare/*.py")))
     return "".join(JOINT.sub("", PROSE.sub("", read(os.path.relpath(path, HERE)))) for some in files for path in some)
 

@@ -18,7 +18,7 @@ SUMMARY = (
 )
 AIDE = "/var/lib/aide/aide.db"
 STORE = "/var/lib/aide-compare"
-STATE = STORE + "/state"
+STATE = STORE + "/daily/state"
 # The commands of other programs that the pages name, in the place of the real ones.
 SSH = """\
 while [ "${1#-}" != "$1" ]; do [ "$1" = -o ] && shift; shift; done

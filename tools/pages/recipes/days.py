@@ -5,11 +5,13 @@ import re
 import shutil
 import time
 
-from .hosts import HOSTS, STORE, lines_of, put_stub
+from .hosts import HOSTS, STORE, digest_in, lines_of, put_stub
+from .said import digest_of, introduction
 from .trial import FLEET, NOBODY
-from .watched import STORED, Watched
+from .watched import PASSED_OVER, STORED, Watched
 
-STATE = STORE + "/state"
+STATE = STORE + "/daily/state"
+BASELINE, NEWEST = "/var/lib/aide/aide.db", "/var/lib/aide/aide.db.new"
 
 
 def put_stubs(trial):
@@ -18,6 +20,7 @@ def put_stubs(trial):
     trial.write("/usr/local/sbin/sendmail", '#!/bin/sh\ncat >> "%s/tmp/mailed"\n' % trial.root, 0o755)
     trial.stub("logger", 'printf "%%s\\n" "$*" >> "%s/tmp/logged"; [ -t 0 ] || cat >> "%s/tmp/logged"' % (trial.root, trial.root))
     trial.stub("systemctl", "exit 0")
+    trial.stub("chown", 'printf "%%s\\n" "$*" >> "%s/tmp/owners"' % trial.root)
     put_stub(trial)
 
 
@@ -31,18 +34,22 @@ def taken(trial, name):
     return text
 
 
-def units_command(trial):
-    """What the service of systemd starts."""
-    text = trial.read("/usr/local/lib/systemd/system/aide-compare.service")
-    return re.search(r"^ExecStart=(.*)$", text, re.M).group(1)
+def unit_commands(trial):
+    """What the services of systemd start: the comparison, and then the sending. A file local.conf beside a unit comes last,
+    and an ExecStart= without a command takes back those before it."""
+    commands = []
+    for name in ("aide-compare.service", "aide-compare-mail.service"):
+        text = trial.read("/usr/local/lib/systemd/system/" + name) + trial.read("/etc/systemd/system/%s.d/local.conf" % name)
+        found = re.findall(r"^ExecStart=(.*)$", text.replace("\\\n", " "), re.M)
+        starts = found[len(found) - found[::-1].index("") :] if "" in found else found
+        trial.check(len(starts) == 1, "%s starts one command" % name, starts)
+        commands += starts
+    return commands
 
 
 def crons_command(trial):
-    """What cron starts by the file that the recipe has put into /etc/cron.d."""
-    lines = trial.read("/etc/cron.d/aide-compare").splitlines()
-    jobs = [line for line in lines if re.match(r"[0-9*]", line)]
-    trial.check(len(jobs) == 1 and len(jobs[0].split(None, 6)) == 7, "cron.d: one job", jobs)
-    return jobs[0].split(None, 6)[6]
+    """What cron starts by the file that the recipe has put into /etc/cron.daily."""
+    return trial.path("/etc/cron.daily/aide-compare")
 
 
 class Day:
@@ -51,6 +58,7 @@ class Day:
     def __init__(self, trial, page, name, counts):
         self.trial, self.page, self.name, self.counts = trial, page, name, counts
         self.status = 0 if counts is None else sum(bit for bit, count in zip((1, 2, 4), counts) if count)
+        self.read = None
 
     def check(self, good, name, got):
         self.trial.check(good, "%s: %s" % (self.name, name), got)
@@ -67,20 +75,23 @@ class Day:
     def ask_run(self):
         done = self.page.run("compare")
         good = "NO differences" in done[1] if self.counts is None else self.says_counts(done[1])
-        self.check(done[0] == self.status and good and not done[2], "the report", done)
+        self.check(done[0] == self.status and good, "the report", done)
+        said = self.trial.below(PASSED_OVER)
+        if self.counts is not None:
+            said += introduction(self.trial, self.trial.path(BASELINE), self.trial.path(NEWEST))
+        self.check(done[2] == said, "what the command says beside the report", (done[2], said))
 
     def ask_mail(self):
-        for name, command in (("timer", units_command(self.trial)), ("cron", crons_command(self.trial))):
-            os.remove(self.trial.path(STATE))
+        for name, commands in (("timer", unit_commands(self.trial)), ("cron", [crons_command(self.trial)])):
+            if os.path.exists(self.trial.path(STATE)):
+                os.remove(self.trial.path(STATE))
             taken(self.trial, "mailed")
-            done, mail = self.trial.shell(command), taken(self.trial, "mailed")
+            done = [self.trial.shell(command) for command in commands]
+            mail = self.read = taken(self.trial, "mailed")
             good = mail is None if self.counts is None else self.says_counts(mail or "")
-            self.check(done == (self.status, "", "") and good, "mail by " + name, (done, mail))
+            self.check(done == [(0, "", "")] * len(done) and good, "mail by " + name, (done, mail))
             state = self.trial.read(STATE)
             self.check("\nstatus=%d\n" % self.status in state, "the state after mail by " + name, state)
-        done, mail = self.trial.run([self.trial.path("/etc/cron.daily/aide-compare")]), taken(self.trial, "mailed")
-        good = mail is None if self.counts is None else self.says_counts(mail or "")
-        self.check(done == (0, "", "") and good, "mail by cron.daily", (done, mail))
 
     def ask_check(self):
         done = self.page.run("check", rights=NOBODY)
@@ -140,11 +151,13 @@ def play(trial, page, watched):
     watched.baseline()
     watched.nightly()
     done = page.run("first")
-    trial.check(done[0] == 0 and not done[2], "first", done)
+    trial.check(done[0] == 0 and done[2] == trial.below(PASSED_OVER), "first", done)
+    wanted = "_aide: %s\n" % trial.path(BASELINE)
+    trial.check(taken(trial, "owners") == wanted, "first: the baseline is given to the user of the timer")
     page.prints("first", done[1])
-    for name in ("cron", "cron daily"):
-        done = page.run(name)
-        trial.check(done == (0, "", ""), name, done)
+    page.prints("compare", done[2])
+    done = page.run("cron daily")
+    trial.check(done == (0, "", ""), "cron daily", done)
     trial.write(HOSTS, "www\n")
     os.makedirs(trial.path("/remote"))
     os.symlink(trial.path("/var/lib/aide"), trial.path("/remote/www"))
@@ -155,10 +168,14 @@ def play(trial, page, watched):
     Day(trial, page, "day 1", None).ask_all()
     watched.intrude()
     watched.nightly()
-    Day(trial, page, "day 2", watched.counts).ask_all()
-    watched.nightly()
-    Day(trial, page, "day 3", watched.counts).ask_all()
-    accept(trial, page)
+    mails = []
+    for name in ("day 2", "day 3"):
+        day = Day(trial, page, name, watched.counts)
+        day.ask_all()
+        mails.append(day.read or "")
+        if name == "day 2":
+            watched.nightly()
+    accept(trial, page, watched.counts, *mails)
     watched.nightly()
     Day(trial, page, "day 4", None).ask_all()
     check_privacy(trial)
@@ -167,19 +184,38 @@ def play(trial, page, watched):
     Day(trial, page, "day 8", None).ask_all()
 
 
-def accept(trial, page):
-    """A wrong digest is refused, the right one is taken, for the host itself and for the one that collects."""
-    baseline, new = trial.path("/var/lib/aide/aide.db"), trial.path("/var/lib/aide/aide.db.new")
+def digest_in_mail(trial, page, mail):
+    """The digest in the command of a mail, which is the command of the recipe."""
+    found = re.search(r"^    aide-compare-accept --sha256 ([0-9a-f]{64}) .*$", mail, re.M)
+    digest = found.group(1) if found else "0" * 64
+    command = trial.below(page.text("accept")).replace("DIGEST", digest)
+    trial.check(found and found.group(0).strip() == command.strip(), "the mail has the command that accepts", mail[:1500])
+    return digest
+
+
+def accept(trial, page, counts, yesterday, today):
+    """A wrong digest is refused, and so is that of yesterday's mail. That of today's mail is taken. Then the same for the host
+    that collects."""
+    baseline, new = trial.path(BASELINE), trial.path(NEWEST)
     before = open(baseline, "rb").read()
-    done = trial.run(["aide-compare-accept", "--sha256", "0" * 64, new, baseline])
-    trial.check(done[0] == 1 and open(baseline, "rb").read() == before, "a wrong digest is refused", done)
-    done = page.run("accept")
-    trial.check(done[0] == 0 and open(baseline, "rb").read() == open(new, "rb").read(), "the right one is accepted", done)
+    for name, digest in (("a wrong digest", "0" * 64), ("the digest of yesterday's mail", digest_in_mail(trial, page, yesterday))):
+        done = accept_by(trial, page, digest)
+        trial.check(done[0] == 24 and open(baseline, "rb").read() == before, name + " is refused", done)
+    done = accept_by(trial, page, digest_in_mail(trial, page, today)[:16])
+    same = open(baseline, "rb").read() == open(new, "rb").read()
+    trial.check(done[0] == 0 and same, "the first 16 digits of today's mail are enough", done)
+    trial.check(": added %d, removed %d, changed %d\n" % counts in done[1], "accepting prints the counts", done)
     trial.check(open(baseline + ".previous", "rb").read() == before, "the former baseline is kept")
     done = trial.shell("accept-host --sha256 %s www" % ("0" * 64))
-    trial.check(done[0] == 1, "a wrong digest is refused for a host", done)
+    trial.check(done[0] == 24, "a wrong digest is refused for a host", done)
+    os.environ["DIGEST"] = digest_in(trial.read(STORE + "/states/www"))
     done = page.run("accept host")
     trial.check(done[0] == 0, "the right one is accepted for a host", done)
+
+
+def accept_by(trial, page, digest, **more):
+    """The recipe, with a digest in the place of the word DIGEST."""
+    return trial.shell(trial.below(page.text("accept")).replace("DIGEST", digest), **more)
 
 
 def set_age(trial, name, hours):
@@ -191,23 +227,23 @@ def set_age(trial, name, hours):
 def go_without_aide(trial, page):
     """AIDE no longer runs, so the new database stays as it was, and its time too. The age of the baseline says nothing."""
     set_age(trial, "aide.db", 1000)
-    for name, hours in (("day 5", 28), ("day 6", 52), ("day 7", 76)):
+    for name, hours, age in (("day 5", 28, None), ("day 6", 52, "52 hours"), ("day 7", 76, "3 days")):
         set_age(trial, "aide.db.new", hours)
-        if hours < 50:
+        if age is None:
             Day(trial, page, name, None).ask_all()
         else:
-            ask_about_age(trial, page, name, "aide.db.new is %d hours old, more than --age allows" % hours)
+            ask_about_age(trial, page, name, "aide.db.new is %s old, more than --age allows" % age)
     page.prints("age", page.run("age")[2])
 
 
 def ask_about_age(trial, page, name, reason):
     """Every way says that the new database is too old: nothing was compared."""
-    daily = trial.path("/etc/cron.daily/aide-compare")
-    for way, command, status in (("timer", units_command(trial), 18), ("cron", crons_command(trial), 18), ("cron.daily", daily, 0)):
+    for way, commands in (("timer", unit_commands(trial)), ("cron", [crons_command(trial)])):
         trial.write(STATE, "")
         taken(trial, "mailed")
-        done, mail = trial.shell(command), taken(trial, "mailed") or ""
-        good = done == (status, "", "") and re.search(r"^Subject: .*: no comparison \(status 18\)$", mail, re.M) and reason in mail
+        done = [trial.shell(command) for command in commands]
+        mail = taken(trial, "mailed") or ""
+        good = done == [(0, "", "")] * len(done) and re.search(r"^Subject: .*: no comparison \(status 18\)$", mail, re.M) and reason in mail
         trial.check(good, "%s: mail by %s" % (name, way), (done, mail))
         state = trial.read(STATE)
         good = "\nstatus=18\n" in state and re.search(r"^error=.*" + re.escape(reason), state, re.M)
@@ -230,5 +266,5 @@ def check_privacy(trial):
     left = os.listdir(trial.path("/var/tmp")) + [name for name in os.listdir(trial.path("/tmp")) if "aide" in name]
     trial.check(not left, "nothing is left in temporary folders", left)
     done = trial.run(["cat", trial.path(STATE)], rights=NOBODY)
-    trial.check(done[0] == 0 and done[1].startswith("format=1\n"), "everyone may read the state", done)
+    trial.check(done[0] == 0 and done[1].startswith("format=2\n"), "everyone may read the state", done)
     trial.check(os.access(trial.path(FLEET + "/compare-hosts"), os.X_OK), "the scripts for many hosts are installed")

@@ -5,13 +5,13 @@ import random
 import re
 import resource
 import signal
+import subprocess
 import time
 
-from .days import STATE, crons_command, put_stubs, taken
+from .days import BASELINE, NEWEST, STATE, accept_by, crons_command, put_stubs, taken
 from .hosts import HEAD, NEW, OLD
+from .said import digest_of, introduction
 from .trial import NOBODY, wait_until
-
-BASELINE, NEWEST = "/var/lib/aide/aide.db", "/var/lib/aide/aide.db.new"
 
 
 def put(trial, old, new):
@@ -34,18 +34,20 @@ def no_room(size):
     return limits
 
 
-def check_told(trial, page, name, reason, **more):
-    """No comparison: by the command, by mail, by the check, in the metrics and in the log."""
+def check_told(trial, page, name, status, reason, **more):
+    """No comparison: by the command, by mail, by the check, in the metrics and in the log. The job of cron ends with 0 and
+    prints nothing, since the mail went out."""
     done = page.run("compare", **more)
-    trial.check(done[0] in (18, 24) and not done[1] and re.search(reason, done[2]), name + ": the command", done)
+    trial.check(done[0] == status and not done[1] and re.search(reason, done[2]), name + ": the command", done)
     taken(trial, "mailed")
     done, mail = trial.shell(crons_command(trial), **more), taken(trial, "mailed") or ""
-    trial.check(done[0] in (18, 24) and "no comparison" in mail and re.search(reason, mail), name + ": mail", (done, mail))
+    good = re.search(r"^Subject: .*: no comparison \(status %d\)$" % status, mail, re.M) and re.search(reason, mail)
+    trial.check(done == (0, "", "") and good, name + ": mail", (done, mail))
     done = page.run("check", rights=NOBODY)
     trial.check(done[0] == 3 and "UNKNOWN" in done[1] and done[1].count("\n") == 1, name + ": the check", done)
     done = page.run("metrics")
     text = trial.read("/var/lib/prometheus/node-exporter/aide-compare.prom")
-    trial.check(done[0] == 0 and re.search(r"_status (18|24)$", text, re.M) and "added" not in text.replace("1 added", ""),
+    trial.check(done[0] == 0 and re.search(r"_status %d$" % status, text, re.M) and "added" not in text.replace("1 added", ""),
                 name + ": metrics", text)
     done, text = page.run("log"), taken(trial, "logged") or ""
     trial.check("no comparison" in text, name + ": log", (done, text))
@@ -53,36 +55,42 @@ def check_told(trial, page, name, reason, **more):
 
 def try_damaged(trial, page):
     whole = gzip.compress(os.urandom(3000) + NEW.encode())
-    for name, text, reason in (
-        ("gzip cut short", gzip.compress(large(1).encode())[:-5000], "cut short"),
-        ("gzip with a wrong end", whole[:-8] + b"\0" * 8, "damaged"),
-        ("an empty database", b"", "no @@begin_db"),
-        ("no end", NEW.replace("@@end_db\n", ""), "no @@end_db"),
-        ("something else", "x\n", "no @@begin_db"),
+    for name, text, status, reason in (
+        ("gzip cut short", gzip.compress(large(1).encode())[:-5000], 18, "cut short"),
+        ("gzip with a wrong end", whole[:-8] + b"\0" * 8, 18, "damaged"),
+        ("an empty database", b"", 24, "no @@begin_db"),
+        ("no end", NEW.replace("@@end_db\n", ""), 24, "no @@end_db"),
+        ("something else", "x\n", 24, "no @@begin_db"),
     ):
         put(trial, OLD, text)
-        check_told(trial, page, name, reason)
+        check_told(trial, page, name, status, reason)
         baseline = open(trial.path(BASELINE), "rb").read()
-        done = page.run("accept")
+        done = accept_by(trial, page, "0" * 64)
         same = open(trial.path(BASELINE), "rb").read() == baseline
-        trial.check(done[0] in (1, 18) and same, name + ": is not accepted", done)
+        trial.check(done[0] == status and same, name + ": is not accepted", done)
 
 
 def try_missing(trial, page):
     put(trial, OLD, NEW)
     os.remove(trial.path(NEWEST))
-    check_told(trial, page, "no new database", "cannot open|no such file")
+    check_told(trial, page, "no new database", 18, "cannot open|no such file")
+
+
+def write_state(trial, name):
+    """Compares by the job of cron: the databases of this module differ in changed entries only."""
+    done = trial.shell(crons_command(trial))
+    trial.check(done == (0, "", "") and "\nstatus=4\n" in trial.read(STATE), name, done)
 
 
 def try_no_room(trial, page):
     put(trial, large(1), large(2))
-    check_told(trial, page, "no room", "cannot (copy|unpack|write)", limits=no_room(300000))
+    check_told(trial, page, "no room", 18, "cannot (copy|unpack|write)", limits=no_room(300000))
     put(trial, large(1), large(1))
     trial.check(page.run("compare")[0] == 0, "with room again")
     before = open(trial.path(BASELINE), "rb").read()
     put(trial, before, large(2))
-    trial.check(trial.shell(crons_command(trial))[0] == 4, "the state for accepting")
-    done = page.run("accept", limits=no_room(300000))
+    write_state(trial, "the state for accepting")
+    done = accept_by(trial, page, digest_of(trial.path(NEWEST)), limits=no_room(300000))
     same = open(trial.path(BASELINE), "rb").read() == before
     trial.check(done[0] == 18 and same, "no room: the baseline stays", done)
 
@@ -96,38 +104,39 @@ def try_no_right(trial, page):
     trial.check(done[0] == 18 and not done[1] and done[2], "no right to read the databases", done)
 
 
+def has_private_file(trial, process):
+    """A process has opened a file without a name in the temporary folder."""
+    folder, start = "/proc/%d/fd" % process.pid, trial.path("/var/tmp/")
+    try:
+        links = [os.readlink(os.path.join(folder, name)) for name in os.listdir(folder)]
+    except OSError:
+        return False
+    return any(link.startswith(start) and link.endswith(" (deleted)") for link in links)
+
+
 def try_killed(trial):
-    """A run that is killed while it reads: the state before it stays, and nothing is left that others can read."""
+    """A run that is killed while it reads a pipe: the state before it stays, and nothing is left in the temporary folder."""
     put(trial, OLD, OLD)
     words = ["aide-compare-run", "--state", trial.path(STATE)]
     trial.check(trial.run(words)[0] == 0, "a whole run")
     before = trial.read(STATE)
-    pipe = trial.path("/tmp/pipe")
-    os.mkfifo(pipe)
     for number in (signal.SIGTERM, signal.SIGINT, signal.SIGHUP, signal.SIGKILL):
-        folders = lambda: [name for name in os.listdir(trial.path("/var/tmp")) if name.startswith("aide")]
-        known = folders()
-        process = trial.start(["sh", "-c", 'exec "$0" "$@"'] + words + [pipe, trial.path(NEWEST)])
-        trial.check(wait_until(lambda: len(folders()) > len(known)), "the run has begun")
-        time.sleep(0.1)
+        process = trial.start(words + ["/dev/stdin", trial.path(NEWEST)], stdin=subprocess.PIPE)
+        trial.check(wait_until(lambda: has_private_file(trial, process)), "the run has begun")
         process.send_signal(number)
-        writer = os.open(pipe, os.O_RDWR | os.O_NONBLOCK)
-        os.close(writer)
         process.communicate()
-        trial.check(process.returncode not in range(8), "killed by %d: the status" % number, process.returncode)
+        trial.check(process.returncode == -number, "killed by %d: the status" % number, process.returncode)
         trial.check(trial.read(STATE) == before, "killed by %d: the state stays" % number)
-        left = [name for name in folders() if name not in known]
-        trial.check(number == signal.SIGKILL or not left, "killed by %d: nothing is left" % number, left)
-        modes = [os.stat(trial.path("/var/tmp/" + name)).st_mode & 0o077 for name in left]
-        trial.check(not any(modes), "killed by %d: what is left is private" % number, modes)
+        left = os.listdir(trial.path("/var/tmp"))
+        trial.check(not left, "killed by %d: nothing is left" % number, left)
 
 
 def try_accept_killed(trial):
     """Wherever accepting is killed, the baseline is the whole former or the whole new one."""
     texts = [gzip.compress(large(number).encode()) for number in (1, 2)]
     put(trial, *texts)
-    trial.check(trial.shell(crons_command(trial))[0] == 4, "the state before accepting")
-    words = ["aide-compare-accept", "--state", trial.path(STATE), trial.path(NEWEST), trial.path(BASELINE)]
+    write_state(trial, "the state before accepting")
+    words = ["aide-compare-accept", "--sha256", digest_of(trial.path(NEWEST)), trial.path(NEWEST), trial.path(BASELINE)]
     seen = set()
     for number in range(12):
         put(trial, *texts)
@@ -148,7 +157,7 @@ def try_twice(trial):
     answers = {(run.communicate()[0], run.returncode) for run in runs}
     trial.check(len(answers) == 1 and answers.pop()[1] == 4, "four runs at once: one answer")
     state = trial.read(STATE)
-    trial.check(state.count("\n") == 12 and "\nchanged=30000\n" in state, "four runs at once: a whole state", state)
+    trial.check(state.count("\n") == 14 and "\nchanged=30000\n" in state, "four runs at once: a whole state", state)
 
 
 def try_names(trial):
@@ -158,16 +167,16 @@ def try_names(trial):
     old, new = (trial.path("%s/%s" % (folder, name)) for name in ("old $(x) 'é'.db", "-new ü.db"))
     state = trial.path(folder + "/a state")
     done = trial.run(["aide-compare-run", "--state", state, old, new])
-    trial.check(done[0] == 7 and ": /a é\n" in done[1] and not done[2], "names with blanks and é", done)
-    trial.check(trial.run(["aide-compare-accept", "--state", state, new, old])[0] == 0, "they are accepted too")
+    good = done[0] == 7 and ": /a é\n" in done[1] and done[2] == introduction(trial, old, new)
+    trial.check(good, "names with blanks and é", done)
+    trial.check(trial.run(["aide-compare-accept", "--sha256", digest_of(new), new, old])[0] == 0, "they are accepted too")
     trial.check(trial.run(["aide-compare-run", old, new])[0] == 0, "and then quiet")
 
 
 def try_faults(trial, page, with_packages):
     del with_packages
     put_stubs(trial)
-    for name in ("cron", "cron daily"):
-        page.run(name)
+    page.run("cron daily")
     names = (("database_in", BASELINE), ("database_new", NEWEST))
     trial.write("/etc/aide/aide.conf", "".join("%s=file:%s\n" % (key, trial.path(name)) for key, name in names))
     for part in (try_damaged, try_missing, try_no_room, try_no_right):

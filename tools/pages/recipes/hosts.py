@@ -3,7 +3,6 @@ import gzip
 import os
 import re
 import signal
-import subprocess
 import time
 
 from .trial import FLEET, NOBODY, wait_until
@@ -34,11 +33,11 @@ WANTED = {
     "zipped": (0, "no differences"),
     "user@other.example-1": (7, "added 1, removed 1, changed 1"),
     "forged": (24, "no @@begin_db"),
-    "cut": (None, "cut short|damaged"),
+    "cut": (18, "cut short|damaged"),
     "bomb": (18, "more than 100000 bytes unpacked"),
     "down": (18, "No route to host"),
     "endless": (18, "sent more than 50000 bytes"),
-    "loud": (18, "ssh ended with"),
+    "loud": (18, "more than 65536 bytes of errors"),
     "silent": (18, "sent nothing"),
     "broken": (18, "ssh ended with 255"),
     "first": (18, "no baseline yet"),
@@ -85,7 +84,7 @@ def lines_of(output):
 
 
 def shown(name):
-    return re.sub(rb"[^!-~]", b"?", name.encode()).decode()
+    return name.replace(" ", "\\040")
 
 
 def check_lines(trial, name, done):
@@ -94,24 +93,23 @@ def check_lines(trial, name, done):
     trial.check(set(lines) == {shown(host) for host in WANTED}, name + ": a line for each host", sorted(lines))
     for host, (status, text) in WANTED.items():
         got = lines.get(shown(host), ("", ""))
-        good = got[0] == str(status) if status is not None else int(got[0] or 0) in (18, 24)
-        trial.check(good and re.search(text, got[1]), "%s: the host %r" % (name, host), got)
+        trial.check(got[0] == str(status) and re.search(text, got[1]), "%s: the host %r" % (name, host), got)
     wanted = "%d hosts: 2 without differences, 2 with, %d not compared" % (len(WANTED), len(WANTED) - 4)
     trial.check(summary == wanted, name + ": the summary", summary)
 
 
-def try_lines(trial, ways):
-    os.environ["AIDE_COMPARE_MOST_UNPACKED"] = "100000"
-    words = [tool(trial, "compare-hosts"), "--most", "50000"]
-    try:
-        for way in ways:
-            check_lines(trial, way, trial.run(words + ["--jobs", "4", "--with", way, trial.path(HOSTS)]))
-        parts = [trial.run(words + ["--share", "%d/3" % part, trial.path(HOSTS)]) for part in (1, 2, 3)]
-        lines = [lines_of(done[1])[0] for done in parts]
-        trial.check(sum(len(each) for each in lines) == len(WANTED), "three parts: each host once", lines)
-        trial.check(len({host for each in lines for host in each}) == len(WANTED), "three parts: all hosts", lines)
-    finally:
-        del os.environ["AIDE_COMPARE_MOST_UNPACKED"]
+def try_lines(trial):
+    words = [tool(trial, "compare-hosts"), "--most", "50000", "--most-unpacked", "100000"]
+    check_lines(trial, "all hosts", trial.run(words + ["--jobs", "4", trial.path(HOSTS)]))
+    parts = [trial.run(words + ["--share", "%d/3" % part, trial.path(HOSTS)]) for part in (1, 2, 3)]
+    lines = [lines_of(done[1])[0] for done in parts]
+    trial.check(sum(len(each) for each in lines) == len(WANTED), "three parts: each host once", lines)
+    trial.check(len({host for each in lines for host in each}) == len(WANTED), "three parts: all hosts", lines)
+    for host, (status, text) in WANTED.items():
+        if status in (18, 24):
+            state = trial.read("%s/states/%s" % (STORE, host))
+            good = "\nstatus=%d\n" % status in state and re.search("^error=.*(%s)" % text, state, re.M)
+            trial.check(good, "the state of %s says that nothing was compared" % host, state)
     got = trial.read(STORE + "/hosts/other/report")
     trial.check("f+++" in got and ": /a é\n" in got, "the report of a host, with a blank and an é", got)
     trial.check(trial.read(STORE + "/hosts/other/aide.db") == OLD, "the baseline of a host stays as it was")
@@ -144,6 +142,10 @@ def try_quiet(trial):
         trial.check(done[0] == status and done[2], "a file of hosts that names none is no success", done)
 
 
+def digest_in(state):
+    return re.search("^new_sha256=([0-9a-f]{64})$", state, re.M).group(1)
+
+
 def try_first(trial):
     """A first baseline, then one that came after the report was read, a wrong digest, and the right one."""
     accept, fetch, compare = (tool(trial, name) for name in ("accept-host", "fetch-host", "compare-host"))
@@ -152,19 +154,23 @@ def try_first(trial):
     done = trial.run([accept, "--first", "new-one"])
     trial.check(done[0] == 0 and "SHA-256 " in done[1], "a first database is accepted", done)
     done = trial.run([accept, "--first", "new-one"])
-    trial.check(done[0] == 1 and "already" in done[2], "--first is refused when there is a baseline", done)
+    trial.check(done[0] == 24 and "already" in done[2], "--first is refused when there is a baseline", done)
     trial.check(trial.run([compare, "new-one"])[0] == 0, "the first database is the baseline")
     put_host(trial, "new-one", NEW, None)
     trial.check([trial.run([each, "new-one"])[0] for each in (fetch, compare)] == [0, 7], "then it differs")
+    read = digest_in(trial.read(STORE + "/states/new-one"))
     put_host(trial, "new-one", LATER, None)
     trial.check(trial.run([fetch, "new-one"])[0] == 0, "a later database is fetched")
-    done = trial.run([accept, "new-one"])
-    trial.check(done[0] == 1 and done[2], "a database that came after the report is refused", done)
+    trial.check(trial.run([accept, "new-one"])[0] == 15, "nothing is accepted without a digest")
+    done = trial.run([accept, "--sha256", read, "new-one"])
+    trial.check(done[0] == 24 and done[2], "a database that came after the report is refused", done)
     done = trial.run([accept, "--sha256", "0" * 64, "new-one"])
-    trial.check(done[0] == 1, "a wrong digest is refused", done)
+    trial.check(done[0] == 24 and read not in done[1], "a wrong digest is refused", done)
     trial.check(trial.read(STORE + "/hosts/new-one/aide.db") == OLD, "a refused database is not the baseline")
     trial.check(trial.run([compare, "new-one"])[0] == 7, "the later one is compared")
-    trial.check(trial.run([accept, "new-one"])[0] == 0, "the database that was compared is accepted")
+    read = digest_in(trial.read(STORE + "/states/new-one"))
+    done = trial.run([accept, "--sha256", read, "new-one"])
+    trial.check(done[0] == 0, "the database that was compared is accepted", done)
     trial.check(trial.run([compare, "new-one"])[0] == 0, "then there are no differences")
     trial.check(trial.read(STORE + "/hosts/new-one/aide.db.previous") == OLD, "the former baseline is kept")
 
@@ -209,7 +215,7 @@ def try_killed(trial):
 def try_twice(trial):
     """Two runs over the same hosts at once: each has its lines, and the databases are whole."""
     trial.write("/tmp/twice", "same\nother\nzipped\n")
-    words = [tool(trial, "compare-hosts"), "--jobs", "3", "--with", "xargs", trial.path("/tmp/twice")]
+    words = [tool(trial, "compare-hosts"), "--jobs", "3", trial.path("/tmp/twice")]
     runs = [trial.start(words) for _ in range(3)]
     for run in runs:
         output = run.communicate()[0].decode()
@@ -247,9 +253,9 @@ def try_options(trial):
     trial.check(trial.run([tool(trial, "fetch-host"), "other"])[0] == 0, "a host for options")
     conf = trial.write("/tmp/one line.conf", "report_level=minimal\n")
     compare = tool(trial, "compare-host")
-    for words in (["other", "--", "-A", "report_level=minimal"], ["--conf", conf, "other"], ["--conf", conf, "--", "other", "--"]):
+    for words in (["other", "--", "-A", "report_level=minimal"], ["--conf", conf, "other"], ["--conf", conf, "other", "--"]):
         done = trial.run([compare] + words)
-        trial.check(done[0] == 7 and done[1].count("\n") == 1 and not done[2], "compare-host with options", (words, done))
+        trial.check(done[0] == 7 and done[1].count("\n") == 1 and "to accept it" in done[2], "compare-host with options", (words, done))
     done = trial.run([compare, "other", "same"])
     trial.check(done[0] == 15 and done[2], "compare-host with two hosts", done)
 
@@ -259,24 +265,17 @@ def try_words(trial):
     for name in ("fetch-host", "compare-host", "accept-host", "compare-hosts"):
         done = trial.run([tool(trial, name), "--help"])
         trial.check(done[0] == 0 and done[1].startswith("usage: " + name) and not done[2], name + " --help", done)
-        for words in ([], ["--nope", "x"], ["--store"], ["--", "a", "b"]):
+        for words in ([], ["--nope", "x"], ["--store"], ["a", "b"]):
             done = trial.run([tool(trial, name)] + words)
             trial.check(done[0] == 15 and done[2].startswith(name + ": ") and not done[1], name + " with wrong words", (words, done))
-    for words in (["--jobs", "0"], ["--jobs", "x"], ["--share", "3/2"], ["--share", "2"], ["--with", "nope"]):
+    for words in (["--jobs", "0"], ["--jobs", "x"], ["--share", "3/2"], ["--share", "2"], ["--same-for", "31d"]):
         done = trial.run([tool(trial, "compare-hosts")] + words + [trial.path("/tmp/one")])
         trial.check(done[0] == 15, "compare-hosts with wrong numbers", (words, done))
 
 
 def try_hosts(trial, page, with_packages):
-    del page
+    del page, with_packages
     put_hosts(trial)
-    ways = ["xargs"]
-    if with_packages:
-        found = subprocess.run("parallel --version", shell=True, stdout=subprocess.PIPE, stderr=subprocess.DEVNULL)
-        if found.stdout.startswith(b"GNU parallel"):
-            ways.append("parallel")
-        else:
-            print("skipped: GNU parallel is not installed")
-    try_lines(trial, ways)
+    try_lines(trial)
     for part in (try_slow, try_quiet, try_first, try_stale, try_killed, try_twice, try_place, try_options, try_words):
         part(trial)

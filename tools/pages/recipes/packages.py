@@ -13,7 +13,7 @@ def try_packages(trial, page, with_packages):
     for name in ("slurm", "ansible"):
         page.text(name, "by hand")
     if not with_packages:
-        print("skipped: AIDE itself, parallel, Slurm, Nagios, cron, ssh and Ansible (--with-packages)")
+        print("skipped: AIDE itself, Slurm, Nagios, cron, ssh and Ansible (--with-packages)")
         return
     if os.geteuid() != 0 or not shutil.which("aide") or not shutil.which("unshare"):
         print("skipped: Debian's packages (they need root, aide and unshare)")

@@ -8,7 +8,7 @@ umask 022
 cd /
 here=$1 program=$2 folder=$3
 fleet=/usr/local/lib/aide-compare/fleet
-state=/var/lib/aide-compare/state
+state=/var/lib/aide-compare/daily/state
 mails=/var/tmp/mails
 
 has() { command -v "$1" > /dev/null; }
@@ -90,11 +90,20 @@ nightly() {
     [ -s /var/lib/aide/aide.db.new ]
 }
 
-# cron itself runs the installed file, with each minute in place of a time in the morning.
+# cron itself starts the installed job, each minute in place of a time in the morning, and without the other daily jobs:
+# `nightly` is Debian's own.
 begin_cron() {
-    sed 's/^[0-9]* [0-9]* \* \* \*/* * * * */' /usr/local/share/doc/aide-compare/examples/cron/aide-compare.cron.d \
-        > /etc/cron.d/aide-compare
+    block 'cron daily' > "$folder/cron"
+    check 'the job of cron is copied' sh -e "$folder/cron"
+    check "run-parts takes the job, after Debian's own" is_after_aide
+    printf '* * * * * root /etc/cron.daily/aide-compare\n' > /etc/cron.d/aide-compare
     cron -f &
+}
+
+is_after_aide() {
+    run-parts --test /etc/cron.daily > "$folder/parts" || return 1
+    aide=$(grep -nx /etc/cron.daily/aide "$folder/parts") && ours=$(grep -nx /etc/cron.daily/aide-compare "$folder/parts") &&
+        [ "${aide%%:*}" -lt "${ours%%:*}" ]
 }
 
 cron_has_run() {
@@ -128,7 +137,7 @@ try_days() {
     touch -d '3 days ago' /var/lib/aide/aide.db.new
     : > "$mails"
     check 'AIDE stops: cron has run' cron_has_run
-    check 'AIDE stops: a mail says so' grep -q 'aide.db.new is 72 hours old, more than --age allows' "$mails"
+    check 'AIDE stops: a mail says so' grep -q 'aide.db.new is 3 days old, more than --age allows' "$mails"
     check 'AIDE stops: the check is UNKNOWN' ends_with 3 as_nobody /usr/local/lib/nagios/plugins/check_aide_compare
     check "AIDE runs again: Debian's nightly run" nightly
     check 'AIDE runs again: cron has run' cron_has_run

@@ -7,6 +7,7 @@ import struct
 
 from .days import STATE, put_stubs, taken
 from .hosts import HEAD, NEW, OLD
+from .said import introduction, left_out
 from .trial import HERE
 
 OPENED = 0x20
@@ -62,11 +63,12 @@ def try_install(trial, page):
 def try_pair(trial, page):
     put_pair(trial, example("old.db"), example("new.db"))
     done = page.run("pair")
-    trial.check(done[0] == 7 and "Added entries:           3\n" in done[1] and not done[2], "pair", done)
+    said = introduction(trial, "old.db.gz", "new.db.gz")
+    trial.check(done[0] == 7 and "Added entries:           3\n" in done[1] and done[2] == said, "pair", (done, said))
     page.prints("pair", done[1])
     trial.write("/etc/aide/compare.conf", "report_level=summary\n")
     done = page.run("options")
-    trial.check(done[0] == 7 and not done[2] and done[1].count("Summary:") == 2, "options", done)
+    trial.check(done[0] == 7 and done[2] == 2 * said and done[1].count("Summary:") == 2, "options", done)
     trial.check(len(entries(done[1])) == 22 and "Detailed information" not in done[1], "options: a list, no details", done[1])
     put_pair(trial, OLD, OLD)
     done = page.run("pair")
@@ -76,7 +78,7 @@ def try_pair(trial, page):
 def try_grouped(trial, page):
     put_pair(trial, example("old.db"), example("new.db"))
     groups, one = page.run("pair"), page.run("grouped")
-    trial.check(groups[0] == one[0] == 7 and not one[2], "grouped: the status", one)
+    trial.check(groups[0] == one[0] == 7 and one[2] == groups[2] != "", "grouped: the status", one)
     trial.check(len(entries(one[1])) == 22 and entries(groups[1]) == entries(one[1]), "grouped: the same entries", one[1])
     folder = trial.path("/tmp/openings")
     os.makedirs(folder)
@@ -125,14 +127,18 @@ def try_without(trial, page):
     )
     trial.check(page.run("pair")[0] == 5, "with the paths")
     done = page.run("without")
-    trial.check(done[0] == 0 and "NO differences" in done[1], "without", done)
+    patterns = ["/var/%s/** (--without-path)" % name for name in ("log", "cache")]
+    said = left_out([(1, patterns[0])], [(1, patterns[1]), (1, patterns[0])])
+    trial.check(done[0] == 0 and "NO differences" in done[1] and done[2] == said, "without", (done, said))
+    page.prints("without", done[2])
 
 
 def try_page(trial, page):
     put_pair(trial, OLD, NEW)
     done = page.run("page")
     text = trial.read("/tmp/page.html")
-    trial.check(done[0] == 0 and not done[2] and "</html>" in text and "a é</code>" in text, "page", (done, text[:300]))
+    good = "</html>" in text and "a é</code>" in text and done[2] == introduction(trial, "old.db.gz", "new.db.gz")
+    trial.check(done[0] == 0 and good, "page", (done, text[:300]))
 
 
 def try_order(trial, page):
@@ -148,7 +154,7 @@ def try_order(trial, page):
     trial.check(trial.run(["aide-compare-run", "sorted.db", "sorted.db"])[0] == 0, "a sorted database")
     trial.write("/tmp/mixed.db", mixed.replace("/a-b", "/%61"))
     done = page.run("order")
-    trial.check(done[0] == 1 and "/a" in done[2], "order: a path twice", done)
+    trial.check(done[0] == 24 and "stands twice: /a\n" in done[2], "order: a path twice", done)
 
 
 def try_mail(trial, page):

@@ -14,8 +14,10 @@ FOLDERS = [
     "/etc/aide-compare",
     "/etc/cron.d",
     "/etc/cron.daily",
+    "/etc/default",
     "/etc/logcheck",
     "/etc/rsyslog.d",
+    "/etc/systemd/system",
     "/root",
     "/srv/aide",
     "/srv/www",
@@ -128,12 +130,12 @@ class Trial:
     def shell(self, text, **more):
         return self.run(["sh", "-c", text], **more)
 
-    def start(self, words, **more):
+    def start(self, words, stdin=subprocess.DEVNULL, **more):
         return subprocess.Popen(
             words,
             cwd=self.root + "/tmp",
             env=self.environment(),
-            stdin=subprocess.DEVNULL,
+            stdin=stdin,
             stdout=subprocess.PIPE,
             stderr=subprocess.PIPE,
             **more

@@ -20,6 +20,11 @@ database_attrs = Checksums
 Watched = p+ftype+u+g+sha256
 @@x_include /etc/aide/aide.conf.d ^[a-zA-Z0-9_-]+$
 """
+# What is said of these lines on standard error.
+PASSED_OVER = (
+    "aide-compare-run: /etc/aide/aide.conf: 3 lines that include other files are passed over, the first: "
+    "@@x_include_setenv UPAC_settingsd /etc/aide/aide.settings.d\n"
+)
 
 
 class Watched:

@@ -1,0 +1,171 @@
+"""Quiet days on Debian: logs and caches change every night, and what is no log is still reported."""
+import gzip
+import os
+import re
+import shutil
+
+from .days import BASELINE, NEWEST, STATE, crons_command, put_stubs, taken, unit_commands
+from .hosts import HEAD
+from .said import introduction, left_out
+from .trial import NOBODY
+
+WITHOUT = "/usr/local/share/doc/aide-compare/examples/aide/debian.without"
+DROP_IN = "/etc/systemd/system/aide-compare.service.d"
+# A night in which only logs, a cache and AIDE's own database have changed, and the same night with an intruder.
+LOGS = ["/var/log/auth.log", "/var/log/kern.log", "/var/log/syslog"]
+OLD = dict.fromkeys(["/etc/passwd", "/var/cache/man/da", "/var/cache/man/de", "/var/lib/aide/aide.db"] + LOGS, 1)
+NIGHT = dict({"/etc/passwd": 1, "/var/lib/aide/aide.db": 2, "/var/log/syslog.1": 1}, **dict.fromkeys(LOGS, 2))
+INTRUDER = dict(NIGHT, **{"/etc/passwd": 2, "/etc/ld.so.preload": 1})
+# The settings of Debian's package that are about mails, as it installs them.
+DEFAULTS = "#MAILTO=root\n#QUIETREPORTS=no\n#SILENTREPORTS=no\nCOMMAND=update\nCOPYNEWDB=no\n"
+
+
+def put(trial, new):
+    for name, sizes in ((BASELINE, OLD), (NEWEST, new)):
+        lines = ["%s 36 100644 %d\n" % (trial.below(path), size) for path, size in sizes.items()]
+        trial.write(name, gzip.compress((HEAD + "".join(sorted(lines)) + "@@end_db\n").encode()), 0o600)
+
+
+def places(trial):
+    """What is said of the lines of debian.without that leave something out here."""
+    lines = trial.read(WITHOUT).split("\n")
+    for pattern in ("/var/log/*", "/var/cache/**", BASELINE):
+        pattern = trial.below(pattern)
+        yield "%s (%s, line %d)" % (pattern, trial.path(WITHOUT), lines.index(pattern) + 1)
+
+
+def try_command(trial, page):
+    logs, caches, own = places(trial)
+    left = left_out([(3, logs), (2, caches), (1, own)], [(4, logs), (1, own)])
+    put(trial, NIGHT)
+    trial.check(page.run("compare")[0] == 7, "a night of logs: differences")
+    done = page.run("quiet")
+    trial.check(done[0] == 0 and "NO differences" in done[1] and done[2] == left, "quiet", (done, left))
+    page.prints("quiet", done[2])
+    put(trial, INTRUDER)
+    done = page.run("quiet")
+    said = left + introduction(trial, trial.path(BASELINE), trial.path(NEWEST))
+    good = done[0] == 5 and "/etc/ld.so.preload\n" in done[1] and "/etc/passwd\n" in done[1] and "/var/" not in done[1]
+    trial.check(good and done[2] == said, "quiet: an intruder is reported, and the digests are of whole databases", (done, said))
+    os.chmod(trial.path(WITHOUT), 0o666)
+    done = page.run("quiet")
+    trial.check(done[0] == 18 and not done[1] and "other users can write" in done[2], "quiet: a file that others can write", done)
+    os.chmod(trial.path(WITHOUT), 0o644)
+
+
+def mails_of(trial, commands):
+    """The mail of a job, None if there was none; the job has to end well."""
+    taken(trial, "mailed")
+    done = [trial.shell(command) for command in commands]
+    trial.check(done == [(0, "", "")] * len(done), "quiet: the job ends well", done)
+    return taken(trial, "mailed")
+
+
+def try_job(trial, name, commands):
+    """A quiet night sends no mail. The one of an intruder does, and the mail says what was left out."""
+    put(trial, NIGHT)
+    mail, state = mails_of(trial, commands), trial.read(STATE)
+    good = mail is None and "\nstatus=0\n" in state and "\nleft_out_old=6\nleft_out_new=5\n" in state
+    trial.check(good, "quiet %s: no mail of a night of logs" % name, (mail, state))
+    put(trial, INTRUDER)
+    mail = mails_of(trial, commands) or ""
+    good = "differences (1 added, 1 changed)" in mail and "/etc/ld.so.preload\n" in mail
+    trial.check(good and "left out of the new database: 5 entries\n" in mail, "quiet %s: the mail of an intruder" % name, mail)
+
+
+def try_timer(trial, page):
+    put(trial, NIGHT)
+    mail = mails_of(trial, unit_commands(trial)) or ""
+    trial.check("differences (1 added, 2 removed, 4 changed)" in mail, "the timer as installed mails a night of logs", mail)
+    done = page.run("quiet timer")
+    trial.check(done == (0, "", ""), "quiet timer", done)
+    text = trial.read(DROP_IN + "/local.conf")
+    trial.check("[Service]\nExecStart=\nExecStart=/" in text, "quiet timer: the command is replaced, not added", text)
+    try_job(trial, "timer", unit_commands(trial))
+
+
+def try_cron(trial, page):
+    page.run("cron daily")
+    done = page.run("quiet cron")
+    trial.check(done == (0, "", ""), "quiet cron", done)
+    try_job(trial, "cron", [crons_command(trial)])
+
+
+def rules_in(trial, name):
+    """The rules of a file for AIDE: patterns, which are doubly escaped there, and types."""
+    for line in trial.read(name).split("\n"):
+        if line and not line.startswith("#"):
+            pattern, kind = line.lstrip("!").split()[:2]
+            yield re.compile(pattern.replace("\\\\", "\\")), kind
+
+
+def own_files(trial):
+    """What the commands of the page have written, and what accepting and systemd write later."""
+    yield "d", trial.path(STATE.rpartition("/daily")[0])
+    for folder, _, names in os.walk(trial.path(os.path.dirname(STATE))):
+        yield "d", folder
+        yield from (("f", os.path.join(folder, name)) for name in names)
+    yield "f", trial.path(STATE + ".quiet")
+    yield "f", trial.path(BASELINE + ".previous")
+    yield "f", "/var/lib/systemd/timers/stamp-aide-compare.timer"
+
+
+def try_own_files(trial, page):
+    os.makedirs(trial.path("/etc/aide/aide.conf.d"), exist_ok=True)
+    done = page.run("own files")
+    trial.check(done == (0, "", ""), "own files", done)
+    name = "/etc/aide/aide.conf.d/31_aide_aide-compare"
+    rules = list(rules_in(trial, name))
+    put(trial, INTRUDER)
+    trial.shell(unit_commands(trial)[0])
+    paths = list(own_files(trial))
+    trial.check(any("/daily/mail/" in path for _, path in paths), "own files: a mail waits", paths)
+    for kind, path in paths:
+        found = any(kind == wanted and pattern.match(path) for pattern, wanted in rules)
+        trial.check(found, "own files: a rule for AIDE", (kind, path))
+    other = trial.path(os.path.dirname(STATE) + "/other")
+    trial.check(not any(pattern.match(other) for pattern, _ in rules), "own files: no rule for any other file there")
+    os.remove(trial.path(name))
+    trial.shell(unit_commands(trial)[1])
+
+
+def try_one_mail(trial, page):
+    name = trial.write("/etc/default/aide", DEFAULTS)
+    done = page.run("one mail")
+    trial.check(done == (0, "", ""), "one mail", done)
+    done = trial.shell('. "%s"; echo "$QUIETREPORTS $SILENTREPORTS $COMMAND $COPYNEWDB"' % name)
+    trial.check(done[1] == "yes  update no\n", "one mail: what Debian's job reads", done)
+
+
+def try_owner(trial, page):
+    """The first comparison was root's, and the databases belong to another user: the job of cron can still write."""
+    if os.geteuid() != 0:
+        print("skipped: the job of cron for another user (it needs root)")
+        return
+    page.run("cron daily")
+    put(trial, INTRUDER)
+    folder, owners = os.path.dirname(STATE), {}
+    shutil.rmtree(trial.path(folder))
+    trial.check(trial.run(["aide-compare-run", "--state", trial.path(STATE)])[0] == 7, "cron: a first comparison of root's")
+    for path in ("/var/lib/aide", BASELINE, NEWEST):
+        owners[path] = os.stat(trial.path(path))
+        os.chown(trial.path(path), NOBODY, NOBODY)
+    for name, owner in (("the user of the databases", NOBODY), ("root, whose AIDE wrote the new one", 0)):
+        os.chown(trial.path(NEWEST), owner, owner)
+        mail = mails_of(trial, [crons_command(trial)]) or ""
+        trial.check(": differences (" in mail, "cron: %s compares" % name, mail)
+        trial.check(os.stat(trial.path(STATE)).st_uid == owner, "cron: %s writes the state" % name)
+    for path, found in owners.items():
+        os.chown(trial.path(path), found.st_uid, found.st_gid)
+    shutil.rmtree(trial.path(folder))
+
+
+def try_quiet(trial, page, with_packages):
+    del with_packages
+    put_stubs(trial)
+    names = (("database_in", BASELINE), ("database_new", NEWEST))
+    trial.write("/etc/aide/aide.conf", "".join("%s=file:%s\n" % (key, trial.path(name)) for key, name in names))
+    for part in (try_timer, try_cron, try_own_files, try_owner, try_one_mail):
+        part(trial, page)
+        shutil.rmtree(trial.path(DROP_IN), ignore_errors=True)
+    try_command(trial, page)
