@@ -1,0 +1,1 @@
+"""Wrong bodies of the proved functions, and how the prover refuses each."""

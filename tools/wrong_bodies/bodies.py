@@ -1,0 +1,125 @@
+"""Reads the lists of wrong bodies, `bodies/CRATE/NAME.txt`, and a crate's must-fail edits.
+
+A list has a block for each body, and a blank line between two blocks:
+
+    body: rest_of_new_left_out
+    why: what the new database still has when the old one has ended is not reported
+    file: src/merge.rt
+    old:         None => Turn::New,
+    new:         None => Turn::Ended,
+
+`file`, `old` and `new` mean what they mean in a must-fail edit: each `old` is on one line and stands once in its file,
+and a further pair applies to what the earlier ones made. A body that the contracts should let through has one more
+line, `right: REASON` or `test: NAME OF THE TEST THAT SEES IT`.
+"""
+import hashlib
+import pathlib
+
+HERE = pathlib.Path(__file__).resolve().parent
+ROOT = HERE.parent.parent
+LISTS = HERE / "bodies"
+WORDS = ("body", "why", "file", "old", "new", "right", "test")
+
+
+class ListError(Exception):
+    """A list cannot be read, or does not fit the sources."""
+
+
+class Body:
+    """A wrong body: pairs of texts, each with its file below the crate, and what is expected of it."""
+
+    def __init__(self, crate, name, place):
+        self.crate, self.name, self.place = crate, name, place
+        self.why, self.right, self.test = "", "", ""
+        self.pairs = []
+
+    def is_let_through(self):
+        """Whether the contracts are expected to let it through."""
+        return bool(self.right or self.test)
+
+    def sum(self):
+        """A sum of what is planted."""
+        return hashlib.sha256(repr(self.pairs).encode()).hexdigest()[:16]
+
+    def as_edit(self):
+        """The text of the must-fail edit that plants the same."""
+        lines, named = [], None
+        for file, old, new in self.pairs:
+            lines += [f"file: {file}"] * (file != named) + [f"old: {old}", f"new: {new}"]
+            named = file
+        return "\n".join(lines) + "\n"
+
+
+def take_line(body, word, rest, state):
+    """Takes a line of a block or of an edit."""
+    if word == "file":
+        state["file"] = rest.strip()
+    elif word == "old":
+        state["old"] = rest
+    elif word == "new":
+        if "old" not in state or "file" not in state:
+            raise ListError(f"{body.place}: a `new` needs a `file` and an `old` above it")
+        body.pairs.append((state["file"], state.pop("old"), rest))
+    else:
+        setattr(body, word, rest.strip())
+
+
+def read_list(crate, path):
+    """The bodies of one list."""
+    found, body, state = [], None, {}
+    for number, line in enumerate(path.read_text(encoding="utf-8").splitlines(), 1):
+        if not line.strip():
+            body, state = None, {}
+            continue
+        place = f"{path.relative_to(ROOT)}:{number}"
+        word, colon, rest = line.partition(":")
+        rest = rest[1:] if rest.startswith(" ") else rest
+        if not colon or word not in WORDS or (body is None) != (word == "body"):
+            raise ListError(f"{place}: a block begins with `body`, and each line with one of {', '.join(WORDS)}")
+        if word == "body":
+            body = Body(crate, rest.strip(), place)
+            found.append(body)
+        else:
+            take_line(body, word, rest, state)
+    for body in found:
+        if not body.pairs or not body.why:
+            raise ListError(f"{body.place}: `{body.name}` needs a `why`, a `file`, an `old` and a `new`")
+        if body.right and body.test:
+            raise ListError(f"{body.place}: `{body.name}` is either right or seen by a test")
+    return found
+
+
+def bodies_of(crate):
+    """All bodies of a crate."""
+    found = [body for path in sorted((LISTS / crate).glob("*.txt")) for body in read_list(crate, path)]
+    refuse_doubles(found)
+    return found
+
+
+def edits_of(crate):
+    """The crate's must-fail edits, as bodies."""
+    found = []
+    for path in sorted((ROOT / "crates" / crate / "must-fail").glob("*.edit")):
+        body, state = Body(crate, path.stem, str(path.relative_to(ROOT))), {}
+        body.why = path.stem.replace("_", " ")
+        for line in path.read_text(encoding="utf-8").splitlines():
+            word, colon, rest = line.partition(":")
+            if colon and word in ("file", "old", "new"):
+                take_line(body, word, rest[1:] if rest.startswith(" ") else rest, state)
+        found.append(body)
+    return found
+
+
+def refuse_doubles(found):
+    """Each body has a name and a text of its own."""
+    for kind, key in (("name", lambda body: body.name), ("text", lambda body: body.sum())):
+        seen = {}
+        for body in found:
+            if key(body) in seen:
+                raise ListError(f"{body.place}: the {kind} of `{body.name}` stands at {seen[key(body)].place} too")
+            seen[key(body)] = body
+
+
+def crates_with_lists():
+    """The crates that have a list."""
+    return sorted(path.name for path in LISTS.iterdir() if any(path.glob("*.txt"))) if LISTS.is_dir() else []
