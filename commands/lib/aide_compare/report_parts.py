@@ -1,13 +1,12 @@
 """The parts of a report, read one after another: its objects in JSON."""
 import base64
-import heapq
 import re
 from collections import namedtuple
 
 from aide_compare.files import nameless
 from aide_compare.report_lines import LINE_LIMIT, RULE, Refused, put_bytes, unprinted
-from aide_compare.report_marks import misfit
-from aide_compare.report_values import FORMS, PIECE, TYPES, Block, Digests, attribute_of
+from aide_compare.report_objects import objects_of
+from aide_compare.report_values import FORMS, PIECE, TYPES, Block, Digests
 
 FORMAT = 1
 LEVELS = ['minimal', 'summary', 'database_attributes', 'list_entries', 'changed_attributes',
@@ -35,32 +34,6 @@ DIGEST_LINES = [re.compile(rb'  SHA256    : (.{32})'), re.compile(rb' {14}(.{1,3
 # An entry of a list; it is doubtful if the text leaves open whether it is of this kind or changed.
 Entry = namedtuple('Entry', 'number kind doubtful letters path')
 Detail = namedtuple('Detail', 'number title path blocks')
-
-
-def object_of(entry, detail, digests):
-    """The object of an entry, with its attributes if the details show it."""
-    fields = {'record': 'entry', 'kind': entry.kind}
-    put_bytes(fields, 'path', entry.path)
-    title = TYPES.get(entry.letters[:1]) if entry.letters else None
-    if entry.letters:
-        fields['summary'] = entry.letters.decode()
-    if detail:
-        if title not in (None, detail.title):
-            raise Refused(detail.number, 'the list has another type for this entry')
-        title = detail.title
-    if title and title != b'Entry':
-        fields['type'] = title.decode()
-    if detail:
-        attributes = {block.label: attribute_of(block, entry, digests) for block in detail.blocks}
-        other = 'old' if entry.kind == 'added' else 'new'
-        if entry.doubtful and any(sides[other] not in (None, '') for sides in attributes.values()):
-            return object_of(entry._replace(kind='changed', doubtful=False), detail, digests)
-        if entry.letters and entry.kind == 'changed' and misfit(fields['summary'], attributes):
-            raise Refused(detail.number, 'the list says something else of %s' % misfit(fields['summary'], attributes))
-        fields['attributes'] = attributes
-    if entry.doubtful:
-        fields['uncertain'] = ['kind']
-    return fields
 
 
 def read_counts(lines):
@@ -158,30 +131,6 @@ def read_details(lines):
         yield Detail(number, found.group(1), unprinted(found.group(2), number), blocks)
         if lines.coming == RULE:
             return
-
-
-def in_order(sections):
-    """The entries of all lists in the order of their paths."""
-    def order(entry):
-        return entry.path.split(b'/')
-    before = []
-    for entry in heapq.merge(*(section.entries() for section in sections), key=order):
-        if not before < order(entry):
-            raise Refused(entry.number, 'the entry is not in the order of paths')
-        before = order(entry)
-        yield entry
-
-
-def objects_of(sections, details, digests):
-    """The objects of all entries in the order of their paths."""
-    detail = next(details, None)
-    for entry in in_order(sections):
-        is_shown = detail is not None and detail.path == entry.path
-        yield object_of(entry, detail if is_shown else None, digests)
-        if is_shown:
-            detail = next(details, None)
-    if detail is not None:
-        raise Refused(detail.number, 'no list has this entry, or not in this order')
 
 
 class Levels:
