@@ -22,7 +22,9 @@ lists and the stored results; it calls no prover.
 | proves | the contracts let the body through; the table says why that does no harm, or which test sees it |
 | not judged | the body does not compile, or the check said nothing of it |
 
-An open goal is no proof that the goal is false: the search may have missed its proof. So the table names the clause.
+An open goal is no proof that the goal is false: the search may have missed its proof. So the table names the clause. A verdict is of
+the sources on which it was taken, 2026-11-25; those of `aide_entry`, `aide_text` and `aide_report` were taken before the
+last change of lemmas and definitions of these crates. Not all clauses have a body, and `aide_session` has none yet.
 """
 
 
