@@ -205,7 +205,7 @@ def try_in_memory(refuser, stored, jobs, tally):
         return refuser.run([], first, first), refuser.run([], first, 2**31 - 1)
 
     numbers = range(1, free.calls + 1)
-    for first, (alone, onwards) in zip(numbers, side_by_side(jobs, both, growths)):
+    for first, (alone, onwards) in zip(numbers, side_by_side(jobs, both, numbers)):
         counts[refused_call(alone)] += 1
         tally.add('sessions in memory, growth %d refused' % first, faults_in_memory(alone, onwards, free))
     for name, least in IN_MEMORY.items():
