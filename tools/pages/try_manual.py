@@ -24,9 +24,9 @@ CONF_PAGE = os.path.join(HERE, "man", "aide-compare.conf.5")
 SLOTS = "YlZbpugamcinHAXSEC"
 # Pages of other programs that the pages name.
 OTHER_PAGES = [
-    "man1/aide.1", "man1/gzip.1", "man1/logger.1", "man1/lsattr.1", "man1/ssh.1",
-    "man1/xargs.1", "man1/zcat.1", "man5/aide.conf.5", "man8/logcheck.8", "man8/rsyslogd.8",
-    "man8/sendmail.8", "man8/cron.8"
+    "man1/aide.1", "man1/gzip.1", "man1/logger.1", "man1/lsattr.1", "man1/sort.1", "man1/ssh.1",
+    "man1/xargs.1", "man1/zcat.1", "man2/gethostname.2", "man5/aide.conf.5", "man8/logcheck.8",
+    "man8/rsyslogd.8", "man8/sendmail.8", "man8/cron.8"
 ]
 
 
