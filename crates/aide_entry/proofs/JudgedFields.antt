@@ -23,12 +23,12 @@ use Rattle.aide_entry.specs.Attributes.{digest_value, is_different}
 use Rattle.aide_entry.specs.Entry.{have_forms, has_entry, is_path, path_of, field_of, is_on}
 use Rattle.aide_entry.specs.Fields.{field_under, is_of, is_bits}
 use Rattle.aide_entry.specs.Text.{fields}
-use Rattle.aide_entry.specs.Values.{digest_of, is_nought, is_field, of_length}
+use Rattle.aide_entry.specs.Values.{digest_of, is_nought, is_field, of_length, time_of}
 use Rattle.aide_entry.specs.declared.column.Column.{Column}
 use Rattle.aide_entry.specs.declared.column.Column.TheVariants.{Name, Bits, Of, Skipped}
 
 -- the field of an attribute's column has the attribute's form
-under_formed : (a : Attr) (cs : List Column) (fs : List (List ℕ)) (field : List ℕ) → have_forms cs fs ≡ true
+pub under_formed : (a : Attr) (cs : List Column) (fs : List (List ℕ)) (field : List ℕ) → have_forms cs fs ≡ true
     → field_under (is_of a) cs fs ≡ Some field → is_field (form_of a) field ≡ true
 under_formed a [] fs field forms is = cc
 under_formed a (c ∷ cs) [] field forms is = cc
@@ -122,3 +122,11 @@ digests_differ least most old new old_bytes new_bytes unlike old_judged new_judg
           cc (unlike, (bytes_eq-Decides old new).1 texts)
       | inr other ↦ rw other refl
     ]
+
+-- the field of the time of the last change of an inode is a time, or there is none
+pub ctime_judged : (cs : List Column) (line field : List ℕ) → has_entry cs line ≡ true
+    → Some field ≡ field_under (is_of attrs.Ctime) cs (fields line) → is_some (time_of field) ≡ true
+unfolding row_of row
+ctime_judged cs line field judged is =
+    let forms = and_parts ((length (fields line) == length cs) && is_path (path_of cs line)) (have_forms cs (fields line)) judged in
+    under_formed attrs.Ctime cs (fields line) field forms.1 (sym is)

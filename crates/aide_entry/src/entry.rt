@@ -14,6 +14,7 @@ ghost use Rattle.aide_entry.specs.Fields.{is_column, field_under};
 ghost use Rattle.aide_entry.specs.Shapes.{IsShort, first_misshapen_from};
 ghost use Rattle.aide_entry.specs.Spans.{AreSpans, fields_at};
 ghost use Rattle.aide_entry.specs.Text.{fields, last_of};
+ghost use Rattle.aide_entry.specs.Values.{IsTimeOrNothing};
 ghost use Rattle.aide_entry.specs.declared.fault_kind.DbFaultKind.TheVariants.{FieldCount};
 
 use crate::base64_tables::Base64Tables;
@@ -104,7 +105,18 @@ fn is_path(path: Decoded<'_>) -> bool
     }
 }
 
-/// Returns the fault of the first field that does not have its column's shape. The field `0` has every shape.
+/// Returns a time of the entry as it is written, or an empty text.
+fn time_in<'a>(entry: &HeldEntry<'a>) -> &'a [u8]
+    ensures { IsTimeOrNothing result.now }
+{
+    match entry.view() {
+        None => &[],
+        Some(view) => view.time(),
+    }
+}
+
+/// Returns the fault of the first field that does not have its column's shape. The field `0` has every shape. A time
+/// that is known to be one need not be decoded again: that of the entry before is often the time of the next one too.
 // It is not inlined, so that its loop has the registers for itself.
 #[inline(never)]
 fn first_misshapen(
@@ -112,14 +124,16 @@ fn first_misshapen(
     shapes: &[Shape],
     line: &[u8],
     spans: &[Span],
+    known: &[u8],
 ) -> Option<DbFaultKind>
     requires few { length shapes.now ≤ 64 }
     requires short { All IsShort shapes.now }
+    requires time { IsTimeOrNothing known.now }
     ensures same { result ≡ first_misshapen_from 1 (zip shapes.now (fields_at line.now spans.now)) }
     ensures of_text { IfSome result IsOfText }
 {
     let count = shapes.len().min(spans.len());
-    let mut time: &[u8] = &[];
+    let mut time = known;
     let mut index: usize = 0;
     'columns: while index < count {
         let field = spans[index].of(line);
@@ -140,12 +154,14 @@ fn first_bad(
     columns: &Columns,
     line: &[u8],
     spans: &Spans,
+    known: &[u8],
 ) -> Option<DbFaultKind>
     requires spanned { AreSpans line.now spans.now }
+    requires time { IsTimeOrNothing known.now }
     ensures same { result ≡ first_bad (columns_in columns.now) (fields line.now) }
     ensures of_text { IfSome result IsOfText }
 {
-    first_misshapen(tables, columns.shapes(), line, spans.as_slice())
+    first_misshapen(tables, columns.shapes(), line, spans.as_slice(), known)
 }
 
 /// Returns whether there is no last entry, or its path comes before the path of the line's entry.
@@ -201,5 +217,5 @@ pub fn entry_fault(
     if !follows(columns, last, &SpannedLine { line, spans }) {
         return Some(DbFaultKind::OutOfOrder);
     }
-    first_bad(tables, columns, line, spans)
+    first_bad(tables, columns, line, spans, time_in(last))
 }

@@ -73,6 +73,7 @@ impl<'a> View<'a> {
     ghost use Rattle.aide_entry.specs.Entry.{field_of};
     ghost use Rattle.aide_entry.specs.FirstColumns.{bits_in};
     ghost use Rattle.aide_entry.specs.Lent.{IsDigest, lent_link};
+    ghost use Rattle.aide_entry.specs.Values.{IsTimeOrNothing};
 
     /// Returns the path of the entry twice: the field as it is written, and the decoded bytes.
     pub fn name(&self) -> (&'a [u8], Decoded<'a>)
@@ -97,6 +98,22 @@ impl<'a> View<'a> {
         match self.columns.index_of(Column::Of(attr.holder())) {
             None => true,
             Some(_) => false,
+        }
+    }
+
+    /// Returns when the entry's inode last changed, as it is written, or an empty text. Whether the attribute counts
+    /// does not matter.
+    pub(crate) fn time(&self) -> &'a [u8]
+        ensures { IsTimeOrNothing result.now }
+    {
+        match field_under(
+            self.columns,
+            Column::Of(Attr::Ctime),
+            self.line,
+            self.spans,
+        ) {
+            None => &[],
+            Some(field) => field,
         }
     }
 
