@@ -48,6 +48,17 @@ field_off cs line attr bit bits b f off =
     let t : is_on (bit_of attr) (field_under is_bits cs (fields line)) ≡ false = sym (set_is_on (bit_of attr) (field_under is_bits cs (fields line))) ∙ rw (← b, ← f) off in
     rw t refl
 
+none_either : (b : Bool) (field : Option (List ℕ)) → None ≡ field → None ≡ (if b then field else None)
+none_either true field none = none
+none_either false field none = refl
+
+-- an attribute without a column has no field
+pub field_none : (cs : List Column) (line : List ℕ) (attr holder : Attr) (field : Option (List ℕ)) → holder ≡ holder_of attr
+    → field ≡ None → field ≡ field_under (is_of holder) cs (fields line) → None ≡ field_of cs line attr
+field_none cs line attr holder field h none is =
+    let t : field_under (is_of (holder_of attr)) cs (fields line) ≡ None = rw h at (sym is ∙ none) in
+    none_either (is_on (bit_of attr) (field_under is_bits cs (fields line))) (field_under (is_of (holder_of attr)) cs (fields line)) (sym t)
+
 -- an attribute without a column has no value
 pub lacking : (cs : List Column) (line : List ℕ) (attr : Attr) → field_under (is_of (holder_of attr)) cs (fields line) ≡ None
     → attributes_of cs line attr ≡ None

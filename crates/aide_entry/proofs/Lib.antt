@@ -17,6 +17,7 @@ pub mod FormLaws
 pub mod DecodeLemmas
 pub mod FieldValues
 pub mod AttrLoops
+pub mod ColumnAttrLemmas
 pub mod ColumnLemmas
 pub mod SpecLineLemmas
 pub mod FirstColumnLemmas

@@ -10,6 +10,7 @@ pub mod Entry
 pub mod Codes
 pub mod Columns
 pub mod FirstColumns
+pub mod ColumnAttrs
 pub mod Symbols
 pub mod Cause
 pub mod Skipped

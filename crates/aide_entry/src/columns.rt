@@ -1,5 +1,5 @@
 //! The columns of a database.
-ghost use Rattle.std.specs.Prelude.{◌≡◌, ◌+◌, ◌≤◌, [], ◌∷◌, ◌++◌, length, true, false, take, map};
+ghost use Rattle.std.specs.Prelude.{◌≡◌, ◌+◌, ◌*◌, ◌<◌, ◌≤◌, [], ◌∷◌, ◌++◌, length, true, false, take, map};
 ghost use Rattle.std.specs.Prelude.{All, ℕ, List, None, IfNone, IfSome, drop};
 ghost use Rattle.aide_entry.specs.Fields.{is_column, field_under};
 ghost use Rattle.aide_entry.specs.FirstColumns.{AreFirstColumns};
@@ -7,10 +7,12 @@ ghost use Rattle.aide_entry.specs.Spans.{first_in};
 ghost use Rattle.aide_entry.specs.declared.column.Column.{Column};
 ghost use Rattle.aide_entry.specs.Skipped.{skipped_in};
 ghost use Rattle.aide_entry.specs.Codes.{code_of};
+ghost use Rattle.aide_entry.specs.ColumnAttrs.{AreListed};
 ghost use Rattle.aide_entry.specs.Shapes.{shape_of, IsShort};
 
 use crate::column::{Column, code_of, is_column};
 use crate::shape::{Shape, shape_of};
+use aide_attr::Attr;
 
 /// Notes the index of an added column, plus 1, if it is the first one of its kind.
 fn note_first(firsts: &mut [u8; 64], column: Column, first: u8)
@@ -21,6 +23,37 @@ fn note_first(firsts: &mut [u8; 64], column: Column, first: u8)
     let code = code_of(column) as usize;
     if firsts[code] == 0 {
         firsts[code] = first;
+    }
+}
+
+/// Appends an attribute to the first `count`. Returns the new number of attributes.
+fn add_attr(attrs: &mut [Attr; 128], count: usize, attr: Attr) -> usize
+    requires { count < 128 }
+    ensures count { result ≡ count + 1 }
+    ensures added { take result attrs.new ≡ take count attrs.old ++ attr ∷ [] }
+{
+    attrs[count] = attr;
+    count + 1
+}
+
+/// Appends the attributes of an added column to the first `count`. The column of the type has the permissions too.
+/// Returns the new number of attributes.
+fn note_attrs(attrs: &mut [Attr; 128], count: usize, column: Column) -> usize
+    requires { count + 2 ≤ 128 }
+    ensures few { result ≤ count + 2 }
+    ensures listed { (columns : List Column) → AreListed (take count attrs.old) columns
+        → AreListed (take result attrs.new) (columns ++ column ∷ []) }
+{
+    match column {
+        Column::Of(attr) => {
+            let more = add_attr(attrs, count, attr);
+            if attr.number() == Attr::Ftype.number() {
+                add_attr(attrs, more, Attr::Perm)
+            } else {
+                more
+            }
+        }
+        _ => count,
     }
 }
 
@@ -35,12 +68,17 @@ pub struct Columns {
     // for the number of each column, the index of the first column of this kind, plus 1, or 0 if there is none, since
     // each entry looks up fields
     firsts: [u8; 64],
+    // the attributes that have a column, since each pair of entries that differ is compared at these
+    attrs: [Attr; 128],
+    attr_count: u8,
     count: u8,
     ghost few: { count ≤ 64 },
     ghost numbers: { take count codes ≡ map code_of (take count kinds) },
     ghost shaped: { take count shapes ≡ map shape_of (take count kinds) },
     ghost short: { All IsShort (take count shapes) },
     ghost placed: { AreFirstColumns firsts (take count kinds) },
+    ghost two_each: { attr_count ≤ 2 * count },
+    ghost listed: { AreListed (take attr_count attrs) (take count kinds) },
 }
 
 impl Columns {
@@ -55,6 +93,8 @@ impl Columns {
             codes: [0; 64],
             shapes: [Shape::Free; 64],
             firsts: [0; 64],
+            attrs: [Attr::Ftype; 128],
+            attr_count: 0,
             count: 0,
         }
     }
@@ -75,6 +115,14 @@ impl Columns {
         ensures short { All IsShort result.now }
     {
         let (front, _) = self.shapes.split_at(self.count as usize);
+        front
+    }
+
+    /// Returns every attribute that has a column. Some may be there twice.
+    pub(crate) fn attrs(&self) -> &[Attr]
+        ensures { AreListed result.now (columns_in self.now) }
+    {
+        let (front, _) = self.attrs.split_at(self.attr_count as usize);
         front
     }
 
@@ -136,6 +184,11 @@ impl Columns {
         self.kinds[self.count as usize] = column;
         self.codes[self.count as usize] = code_of(column);
         self.shapes[self.count as usize] = shape_of(column);
+        self.attr_count = note_attrs(
+            &mut self.attrs,
+            self.attr_count as usize,
+            column,
+        ) as u8;
         self.count += 1;
         note_first(&mut self.firsts, column, self.count);
         true

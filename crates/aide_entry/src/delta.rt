@@ -1,12 +1,13 @@
 //! Compares two entries.
-ghost use Rattle.std.specs.Prelude.{◌≡◌, is_some, true};
+ghost use Rattle.std.specs.Prelude.{◌≡◌, is_some, true, false, None};
+ghost use Rattle.std.specs.List.{list_any};
 ghost use Rattle.aide_entry.specs.Path.{path_cmp};
 ghost use Rattle.aide_entry.specs.Columns.{columns_in};
 ghost use Rattle.aide_entry.specs.FirstColumns.{bits_in};
 ghost use Rattle.aide_entry.specs.Values.{value_of, is_field};
 ghost use Rattle.aide_entry.specs.View.{entry_in};
 ghost use Rattle.aide_entry.specs.Attributes.{number_order, is_different, sides_between};
-ghost use Rattle.aide_attr.specs.Set.{has};
+ghost use Rattle.aide_attr.specs.Set.{has, is_attr};
 ghost use Rattle.aide_attr.specs.Difference.{sides_of};
 ghost use Rattle.aide_attr.specs.declared.attr.Attr.{Attr};
 
@@ -72,14 +73,6 @@ fn contrast_at(
     ensures differs { result.differs ≡ is_different ((entry_in old.now).1 attr)
         ((entry_in new.now).1 attr) }
 {
-    // most attributes have no column
-    if old.lacks(attr) && new.lacks(attr) {
-        return Contrast {
-            in_old: false,
-            in_new: false,
-            differs: false,
-        };
-    }
     match (old.field_by(old_bits, attr), new.field_by(new_bits, attr)) {
         (None, None) => Contrast {
             in_old: false,
@@ -108,7 +101,21 @@ struct Contrasts {
     differs: AttrSet,
 }
 
-/// Finds the attributes that two entries have and those that differ, in one pass over all attributes.
+/// Returns attributes among which is every one that either entry has.
+fn attrs_of<'x>(old: &'x View<'_>, new: &'x View<'_>) -> &'x [Attr]
+    ensures old { (attr : Attr) → list_any (is_attr attr) result.now ≡ false
+        → (entry_in old.now).1 attr ≡ None }
+    ensures new { (attr : Attr) → list_any (is_attr attr) result.now ≡ false
+        → (entry_in new.now).1 attr ≡ None }
+{
+    if old.columns.same(new.columns) {
+        old.columns.attrs()
+    } else {
+        &Attr::ALL
+    }
+}
+
+/// Finds the attributes that two entries have and those that differ, in one pass over the attributes with a column.
 fn contrasts_between(old: &View<'_>, new: &View<'_>) -> Contrasts
     ensures in_old { (attr : Attr) → has result.in_old attr ≡ is_some ((entry_in old.now).1 attr) }
     ensures in_new { (attr : Attr) → has result.in_new attr ≡ is_some ((entry_in new.now).1 attr) }
@@ -120,7 +127,7 @@ fn contrasts_between(old: &View<'_>, new: &View<'_>) -> Contrasts
     let mut in_old = AttrSet::empty();
     let mut in_new = AttrSet::empty();
     let mut differs = AttrSet::empty();
-    let mut rest: &[Attr] = &Attr::ALL;
+    let mut rest = attrs_of(old, new);
     'attrs: while let Some((attr, more)) = rest.split_first() {
         let contrast = contrast_at(old, old_bits, new, new_bits, *attr);
         in_old = with_if(in_old, *attr, contrast.in_old);

@@ -91,16 +91,6 @@ impl<'a> View<'a> {
         bits_of(self.columns, self.line, self.spans)
     }
 
-    /// Returns whether the attribute has no column. Then the entry lacks the attribute, whatever its line says.
-    pub(crate) fn lacks(&self, attr: Attr) -> bool
-        ensures { result ≡ true → (entry_in self.now).1 attr ≡ None }
-    {
-        match self.columns.index_of(Column::Of(attr.holder())) {
-            None => true,
-            Some(_) => false,
-        }
-    }
-
     /// Returns when the entry's inode last changed, as it is written, or an empty text. Whether the attribute counts
     /// does not matter.
     pub(crate) fn time(&self) -> &'a [u8]
@@ -123,15 +113,14 @@ impl<'a> View<'a> {
         ensures { option_copied result ≡ field_of (columns_in self.now.columns.now)
             self.now.line.now attr }
     {
-        if is_on(attr.bit(), bits) {
-            field_under(
-                self.columns,
-                Column::Of(attr.holder()),
-                self.line,
-                self.spans,
-            )
-        } else {
-            None
+        match field_under(
+            self.columns,
+            Column::Of(attr.holder()),
+            self.line,
+            self.spans,
+        ) {
+            None => None,
+            Some(field) => { if is_on(attr.bit(), bits) { Some(field) } else { None } }
         }
     }
 
@@ -168,7 +157,7 @@ impl<'a> View<'a> {
     {
         let bits = self.bits();
         let mut set = AttrSet::empty();
-        let mut rest: &[Attr] = &Attr::ALL;
+        let mut rest = self.columns.attrs();
         'attrs: while let Some((attr, more)) = rest.split_first() {
             set = with_if(set, *attr, self.has(bits, *attr));
             rest = more;

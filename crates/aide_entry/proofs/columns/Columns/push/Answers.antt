@@ -3,6 +3,7 @@ use Rattle.std.proofs.lemmas.List.{take_more_set, length-take-le}
 use Rattle.std.proofs.lemmas.List.Elements.{All-push}
 use Rattle.std.specs.List.{All}
 use Rattle.aide_entry.specs.Codes.{code_of}
+use Rattle.aide_entry.specs.ColumnAttrs.{AreListed}
 use Rattle.aide_entry.specs.FirstColumns.{AreFirstColumns}
 use Rattle.aide_entry.specs.Shapes.{shape_of, IsShort}
 use Rattle.aide_entry.proofs.FirstColumnLemmas.{pushed_map}
@@ -26,3 +27,8 @@ pub invariant_of-self-clause-short : goal.invariant_of-self-clause-short
 invariant_of-self-clause-short c =
     subst (All IsShort) (sym (take_more_set c.args.self.now.shapes c.args.self.now.count c.shape_of.result (omega (arith, c.args.self.now.few))))
     (All-push IsShort (take c.args.self.now.count c.args.self.now.shapes) c.shape_of.result c.args.self.now.short c.shape_of.ensures.short)
+
+pub invariant_of-self-clause-listed : goal.invariant_of-self-clause-listed
+invariant_of-self-clause-listed c =
+    subst (AreListed (take c.note_attrs.result c.note_attrs.new.attrs)) (sym (take_more_set c.args.self.now.kinds c.args.self.now.count c.args.column (omega (arith, c.args.self.now.few))))
+    (c.note_attrs.ensures.listed (take c.args.self.now.count c.args.self.now.kinds) c.args.self.now.listed)
