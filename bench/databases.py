@@ -2,8 +2,10 @@
 import base64
 import hashlib
 
-# The columns of the forms, by the length of their lines in bytes, about. Lines of 64 short fields have 138 bytes.
+# The columns of the forms, by the length of their lines in bytes, about. Lines of 77 bytes are those of a configuration
+# without digests. Lines of 64 short fields have 138 bytes.
 FORMS = {
+    77: ['name', 'perm', 'inode', 'mtime', 'size'],
     138: ['name', 'attr', 'perm', 'lname', 'size', 'bcount', 'uid', 'gid', 'atime', 'mtime', 'ctime', 'inode', 'lcount',
           'md5', 'sha1', 'sha256', 'sha512', 'rmd160', 'tiger', 'crc32', 'crc32b', 'haval', 'gost', 'whirlpool',
           'stribog256', 'stribog512', 'sha512_256', 'sha3_256', 'sha3_512', 'acl', 'xattrs', 'selinux', 'e2fsattrs',
@@ -14,8 +16,8 @@ FORMS = {
           'acl', 'sha256', 'selinux', 'xattrs', 'e2fsattrs'],
 }
 ACL = 'POSIX,dXNlcjo6cnctCmdyb3VwOjpyLS0Kb3RoZXI6OnItLQo=,0'
-# What AIDE writes in the column `attr` for the columns of the longer forms. Every attribute of the short form is on.
-BITS = {138: '4095', 165: '112744996797', 259: '112744996797'}
+# What AIDE writes in the column `attr`, if the form has it. All attributes of the form of 138 bytes are on.
+BITS = {77: '', 138: '4095', 165: '112744996797', 259: '112744996797'}
 
 
 class Pair:
@@ -44,6 +46,7 @@ PAIRS = {
     '1 % changed': Pair(changed=100),
     '10 % changed': Pair(changed=10),
     '100 % changed': Pair(changed=1),
+    'none changed': Pair(sections=0),
     '10 % added': Pair(added=10),
     '100 % added': Pair(added=1),
     'a column more': Pair(more_columns=['capabilities'], sections=0),
@@ -72,7 +75,7 @@ def fields_of(form, number, has_times, has_bytes):
     text = path + ('changed' if has_bytes else '')
     return {'name': path, 'perm': '100644', 'bcount': '8', 'lcount': '1', 'attr': BITS[form],
             'size': str(number * 7919 % 100000 + has_bytes), 'inode': str(1000000 + number),
-            'ctime': time_at(number + has_times), 'mtime': time_at(number),
+            'ctime': time_at(number + has_times), 'mtime': time_at(number + (has_times if form == 77 else 0)),
             'md5': digest('md5', text), 'sha256': digest('sha256', text), 'acl': ACL if form == 259 else '0',
             'e2fsattrs': '524288'}
 

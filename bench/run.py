@@ -34,13 +34,14 @@ from databases import PAIRS, write_pair
 DEFAULT, WHOLE = 'changed_attributes', 'added_removed_entries'
 # The pairs with the lengths of their lines, in bytes, and the levels at which they are compared.
 CASES = [
+    ('none changed', (77,), ('minimal', DEFAULT)),
     ('0.1 % changed', (165, 259), ('minimal', DEFAULT)),
     ('a few of each', (165, 259), (DEFAULT, WHOLE)),
     ('1 % changed', (165,), ('minimal', DEFAULT)),
-    ('10 % changed', (165, 259), ('minimal', DEFAULT)),
-    ('100 % changed', (138, 165, 259), ('minimal', DEFAULT)),
+    ('10 % changed', (77, 165, 259), ('minimal', DEFAULT)),
+    ('100 % changed', (77, 138, 165, 259), ('minimal', DEFAULT)),
     ('10 % added', (259,), (WHOLE,)),
-    ('100 % added', (259,), (WHOLE,)),
+    ('100 % added', (77, 259), (WHOLE,)),
     ('a column more', (165,), ('minimal', DEFAULT)),
     ('an upgrade', (165, 259), ('minimal', DEFAULT)),
 ]
@@ -49,7 +50,7 @@ LARGER = ('a few of each', '100 % changed')
 WITH_AIDE = ('0.1 % changed', 'a few of each', '10 % changed', '100 % changed')
 HEADINGS = ['Pair', 'Line, bytes', 'Entries', 'Level', 'Openings', 'Instructions, millions',
             'Instructions, times `sha256sum`', 'Processor, s', 'Time, times `sha256sum`', 'Quartiles', 'Runs',
-            'Written, MB', 'MB written a second', 'AIDE, s', 'AIDE, times', 'Peak, MB']
+            'Written, MB', 'MB a second', 'MB a second, without hashing', 'AIDE, s', 'AIDE, times', 'Peak, MB']
 AIDE = shutil.which('aide')
 PROCESSORS = sorted(os.sched_getaffinity(0))
 # One text for the program and for AIDE, which compares only the entries that a line selects.
@@ -158,6 +159,8 @@ class Row:
         self.runs = run_often(given, program, hashes)
         self.seconds = min(run[0].seconds for run in self.runs)
         self.ratios = statistics.quantiles((run[0].seconds / run[1].seconds for run in self.runs), n=4)
+        # the seconds of the program beside those of the hashing, which `sha256sum` tells
+        self.unhashed = statistics.median(run[0].seconds - run[1].seconds for run in self.runs)
         self.memory = max(run[0].memory for run in self.runs)
         if AIDE and self.level == DEFAULT and self.name in WITH_AIDE and self.entries <= given.aide_up_to:
             self.aide = least_seconds(compare(AIDE, folder, self.level), 3)
@@ -173,6 +176,7 @@ class Row:
                 '%.2f' % (self.instructions / self.hashed) if counted else '', '%.3f' % self.seconds,
                 '%.2f' % self.ratios[1], '%.2f to %.2f' % (self.ratios[0], self.ratios[2]), len(self.runs),
                 '%.1f' % (self.written / 1e6), '%.0f' % (self.written / 1e6 / self.seconds),
+                '%.0f' % (self.written / 1e6 / self.unhashed) if self.unhashed > 0 else '',
                 '%.2f' % self.aide if self.aide else '', '%.0f' % (self.aide / self.alone) if self.aide else '',
                 '%.1f' % (self.memory / 1024)]
 
