@@ -7,13 +7,17 @@ use Rattle.aide_db.specs.declared.side.Side.{Side}
 use Rattle.aide_session.specs.Files.{Files}
 
 -- A site in memory: its files by their paths, in the order in which they were added; the paths of
--- the two sides; how often each side was opened; the number of failures.
+-- the two sides; how often each side was opened, and whether its last opening succeeded; how often
+-- a configuration was opened; the number of failures.
 pub record Shelf : Type 0 where
   pub files : List (List ℕ × List ℕ)
   pub old_path : Option (List ℕ)
   pub new_path : Option (List ℕ)
   pub old_openings : ℕ
   pub new_openings : ℕ
+  pub old_given : Bool
+  pub new_given : Bool
+  pub lookups : ℕ
   pub failures : ℕ
 
 -- a site over the files of the machine, by their handle; it does not tell its files
@@ -23,6 +27,9 @@ pub record Machine (F : Type 0) : Type 0 where
   pub new_path : Option (List ℕ)
   pub old_openings : ℕ
   pub new_openings : ℕ
+  pub old_given : Bool
+  pub new_given : Bool
+  pub lookups : ℕ
   pub failures : ℕ
 
 -- the first of the two if it is there, otherwise the second
@@ -55,6 +62,10 @@ side_bytes s side = option_and_then (λ path. bytes_at s.files path) (side_path 
 abbrev pub side_missing : Shelf → Side → Bool
 side_missing s side = is_none (side_bytes s side)
 
+-- whether the last opening of a side succeeded
+abbrev pub side_given : Shelf → Side → Bool
+side_given s side = by_side s.old_given s.new_given side
+
 -- how often a side was opened
 abbrev pub side_openings : Shelf → Side → ℕ
 side_openings s side = by_side s.old_openings s.new_openings side
@@ -62,3 +73,7 @@ side_openings s side = by_side s.old_openings s.new_openings side
 -- the path that a side of a site over the machine's files is pointed at
 abbrev pub machine_path : {F : Type 0} → Machine F → Side → Option (List ℕ)
 machine_path s side = by_side s.old_path s.new_path side
+
+-- whether the last opening of a side of the machine's files succeeded
+abbrev pub machine_given : {F : Type 0} → Machine F → Side → Bool
+machine_given s side = by_side s.old_given s.new_given side

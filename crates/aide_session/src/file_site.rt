@@ -1,12 +1,12 @@
 //! The machine's files.
-ghost use Rattle.std.specs.Prelude.{◌≡◌, ℕ, List, Option, None, IfSome};
-ghost use Rattle.aide_session.specs.Sites.{machine_path};
+ghost use Rattle.std.specs.Prelude.{◌≡◌, ℕ, List, Option, None, false, IfSome};
+ghost use Rattle.aide_session.specs.Sites.{machine_given, machine_path};
 ghost use Rattle.aide_db.specs.Side.{by_side};
 
 use crate::pointed::Pointed;
 use crate::site::Site;
 use aide_db::{OpenFault, ReadReel, Reel, Side, Sources};
-use aide_words::Memory;
+use aide_words::{Memory, Word};
 use std::alloc::Global;
 use std::fs;
 use std::marker::Model;
@@ -18,6 +18,7 @@ use std::rt::Files;
 pub struct FileSite<F> {
     files: F,
     sides: Pointed,
+    lookups: u64,
     failures: u64,
 }
 
@@ -32,6 +33,9 @@ impl<F> Model for FileSite<F> {
       new_path = s.sides.new_path;
       old_openings = s.sides.old_openings;
       new_openings = s.sides.new_openings;
+      old_given = s.sides.old_given;
+      new_given = s.sides.new_given;
+      lookups = s.lookups;
       failures = s.failures;
     } };
 }
@@ -46,21 +50,35 @@ fn open_file<F: Files>(files: &F, path: &str) -> Option<ReadReel<F::File>>
     Some(ReadReel::new(file))
 }
 
+/// Opens a reel over the file that a side is pointed at, if it is pointed at one.
+fn open_pointed<F: Files>(files: &F, path: &Option<Word>) -> Option<ReadReel<F::File>>
+    ensures { IfSome result (λ r. r.failures ≡ 0) }
+{
+    match path {
+        Some(path) => open_file(files, path.as_str()),
+        None => None,
+    }
+}
+
 impl<F: Files> FileSite<F> {
     /// Returns the files of a machine. No side is pointed at a path yet. Takes no memory.
     pub fn new(files: F) -> FileSite<F>
         ensures { result ≡ record {
           files = files;
           failures = 0;
+          lookups = 0;
           old_path = None;
           new_path = None;
           old_openings = 0;
           new_openings = 0;
+          old_given = false;
+          new_given = false;
         } }
     {
         FileSite {
             files,
             sides: Pointed::new(),
+            lookups: 0,
             failures: 0,
         }
     }
@@ -75,15 +93,18 @@ impl<F: Files> Sources for FileSite<F> {
 
     ghost failures = { λ s. s.failures };
 
+    ghost was_given = { machine_given };
+
+    ghost lookups = { λ s. s.lookups };
+
     fn open(&mut self, side: Side) -> Result<ReadReel<F::File>, OpenFault> {
-        self.sides.count(side);
-        if let Some(path) = self.sides.path(side) {
-            if let Some(reel) = open_file(&self.files, path.as_str()) {
-                return Ok(reel);
-            }
-        }
-        self.failures = self.failures.saturating_add(1);
-        Err(OpenFault)
+        let reel = open_pointed(&self.files, self.sides.path(side));
+        self.sides.count(side, reel.is_some());
+        let Some(reel) = reel else {
+            self.failures = self.failures.saturating_add(1);
+            return Err(OpenFault);
+        };
+        Ok(reel)
     }
 
     fn close(&mut self, reel: ReadReel<F::File>) {
@@ -96,6 +117,7 @@ impl<F: Files> Site for FileSite<F> {
     ghost path_of = { machine_path };
 
     fn config(&mut self, path: &str) -> Result<ReadReel<F::File>, OpenFault> {
+        self.lookups = self.lookups.saturating_add(1);
         match open_file(&self.files, path) {
             Some(reel) => Ok(reel),
             None => {

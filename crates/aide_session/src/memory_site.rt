@@ -1,10 +1,9 @@
 //! A site in memory.
 ghost use Rattle.std.specs.Prelude.{◌≡◌, ◌≤◌, ◌≢◌, ◌++◌, ◌∷◌, [], ℕ, true, false, List, Option};
-ghost use Rattle.std.specs.Prelude.{Some, None, IfOk, IfSome, IsSome, OnOk, OnErr, is_some};
-ghost use Rattle.std.specs.Prelude.{option_and_then};
+ghost use Rattle.std.specs.Prelude.{Some, None, IfOk, IfSome, IsSome, OnOk, OnErr, option_and_then};
 ghost use Rattle.std.specs.Option.{option_map};
 ghost use Rattle.aide_session.specs.Sites.{bytes_at, either, files_at, of_file, side_bytes};
-ghost use Rattle.aide_session.specs.Sites.{side_missing, side_openings, side_path};
+ghost use Rattle.aide_session.specs.Sites.{side_given, side_missing, side_openings, side_path};
 ghost use Rattle.aide_session.specs.Files.{GivesFile};
 ghost use Rattle.aide_db.specs.Count.{one_more, sum_of};
 ghost use Rattle.aide_db.specs.Side.{other_side};
@@ -36,6 +35,7 @@ impl<'a> Model for StoredFile<'a> {
 pub struct MemorySite<'a> {
     files: Vec<StoredFile<'a>>,
     sides: Pointed,
+    lookups: u64,
     failures: u64,
 }
 
@@ -50,6 +50,9 @@ impl<'a> Model for MemorySite<'a> {
       new_path = s.sides.new_path;
       old_openings = s.sides.old_openings;
       new_openings = s.sides.new_openings;
+      old_given = s.sides.old_given;
+      new_given = s.sides.new_given;
+      lookups = s.lookups;
       failures = s.failures;
     } };
 }
@@ -93,15 +96,19 @@ impl<'a> MemorySite<'a> {
         ensures { result ≡ record {
           files = [];
           failures = 0;
+          lookups = 0;
           old_path = None;
           new_path = None;
           old_openings = 0;
           new_openings = 0;
+          old_given = false;
+          new_given = false;
         } }
     {
         MemorySite {
             files: Vec::new(alloc),
             sides: Pointed::new(),
+            lookups: 0,
             failures: 0,
         }
     }
@@ -140,13 +147,17 @@ impl<'a> Sources for MemorySite<'a> {
 
     ghost is_reliable = { λ _. true };
 
-    ghost was_given = { λ site side. is_some (side_bytes site side) };
+    ghost was_given = { side_given };
+
+    ghost lookups = { λ s. s.lookups };
 
     // The opening is refused exactly if the side is not pointed at a file that is there.
     fn open(&mut self, side: Side) -> Result<&'a [u8], OpenFault>
         ensures missing { OnErr result (side_bytes self.old side ≡ None) }
         ensures there { OnOk result (IsSome (side_bytes self.old side)) }
-        ensures refused { OnErr result (is_some (side_bytes self.new side) ≡ false) }
+        ensures refused { OnErr result (side_given self.new side ≡ false) }
+        ensures given { OnOk result (side_given self.new side ≡ true) }
+        ensures lookups { self.new.lookups ≡ self.old.lookups }
         ensures refuses { OnOk result (side_missing self.old side ≡ false) }
         ensures fresh { IfOk result (λ reel. ⟦<&'a [u8] as Reel>⟧.failures reel ≡ 0) }
         ensures gives { IfOk result (λ reel. IfSome (side_bytes self.old side)
@@ -160,10 +171,13 @@ impl<'a> Sources for MemorySite<'a> {
         ensures ok { OnOk result (self.new.failures ≡ self.old.failures) }
         ensures fault { OnErr result (self.new.failures ≡ one_more self.old.failures) }
     {
-        self.sides.count(side);
         match look_side(self.files.as_slice(), self.sides.path(side)) {
-            Some(bytes) => Ok(bytes),
+            Some(bytes) => {
+                self.sides.count(side, true);
+                Ok(bytes)
+            }
             None => {
+                self.sides.count(side, false);
                 self.failures = self.failures.saturating_add(1);
                 Err(OpenFault)
             }
@@ -188,7 +202,8 @@ impl<'a> Site for MemorySite<'a> {
 
     // The opening is refused exactly if there is no file at the path.
     fn config(&mut self, path: &str) -> Result<&'a [u8], OpenFault>
-        ensures lookups { 0 ≤ one_more 0 }
+        ensures looks { self.new.lookups ≡ one_more self.old.lookups }
+        ensures lookups { self.new.lookups ≤ one_more self.old.lookups }
         ensures missing { OnErr result (bytes_at self.old.files path.now ≡ None) }
         ensures there { OnOk result (IsSome (bytes_at self.old.files path.now)) }
         ensures gone { OnErr result (files_at self.old path.now ≡ Some None) }
@@ -204,6 +219,7 @@ impl<'a> Site for MemorySite<'a> {
         ensures ok { OnOk result (self.new.failures ≡ self.old.failures) }
         ensures fault { OnErr result (self.new.failures ≡ one_more self.old.failures) }
     {
+        self.lookups = self.lookups.saturating_add(1);
         match look(self.files.as_slice(), path) {
             Some(bytes) => Ok(bytes),
             None => {

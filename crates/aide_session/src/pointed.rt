@@ -1,5 +1,5 @@
 //! Two sides that are pointed at paths.
-ghost use Rattle.std.specs.Prelude.{◌≡◌, ◌≢◌, Some, None, OnOk, OnErr};
+ghost use Rattle.std.specs.Prelude.{◌≡◌, Some, None, false, OnOk, OnErr};
 ghost use Rattle.aide_db.specs.Count.{one_more};
 ghost use Rattle.aide_db.specs.Side.{by_side, other_side};
 
@@ -7,13 +7,16 @@ use aide_db::Side;
 use aide_words::{Memory, Word};
 use std::alloc::Global;
 
-/// The path that each side is pointed at, if any, and how often each was opened.
+/// The path that each side is pointed at, if any; how often each was opened, and whether the last
+/// opening of each succeeded.
 #[derive(Drop)]
 pub(crate) struct Pointed {
     old_path: Option<Word>,
     new_path: Option<Word>,
     old_openings: u64,
     new_openings: u64,
+    old_given: bool,
+    new_given: bool,
 }
 
 impl Pointed {
@@ -23,6 +26,8 @@ impl Pointed {
           new_path = None;
           old_openings = 0;
           new_openings = 0;
+          old_given = false;
+          new_given = false;
         } }
     {
         Pointed {
@@ -30,6 +35,8 @@ impl Pointed {
             new_path: None,
             old_openings: 0,
             new_openings: 0,
+            old_given: false,
+            new_given: false,
         }
     }
 
@@ -51,6 +58,8 @@ impl Pointed {
             ≡ by_side self.old.old_path self.old.new_path (other_side side) }
         ensures old_openings { self.new.old_openings ≡ self.old.old_openings }
         ensures new_openings { self.new.new_openings ≡ self.old.new_openings }
+        ensures old_given { self.new.old_given ≡ self.old.old_given }
+        ensures new_given { self.new.new_given ≡ self.old.new_given }
         ensures err { OnErr result (self.new ≡ self.old) }
     {
         let path = Word::new(alloc, path)?;
@@ -61,18 +70,27 @@ impl Pointed {
         Ok(())
     }
 
-    /// Counts an opening of a side.
-    pub(crate) fn count(&mut self, side: Side)
+    /// Counts an opening of a side, and notes whether it succeeded.
+    pub(crate) fn count(&mut self, side: Side, given: bool)
         ensures old_path { self.new.old_path ≡ self.old.old_path }
         ensures new_path { self.new.new_path ≡ self.old.new_path }
         ensures counted { by_side self.new.old_openings self.new.new_openings side
             ≡ one_more (by_side self.old.old_openings self.old.new_openings side) }
         ensures other { by_side self.new.old_openings self.new.new_openings (other_side side)
             ≡ by_side self.old.old_openings self.old.new_openings (other_side side) }
+        ensures noted { by_side self.new.old_given self.new.new_given side ≡ given }
+        ensures other_given { by_side self.new.old_given self.new.new_given (other_side side)
+            ≡ by_side self.old.old_given self.old.new_given (other_side side) }
     {
         match side {
-            Side::Old => self.old_openings = self.old_openings.saturating_add(1),
-            Side::New => self.new_openings = self.new_openings.saturating_add(1),
+            Side::Old => {
+                self.old_openings = self.old_openings.saturating_add(1);
+                self.old_given = given;
+            }
+            Side::New => {
+                self.new_openings = self.new_openings.saturating_add(1);
+                self.new_given = given;
+            }
         }
     }
 }

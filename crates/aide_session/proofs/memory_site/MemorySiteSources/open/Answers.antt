@@ -1,23 +1,20 @@
 use Rattle.std.proofs.Common.{◌≡◌, List, Option, Some, ap, refl, subst, sym, IsSome, ℕ}
-use Rattle.std.specs.Prelude.{IfSome, is_none, is_some}
-use Rattle.aide_session.proofs.SiteLemmas.{found_at, found_on_side}
+use Rattle.std.specs.Prelude.{IfSome, is_none}
+use Rattle.aide_session.proofs.SiteLemmas.{found_on_side}
 use Rattle.aide_session.proofs.memory_site.MemorySiteSources.open.Goals as goal
 
 pub returns-in-Some-clause-there : goal.returns-in-Some-clause-there
 returns-in-Some-clause-there c =
-    subst IsSome (sym (found_on_side _ _ _ _ _ _ _ _ c.as_slice.ensures.value c.count.ensures.old_path c.count.ensures.new_path c.self.view_is c.path.ensures c.in-Some.ensures)) refl
+    subst IsSome (sym (found_on_side _ _ _ _ _ _ _ _ c.as_slice.ensures.value refl refl c.self.view_is c.path.ensures c.in-Some.ensures)) refl
 
 pub returns-in-Some-clause-refuses : goal.returns-in-Some-clause-refuses
 returns-in-Some-clause-refuses c =
-    ap is_none (found_on_side _ _ _ _ _ _ _ _ c.as_slice.ensures.value c.count.ensures.old_path c.count.ensures.new_path c.self.view_is c.path.ensures c.in-Some.ensures)
+    ap is_none (found_on_side _ _ _ _ _ _ _ _ c.as_slice.ensures.value refl refl c.self.view_is c.path.ensures c.in-Some.ensures)
 
 pub returns-in-Some-clause-gives : goal.returns-in-Some-clause-gives
 returns-in-Some-clause-gives c =
-    subst (λ (o : Option (List ℕ)). IfSome o (λ bytes. Some c.in-Some.bytes.now ≡ Some bytes)) (sym (found_on_side _ _ _ _ _ _ _ _ c.as_slice.ensures.value c.count.ensures.old_path c.count.ensures.new_path c.self.view_is c.path.ensures c.in-Some.ensures)) refl
+    subst (λ (o : Option (List ℕ)). IfSome o (λ bytes. Some c.in-Some.bytes.now ≡ Some bytes)) (sym (found_on_side _ _ _ _ _ _ _ _ c.as_slice.ensures.value refl refl c.self.view_is c.path.ensures c.in-Some.ensures)) refl
 
 pub returns-in-None-clause-missing : goal.returns-in-None-clause-missing
 returns-in-None-clause-missing c =
-    found_on_side _ _ _ _ _ _ _ _ c.as_slice.ensures.value c.count.ensures.old_path c.count.ensures.new_path c.self.view_is c.path.ensures c.in-None.ensures
-
-pub returns-in-None-clause-refused : goal.returns-in-None-clause-refused
-returns-in-None-clause-refused c = ap is_some (found_at _ _ _ _ _ c.as_slice.ensures.value c.path.ensures c.in-None.ensures)
+    found_on_side _ _ _ _ _ _ _ _ c.as_slice.ensures.value refl refl c.self.view_is c.path.ensures c.in-None.ensures
