@@ -16,6 +16,7 @@ pub mod Map
 pub mod Standing
 pub mod Advance
 pub mod Answer
+pub mod Beginning
 pub mod Drain
 pub mod Piece
 pub mod Hashed
