@@ -2,7 +2,7 @@
 ghost use Rattle.aide_report.specs.Finding.{old_origin, new_origin};
 ghost use Rattle.aide_report.specs.Report.{databases_of, origin_lines, databases_title};
 ghost use Rattle.aide_report.specs.Report.{databases_text};
-ghost use Rattle.aide_text.specs.PenSheet.{sheet};
+ghost use Rattle.aide_text.specs.PenSheet.{on_sheet};
 ghost use Rattle.aide_text.specs.Sheet.{Wrote};
 
 use crate::finding::Finding;
@@ -20,16 +20,15 @@ fn put_origin<W: Sink>(
     digest: &[u8; 32],
 )
     ensures { Wrote (origin_lines base16 word.now path.now digest.now)
-        (sheet W.delivered W.failures W.flushes out.old pen.old)
-        (sheet W.delivered W.failures W.flushes out.new pen.new) }
+        (on_sheet W.Sink out.old pen.old) (on_sheet W.Sink out.new pen.new) }
 {
     put_path_line(out, pen, word, SliceFeed::of(path.as_bytes()));
     put_digest(out, pen, base16, digest);
 }
 
 fn put_databases_title<W: Sink>(out: &mut W, pen: &mut Pen)
-    ensures { Wrote databases_title (sheet W.delivered W.failures W.flushes out.old pen.old)
-        (sheet W.delivered W.failures W.flushes out.new pen.new) }
+    ensures { Wrote databases_title
+        (on_sheet W.Sink out.old pen.old) (on_sheet W.Sink out.new pen.new) }
 {
     put_titled(out, pen, b"The attributes of the databases:");
     put_newline(out, pen);
@@ -38,8 +37,7 @@ fn put_databases_title<W: Sink>(out: &mut W, pen: &mut Pen)
 fn put_origins<W: Sink>(out: &mut W, pen: &mut Pen, task: &Task<'_>, finding: &Finding)
     ensures { Wrote (databases_of task.now.options.base16 (old_origin task.now finding.now)
         (new_origin task.now finding.now))
-        (sheet W.delivered W.failures W.flushes out.old pen.old)
-        (sheet W.delivered W.failures W.flushes out.new pen.new) }
+        (on_sheet W.Sink out.old pen.old) (on_sheet W.Sink out.new pen.new) }
 {
     put_databases_title(out, pen);
     put_origin(
@@ -65,8 +63,7 @@ fn put_origins<W: Sink>(out: &mut W, pen: &mut Pen, task: &Task<'_>, finding: &F
 pub(crate) fn put_databases<W: Sink>(out: &mut W, pen: &mut Pen, task: &Task<'_>, finding: &Finding)
     ensures { Wrote (databases_text task.now.options (old_origin task.now finding.now)
         (new_origin task.now finding.now))
-        (sheet W.delivered W.failures W.flushes out.old pen.old)
-        (sheet W.delivered W.failures W.flushes out.new pen.new) }
+        (on_sheet W.Sink out.old pen.old) (on_sheet W.Sink out.new pen.new) }
 {
     if task.options.level.reaches(Level::DatabaseAttributes) {
         put_origins(out, pen, task, finding);

@@ -9,7 +9,7 @@ ghost use Rattle.aide_report.specs.Entries.{attribute_text, attributes_text, sho
 ghost use Rattle.aide_report.specs.Entries.{title_word};
 ghost use Rattle.aide_report.specs.Sections.{one_text};
 ghost use Rattle.aide_text.specs.DecodedRest.{decoded_rest};
-ghost use Rattle.aide_text.specs.PenSheet.{sheet};
+ghost use Rattle.aide_text.specs.PenSheet.{on_sheet};
 ghost use Rattle.aide_text.specs.Printed.{printed};
 ghost use Rattle.aide_text.specs.ReadyRest.{ready_rest};
 ghost use Rattle.aide_text.specs.Sheet.{Wrote};
@@ -115,8 +115,7 @@ fn new_value<'a>(
 /// An attribute: the old value beside the new one.
 fn put_attribute<W: Sink>(out: &mut W, pen: &mut Pen, change: Change<'_>, attr: Attr, base16: bool)
     ensures { Wrote (attribute_text base16 (change_of change.entry).1 attr)
-        (sheet W.delivered W.failures W.flushes out.old pen.old)
-        (sheet W.delivered W.failures W.flushes out.new pen.new) }
+        (on_sheet W.Sink out.old pen.old) (on_sheet W.Sink out.new pen.new) }
 {
     put_side_by_side(
         out,
@@ -137,8 +136,7 @@ fn put_if_shown<W: Sink>(
     shown: AttrSet,
 )
     ensures { Wrote (shown_text base16 (change_of change.entry).1 (has shown) attr)
-        (sheet W.delivered W.failures W.flushes out.old pen.old)
-        (sheet W.delivered W.failures W.flushes out.new pen.new) }
+        (on_sheet W.Sink out.old pen.old) (on_sheet W.Sink out.new pen.new) }
 {
     if shown.has(attr) {
         put_attribute(out, pen, change, attr, base16);
@@ -155,8 +153,7 @@ fn put_attributes<W: Sink>(
     attrs: &[Attr],
 )
     ensures { Wrote (attributes_text base16 (change_of change.entry).1 (has shown) attrs.now)
-        (sheet W.delivered W.failures W.flushes out.old pen.old)
-        (sheet W.delivered W.failures W.flushes out.new pen.new) }
+        (on_sheet W.Sink out.old pen.old) (on_sheet W.Sink out.new pen.new) }
 {
     for attr in attrs {
         put_if_shown(out, pen, change, *attr, base16, shown);
@@ -202,8 +199,7 @@ pub(crate) fn put_details<W: Sink>(
     change: Change<'_>,
 )
     ensures { Wrote (one_text options.now Contents.Detailed (change_of change.entry))
-        (sheet W.delivered W.failures W.flushes out.old pen.old)
-        (sheet W.delivered W.failures W.flushes out.new pen.new) }
+        (on_sheet W.Sink out.old pen.old) (on_sheet W.Sink out.new pen.new) }
 {
     let (shown, _) = said_of(change, options);
     if !shown.is_empty() {

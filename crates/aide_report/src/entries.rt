@@ -5,9 +5,8 @@ ghost use Rattle.aide_report.specs.Entries.{list_line, label_of, letters_of, cha
 ghost use Rattle.aide_report.specs.MergeCalls.{IsStopOf, KeepsMerge};
 ghost use Rattle.aide_report.specs.Merging.{remaining, IsReady, IsEnded, StandsAt};
 ghost use Rattle.aide_report.specs.PassFaults.{Writes};
-ghost use Rattle.aide_report.specs.Passes.{on_sheet};
 ghost use Rattle.aide_report.specs.Sections.{all_listed, lists, entries_text, one_text};
-ghost use Rattle.aide_text.specs.PenSheet.{sheet};
+ghost use Rattle.aide_text.specs.PenSheet.{on_sheet};
 ghost use Rattle.aide_text.specs.Sheet.{Wrote, WritesSome};
 
 use crate::change::{AtPath, Change, at_turn, path_of};
@@ -47,8 +46,7 @@ fn put_label<W: Sink>(
 )
     requires { letters.now ≡ letters_of options.now.ignore (change_of change).1 }
     ensures { Wrote (label_of options.now (change_of change.entry).1)
-        (sheet W.delivered W.failures W.flushes out.old pen.old)
-        (sheet W.delivered W.failures W.flushes out.new pen.new) }
+        (on_sheet W.Sink out.old pen.old) (on_sheet W.Sink out.new pen.new) }
 {
     if options.summarize {
         put(out, pen, letters);
@@ -67,8 +65,7 @@ fn put_line<W: Sink>(
 )
     requires { letters.now ≡ letters_of options.now.ignore (change_of change).1 }
     ensures { Wrote (list_line options.now (change_of change.entry))
-        (sheet W.delivered W.failures W.flushes out.old pen.old)
-        (sheet W.delivered W.failures W.flushes out.new pen.new) }
+        (on_sheet W.Sink out.old pen.old) (on_sheet W.Sink out.new pen.new) }
 {
     put_label(out, pen, options, change, letters);
     put_path_end(out, pen, path_of(change));
@@ -77,8 +74,7 @@ fn put_line<W: Sink>(
 /// Writes the line of an added, removed or changed entry, and nothing for any other.
 fn put_listed<W: Sink>(out: &mut W, pen: &mut Pen, options: &Options, change: Change<'_>)
     ensures { Wrote (one_text options.now all_listed (change_of change.entry))
-        (sheet W.delivered W.failures W.flushes out.old pen.old)
-        (sheet W.delivered W.failures W.flushes out.new pen.new) }
+        (on_sheet W.Sink out.old pen.old) (on_sheet W.Sink out.new pen.new) }
 {
     if let Some(letters) = letters(change, options) {
         put_line(out, pen, options, change, &letters);
@@ -112,8 +108,7 @@ fn put_change<W: Sink>(
     change: Change<'_>,
 )
     ensures { Wrote (one_text options.now contents (change_of change.entry))
-        (sheet W.delivered W.failures W.flushes out.old pen.old)
-        (sheet W.delivered W.failures W.flushes out.new pen.new) }
+        (on_sheet W.Sink out.old pen.old) (on_sheet W.Sink out.new pen.new) }
 {
     if let Contents::Detailed = contents {
         put_details(out, pen, options, change);

@@ -3,14 +3,14 @@ use Rattle.aide_attr.specs.Set.{has}
 use Rattle.aide_attr.specs.declared.attr.Attr.TheVariants.{Ftype}
 use Rattle.aide_report.specs.ChangeView.{change_of}
 use Rattle.aide_report.specs.Entries.{attributes_text}
-use Rattle.aide_text.specs.PenSheet.{sheet}
+use Rattle.aide_text.specs.PenSheet.{on_sheet}
 use Rattle.aide_report.proofs.EntriesLemmas.{shown_drop, shown_end}
 use Rattle.aide_text.proofs.Sheets.{writing_start, writing_more, writing_done}
 use Rattle.aide_report.proofs.details.put_attributes.Goals as goal
 
 pub loop-attr-init : goal.loop-attr-init
 loop-attr-init g c =
-    writing_start (attributes_text c.args.base16 (change_of c.args.change).1 (has c.args.shown) c.args.attrs.now) (sheet g.W.Sink.delivered g.W.Sink.failures g.W.Sink.flushes c.args.out.now c.args.pen.now)
+    writing_start (attributes_text c.args.base16 (change_of c.args.change).1 (has c.args.shown) c.args.attrs.now) (on_sheet g.W.Sink c.args.out.now c.args.pen.now)
 
 pub loop-attr-preserved : goal.loop-attr-preserved
 loop-attr-preserved g c =

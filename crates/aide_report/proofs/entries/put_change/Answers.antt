@@ -1,7 +1,7 @@
 use Rattle.std.proofs.Common.{◌∙◌, sym}
 use Rattle.aide_report.specs.ChangeView.{change_of}
 use Rattle.aide_report.proofs.EntriesLemmas.{listed_text, unlisted_text}
-use Rattle.aide_text.specs.PenSheet.{sheet}
+use Rattle.aide_text.specs.PenSheet.{on_sheet}
 use Rattle.aide_text.proofs.Sheets.{wrote_as, wrote_nothing}
 use Rattle.aide_report.proofs.entries.put_change.Goals as goal
 
@@ -12,4 +12,4 @@ returns-then-lists g c =
 pub returns-else-lists : goal.returns-else-lists
 returns-else-lists g c =
     wrote_as (unlisted_text c.args.options.now c.args.contents (change_of c.args.change) c.in_default.not-Detailed (sym c.lists.ensures ∙ c.if-lists.false))
-    (wrote_nothing (sheet g.W.Sink.delivered g.W.Sink.failures g.W.Sink.flushes c.args.out.now c.args.pen.now))
+    (wrote_nothing (on_sheet g.W.Sink c.args.out.now c.args.pen.now))

@@ -1,6 +1,6 @@
 use Rattle.std.proofs.Common.{sym}
 use Rattle.aide_report.specs.ChangeView.{change_of}
-use Rattle.aide_text.specs.PenSheet.{sheet}
+use Rattle.aide_text.specs.PenSheet.{on_sheet}
 use Rattle.aide_report.specs.Sections.{all_listed}
 use Rattle.aide_report.proofs.EntriesLemmas.{text_of_one, text_of_none}
 use Rattle.aide_text.proofs.Sheets.{wrote_as, wrote_nothing}
@@ -13,4 +13,4 @@ returns-in-Some g c =
 pub returns-in_default : goal.returns-in_default
 returns-in_default g c =
     wrote_as (text_of_none c.args.options.now all_listed (change_of c.args.change) (sym c.in_default.ensures.listed))
-    (wrote_nothing (sheet g.W.Sink.delivered g.W.Sink.failures g.W.Sink.flushes c.args.out.now c.args.pen.now))
+    (wrote_nothing (on_sheet g.W.Sink c.args.out.now c.args.pen.now))
