@@ -1,6 +1,6 @@
 //! The columns of a database.
-ghost use Rattle.std.specs.Prelude.{◌≡◌, ◌+◌, ◌*◌, ◌<◌, ◌≤◌, [], ◌∷◌, ◌++◌, length, true, false, take, map};
-ghost use Rattle.std.specs.Prelude.{All, ℕ, List, None, IfNone, IfSome, drop};
+ghost use Rattle.std.specs.Prelude.{◌≡◌, ◌+◌, ◌*◌, ◌<◌, ◌≤◌, [], ◌∷◌, ◌++◌, length, true, false, take};
+ghost use Rattle.std.specs.Prelude.{map, All, ℕ, List, None, IfNone, IfSome, drop};
 ghost use Rattle.aide_entry.specs.Fields.{is_column, field_under};
 ghost use Rattle.aide_entry.specs.FirstColumns.{AreFirstColumns};
 ghost use Rattle.aide_entry.specs.Spans.{first_in};
@@ -184,11 +184,7 @@ impl Columns {
         self.kinds[self.count as usize] = column;
         self.codes[self.count as usize] = code_of(column);
         self.shapes[self.count as usize] = shape_of(column);
-        self.attr_count = note_attrs(
-            &mut self.attrs,
-            self.attr_count as usize,
-            column,
-        ) as u8;
+        self.attr_count = note_attrs(&mut self.attrs, self.attr_count as usize, column) as u8;
         self.count += 1;
         note_first(&mut self.firsts, column, self.count);
         true

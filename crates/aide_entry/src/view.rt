@@ -96,12 +96,7 @@ impl<'a> View<'a> {
     pub(crate) fn time(&self) -> &'a [u8]
         ensures { IsTimeOrNothing result.now }
     {
-        match field_under(
-            self.columns,
-            Column::Of(Attr::Ctime),
-            self.line,
-            self.spans,
-        ) {
+        match field_under(self.columns, Column::Of(Attr::Ctime), self.line, self.spans) {
             None => &[],
             Some(field) => field,
         }
@@ -120,7 +115,13 @@ impl<'a> View<'a> {
             self.spans,
         ) {
             None => None,
-            Some(field) => { if is_on(attr.bit(), bits) { Some(field) } else { None } }
+            Some(field) => {
+                if is_on(attr.bit(), bits) {
+                    Some(field)
+                } else {
+                    None
+                }
+            }
         }
     }
 
