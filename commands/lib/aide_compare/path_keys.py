@@ -29,6 +29,11 @@ def key_of(field):
     return _MAPPED.sub(lambda found: _FORMS[found.group()], decoded(field))
 
 
+def key_of_path(path):
+    """The key of a path whose escapes are decoded already."""
+    return _MAPPED.sub(lambda found: _FORMS[found.group()], path)
+
+
 def path_of(key):
     """The path that has a key."""
     return _FORM.sub(lambda found: _BACK[found.group()], key)

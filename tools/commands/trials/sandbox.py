@@ -72,8 +72,9 @@ class Sandbox:
         for folder in ('bin', 'nagios'):
             for name in os.listdir(os.path.join(HERE, 'commands', folder)):
                 shutil.copy(os.path.join(HERE, 'commands', folder, name), self.path('bin/' + name))
-        shutil.copytree(os.path.join(HERE, 'commands', 'lib'), self.path('lib'),
-                        ignore=shutil.ignore_patterns('__pycache__'))
+        for folder in ('lib', 'share'):
+            shutil.copytree(os.path.join(HERE, 'commands', folder), self.path(folder),
+                            ignore=shutil.ignore_patterns('__pycache__'))
         for name, text in (('old', OLD), ('new', NEW)):
             self.write(name + '.db', text)
             self.write(name + '.db.gz', gzip.compress(text))

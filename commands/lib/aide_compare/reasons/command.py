@@ -1,0 +1,34 @@
+"""The command aide-compare-reasons: the lines of aide-compare-json with reasons and severities."""
+import os
+
+from aide_compare.options import size
+from aide_compare.reasons.evidence import add_evidence_options, evidence_of
+from aide_compare.reasons.explainer import Explainer
+from aide_compare.reasons.lines import Lines
+from aide_compare.unpack import copy_database
+from aide_compare.viewers import _run as run_over, parser_of
+
+NAME = "aide-compare-reasons"
+MOST_DATABASE = 4 << 30
+
+
+def _write(source, target, databases, given):
+    evidence = evidence_of(given)
+    lines = Lines(source)
+    explainer = Explainer(databases[0].fd, databases[1].fd, evidence)
+    changes = explainer.judge(lines.entries())
+    lines.write(target, changes, explainer.counts)
+
+
+def main(arguments):
+    parser = parser_of(NAME, "the lines", "Adds a severity to each entry of aide-compare-json, and a reason where evidence explains it.",
+                       "Example: aide-compare-run old.gz new.gz | aide-compare-json | %s --databases old.gz new.gz" % NAME)
+    parser.add_argument("--databases", nargs=2, metavar=("OLD", "NEW"), required=True, help="the databases that were compared")
+    parser.add_argument("--most", type=size, default=MOST_DATABASE, metavar="BYTES",
+                        help="refuse a database that has more bytes unpacked (4G)")
+    add_evidence_options(parser)
+    given = parser.parse(arguments)
+    copies = [copy_database(side, path, given.most) for side, path in zip(("old", "new"), given.databases)]
+    for copy in copies:
+        os.lseek(copy.fd, 0, os.SEEK_SET)
+    return run_over(given.file, lambda source, target: _write(source, target, copies, given))

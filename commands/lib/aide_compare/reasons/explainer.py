@@ -1,0 +1,118 @@
+"""Explains the entries of a report by the two databases and by evidence. Nothing is taken out, and nothing else changes."""
+import json
+
+from aide_compare.ending import Fault, Status
+from aide_compare.escapes import shown
+from aide_compare.files import nameless
+from aide_compare.path_keys import key_of_path
+from aide_compare.reasons.change import Change
+from aide_compare.reasons.database import Database
+from aide_compare.reasons.entries import differences
+from aide_compare.reasons.growing import explain_added, explain_growing, explain_removed
+from aide_compare.reasons.moves import Moves
+from aide_compare.reasons.parents import Parents
+from aide_compare.reasons.protected import is_never_explained
+from aide_compare.reasons.reason import Tally
+
+BLOCK = 1 << 18
+PRESENT = {"added": (False, True), "removed": (True, False), "changed": (True, True)}
+
+
+def path_of(fields):
+    """The bytes of the path of an entry."""
+    return bytes.fromhex(fields["path_hex"]) if "path_hex" in fields else fields["path"].encode("utf-8", "surrogatepass")
+
+
+def members_of(change):
+    """The members that an entry's object gets."""
+    members = {"severity": change.severity}
+    if change.reason is not None:
+        name, text, verified, grade = change.reason
+        members["reason"] = {"class": name, "text": text, "verified": verified, "grade": grade}
+    return members
+
+
+def forbids(change):
+    return is_never_explained(change.path, change.old_mode, change.new_mode)
+
+
+class Explainer:
+    """Explains entries. The databases are plain and in path order; `counts` is known when the first entry is given back."""
+
+    def __init__(self, old_fd, new_fd, evidence):
+        self.old, self.new, self.evidence, self.counts = Database(old_fd, "old"), Database(new_fd, "new"), evidence, None
+
+    def explain(self, objects):
+        """Yields the objects of entries, which come in path order, each with its severity, and its reason if it has one."""
+        with open(nameless(), "w+b", buffering=BLOCK) as kept:
+            changes = self.judge(self._keep(objects, kept))
+            kept.seek(0)
+            for line, change in zip(kept, changes):
+                yield {**json.loads(line), **members_of(change)}
+
+    @staticmethod
+    def _keep(objects, kept):
+        """Writes the objects to a private file, since there may be more of them than fit in memory."""
+        for fields in objects:
+            kept.write(json.dumps(fields, separators=(",", ":")).encode() + b"\n")
+            yield fields
+
+    def judge(self, objects):
+        """The changes that objects of entries mean, in their order, each with its severity and perhaps a reason."""
+        changes = [self._found(fields) for fields in objects]
+        packages = self.evidence.packages
+        if packages:
+            packages.gather(changes, self)
+        self._explain_each(changes, self._by_content)
+        Moves(changes, self.read).explain(forbids)
+        self._explain_each(changes, self._by_place)
+        Parents(self.read, packages.owner_of if packages else lambda change: None).explain(changes, forbids)
+        return self._weigh(changes)
+
+    def _found(self, fields):
+        """The change that an object means, found in the databases."""
+        path = path_of(fields)
+        key = key_of_path(path)
+        change = Change(path, self.old.find(key), self.new.find(key))
+        present = (change.old_at is not None, change.new_at is not None)
+        if present != PRESENT[fields["kind"]] and ("uncertain" not in fields or not any(present)):
+            raise Fault(Status.DATABASE, "the databases are not those of the report: %s is not %s there"
+                        % (shown(path, 300), fields["kind"]))
+        old, new = self.read(change)
+        change.old_mode, change.new_mode = (entry.mode if entry else 0 for entry in (old, new))
+        change.old_inode, change.new_inode = (entry.number("inode") if entry else None for entry in (old, new))
+        return change
+
+    def read(self, change):
+        """What the databases say of a change: the old entry and the new one, None for one that is not there."""
+        return (None if change.old_at is None else self.old.at(change.old_at),
+                None if change.new_at is None else self.new.at(change.new_at))
+
+    def _explain_each(self, changes, explain):
+        for change in changes:
+            if change.reason is None and not forbids(change):
+                old, new = self.read(change)
+                change.reason = explain(change, old, new, differences(old, new) if old and new else set())
+
+    def _by_content(self, change, old, new, differ):
+        """The reason that the content gives, compared with a package's or with that of before."""
+        packages = self.evidence.packages
+        reason = packages.explain(change, old, new, differ) if packages else None
+        return reason or (explain_growing(old, new, differ) if old and new else None)
+
+    def _by_place(self, change, old, new, differ):
+        """The reason that the place gives: what AIDE's rules, packages or the administrator expect there."""
+        reason = None
+        if not (old and new):
+            reason = explain_added(new) if new else explain_removed(old)
+        if reason is None and self.evidence.packages:
+            reason = self.evidence.packages.explain_made(change, old, new, differ)
+        return reason or self.evidence.rules.explain(change, differ)
+
+    def _weigh(self, changes):
+        tally = Tally()
+        for change in changes:
+            change.severity = self.evidence.severity.of(change.path, change.old_mode, change.new_mode)
+            tally.add(change.reason, change.severity)
+        self.counts = tally.counts()
+        return changes

@@ -1,0 +1,150 @@
+"""dpkg's records in one file, kept beside a baseline: a package that is removed takes its lists with it.
+
+The file is a tar archive, packed by gzip, with dpkg's own files under the names that they have below /var/lib/dpkg.
+"""
+import gzip
+import io
+import os
+import re
+import stat
+import tarfile
+
+from aide_compare.ending import Fault, Status, reason
+from aide_compare.escapes import shown
+from aide_compare.folders import failure, open_folder
+from aide_compare.reasons.trusted import open_trusted, read_whole
+from aide_compare.unpack import Opened, copy_opened
+
+DPKG = "/var/lib/dpkg"
+KEPT = re.compile(r"(?:.*/)?(status|diversions|info/[A-Za-z0-9][A-Za-z0-9+.:~_-]*\.(?:list|md5sums))")
+MOST_FILE, MOST_ALL, MOST_FILES = 64 << 20, 1 << 30, 200000
+PLAIN_FILE = os.O_RDONLY | os.O_NOFOLLOW | os.O_NONBLOCK | os.O_NOCTTY | os.O_CLOEXEC
+
+
+class FolderRecords:
+    """dpkg's records as they are now, in its own folder, which must be root's or the caller's."""
+
+    def __init__(self, path=DPKG):
+        self.words, self.left = "dpkg's records in %s" % shown(path), MOST_ALL
+        with open_folder(path) as folder:
+            if folder.others:
+                raise Fault(Status.DEVICE, "other users can write %s" % self.words)
+            self.fd = os.open(".", os.O_RDONLY | os.O_DIRECTORY | os.O_CLOEXEC, dir_fd=folder.fd)
+        found = ["status", "diversions"] + ["info/" + name for name in self._list("info")]
+        self.names = sorted(name for name in found if KEPT.fullmatch(name))
+        if len(self.names) > MOST_FILES:
+            raise Fault(Status.DEVICE, "%s have more than %d files" % (self.words, MOST_FILES))
+
+    def _list(self, name):
+        descriptor = os.open(name, os.O_RDONLY | os.O_DIRECTORY | os.O_NOFOLLOW | os.O_CLOEXEC, dir_fd=self.fd)
+        try:
+            return os.listdir(descriptor)
+        finally:
+            os.close(descriptor)
+
+    def read(self, name):
+        """The bytes of a file; none if it is not there any more."""
+        try:
+            descriptor = os.open(name, PLAIN_FILE, dir_fd=self.fd)
+        except FileNotFoundError:
+            return b""
+        try:
+            found = os.fstat(descriptor)
+            if not stat.S_ISREG(found.st_mode) or found.st_uid not in (0, os.geteuid()) or found.st_mode & 0o022:
+                raise failure(1, "%s is no plain file of root" % shown(name))
+            text = read_whole(descriptor, min(MOST_FILE, self.left), self.words)
+            self.left -= len(text)
+            return text
+        except OSError as error:
+            raise Fault(Status.DEVICE, "cannot read %s: %s" % (self.words, reason(error)))
+        finally:
+            os.close(descriptor)
+
+    def close(self):
+        os.close(self.fd)
+
+
+class _Bounded(io.RawIOBase):
+    """A file of which no more is read at once than is allowed, whatever the archive says of its sizes."""
+
+    def __init__(self, descriptor):
+        super().__init__()
+        self.file = open(descriptor, "rb", buffering=1 << 16)
+
+    def readable(self):
+        return True
+
+    def seekable(self):
+        return True
+
+    def seek(self, offset, whence=os.SEEK_SET):
+        return self.file.seek(offset, whence)
+
+    def tell(self):
+        return self.file.tell()
+
+    def read(self, size=-1):
+        if not 0 <= size <= MOST_FILE:
+            raise tarfile.ReadError("a member is too large")
+        return self.file.read(size)
+
+    def close(self):
+        self.file.close()
+        super().close()
+
+
+class KeptRecords:
+    """Records that `write_records` has written."""
+
+    def __init__(self, path):
+        self.words = "the packages' records %s" % shown(path)
+        opened = Opened("old", path, open_trusted(path, "the packages' records"))
+        opened.words = self.words
+        copy = copy_opened(opened, MOST_ALL)
+        os.lseek(copy.fd, 0, os.SEEK_SET)
+        self.file, self.members = _Bounded(copy.fd), {}
+        try:
+            self._find()
+        except (tarfile.TarError, ValueError, EOFError) as error:
+            raise Fault(Status.DEVICE, "%s are damaged: %s" % (self.words, shown(str(error), 100)))
+        self.names = sorted(self.members)
+        if "status" not in self.members:
+            raise Fault(Status.DEVICE, "%s have no status of dpkg" % self.words)
+
+    def _find(self):
+        with tarfile.open(fileobj=self.file, mode="r:") as archive:
+            for count, member in enumerate(archive):
+                kept = KEPT.fullmatch(member.name)
+                if count > MOST_FILES or member.size > MOST_FILE:
+                    raise tarfile.ReadError("too many files, or too large ones")
+                if kept and member.isreg():
+                    self.members[kept.group(1)] = (member.offset_data, member.size)
+                archive.members = []  # Otherwise it keeps them all.
+
+    def read(self, name):
+        offset, size = self.members.get(name, (0, 0))
+        self.file.seek(offset)
+        return self.file.read(size)
+
+    def close(self):
+        self.file.close()
+
+
+def has_records(folder=DPKG):
+    """Whether this machine has dpkg's records."""
+    return os.path.isfile(folder + "/status")
+
+
+def write_records(target, folder=DPKG):
+    """Writes dpkg's records of now to an open file of bytes. The same records give the same bytes."""
+    records = FolderRecords(folder)
+    try:
+        with gzip.GzipFile(filename="", mode="wb", fileobj=target, mtime=0) as packed:
+            with tarfile.open(fileobj=packed, mode="w:", format=tarfile.GNU_FORMAT) as archive:
+                for name in records.names:
+                    text = records.read(name)
+                    member = tarfile.TarInfo(name)
+                    member.size = len(text)
+                    archive.addfile(member, io.BytesIO(text))
+    finally:
+        records.close()

@@ -1,0 +1,63 @@
+"""Reasons that an administrator writes down: patterns of paths, what may differ there, and a text."""
+import stat
+from collections import namedtuple
+
+from aide_compare.ending import Fault, Status
+from aide_compare.escapes import shown
+from aide_compare.reasons.entries import DIGESTS
+from aide_compare.reasons.protected import takes_no_pattern
+from aide_compare.reasons.reason import Reason
+from aide_compare.reasons.table import Table, pattern_of
+from aide_compare.reasons.trusted import lines_of
+
+MOST_TEXT = 200
+# The columns that each word stands for, beside `added` and `removed`.
+COLUMNS = {
+    "size": {"size"}, "bcount": {"bcount"}, "mtime": {"mtime"}, "ctime": {"ctime"}, "atime": {"atime"}, "inode": {"inode"},
+    "linkcount": {"lcount"}, "lname": {"lname"}, "digests": DIGESTS, "perm": {"perm"}, "uid": {"uid"}, "gid": {"gid"},
+    "acl": {"acl"}, "xattrs": {"xattrs"}, "selinux": {"selinux"}, "e2fsattrs": {"e2fsattrs"}, "caps": {"capabilities"},
+    "times": {"mtime", "ctime", "atime"}, "content": DIGESTS | {"size", "bcount", "mtime", "ctime", "atime"},
+}
+KINDS = ("added", "removed")
+
+Rule = namedtuple("Rule", "kinds columns pattern reason")
+
+
+def _rule(line, place):
+    """A rule from its line: what may differ, a pattern, and the text."""
+    parts = line.split(None, 2)
+    if len(parts) != 3:
+        raise Fault(Status.USAGE, "%s: a line is what may differ, then a pattern, then a text" % place)
+    words = parts[0].decode("ascii", "replace").split(",")
+    unknown = [word for word in words if word not in COLUMNS and word not in KINDS]
+    if unknown:
+        raise Fault(Status.USAGE, "%s: unknown word: %s" % (place, shown(unknown[0], 100)))
+    columns = frozenset().union(*(COLUMNS[word] for word in words if word in COLUMNS))
+    text = shown(parts[2], MOST_TEXT)
+    return Rule(frozenset(words) & frozenset(KINDS), columns, pattern_of(parts[1], place), Reason("rule", text, False, "rules"))
+
+
+def _is_program_or_device(mode):
+    return stat.S_ISCHR(mode) or stat.S_ISBLK(mode) or (stat.S_ISREG(mode) and bool(mode & 0o111))
+
+
+class Rules:
+    """The rules of a file. They verify nothing, so what they explain counts as not verified."""
+
+    def __init__(self, path=None):
+        self.table = Table([_rule(line, place) for line, place in lines_of(path, "the rules")] if path else [])
+
+    def explain(self, change, differ):
+        """The reason of the first rule that allows all that differs. A new program or device needs more than a rule."""
+        if change.old_at is None and _is_program_or_device(change.new_mode):
+            return None
+        for rule in self.table.rows(change.path):
+            if self._allows(rule, change, differ):
+                return None if takes_no_pattern(change.path) else rule.reason
+        return None
+
+    @staticmethod
+    def _allows(rule, change, differ):
+        if change.old_at is None or change.new_at is None:
+            return ("added" if change.old_at is None else "removed") in rule.kinds
+        return differ <= rule.columns

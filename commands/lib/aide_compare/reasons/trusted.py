@@ -1,0 +1,54 @@
+"""Files of the administrator, which no user but root and the caller may be able to change."""
+import os
+
+from aide_compare.ending import Fault, Status, reason
+from aide_compare.escapes import shown
+from aide_compare.files import open_regular
+from aide_compare.folders import open_folder
+
+MOST_LINES = 10000
+MOST_BYTES = 1 << 20
+
+
+def open_trusted(path, what):
+    """A descriptor of a regular file. `what` says what it is, such as "the rules"."""
+    descriptor = open_regular(path, what + " ")
+    try:
+        with open_folder(os.path.dirname(path) or ".") as folder:
+            found = os.fstat(descriptor)
+            if not folder.is_safe() or found.st_uid not in (0, os.geteuid()) or found.st_mode & 0o022:
+                raise Fault(Status.DEVICE, "other users can write %s %s" % (what, shown(path)))
+        return descriptor
+    except BaseException:
+        os.close(descriptor)
+        raise
+
+
+def read_whole(descriptor, most, what):
+    """The bytes of an open file, at most so many."""
+    blocks, left = [], most + 1
+    try:
+        while left > 0:
+            block = os.read(descriptor, min(left, 1 << 18))
+            if not block:
+                return b"".join(blocks)
+            blocks.append(block)
+            left -= len(block)
+    except OSError as error:
+        raise Fault(Status.DEVICE, "cannot read %s: %s" % (what, reason(error)))
+    raise Fault(Status.DEVICE, "%s has more than %d bytes" % (what, most))
+
+
+def lines_of(path, what):
+    """The lines of a file that say something, each with the place where it stands. Blanks at the ends do not count."""
+    descriptor = open_trusted(path, what)
+    try:
+        text = read_whole(descriptor, MOST_BYTES, "%s %s" % (what, shown(path)))
+    finally:
+        os.close(descriptor)
+    lines = [(line.strip(b" \t\r"), "%s, line %d" % (shown(path, 200), number))
+             for number, line in enumerate(text.split(b"\n"), 1)]
+    lines = [(line, place) for line, place in lines if line and not line.startswith(b"#")]
+    if len(lines) > MOST_LINES:
+        raise Fault(Status.USAGE, "%s %s has more than %d lines" % (what, shown(path), MOST_LINES))
+    return lines
