@@ -91,9 +91,10 @@ class Entry:
 
     def is_plain(self):
         """Whether it belongs to root, and nothing beyond its mode gives a right to anybody: no access list, no capability,
-        no extended attribute."""
-        return (self.number("uid") == 0 and self.field("capabilities") == ABSENT and self.field("xattrs") == ABSENT
-                and (self.field("acl") == ABSENT or _is_base_acl(self.field("acl"))))
+        no extended attribute. Of a link AIDE reads the capabilities of the file that it points to."""
+        has_more = any(self.field(column) != ABSENT for column in ("capabilities", "xattrs"))
+        has_list = self.field("acl") != ABSENT and not _is_base_acl(self.field("acl"))
+        return self.number("uid") == 0 and (self.is_link() or not (has_more or has_list))
 
 
 def _is_base_acl(field):

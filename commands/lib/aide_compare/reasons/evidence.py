@@ -1,5 +1,9 @@
 """The evidence that the command line names: packages, archives, rules and the table of severities."""
+from aide_compare.ending import Fault, Status
 from aide_compare.options import some_text
+from aide_compare.reasons.archive import Archive
+from aide_compare.reasons.packages import Packages
+from aide_compare.reasons.records import FolderRecords, KeptRecords
 from aide_compare.reasons.rules import Rules
 from aide_compare.reasons.severity import Severity
 
@@ -15,12 +19,25 @@ def add_evidence_options(parser):
     """Adds the options that name evidence to the options of a command."""
     parser.add_argument("--packages", metavar="FILE", type=some_text,
                         help="dpkg's records of the time of the old database, as aide-compare-accept keeps them")
+    parser.add_argument("--packages-now", metavar="FILE", type=some_text,
+                        help="dpkg's records of the time of the new database, if they are not those of this machine")
     parser.add_argument("--archive", metavar="FOLDER", action="append", default=[], type=some_text,
                         help="packages and signed indexes, such as /var/lib/apt/lists and /var/cache/apt/archives, or a mirror")
+    parser.add_argument("--keyring", metavar="FILE", action="append", default=[], type=some_text,
+                        help="the keys of the archive, for gpgv (those of Debian)")
     parser.add_argument("--rules", metavar="FILE", type=some_text, help="reasons of your own: what may differ, patterns and texts")
     parser.add_argument("--severity", metavar="FILE", type=some_text, help="a table of severities in place of the shipped one")
 
 
+def _packages_of(given):
+    if not given.packages:
+        if given.archive or given.packages_now:
+            raise Fault(Status.USAGE, "--archive and --packages-now need --packages, which says which packages changed")
+        return None
+    new = KeptRecords(given.packages_now) if given.packages_now else FolderRecords()
+    return Packages(KeptRecords(given.packages), new, Archive(given.archive, given.keyring) if given.archive else None)
+
+
 def evidence_of(given):
-    """The evidence that the options name."""
-    return Evidence(Rules(given.rules), Severity(given.severity))
+    """The evidence that the options name. A file that is missing, or that others can write, is a Fault."""
+    return Evidence(Rules(given.rules), Severity(given.severity), _packages_of(given))

@@ -64,6 +64,8 @@ class Explainer:
         if packages:
             packages.gather(changes, self)
         self._explain_each(changes, self._by_content)
+        if packages:
+            packages.drop_unseen_links()
         Moves(changes, self.read).explain(forbids)
         self._explain_each(changes, self._by_place)
         Parents(self.read, packages.owner_of if packages else lambda change: None).explain(changes, forbids)

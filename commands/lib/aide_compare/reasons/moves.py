@@ -3,7 +3,7 @@ import re
 import stat
 
 from aide_compare.escapes import shown
-from aide_compare.reasons.entries import COMPRESSED, NEW_FILES, SAME_INODE, differences
+from aide_compare.reasons.entries import COMPRESSED, NEW_FILES, differences
 from aide_compare.reasons.growing import GROWS, explain_move
 from aide_compare.reasons.reason import Reason
 
@@ -81,7 +81,7 @@ class Moves:
     def _left(self, source, change):
         """The reason for the new file under a name that was left."""
         old, new = self.read(source)
-        if not (old.bits & SAME_INODE and new.bits & NEW_FILES and new.is_file() and not new.mode & 0o111):
+        if not (new.bits & NEW_FILES and new.is_file() and not new.mode & 0o111):
             return None
         if not differences(old, new) <= GROWS | {"inode"}:
             return None

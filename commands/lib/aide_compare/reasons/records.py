@@ -12,6 +12,7 @@ import tarfile
 from aide_compare.ending import Fault, Status, reason
 from aide_compare.escapes import shown
 from aide_compare.folders import failure, open_folder
+from aide_compare.reasons.packed import Bounded, members
 from aide_compare.reasons.trusted import open_trusted, read_whole
 from aide_compare.unpack import Opened, copy_opened
 
@@ -64,35 +65,6 @@ class FolderRecords:
         os.close(self.fd)
 
 
-class _Bounded(io.RawIOBase):
-    """A file of which no more is read at once than is allowed, whatever the archive says of its sizes."""
-
-    def __init__(self, descriptor):
-        super().__init__()
-        self.file = open(descriptor, "rb", buffering=1 << 16)
-
-    def readable(self):
-        return True
-
-    def seekable(self):
-        return True
-
-    def seek(self, offset, whence=os.SEEK_SET):
-        return self.file.seek(offset, whence)
-
-    def tell(self):
-        return self.file.tell()
-
-    def read(self, size=-1):
-        if not 0 <= size <= MOST_FILE:
-            raise tarfile.ReadError("a member is too large")
-        return self.file.read(size)
-
-    def close(self):
-        self.file.close()
-        super().close()
-
-
 class KeptRecords:
     """Records that `write_records` has written."""
 
@@ -102,7 +74,7 @@ class KeptRecords:
         opened.words = self.words
         copy = copy_opened(opened, MOST_ALL)
         os.lseek(copy.fd, 0, os.SEEK_SET)
-        self.file, self.members = _Bounded(copy.fd), {}
+        self.file, self.members = Bounded(copy.fd, MOST_FILE), {}
         try:
             self._find()
         except (tarfile.TarError, ValueError, EOFError) as error:
@@ -112,14 +84,12 @@ class KeptRecords:
             raise Fault(Status.DEVICE, "%s have no status of dpkg" % self.words)
 
     def _find(self):
-        with tarfile.open(fileobj=self.file, mode="r:") as archive:
-            for count, member in enumerate(archive):
-                kept = KEPT.fullmatch(member.name)
-                if count > MOST_FILES or member.size > MOST_FILE:
-                    raise tarfile.ReadError("too many files, or too large ones")
-                if kept and member.isreg():
-                    self.members[kept.group(1)] = (member.offset_data, member.size)
-                archive.members = []  # Otherwise it keeps them all.
+        for member in members(self.file, MOST_FILES):
+            kept = KEPT.fullmatch(member.name)
+            if kept and member.isreg():
+                if member.size > MOST_FILE:
+                    raise tarfile.ReadError("a file is too large")
+                self.members[kept.group(1)] = (member.offset_data, member.size)
 
     def read(self, name):
         offset, size = self.members.get(name, (0, 0))

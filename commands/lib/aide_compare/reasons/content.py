@@ -1,0 +1,68 @@
+"""Digests of files of this machine, for databases that have no digest which the evidence has too."""
+import hashlib
+import os
+
+from aide_compare.ending import Fault
+from aide_compare.files import open_regular
+
+# The columns of digests that are computed here, by the names that Python has for them.
+COMPUTED = {"md5": "md5", "sha1": "sha1", "sha256": "sha256", "sha512": "sha512", "sha3_256": "sha3_256",
+            "sha3_512": "sha3_512"}
+BLOCK = 1 << 18
+
+
+class Hashes:
+    """Several digests of the same bytes."""
+
+    def __init__(self, columns):
+        self.hashes = {column: hashlib.new(COMPUTED[column]) for column in columns}
+
+    def update(self, data):
+        for each in self.hashes.values():
+            each.update(data)
+
+    def digests(self):
+        return {column: each.digest() for column, each in self.hashes.items()}
+
+
+def do_agree(given, wanted):
+    """Whether two sets of digests have at least one in common, and all that they have in common are equal."""
+    common = given.keys() & wanted.keys()
+    return bool(common) and all(given[column] == wanted[column] for column in common)
+
+
+class Contents:
+    """Reads files of this machine, at most so many bytes of all together."""
+
+    def __init__(self, most=2 << 30):
+        self.left = most
+
+    def agrees(self, path, entry, wanted):
+        """Whether the file with this path has the digests of its entry in the database and those that are wanted."""
+        known = entry.digests()
+        columns = (known.keys() | wanted.keys()) & COMPUTED.keys()
+        size = entry.number("size")
+        if not known.keys() & COMPUTED.keys() or (size or 0) > self.left:
+            return False
+        found = self._digests(path, columns)
+        return found is not None and do_agree(found, known) and do_agree(found, wanted)
+
+    def _digests(self, path, columns):
+        """The digests of a file, or None if it cannot be read whole."""
+        try:
+            descriptor = open_regular(os.fsdecode(path))
+        except Fault:
+            return None
+        try:
+            hashes = Hashes(columns)
+            while self.left > 0:
+                block = os.read(descriptor, min(BLOCK, self.left))
+                if not block:
+                    return hashes.digests()
+                hashes.update(block)
+                self.left -= len(block)
+            return None
+        except OSError:
+            return None
+        finally:
+            os.close(descriptor)

@@ -1,0 +1,172 @@
+"""Signed indexes of an archive of packages: which SHA-256 each package has, said by the holder of the archive's key."""
+import os
+import re
+import shutil
+import stat
+import subprocess
+from collections import namedtuple
+
+from aide_compare.ending import Fault, Status, reason
+from aide_compare.escapes import shown
+from aide_compare.files import reopened
+from aide_compare.folders import open_folder
+from aide_compare.reasons.packed import Refuted, copied, unpacked
+from aide_compare.reasons.trusted import open_trusted
+
+LISTED = re.compile(rb"^ ([0-9a-f]{64}) +([0-9]+) +(\S+)$", re.M)
+SECTION = re.compile(rb"^SHA256:\s*\n((?: .*\n?)+)", re.M)
+KEYRING = "/usr/share/keyrings/debian-archive-keyring.gpg"
+RELEASE, SUFFIXES = "InRelease", ("", ".xz", ".gz", ".bz2", ".zst", ".lz4")
+MOST_RELEASE, MOST_INDEX, MOST_NAMES, SECONDS = 8 << 20, 1 << 30, 100000, 60
+PIECE = os.O_RDONLY | os.O_NOFOLLOW | os.O_NONBLOCK | os.O_NOCTTY | os.O_CLOEXEC
+
+Wanted = namedtuple("Wanted", "sha256 size name")
+
+
+class ArchiveFolder:
+    """A folder with packages or indexes. What is in it is believed only by its signature or its SHA-256, so it may be
+    anybody's. No link in it is followed."""
+
+    def __init__(self, path):
+        with open_folder(path) as folder:
+            self.fd = reopened(folder.fd, os.O_RDONLY | os.O_DIRECTORY)
+
+    def open(self, name):
+        """A descriptor of a regular file by its path in the folder, or None."""
+        folder = os.dup(self.fd)
+        try:
+            *above, last = name.split("/")
+            for piece in above:
+                inner = os.open(piece, PIECE | os.O_DIRECTORY, dir_fd=folder)
+                os.close(folder)
+                folder = inner
+            descriptor = os.open(last, PIECE, dir_fd=folder)
+        except (OSError, ValueError):
+            return None
+        finally:
+            os.close(folder)
+        if not stat.S_ISREG(os.fstat(descriptor).st_mode):
+            os.close(descriptor)
+            return None
+        return descriptor
+
+    def releases(self):
+        """The signed files: of a mirror, of apt's lists, or of a folder of packages. Each with what its indexes' names begin
+        with, and what stands in place of a slash in them."""
+        names = os.listdir(self.fd)[:MOST_NAMES]
+        yield from ((name, name[:-len(RELEASE)], "_") for name in sorted(names) if name.endswith("_" + RELEASE))
+        yield RELEASE, "", "/"
+        if "dists" in names:
+            suites = os.open("dists", PIECE | os.O_DIRECTORY, dir_fd=self.fd)
+            try:
+                for suite in sorted(os.listdir(suites)[:MOST_NAMES]):
+                    yield "dists/%s/%s" % (suite, RELEASE), "dists/%s/" % suite, "/"
+            finally:
+                os.close(suites)
+
+
+def signed_text(descriptor, keyrings):
+    """The text that a key of the keyrings has signed, as gpgv gives it out, or None if there is no such signature."""
+    program = shutil.which("gpgv")
+    if not program:
+        raise Fault(Status.DEVICE, "there is no program gpgv, so the archive's indexes cannot be verified")
+    reading, writing = os.pipe()
+    rings = [word for ring in keyrings for word in ("--keyring", "/proc/self/fd/%d" % ring)]
+    words = [program, "--homedir", "/nonexistent", "--status-fd", str(writing)] + rings + ["--output", "-", "-"]
+    try:
+        done = subprocess.run(words, stdin=descriptor, stdout=subprocess.PIPE, stderr=subprocess.DEVNULL, timeout=SECONDS,
+                              pass_fds=tuple(keyrings) + (writing,), env={"LC_ALL": "C"})
+    except (OSError, subprocess.TimeoutExpired):
+        os.close(reading)
+        return None
+    finally:
+        os.close(writing)
+    with open(reading, "rb") as file:
+        said = {line.split()[1] for line in file.read(1 << 16).split(b"\n") if line.startswith(b"[GNUPG:] ")}
+    is_good = {b"GOODSIG", b"VALIDSIG"} <= said and not said & {b"BADSIG", b"ERROR", b"UNEXPECTED"}
+    return done.stdout if is_good and done.returncode in (0, 2) else None
+
+
+class Index:
+    """The packages that the signed indexes of some folders list, of those that are wanted."""
+
+    def __init__(self, folders, keyrings):
+        self.folders = folders
+        self.keyrings = [open_trusted(path, "the keyring") for path in keyrings or [KEYRING]]
+
+    def find(self, keys):
+        """What the indexes list of the packages with these names, versions and architectures."""
+        found = {}
+        for folder in self.folders:
+            for name, head, slash in folder.releases():
+                for path, digests in self._listed(folder, name).items():
+                    self._read(folder, head + path.replace("/", slash), digests, keys, found)
+        return found
+
+    def _listed(self, folder, name):
+        """The indexes that a signed file lists: their digests by path and ending."""
+        descriptor = folder.open(name)
+        if descriptor is None:
+            return {}
+        try:
+            copy = copied(descriptor, None, MOST_RELEASE)[0]
+        except Refuted:
+            return {}
+        finally:
+            os.close(descriptor)
+        try:
+            text = signed_text(copy, self.keyrings)
+        finally:
+            os.close(copy)
+        listed, section = {}, SECTION.search(text or b"")
+        for digest, _, path in LISTED.findall(section.group(1) if section else b""):
+            path, _, ending = path.decode("utf-8", "replace").partition("Packages")
+            if (not path or path.endswith("/")) and (not ending or "." + ending[1:] in SUFFIXES) and ".." not in path:
+                listed.setdefault(path + "Packages", {})[ending] = digest.decode()
+        return listed
+
+    @staticmethod
+    def _read(folder, path, digests, keys, found):
+        """Reads an index if it is there in some form, and has the digest that was signed."""
+        for ending in SUFFIXES:
+            descriptor = folder.open(path + ending)
+            if descriptor is None:
+                continue
+            try:
+                packed, digest = copied(descriptor, None, MOST_INDEX)
+                plain, plain_digest = unpacked(packed, ending[1:], MOST_INDEX)
+                os.close(packed)
+                with open(plain, "rb") as file:
+                    if digest == digests.get(ending) or plain_digest == digests.get(""):
+                        found.update(_paragraphs(file, keys))
+                        return
+            except Refuted:
+                continue
+            finally:
+                os.close(descriptor)
+
+
+def _paragraphs(file, keys):
+    """What an index says of the packages that are wanted."""
+    names, fields = {name for name, _, _ in keys}, {}
+    for line in file:
+        if line == b"\n":
+            yield from _wanted(fields, keys)
+            fields = {}
+        elif line[:1] not in b" \t" and (fields or line.startswith(b"Package:")):
+            name, _, value = line.partition(b":")
+            if name == b"Package" and value.strip() not in names:
+                continue
+            fields[name] = value.strip()
+    yield from _wanted(fields, keys)
+
+
+def _wanted(fields, keys):
+    key = tuple(fields.get(name, b"") for name in (b"Package", b"Version", b"Architecture"))
+    digest, size, name = (fields.get(name, b"") for name in (b"SHA256", b"Size", b"Filename"))
+    if key in keys and re.fullmatch(rb"[0-9a-f]{64}", digest) and size.isdigit():
+        yield key, Wanted(digest.decode(), int(size), name.decode("utf-8", "replace"))
+
+
+def unreadable(error):
+    return Fault(Status.DEVICE, "cannot read an archive of packages: %s" % shown(reason(error)))
