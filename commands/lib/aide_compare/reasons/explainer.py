@@ -32,15 +32,12 @@ def members_of(change):
     return members
 
 
-def forbids(change):
-    return is_never_explained(change.path, change.old_mode, change.new_mode)
-
-
 class Explainer:
     """Explains entries. The databases are plain and in path order; `counts` is known when the first entry is given back."""
 
     def __init__(self, old_fd, new_fd, evidence):
         self.old, self.new, self.evidence, self.counts = Database(old_fd, "old"), Database(new_fd, "new"), evidence, None
+        self.modes = {}  # Each mode once: there are few of them, and many entries.
 
     def explain(self, objects):
         """Yields the objects of entries, which come in path order, each with its severity, and its reason if it has one."""
@@ -66,9 +63,9 @@ class Explainer:
         self._explain_each(changes, self._by_content)
         if packages:
             packages.drop_unseen_links()
-        Moves(changes, self.read).explain(forbids)
+        Moves(changes, self.read).explain()
         self._explain_each(changes, self._by_place)
-        Parents(self.read, packages.owner_of if packages else lambda change: None).explain(changes, forbids)
+        Parents(self.read, packages.owner_of if packages else lambda change: None).explain(changes)
         return self._weigh(changes)
 
     def _found(self, fields):
@@ -81,8 +78,9 @@ class Explainer:
             raise Fault(Status.DATABASE, "the databases are not those of the report: %s is not %s there"
                         % (shown(path, 300), fields["kind"]))
         old, new = self.read(change)
-        change.old_mode, change.new_mode = (entry.mode if entry else 0 for entry in (old, new))
-        change.old_inode, change.new_inode = (entry.number("inode") if entry else None for entry in (old, new))
+        change.old_mode, change.new_mode = (self.modes.setdefault(entry.mode, entry.mode) if entry else 0 for entry in (old, new))
+        change.is_replaced = not (old and new) or old.field("inode") != new.field("inode")
+        change.is_never = is_never_explained(path, change.old_mode, change.new_mode)
         return change
 
     def read(self, change):
@@ -92,7 +90,7 @@ class Explainer:
 
     def _explain_each(self, changes, explain):
         for change in changes:
-            if change.reason is None and not forbids(change):
+            if change.reason is None and not change.is_never:
                 old, new = self.read(change)
                 change.reason = explain(change, old, new, differences(old, new) if old and new else set())
 
@@ -109,7 +107,7 @@ class Explainer:
             reason = explain_added(new) if new else explain_removed(old)
         if reason is None and self.evidence.packages:
             reason = self.evidence.packages.explain_made(change, old, new, differ)
-        return reason or self.evidence.rules.explain(change, differ)
+        return reason or self.evidence.rules.explain(change, old, new, differ)
 
     def _weigh(self, changes):
         tally = Tally()

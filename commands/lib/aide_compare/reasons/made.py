@@ -56,12 +56,11 @@ def made_by(why):
 
 
 class Made:
-    """Explains what the changed packages had made. `prefixes` are beginnings of paths that they have."""
+    """Explains what the changed packages had made. `known` is what their records say."""
 
-    def __init__(self, changed, packages, prefixes):
-        self.packages = packages
-        self.names = {part.name for pair in changed for part in pair if part}
-        self.table = Table([_Row(pattern, prefix) for pattern, prefix in ROWS if prefix in prefixes or prefix == ANY])
+    def __init__(self, known):
+        self.known, self.names = known, {part.name for pair in known.changed for part in pair if part}
+        self.table = Table([_Row(pattern, prefix) for pattern, prefix in ROWS if prefix == ANY or prefix in known.prefixes])
 
     def explain(self, change, old, new, differ):
         path, info = change.path, INFO.fullmatch(change.path)
@@ -76,15 +75,15 @@ class Made:
             return made_by("dpkg's records of %s" % shown(info.group(1))) if info.group(1) in self.names else None
         source = source_of(path)
         if source:
-            return made_by("from %s" % shown(source, 200)) if self.packages.is_owned(source) else None
+            return made_by("from %s" % shown(source, 200)) if self.known.is_owned(source) else None
         if (new or old).is_link():
             return self._link(path, target)
         return made_by("") if next(self.table.rows(path), None) else None
 
     def _started(self, path, target):
         """A link that has a unit started, or a script of init.d, whose order changes with that of others."""
-        is_script = path.startswith(b"/etc/rc") and self.packages.is_listed(target)
-        return made_by("starts %s" % shown(target, 200)) if self.packages.is_owned(target) or is_script else None
+        is_script = path.startswith(b"/etc/rc") and self._is_listed(target)
+        return made_by("starts %s" % shown(target, 200)) if self.known.is_owned(target) or is_script else None
 
     @staticmethod
     def _is_harmless(old, new, differ, may_run):
@@ -93,17 +92,20 @@ class Made:
             return differ <= CONTENT or (new.is_link() and differ <= CONTENT | {"lname"})
         return new is None or (new.is_plain() and (may_run or not (new.is_file() and new.mode & 0o111)))
 
+    def _is_listed(self, path):
+        return path in self.known.listed
+
     def _target(self, path, entry):
-        return self.packages.usr(target_of(path, entry.link())) if entry.link() else None
+        return self.known.usr(target_of(path, entry.link())) if entry.link() else None
 
     def _link(self, path, target):
         """A link is made by a package if what it points to is a package's, or made by one too."""
         if not target:
             return None
         row = next(self.table.rows(path), None)
-        if path.startswith(b"/etc/") and self.packages.is_owned(target):
+        if path.startswith(b"/etc/") and self.known.is_owned(target):
             return made_by("points to a file of a changed package")
-        return made_by("") if row and (self.packages.is_listed(target) or next(self.table.rows(target), None)) else None
+        return made_by("") if row and (self._is_listed(target) or next(self.table.rows(target), None)) else None
 
 
 def target_of(path, link):

@@ -27,35 +27,36 @@ class Moves:
 
     def __init__(self, changes, read):
         self.read, self.by_inode, self.by_stem = read, {}, {}
-        self.open = [change for change in changes if change.reason is None and change.is_replaced()]
+        self.open = [change for change in changes if change.reason is None and change.is_replaced]
         for change in self.open:
             if change.old_at is not None and stat.S_ISREG(change.old_mode):
                 self._add(change)
 
     def _add(self, change):
         """Notes a file that has left its name. Of two names for one inode nothing can be said."""
-        key = (change.folder(), change.old_inode)
+        key = (change.folder(), self.read(change)[0].field("inode"))
         self.by_inode[key] = None if key in self.by_inode else change
         self.by_stem.setdefault((key[0], _stem(change.path, NUMBERED)), []).append(change)
 
-    def explain(self, forbids):
+    def explain(self):
         """Gives reasons. What was renamed, or packed, leaves its old name to a new file, which is explained after it."""
         came_from = {}
         for change in self.open:
-            if change.new_at is not None and stat.S_ISREG(change.new_mode) and not forbids(change):
+            if change.new_at is not None and stat.S_ISREG(change.new_mode) and not change.is_never:
                 source = self._renamed(change) or self._packed(change)
                 if source:
                     came_from[source] = change
         for source, change in came_from.items():
-            if source.reason is None and source.new_at is not None and not forbids(source):
+            if source.reason is None and source.new_at is not None and not source.is_never:
                 source.reason = self._left(source, change)
 
     def _renamed(self, change):
         """The file that has this name now, and had another one; the reason is given if all else is as it was."""
-        source = self.by_inode.get((change.folder(), change.new_inode))
+        new = self.read(change)[1]
+        source = self.by_inode.get((change.folder(), new.field("inode")))
         if source is None or source is change:
             return None
-        old, new = self.read(source)[0], self.read(change)[1]
+        old = self.read(source)[0]
         change.reason = explain_move(source.path, old, new, differences(old, new))
         return source if change.reason else None
 

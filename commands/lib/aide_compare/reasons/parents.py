@@ -37,16 +37,13 @@ class Parents:
     def __init__(self, read, owner_of):
         self.read, self.owner_of, self.names = read, owner_of, {}
 
-    def explain(self, changes, forbids):
+    def explain(self, changes):
         for change in reversed(changes):
             names = self.names.pop(change.path, None)
-            if change.reason is None and not forbids(change):
+            if change.reason is None and not change.is_never:
                 change.reason = self._reason(change, names)
-            if change.is_replaced():
+            if change.is_replaced:
                 self.names.setdefault(change.folder(), _Names()).add(change.reason)
-
-    def has_unexplained(self, path):
-        return path in self.names and self.names[path].unexplained
 
     def _reason(self, change, names):
         if change.old_at is None or change.new_at is None or (names and names.unexplained):

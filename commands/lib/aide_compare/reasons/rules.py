@@ -5,6 +5,7 @@ from collections import namedtuple
 from aide_compare.ending import Fault, Status
 from aide_compare.escapes import shown
 from aide_compare.reasons.entries import DIGESTS
+from aide_compare.reasons.growing import has_grown
 from aide_compare.reasons.protected import takes_no_pattern
 from aide_compare.reasons.reason import Reason
 from aide_compare.reasons.table import Table, pattern_of
@@ -18,9 +19,9 @@ COLUMNS = {
     "acl": {"acl"}, "xattrs": {"xattrs"}, "selinux": {"selinux"}, "e2fsattrs": {"e2fsattrs"}, "caps": {"capabilities"},
     "times": {"mtime", "ctime", "atime"}, "content": DIGESTS | {"size", "bcount", "mtime", "ctime", "atime"},
 }
-KINDS = ("added", "removed")
+KINDS, GROWS = ("added", "removed"), "grows"
 
-Rule = namedtuple("Rule", "kinds columns pattern reason")
+Rule = namedtuple("Rule", "words columns pattern reason")
 
 
 def _rule(line, place):
@@ -29,12 +30,12 @@ def _rule(line, place):
     if len(parts) != 3:
         raise Fault(Status.USAGE, "%s: a line is what may differ, then a pattern, then a text" % place)
     words = parts[0].decode("ascii", "replace").split(",")
-    unknown = [word for word in words if word not in COLUMNS and word not in KINDS]
+    unknown = [word for word in words if word not in COLUMNS and word not in KINDS and word != GROWS]
     if unknown:
         raise Fault(Status.USAGE, "%s: unknown word: %s" % (place, shown(unknown[0], 100)))
     columns = frozenset().union(*(COLUMNS[word] for word in words if word in COLUMNS))
     text = shown(parts[2], MOST_TEXT)
-    return Rule(frozenset(words) & frozenset(KINDS), columns, pattern_of(parts[1], place), Reason("rule", text, False, "rules"))
+    return Rule(frozenset(words), columns, pattern_of(parts[1], place), Reason("rule", text, False, "rules"))
 
 
 def _is_program_or_device(mode):
@@ -47,17 +48,17 @@ class Rules:
     def __init__(self, path=None):
         self.table = Table([_rule(line, place) for line, place in lines_of(path, "the rules")] if path else [])
 
-    def explain(self, change, differ):
+    def explain(self, change, old, new, differ):
         """The reason of the first rule that allows all that differs. A new program or device needs more than a rule."""
-        if change.old_at is None and _is_program_or_device(change.new_mode):
+        if old is None and _is_program_or_device(new.mode):
             return None
         for rule in self.table.rows(change.path):
-            if self._allows(rule, change, differ):
+            if self._allows(rule, old, new, differ):
                 return None if takes_no_pattern(change.path) else rule.reason
         return None
 
     @staticmethod
-    def _allows(rule, change, differ):
-        if change.old_at is None or change.new_at is None:
-            return ("added" if change.old_at is None else "removed") in rule.kinds
-        return differ <= rule.columns
+    def _allows(rule, old, new, differ):
+        if not (old and new):
+            return ("removed" if old else "added") in rule.words
+        return differ <= rule.columns or (GROWS in rule.words and old.is_file() and has_grown(old, new, differ))

@@ -66,7 +66,7 @@ def _row(line, place):
     unknown = [test for test in tests if test not in TESTS]
     if unknown:
         raise Fault(Status.USAGE, "%s: unknown test: %s" % (place, shown(unknown[0], 100)))
-    return Row(parts[0].decode(), [TESTS[test] for test in tests], pattern_of(parts[2], place))
+    return Row(parts[0].decode(), [TESTS[test] for test in tests if test != "any"], pattern_of(parts[2], place))
 
 
 class Severity:
@@ -77,7 +77,5 @@ class Severity:
 
     def of(self, path, old, new):
         """The severity of a change of the entry with this path from one mode to another; 0 if there is no such entry."""
-        for row in self.table.rows(path):
-            if all(test(old, new) for test in row.tests):
-                return row.level
-        return OTHERWISE
+        row = next(self.table.rows(path, lambda row: all(test(old, new) for test in row.tests)), None)
+        return row.level if row else OTHERWISE
