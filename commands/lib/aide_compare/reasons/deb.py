@@ -7,7 +7,7 @@ from aide_compare.reasons.content import Hashes
 from aide_compare.reasons.packed import Bounded, Refuted, copied, members, unpacked
 
 MAGIC = b"!<arch>\n"
-HEAD = re.compile(rb"([^ /]+)/? *[0-9 ]{12}[0-9 ]{6}[0-9 ]{6}[0-7 ]{8}([0-9]+) *`\n", re.S)
+HEAD = re.compile(rb"(.{16})[0-9 ]{12}[0-9 ]{6}[0-9 ]{6}[0-7 ]{8}([0-9]{1,10}) *`\n", re.S)
 PART = re.compile(r"(control|data)\.tar(?:\.(gz|xz|zst|bz2|lzma))?")
 HEAD_SIZE, MOST_PARTS = 60, 10
 MOST_MEMBERS, MOST_PACKED, MOST_UNPACKED, MOST_HEAD = 200000, 2 << 30, 4 << 30, 1 << 20
@@ -25,8 +25,7 @@ def _parts(descriptor):
         found = HEAD.fullmatch(head)
         if not found:
             raise Refuted("no Debian package")
-        name, size = found.group(1).decode("ascii", "replace"), int(found.group(2))
-        part = PART.fullmatch(name)
+        part, size = PART.fullmatch(found.group(1).decode("ascii", "replace").rstrip(" /")), int(found.group(2))
         begin = os.lseek(descriptor, 0, os.SEEK_CUR)
         if part:
             yield part.group(1), part.group(2) or "", copied(descriptor, size, MOST_PACKED)[0]

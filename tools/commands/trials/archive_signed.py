@@ -1,0 +1,29 @@
+"""A small index that was signed once by a throwaway key, and the public parts of that key and of another one."""
+
+KEYRING = """
+mDMEawcg9BYJKwYBBAHaRw8BAQdAJY5kc+Xn+BTNNnNCt/ZAN8izNP5nrrY4hwLkjfwA02m0JWFyY2hpdmUgb2YgdGhlIHRyaWFs
+cyAodGhyb3dhd2F5IGtleSmIkAQTFggAOBYhBG4NvvjQe4CwHhlj9SmzomOf4ltmBQJrByD0AhsDBQsJCAcCBhUKCQgLAgQWAgMB
+Ah4BAheAAAoJECmzomOf4ltmOhsBAJ12TcsAHQxOY+SfWJc/ZlcwETqlleMurvahh3B27DN4AP4+ulGlm/j1s5At8lT15mrjPSCp
+M4cHs5IO7eFv+uJtCg==
+"""
+OTHER_KEYRING = """
+mDMEawcg9BYJKwYBBAHaRw8BAQdAkFX7fNIB1u8vIXlizvfcHsmpLShEOykoFYxaRnzjZES0I290aGVyIG9mIHRoZSB0cmlhbHMg
+KHRocm93YXdheSBrZXkpiJAEExYIADgWIQTz6OcENaiwBl97JGgDIYaY1RlEEwUCawcg9AIbAwULCQgHAgYVCgkICwIEFgIDAQIe
+AQIXgAAKCRADIYaY1RlEE6bJAQDspeZwcZ6S4NI2sAPxORX8Gc+ySs/2ShhMXwNfqzJoqgEAp6Id8n1nJ9hO458PnGXZUa48Dfue
+UIJtcD1/YJhGlwc=
+"""
+RELEASE = """-----BEGIN PGP SIGNED MESSAGE-----
+Hash: SHA256
+
+Suite: trial
+SHA256:
+ 1092ed4346dc19ac6752fd9fd69e1897096df4ec5acc6664197bc4468b98d993 328 Packages
+ 1092ed4346dc19ac6752fd9fd69e1897096df4ec5acc6664197bc4468b98d993 328 main/binary-amd64/Packages
+-----BEGIN PGP SIGNATURE-----
+
+iHUEARYIAB0WIQRuDb740HuAsB4ZY/Ups6Jjn+JbZgUCawcg9AAKCRAps6Jjn+Jb
+ZqTsAP9wkj2x86oFTF/S0u3FVvxWpLIA9zh6r7G1x36Q8UFVdQD+Lst/t6EAg0kA
+Si45ratvJeF6oiEWFNo2Fo4mXx2VjQE=
+=VLHe
+-----END PGP SIGNATURE-----
+"""
