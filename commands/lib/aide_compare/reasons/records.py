@@ -11,7 +11,7 @@ import tarfile
 
 from aide_compare.ending import Fault, Status, reason
 from aide_compare.escapes import shown
-from aide_compare.folders import failure, open_folder
+from aide_compare.folders import open_folder
 from aide_compare.reasons.packed import Bounded, members
 from aide_compare.reasons.trusted import open_trusted, read_whole
 from aide_compare.unpack import Opened, copy_opened
@@ -49,15 +49,15 @@ class FolderRecords:
             descriptor = os.open(name, PLAIN_FILE, dir_fd=self.fd)
         except FileNotFoundError:
             return b""
+        except OSError as error:
+            raise Fault(Status.DEVICE, "cannot read %s: %s: %s" % (self.words, shown(name), reason(error)))
         try:
             found = os.fstat(descriptor)
             if not stat.S_ISREG(found.st_mode) or found.st_uid not in (0, os.geteuid()) or found.st_mode & 0o022:
-                raise failure(1, "%s is no plain file of root" % shown(name))
+                raise Fault(Status.DEVICE, "other users can write %s: %s" % (self.words, shown(name)))
             text = read_whole(descriptor, min(MOST_FILE, self.left), self.words)
             self.left -= len(text)
             return text
-        except OSError as error:
-            raise Fault(Status.DEVICE, "cannot read %s: %s" % (self.words, reason(error)))
         finally:
             os.close(descriptor)
 

@@ -1,0 +1,214 @@
+"""aide-compare-reasons and its lines: nothing else of them changes, what is no whole report is refused, and so are files that
+others can write."""
+import gzip
+import io
+import json
+import os
+import random
+import sys
+import tarfile
+
+from .reasons_host import LOG, NAME, Entry, Host, lines_of
+from .sandbox import HERE, NEW, OLD
+
+OURS = ("severity", "reason", "reasons")
+LEVELS = ("list_entries", "changed_attributes", "added_removed_entries")
+GIVEN = ("--databases", "o.db", "n.db")
+
+
+def without_ours(line):
+    """A line as it was: the members of this command, which are the last ones, are cut off by their text."""
+    fields = json.loads(line)
+    added = {name: fields[name] for name in OURS if name in fields}
+    tail = json.dumps(added, separators=(",", ":")).encode()[1:]
+    return line[:-len(tail) - 2] + b"}\n" if added and line.endswith(b"," + tail + b"\n") else line
+
+
+def random_database(numbers, paths):
+    """A database with some of the paths, most of them as in the other one."""
+    lines = []
+    for path in sorted(paths, key=lambda path: path.split(b"/")):
+        if numbers.random() < 0.9:
+            values = ["%o" % numbers.choice([0o100644, 0o104755, 0o100666, 0o40755]), str(numbers.choice([1, 1, 1, 2])),
+                      str(numbers.choice([7, 7, 8])), "%d" % (36 | numbers.choice([0, LOG]) | 1 << 9)]
+            name = "".join(chr(byte) if 48 <= byte < 123 and byte != 92 or byte == 47 else "%%%02X" % byte for byte in path)
+            lines.append(" ".join([name] + values))
+    return ("@@begin_db\n@@db_spec name perm size inode attr\n" + "\n".join(lines) + "\n@@end_db\n").encode()
+
+
+def try_same(sandbox):
+    """Random reports of each level: the lines are the same, but for the members that are added at their ends."""
+    numbers = random.Random(20261126)
+    for number in range(24):
+        paths = {b"/" + b"/".join(bytes(numbers.choices(b"ab%\xff\n \x01", k=numbers.randint(1, 2)))
+                                  for _ in range(numbers.randint(1, 3))) for _ in range(40)}
+        for name in ("o.db", "n.db"):
+            sandbox.write(name, random_database(numbers, paths))
+        level = LEVELS[number % len(LEVELS)]
+        report = sandbox.call("aide-compare-run", "o.db", "n.db", "--", "-B", "report_level=" + level)
+        before = sandbox.call("aide-compare-json", text=report.output)
+        sandbox.write("rules", b"size,perm /a* any\nadded,removed,size /** text \xff\n")
+        answer = sandbox.call(NAME, *GIVEN, *(("--rules", "rules") if number % 2 else ()), text=before.output)
+        lines = answer.output.splitlines(True)
+        objects = [json.loads(line) for line in lines]
+        sandbox.check("random report %d" % number, report.status in range(1, 8) and answer.status == 0, (report, answer))
+        same = b"".join(without_ours(line) for line in lines) == before.output
+        sandbox.check("its lines are the same", same and len(objects) > 10, (before.output[:300], answer.output[:300]))
+        counts = counts_of(objects)
+        sandbox.check("its counts", objects[0]["reasons"] == counts and counts["not_verified"] == sum(
+            "reason" in fields for fields in objects[1:]), (objects[0], counts))
+    answer = sandbox.call(NAME, *GIVEN, text=before.output.replace(b'"kind":"', b'"kind": "'))
+    same = b"".join(map(without_ours, answer.output.splitlines(True))) == before.output.replace(b'"kind":"', b'"kind": "')
+    sandbox.check("lines with other blanks", same and answer.status == 0, answer)
+    sandbox.write("same.db", OLD)
+    empty = sandbox.call("aide-compare-json", text=sandbox.call("aide-compare-run", "same.db", "same.db").output)
+    answer = sandbox.call(NAME, "--databases", "same.db", "same.db", text=empty.output)
+    sandbox.expect("no difference", answer, 0, [b'"reasons":{"explained":0,"not_verified":0,"unexplained":0,"high":0,'])
+
+
+def counts_of(objects):
+    """The counts of the entries, from their own members."""
+    counts = dict.fromkeys(("explained", "not_verified", "unexplained", "high", "medium", "low"), 0)
+    for fields in objects:
+        if fields["record"] == "entry":
+            reason = fields.get("reason")
+            kind = "unexplained" if reason is None else "explained" if reason["verified"] else "not_verified"
+            counts[kind] += 1
+            counts[fields["severity"]] += kind != "explained"
+    return counts
+
+
+def try_damage(sandbox):
+    """What is no whole report of these databases is refused, and nothing is written."""
+    sandbox.write("o.db", OLD)
+    sandbox.write("n.db", NEW)
+    lines = sandbox.call("aide-compare-json", text=sandbox.call("aide-compare-run", "o.db", "n.db").output).output
+    parts = lines.splitlines(True)
+    sandbox.expect("a whole report", sandbox.call(NAME, *GIVEN, text=lines), 0, [b'"severity":"medium"'])
+    cases = {"cut": lines[:-1], "an entry too few": b"".join(parts[:1] + parts[2:]), "two entries in another order":
+             b"".join(parts[:1] + parts[2:3] + parts[1:2] + parts[3:]), "no summary": b"".join(parts[1:]), "nothing": b"",
+             "no JSON": b"x\n" + lines, "an array": b"[]\n" + lines, "a list after the end": lines + parts[1],
+             "an unknown kind": lines.replace(b'"added",', b'"odd",'), "a path without a slash": lines.replace(b'"/a"', b'"a"'),
+             "no path": lines.replace(b'"path":"/a"', b'"pat":"/a"'), "a severity already":
+             sandbox.call(NAME, *GIVEN, text=lines).output, "an entry after the databases": b"".join(parts[:1] + parts[2:] + parts[1:2])}
+    for label, text in cases.items():
+        sandbox.expect(label, sandbox.call(NAME, *GIVEN, text=text), 65, b"", [b"line "])
+    for label, words in (("databases of another report", ("--databases", "n.db", "n.db")), ("swapped", ("--databases", "n.db", "o.db"))):
+        sandbox.expect(label, sandbox.call(NAME, *words, text=lines), 24, b"", [b"not those of the report"])
+    sandbox.write("short.db", NEW.replace(b"/a 36 100644 5", b"/a 36 100644"))
+    sandbox.expect("a line that lacks a field", sandbox.call(NAME, "--databases", "o.db", "short.db", text=lines), 24, b"", [b"fields"])
+    for label, words, status in (("no databases", (), 15), ("one database", ("--databases", "o.db"), 15),
+                                 ("a missing database", ("--databases", "o.db", "none"), 18), ("too large", GIVEN + ("--most", "20"), 18)):
+        sandbox.expect(label, sandbox.call(NAME, *words, text=lines), status, b"")
+    sandbox.write("n.db.gz", gzip.compress(NEW))
+    sandbox.expect("a packed database", sandbox.call(NAME, "--databases", "o.db", "n.db.gz", text=lines), 0, [b'"severity"'])
+
+
+def try_refused(sandbox):
+    """Evidence that others could have written is none."""
+    host = Host()
+    host.old.file(b"/a", b"1").package("tool", "1")
+    host.new.file(b"/a", b"2").package("tool", "2", {b"/a": b"2"})
+    host.ask(sandbox)
+    sandbox.write("rules", b"content /a text\n")
+    sandbox.write("severity", b"high any /a\n")
+    options = {"--packages": "host-old.packages", "--packages-now": "host-new.packages", "--rules": "rules", "--severity": "severity"}
+    words = [word for pair in options.items() for word in pair]
+    sandbox.expect("evidence of the caller", host.ask(sandbox, *words, records=False)[0], 0, [b'"reason"'])
+    for option, name in options.items():
+        for label, mode, owner in (("a group can write", 0o664, 0), ("all can write", 0o646, 0), ("of another user", 0o644, 65534)):
+            if owner and os.getuid() != 0:
+                continue
+            os.rename(sandbox.path(name), sandbox.path("kept"))
+            sandbox.write("theirs", sandbox.read("kept"), mode)
+            os.chown(sandbox.path("theirs"), owner or os.getuid(), -1)
+            changed = ["theirs" if word == name else word for word in words]
+            os.rename(sandbox.path("kept"), sandbox.path(name))
+            answer = sandbox.call(NAME, "--databases", "host-old.db", "host-new.db", *changed, text=lines_of(host.old, host.new))
+            sandbox.expect("%s, %s" % (option, label), answer, 18, b"", [b"other users can write"])
+            os.remove(sandbox.path("theirs"))
+    for label, text in (("no archive", b"x" * 600), ("cut", sandbox.read("host-old.packages")[:-20]), ("no status", gzip.compress(
+            b"\0" * 10240)), ("a large member", gzip.compress(large_member()))):
+        sandbox.write("damaged", text)
+        answer, _ = host.ask(sandbox, "--packages", "damaged", "--packages-now", "host-new.packages", records=False)
+        sandbox.expect("records, " + label, answer, 18, b"", [b"damaged"])
+    answer, _ = host.ask(sandbox, "--packages-now", "host-new.packages", records=False)
+    sandbox.expect("records of now only", answer, 15, b"")
+
+
+def large_member():
+    """A tar archive whose head says that a long name of 4 GB follows."""
+    head = tarfile.TarInfo("././@LongLink")
+    head.type, head.size = tarfile.GNUTYPE_LONGNAME, 4 << 30
+    return head.tobuf(tarfile.GNU_FORMAT) + bytes(20480)
+
+
+def modules():
+    path = os.path.join(HERE, "commands", "lib")
+    if path not in sys.path:
+        sys.path.append(path)
+    from aide_compare.ending import Fault
+    from aide_compare.reasons import records
+    return records, Fault
+
+
+def try_records(sandbox):
+    """dpkg's records are kept whole, twice the same, and not read from where others can write."""
+    records, fault = modules()
+    status = b"Package: tool\nStatus: install ok installed\nArchitecture: all\nVersion: 2\n"
+    files = {"status": status, "diversions": b"", "info/tool.list": b"/.\n/a\n", "info/x:amd64.md5sums": b"sums",
+             "info/tool.postinst": b"no", "status-old": b"no"}
+    for name, text in files.items():
+        sandbox.write("dpkg/" + name, text)
+    for name in ("dpkg", "dpkg/info"):
+        os.chmod(sandbox.path(name), 0o755)
+
+    def kept():
+        target = io.BytesIO()
+        records.write_records(target, sandbox.path("dpkg"))
+        return target.getvalue()
+
+    text = kept()
+    sandbox.write("kept.packages", text)
+    read = records.KeptRecords(sandbox.path("kept.packages"))
+    found = {name: read.read(name) for name in read.names}
+    sandbox.check("records are kept whole", found == {name: text for name, text in files.items() if text != b"no"}, found)
+    sandbox.check("twice the same", kept() == text)
+    sandbox.check("there are records", records.has_records(sandbox.path("dpkg")) and not records.has_records(sandbox.path("bin")))
+    for label, name, mode in (("a file", "dpkg/info/tool.list", 0o666), ("the folder", "dpkg", 0o777)):
+        before = os.stat(sandbox.path(name)).st_mode & 0o7777
+        os.chmod(sandbox.path(name), mode)
+        try:
+            kept()
+            sandbox.check("%s that others can write" % label, False, "kept")
+        except fault as refused:
+            sandbox.check("%s that others can write" % label, refused.status == 18, refused.text)
+        os.chmod(sandbox.path(name), before)
+    os.remove(sandbox.path("dpkg/info/tool.list"))
+    os.symlink("/etc/passwd", sandbox.path("dpkg/info/tool.list"))
+    try:
+        kept()
+        sandbox.check("a link in place of a list", False, "kept")
+    except fault as refused:
+        sandbox.check("a link in place of a list", refused.status == 18, refused.text)
+
+
+def try_interface(sandbox):
+    """The module as the other commands use it: objects in, the same objects with reasons out."""
+    records, _ = modules()
+    from types import SimpleNamespace
+    from aide_compare.reasons import Counts, Explainer, evidence_of
+    host = Host()
+    host.old.file(b"/var/log/a", b"1", bits=LOG).file(b"/b", b"1")
+    host.new.file(b"/var/log/a", b"12", bits=LOG, mtime=Entry.time(2000))
+    for side in ("old", "new"):
+        sandbox.write(side + ".host", getattr(host, side).database())
+    none = dict.fromkeys(("packages", "packages_now", "rules", "severity"))
+    with open(sandbox.path("old.host"), "rb") as old, open(sandbox.path("new.host"), "rb") as new:
+        explainer = Explainer(old.fileno(), new.fileno(), evidence_of(SimpleNamespace(archive=[], keyring=[], **none)))
+        given = [{"record": "entry", "kind": "removed", "path": "/b"}, {"record": "entry", "kind": "changed", "path": "/var/log/a"}]
+        found = list(explainer.explain(iter(given)))
+    sandbox.check("the objects", found == [
+        {**given[0], "severity": "medium"}, {**given[1], "severity": "low", "reason": {
+            "class": "growing", "text": "grew, content not verified", "verified": False, "grade": "databases"}}], found)
+    sandbox.check("the counts", explainer.counts == Counts(0, 1, 1, 0, 1, 1), explainer.counts)
