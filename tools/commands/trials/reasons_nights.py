@@ -1,0 +1,83 @@
+"""Real nights of a Debian 12, cut to some 40 to 100 entries each: the nights of an intruder among ordinary changes.
+
+The texts in tools/commands/nights have lines of AIDE's databases and of dpkg's records as they were. What is wanted of each
+entry stands at their end: its reason and its severity, as they were judged by hand.
+"""
+import json
+import os
+
+from .reasons_host import NAME, in_short, packed
+from .sandbox import HERE
+
+FOLDER = os.path.join(HERE, "tools", "commands", "nights")
+# What the intruder did in each of his nights.
+ALWAYS = ("/usr/local/sbin/.x", "/usr/bin/ls", "/usr/bin/pgrep", "/var/lib/dpkg/info/procps.md5sums", "/usr/local/lib/libprocess.so",
+          "/etc/ld.so.preload", "/root/.ssh/authorized_keys", "/etc/cron.d/sysstat", "/var/log/syslog.5.gz", "/etc/passwd",
+          "/usr/local/bin/p", "/usr/bin/passwd", "/etc/cron.d")
+MARKS = {
+    "n5-idle-intruder": ("/etc/cron.d/e2scrub_all", "/var/log/syslog"),
+    "n6-install-intruder": ("/usr/bin/git", "/usr/lib/python3/dist-packages/yaml/__pycache__/loader.cpython-311.pyc"),
+    "n7-upgrade-intruder": ("/usr/bin/openssl", "/usr/sbin/sshd", "/usr/bin/xz", "/etc/nginx/nginx.conf",
+                            "/usr/lib/python3.11/__pycache__/os.cpython-311.pyc",
+                            "/usr/lib/x86_64-linux-gnu/libdns-9.18.49-1~deb12u4-Debian.so"),
+    "n8-repack-intruder": ("/usr/bin/tree", "/etc/logrotate.conf", "/usr/share/at/batch-job"),
+    "n10-kernel-intruder": ("/boot/initrd.img-6.1.0-50-cloud-amd64", "/usr/lib/modules/6.1.0-50-cloud-amd64/kernel/net/x.ko"),
+    "n11-rotate-intruder": ("/var/log/auth.log.1", "/var/log/syslog.2.gz", "/var/log/auth.log"),
+}
+# Two databases and dpkg cannot show these: dpkg's records were forged too, of packages that changed in that night.
+FORGED = {"n6-install-intruder": "/usr/lib/python3/dist-packages/yaml/_hook.py", "n7-upgrade-intruder": "/usr/bin/rsync"}
+MADE_ONLY = ("__pycache__", "/boot/initrd.img")
+
+
+def read_night(name):
+    """The parts of a night's text, by their titles."""
+    parts, title = {}, None
+    with open(os.path.join(FOLDER, name + ".txt"), encoding="utf-8") as file:
+        for line in file:
+            if line.startswith("@@ "):
+                title = line[3:-1]
+                parts[title] = []
+            else:
+                parts[title].append(line)
+    return {title: "".join(lines) for title, lines in parts.items()}
+
+
+def explained(sandbox, name, parts):
+    """The objects of a night, by way of the program and all commands."""
+    for side in ("old", "new"):
+        text = "@@begin_db\n@@db_spec %s%s@@end_db\n" % (parts["columns"], parts[side])
+        sandbox.write("%s.db" % side, text)
+        records = {title[4:]: text.encode() for title, text in parts.items() if title.startswith(side + " ")}
+        sandbox.write("%s.packages" % side, packed(records))
+    report = sandbox.call("aide-compare-run", "old.db", "new.db", "--", "-B", "report_level=changed_attributes")
+    lines = sandbox.call("aide-compare-json", text=report.output).output
+    answer = sandbox.call(NAME, "--databases", "old.db", "new.db", "--packages", "old.packages", "--packages-now", "new.packages",
+                          text=lines)
+    sandbox.check("%s is explained" % name, answer.status == 0, answer)
+    return [json.loads(line) for line in answer.output.splitlines()]
+
+
+def try_nights(sandbox):
+    names = sorted(name[:-4] for name in os.listdir(FOLDER) if name.endswith(".txt"))
+    sandbox.check("there are nights", len(names) == 8, names)
+    for name in names:
+        parts = read_night(name)
+        objects = explained(sandbox, name, parts)
+        found = {fields["path"]: "%s %s" % (in_short(fields.get("reason")), fields["severity"])
+                 for fields in objects if fields["record"] == "entry"}
+        wanted = dict(reversed(line.split("\t")) for line in parts["wanted"].splitlines())
+        for path in sorted(found.keys() | wanted.keys()):
+            sandbox.check("%s, %s" % (name, path), found.get(path) == wanted.get(path), (found.get(path), wanted.get(path)))
+        check_marks(sandbox, name, found)
+
+
+def check_marks(sandbox, name, found):
+    """No mark of the intruder is explained by what is verified."""
+    if "intruder" not in name:
+        return
+    for path in ALWAYS + MARKS[name]:
+        want = "package_made dpkg " if any(part in path for part in MADE_ONLY) else "- "
+        sandbox.check("%s, a mark of the intruder: %s" % (name, path), found.get(path, "").startswith(want), found.get(path))
+    if name in FORGED:
+        got = found.get(FORGED[name], "")
+        sandbox.check("%s, forged records are told apart by the grade" % name, got.startswith("package dpkg!"), got)
