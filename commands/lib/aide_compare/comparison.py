@@ -10,7 +10,7 @@ from aide_compare.escapes import shown, shown_lines
 from aide_compare.files import nameless
 from aide_compare.hints import explained
 from aide_compare.program import CONFIGURATION_DESCRIPTOR, DATABASES, accepts, find_program, run_program
-from aide_compare.reports import DIFFER, HEAD_BYTES, SAME, counts_of, status_of
+from aide_compare.reports import DIFFER, HEAD_BYTES, SAME, counts_of, lists_entries, status_of
 from aide_compare.times import age_in_words
 from aide_compare.unpack import copy_opened, open_database
 from aide_compare.without import cut_copy, left_out_words
@@ -19,6 +19,10 @@ MOST, MOST_REPORT = 1 << 40, 1 << 30
 MOST_ERRORS = 1 << 20
 CLOCKS_DIFFER = 600
 SUMMARY = b"\nreport_level=summary\nreport_quiet=no\n"
+ENTRIES = b"\nreport_level=list_entries\nreport_quiet=no\n"
+# One list with a word for each entry is read from the databases most cheaply; two lists with letters say more.
+PLAIN_LIST = ENTRIES + b"report_grouped=no\nreport_summarize_changes=no\n"
+LETTERS_LIST = ENTRIES + b"report_grouped=yes\nreport_summarize_changes=yes\n"
 
 
 class Request:
@@ -37,7 +41,8 @@ class Request:
 class Outcome:
     """What came out: the status of the program, a descriptor of its report (a file without a name), its error lines, the
     lines that explain them, the lines that say what was passed over, the counts (None if there are none), and the copies by
-    side, as far as they were made. `left_out`: by side, how many entries each rule left out."""
+    side, as far as they were made. `left_out`: by side, how many entries each rule left out. `compared`: by side, a descriptor
+    of what was compared."""
 
     def __init__(self):
         self.status, self.report, self.errors, self.hints, self.notes = None, None, b"", [], []
@@ -50,7 +55,7 @@ class Outcome:
         return "" if self.status <= 7 else shown_lines(self.errors).partition("\n")[0][:5000]
 
 
-class _Comparison:
+class Comparison:
     """One request on its way: the outcome is there also when a Fault ends it."""
 
     def __init__(self, request, outcome):
@@ -70,6 +75,7 @@ class _Comparison:
         return texts.unfixed(("config",)) if after else texts
 
     def run(self):
+        """Compares. A Fault ends it if the command itself cannot go on; the outcome then has what is known until there."""
         if self._names_are_known():
             self._copy()
             self._compare()
@@ -120,13 +126,36 @@ class _Comparison:
 
     def _counted(self):
         """The counts by a second run at the level summary: only the level minimal has none. None if it ends otherwise."""
-        texts, status, errors = self.texts.unfixed(("before", "config", "after")), self.outcome.status, self.outcome.errors
-        report = self._run("-E", texts, texts.after + SUMMARY + DATABASES.encode(), 1 << 16)
+        report, status = self._run_again(SUMMARY, 1 << 16)
         try:
             return counts_of(os.pread(report, HEAD_BYTES, 0)) if self.outcome.status == status else None
         finally:
             os.close(report)
-            self.outcome.status, self.outcome.errors, self.outcome.hints = status, errors, []
+
+    def has_list(self):
+        """Whether the report itself lists the entries that differ."""
+        return lists_entries(os.pread(self.outcome.report, HEAD_BYTES, 0))
+
+    def listed(self, with_letters):
+        """A descriptor of a report that lists the entries that differ and has no details, by a second run. With letters it
+        says of what kind each change is."""
+        report, status = self._run_again(LETTERS_LIST if with_letters else PLAIN_LIST, self.request.most_report)
+        counts = counts_of(os.pread(report, HEAD_BYTES, 0))
+        if status == self.outcome.status and self.outcome.counts in (None, counts):
+            return report
+        os.close(report)
+        raise Fault(Status.DEVICE, "the list of the entries is not that of the report")
+
+    def _run_again(self, options, most):
+        """A second run with the same databases and other options of the report: what it printed, and its status."""
+        outcome, texts = self.outcome, self.texts.unfixed(("before", "config", "after"))
+        kept = outcome.status, outcome.errors
+        try:
+            report = self._run("-E", texts, texts.after + options + DATABASES.encode(), most)
+            return report, outcome.status
+        finally:
+            outcome.status, outcome.errors = kept
+            outcome.hints = []
 
     def _run(self, command, texts, after, most=None):
         """Runs the program; the outcome gets its status and its errors. Returns a descriptor of what it printed."""
@@ -170,19 +199,3 @@ def check_age(opened, most):
     if age > most:
         raise Fault(Status.DEVICE, "%s is %s old, more than --age allows: does AIDE still run?"
                     % (opened.words, age_in_words(age)))
-
-
-def compare(request, outcome=None):
-    """Compares. A Fault ends it if the command itself cannot go on; `outcome` then has what is known until there."""
-    return _Comparison(request, outcome or Outcome()).run()
-
-
-def send(descriptor, target):
-    """Writes a whole report to another descriptor."""
-    offset = 0
-    while True:
-        block = os.pread(descriptor, 1 << 18, offset)
-        if not block:
-            return
-        write_all(target, block)
-        offset += len(block)

@@ -8,6 +8,7 @@ from aide_compare.ending import Fault, Status, reason, write_all
 from aide_compare.escapes import shown
 from aide_compare.folders import ANYBODY, Folder, failure, open_folder, walked  # noqa: F401 (for those who use this module)
 
+COPIED = 1 << 18
 NO_TMPFILE = (errno.EOPNOTSUPP, errno.EISDIR, errno.EINVAL)
 NEW_FILE = os.O_CREAT | os.O_EXCL | os.O_RDWR | os.O_NOFOLLOW | os.O_CLOEXEC
 KINDS = ((stat.S_ISDIR, "a folder"), (stat.S_ISFIFO, "a FIFO"), (stat.S_ISSOCK, "a socket"), (stat.S_ISCHR, "a device"),
@@ -43,6 +44,17 @@ def open_regular(path, what=""):
             os.close(file)
     except OSError as error:
         raise Fault(Status.DEVICE, "cannot open %s%s: %s" % (what, shown(path), reason(error)))
+
+
+def copy_file(source, target):
+    """Writes all bytes of a file to a descriptor, from its beginning."""
+    place = 0
+    while True:
+        block = os.pread(source, COPIED, place)
+        if not block:
+            return
+        write_all(target, block)
+        place += len(block)
 
 
 def random_name():
@@ -102,8 +114,15 @@ class Replacement:
 
     def commit(self, data):
         """Puts these bytes in the place of the file, on the disk before this returns."""
+        self._commit(lambda part: write_all(part, data))
+
+    def commit_copy(self, source):
+        """The same with the bytes of another file, by its descriptor."""
+        self._commit(lambda part: copy_file(source, part), (source,))
+
+    def _commit(self, fill, keep=()):
         try:
-            self._work(lambda: self._put(data))
+            self._work(lambda: self._put(fill), keep)
         except Fault as fault:
             raise self._fault(fault.text)
 
@@ -115,8 +134,8 @@ class Replacement:
     def _fault(self, text):
         return Fault(Status.DEVICE, "cannot write %s %s: %s" % (self.what, shown(self.path), text))
 
-    def _work(self, work):
-        """Runs the work with the rights that the folder asks for."""
+    def _work(self, work, keep=()):
+        """Runs the work with the rights that the folder asks for. It needs the descriptors `keep`."""
         others = set() if self.folder.is_safe() else self.folder.others
         if not others:
             try:
@@ -126,7 +145,7 @@ class Replacement:
         if len(others) > 1 or ANYBODY in others or os.geteuid() != 0:
             raise Fault(Status.DEVICE, "other users can write in its folder or above it")
         from aide_compare.rights import with_rights_of
-        return with_rights_of(min(others), work, keep=(self.folder.fd,))
+        return with_rights_of(min(others), work, keep=(self.folder.fd,) + tuple(keep))
 
     def _refuse_other_kinds(self):
         """A regular file is replaced, or no file at all: never a device, a link or a FIFO, such as /dev/null."""
@@ -154,10 +173,10 @@ class Replacement:
         name = random_name()
         return os.open(name, NEW_FILE, 0o600, dir_fd=self.folder.fd), name
 
-    def _put(self, data):
+    def _put(self, fill):
         part, name = self._part()
         try:
-            write_all(part, data)
+            fill(part)
             os.fchmod(part, self.mode)
             os.fsync(part)
             self._refuse_other_kinds()

@@ -3,11 +3,13 @@ import os
 import sys
 import time
 
-from aide_compare.comparison import MOST, MOST_REPORT, Outcome, Request, compare, send
+from aide_compare.comparison import MOST, MOST_REPORT, Comparison, Outcome, Request
 from aide_compare.ending import Fault, Status, reason, say, write_all
 from aide_compare.escapes import shown, shown_lines
-from aide_compare.files import Replacement
+from aide_compare.explaining import Sources, Wanted, explain
+from aide_compare.files import Replacement, copy_file
 from aide_compare.options import Parser, duration, size, some_text
+from aide_compare.reasons import add_evidence_options
 from aide_compare.rights import give_up
 from aide_compare.state import State
 from aide_compare.times import date_of
@@ -40,6 +42,10 @@ def add_options(parser):
     add("--without", metavar="FILE", action="append", default=[], type=some_text,
         help="leave out the entries whose paths the lines of FILE name, as debian.without; it says how many")
     add("--without-path", metavar="PATTERN", action="append", default=[], type=some_text, help="the same for one line")
+    add("--reasons", action="store_true", help="say which changes packages, logs and rules explain, and which nothing does")
+    add("--lines", metavar="FILE", type=some_text, help="write the report to FILE as aide-compare-json does, with the reasons")
+    add("--brief", metavar="FILE", type=some_text, help="with --reasons: write to FILE what people should read first")
+    add_evidence_options(parser)
     add("--user", metavar="NAME", type=some_text, help="give up root's rights first, for those of this user")
 
 
@@ -65,6 +71,13 @@ def texts_of(words):
     return found.get("b"), found.get("a")
 
 
+def check_reasons(given):
+    """A Fault for options that mean nothing without --reasons."""
+    for name in ("brief", "packages", "packages_now", "archive", "keyring", "rules", "severity"):
+        if getattr(given, name) and not given.reasons:
+            raise Fault(Status.USAGE, "--%s needs --reasons" % name.replace("_", "-"), "try: %s --help" % NAME)
+
+
 def rules_of(given):
     """What --without and --without-path leave out, or None."""
     if not given.without and not given.without_path:
@@ -80,10 +93,15 @@ def request_of(given, words, beside):
     before, after = texts_of(words)
     old, new = given.databases or (None, None)
     return Request(beside, old, new, given.config, before, after, given.most, given.age, given.most_report,
-                   counts=given.state is not None, without=rules_of(given))
+                   counts=given.state is not None or given.reasons, without=rules_of(given))
 
 
-def state_of(outcome, status, error):
+def left_out_of(outcome):
+    """How many entries were left out, by side; nothing without --without."""
+    return {side: sum(counts.values()) for side, counts in outcome.left_out.items()}
+
+
+def state_of(outcome, status, error, reasons=None):
     """The State of a run that ends with this status."""
     values = {}
     for side in ("old", "new"):
@@ -94,7 +112,8 @@ def state_of(outcome, status, error):
             values[side + "_written"] = None if copy.written is None else int(copy.written)
     if status <= 7 and outcome.counts:
         values.update(zip(("added", "removed", "changed"), outcome.counts))
-    more = {"left_out_" + side: str(sum(counts.values())) for side, counts in outcome.left_out.items()}
+    more = {"left_out_" + side: str(count) for side, count in left_out_of(outcome).items()}
+    more.update((key, str(count)) for key, count in (reasons._asdict() if reasons else {}).items())
     return State(status, int(time.time()), error=error[:5000], more=more, **values)
 
 
@@ -112,7 +131,7 @@ def _pass_on(outcome):
         say(note)
     if outcome.report is not None and outcome.status <= 7:
         try:
-            send(outcome.report, 1)
+            copy_file(outcome.report, 1)
         except OSError as error:
             raise Fault(Status.DEVICE, "cannot write the report: %s" % reason(error))
     try:
@@ -125,20 +144,34 @@ def _pass_on(outcome):
         introduce(outcome)
 
 
-def _run(request, state):
-    outcome = Outcome()
+def _compared(request, outcome, wanted):
+    """Compares, passes on what the program wrote, and explains it. Returns the ReasonCounts, or None."""
+    comparison = Comparison(request, outcome)
+    comparison.run()
+    _pass_on(outcome)
+    if outcome.status > 7:
+        wanted.write_nothing()
+        return None
+    reasons = explain(comparison, wanted, left_out_of(outcome))
+    if reasons:
+        say("%s: %s" % (reasons.words(), reasons.line()))
+    return reasons
+
+
+def _run(request, state, wanted):
+    outcome, reasons = Outcome(), None
     try:
-        compare(request, outcome)
-        _pass_on(outcome)
+        reasons = _compared(request, outcome, wanted)
     except (Fault, MemoryError, OSError) as fault:
         if not isinstance(fault, Fault):
             memory = isinstance(fault, MemoryError)
             fault = Fault(*(Status.MEMORY, "out of memory") if memory else (Status.DEVICE, reason(fault)))
         if state:
             state.commit(state_of(outcome, fault.status, "%s: %s" % (NAME, fault.text)).text())
+        wanted.write_nothing()
         raise fault
     if state:
-        state.commit(state_of(outcome, outcome.status, outcome.error).text())
+        state.commit(state_of(outcome, outcome.status, outcome.error, reasons).text())
     return outcome.status
 
 
@@ -147,7 +180,9 @@ def main(arguments):
     parser = Parser(NAME, DESCRIPTION, epilog=EPILOG, usage="%(prog)s [OPTIONS] [OLD NEW] [-- ARGUMENTS]")
     add_options(parser)
     given = parser.parse(arguments[:cut])
+    check_reasons(given)
     if given.user:
         give_up(given.user)
     request = request_of(given, arguments[cut + 1:], os.path.dirname(os.path.realpath(sys.argv[0])))
-    return _run(request, Replacement(given.state, what="the state file").begin() if given.state else None)
+    wanted = Wanted(given.lines, given.brief, Sources(given) if given.reasons else None)
+    return _run(request, Replacement(given.state, what="the state file").begin() if given.state else None, wanted)

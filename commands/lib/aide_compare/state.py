@@ -5,6 +5,7 @@ import time
 from aide_compare.ending import Fault, Status
 from aide_compare.escapes import guarded, shown
 from aide_compare.files import open_regular
+from aide_compare.reason_counts import counts_of_keys
 from aide_compare.reports import status_of
 from aide_compare.times import date_of
 
@@ -29,6 +30,11 @@ class State:
     def counts(self):
         """The three counts, or None."""
         return None if self.added is None else (self.added, self.removed, self.changed)
+
+    @property
+    def reasons(self):
+        """The ReasonCounts of a run with --reasons, or None."""
+        return counts_of_keys(self.more) if self.counts else None
 
     def text(self):
         """The bytes of the file."""
@@ -64,6 +70,8 @@ def _check(state):
         raise ValueError("counts that are not of the status")
     if state.status == 0 and not state.counts:
         raise ValueError("no counts")
+    if state.reasons and not state.reasons.fits(sum(state.counts)):
+        raise ValueError("counts of reasons that are not those of the changes")
     if not (_is_digest(state.old_sha256) and _is_digest(state.new_sha256)):
         raise ValueError("no SHA-256")
 

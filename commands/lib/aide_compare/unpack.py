@@ -32,7 +32,7 @@ class Copy:
         self.fd, self.size, self.sha256, self.name, self.written = descriptor, size, digest, name, written
 
 
-def _given_descriptor(path):
+def given_descriptor(path):
     """The number of the descriptor that a path means, such as /dev/stdin, and None for all other paths."""
     if path == "/dev/stdin":
         return 0
@@ -43,7 +43,7 @@ def _given_descriptor(path):
 def open_database(side, path):
     """Opens a database. A name must be that of a regular file. A descriptor that the caller has opened, named as /dev/stdin
     or /dev/fd/N, may also be a pipe."""
-    given = _given_descriptor(path)
+    given = given_descriptor(path)
     if given is None:
         return Opened(side, path, open_regular(path, "the %s database " % side))
     try:

@@ -17,10 +17,33 @@ def is_tried(sandbox):
     return sandbox.shell == ["sh"]
 
 
+def small_dpkg(sandbox):
+    """dpkg's records of a machine with one package."""
+    sandbox.write("dpkg/status", "Package: one\nStatus: install ok installed\nVersion: 1\n\n")
+    sandbox.write("dpkg/info/one.list", "/.\n/a\n")
+
+
+def marked(text):
+    """Records, by their end, of the baseline with these bytes."""
+    return gzip.compress(b"aide-compare baseline sha256=%s\n" % sha256(text).encode(), 0, mtime=0)
+
+
+def records_of(sandbox):
+    """The digest of the baseline to which the records beside it belong; None without records."""
+    path = sandbox.path(BASE + "aide.db.packages")
+    if not os.path.lexists(path):
+        return None
+    text = gzip.decompress(sandbox.read(BASE + "aide.db.packages"))
+    return text.rpartition(b"sha256=")[2].strip().decode()
+
+
 def fresh(sandbox, owner=None):
-    """The databases before something is accepted. With an owner the folder is his, and the baseline stays root's."""
+    """The databases before something is accepted. With an owner the folder is his, and the baseline stays root's. If the
+    machine has dpkg's records, those of the baseline are beside it."""
     shutil.rmtree(sandbox.path("base"), ignore_errors=True)
     sandbox.write("base/aide.db", gzip.compress(OLD), 0o600)
+    if os.path.isdir(sandbox.path("dpkg")):
+        sandbox.write("base/aide.db.packages", marked(OLD), 0o600)
     sandbox.write("base/aide.db.previous", OLDER)
     sandbox.write("base/aide.db.new", gzip.compress(NEW, mtime=0), 0o600)
     os.chmod(sandbox.path("base"), 0o755)
@@ -30,7 +53,7 @@ def fresh(sandbox, owner=None):
 
 
 def contents(sandbox):
-    """What the three files have unpacked, and how many files are in their folder."""
+    """What the three files have unpacked, and how many files are in their folder beside the packages' records."""
 
     def text(name):
         if not os.path.isfile(sandbox.path(BASE + name)):
@@ -38,7 +61,8 @@ def contents(sandbox):
         found = sandbox.read(BASE + name)
         return gzip.decompress(found) if found[:2] == b"\x1f\x8b" else found
 
-    return text("aide.db"), text("aide.db.previous"), text("aide.db.new"), len(os.listdir(sandbox.path("base")))
+    return text("aide.db"), text("aide.db.previous"), text("aide.db.new"), len(
+        set(os.listdir(sandbox.path("base"))) - {"aide.db.packages"})
 
 
 def accept(sandbox, digest, *words, **more):

@@ -75,6 +75,7 @@ class Sandbox:
         for folder in ('lib', 'share'):
             shutil.copytree(os.path.join(HERE, 'commands', folder), self.path(folder),
                             ignore=shutil.ignore_patterns('__pycache__'))
+        self.edit('lib/aide_compare/reasons/records.py', 'DPKG = "/var/lib/dpkg"', 'DPKG = %r' % self.path('dpkg'))
         for name, text in (('old', OLD), ('new', NEW)):
             self.write(name + '.db', text)
             self.write(name + '.db.gz', gzip.compress(text))
@@ -93,6 +94,12 @@ class Sandbox:
     def read(self, name):
         with open(self.path(name), 'rb') as file:
             return file.read()
+
+    def edit(self, name, old, new):
+        """A file of the sandbox with one text replaced."""
+        text = self.read(name).decode()
+        self.check('a text of ' + name, text.count(old) == 1, old)
+        self.write(name, text.replace(old, new))
 
     def stub(self, name, body, folder='stubs'):
         """A command of the trials, found before that of the machine."""

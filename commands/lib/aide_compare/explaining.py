@@ -1,0 +1,172 @@
+"""The changes of a comparison, explained and written for people and for programs, after the report went out untouched."""
+import argparse
+import json
+import os
+
+from aide_compare.brief import brief
+from aide_compare.ending import Fault, Status, reason, say, write_all
+from aide_compare.escapes import shown
+from aide_compare.files import nameless
+from aide_compare.kept_records import SUFFIX, misfit
+from aide_compare.outputs import Output
+from aide_compare.reason_counts import ReasonCounts
+from aide_compare.reasons import Explainer, evidence_of
+from aide_compare.reasons.explainer import members_of
+from aide_compare.report_lines import Lines, Refused
+from aide_compare.report_parts import read_report
+
+BLOCK = 1 << 18
+ENCODE = json.JSONEncoder(separators=(",", ":")).encode
+
+
+class Sources:
+    """The options that name evidence. All but the packages' records are read at once, so that a fault in them is found before
+    the comparison."""
+
+    def __init__(self, given):
+        self.given = given
+        self._evidence_without_packages()
+
+    def _evidence_without_packages(self):
+        return evidence_of(argparse.Namespace(**{**vars(self.given), "packages": None, "packages_now": None, "archive": []}))
+
+    def evidence(self, outcome):
+        """The evidence for a comparison: the records that are kept beside the old database are used without an option. They
+        are opened after it, so they are never older than it is."""
+        path = self.given.packages or self._kept(outcome.old)
+        if path:
+            try:
+                why = misfit(path, outcome.copies["old"].sha256)
+                if not why:
+                    return evidence_of(argparse.Namespace(**{**vars(self.given), "packages": path}))
+            except Fault as fault:
+                why = fault.text
+            say("no package explains a change: %s: %s" % (shown(path), why))
+        return self._evidence_without_packages()
+
+    @staticmethod
+    def _kept(old):
+        return old + SUFFIX if os.path.lexists(old + SUFFIX) else None
+
+
+class Wanted:
+    """What a run is asked to write beside its report: the places of --lines and --brief, and the Sources of --reasons, None
+    without this option."""
+
+    def __init__(self, lines=None, brief=None, sources=None):
+        self.lines = Output(lines, "the lines").begin() if lines else None
+        self.brief = Output(brief, "what people read first").begin() if brief else None
+        self.sources = sources
+
+    def __bool__(self):
+        return self.lines is not None or self.sources is not None
+
+    def write_nothing(self):
+        """Without a comparison both files are empty, so that nobody reads those of an earlier one."""
+        for output in (self.lines, self.brief):
+            if output:
+                output.commit(nameless())
+
+
+class Entries:
+    """The objects of a report: its entries one by one, which are kept as lines in a private file; and when they are read, the
+    `summary` and the `others`."""
+
+    def __init__(self, descriptor):
+        self.file, self.kept = open(os.dup(descriptor), "rb", BLOCK), open(nameless(), "w+b", BLOCK)
+        self.others, self.summary, self.count = [], None, 0
+
+    def __iter__(self):
+        self.file.seek(0)
+        with self.file:
+            for self.count, fields in enumerate(read_report(Lines(self.file)), 1):
+                if fields["record"] == "entry":
+                    self.kept.write(ENCODE(fields).encode() + b"\n")
+                    yield fields
+                elif fields["record"] == "summary":
+                    self.summary = fields
+                else:
+                    self.others.append(fields)
+
+    def lines(self, more, members):
+        """A descriptor of all lines. The summary also has the members `more`, and each entry those of `members`, if any."""
+        target = nameless()
+        with os.fdopen(os.dup(target), "wb", BLOCK) as file:
+            file.write(ENCODE({**self.summary, "lines": self.count, **more}).encode() + b"\n")
+            self.kept.seek(0)
+            for line in self.kept:
+                file.write(line if members is None else line[:-2] + b"," + ENCODE(next(members)).encode()[1:] + b"\n")
+            for fields in self.others:
+                file.write(ENCODE(fields).encode() + b"\n")
+        return target
+
+
+class Explained:
+    """The entries of a comparison. With evidence there are also the changes, as the Explainer has them, and their counts."""
+
+    def __init__(self, entries, outcome, sources):
+        self.entries, self.changes, self.counts = entries, None, None
+        if sources is None:
+            for _ in entries:
+                pass
+            return
+        self.explainer = Explainer(outcome.compared["old"], outcome.compared["new"], sources.evidence(outcome))
+        self.changes = self.explainer.judge(entries)
+        self.counts = ReasonCounts(**self.explainer.counts._asdict())
+        if not self.counts.fits(sum(outcome.counts)):
+            raise Fault(Status.DEVICE, "the counts of the reasons are not those of the report")
+
+    def lines(self, left_out):
+        more = {"left_out": left_out} if left_out else {}
+        if self.counts is None:
+            return self.entries.lines(more, None)
+        return self.entries.lines({**more, "reasons": self.counts._asdict()}, map(members_of, self.changes))
+
+    def brief(self):
+        text = nameless()
+        if self.counts is not None:
+            write_all(text, brief(self.changes, self.counts, self.explainer.read).encode("utf-8", "backslashreplace"))
+        return text
+
+
+def _listed(comparison, wants_lines):
+    """A descriptor of a report that lists the entries that differ: the report itself if lines of it are wanted and it has a
+    list, otherwise that of a second run, which has no details and so is read many times faster."""
+    if comparison.outcome.status == 0 or (wants_lines and comparison.has_list()):
+        return comparison.outcome.report
+    return comparison.listed(with_letters=wants_lines)
+
+
+def _tried(work):
+    """What the work returns, or None, and then a line says why the changes are not explained: the comparison stands as it
+    is, and without reasons every change is an alarm."""
+    try:
+        return work()
+    except Fault as fault:
+        why = fault.text
+    except Refused as refused:
+        why = "the report: %s" % refused
+    except MemoryError:
+        why = "out of memory"
+    except OSError as error:
+        why = reason(error)
+    except Exception as error:  # A fault in the search for reasons must not cost the alarm.
+        why = "a fault of this command: %s: %s" % (type(error).__name__, str(error)[:300])
+    say("the changes are not explained: %s" % why)
+    return None
+
+
+def explain(comparison, wanted, left_out):
+    """Explains a comparison and writes what is wanted. Returns the ReasonCounts, None if there are none."""
+    if not wanted:
+        return None
+    explained = _tried(lambda: Explained(Entries(_listed(comparison, wanted.lines is not None)), comparison.outcome,
+                                         wanted.sources))
+    if explained is None:
+        wanted.write_nothing()
+        return None
+    if wanted.lines:
+        wanted.lines.commit(explained.lines(left_out))
+    if wanted.brief:
+        wanted.brief.commit(explained.brief())
+    return explained.counts

@@ -1,0 +1,100 @@
+"""dpkg's records of the time of a baseline, in a file beside it that says by a digest to which baseline they belong.
+
+The file is what `write_records` writes, and after it a member of gzip with that digest. Records of another time than the
+baseline could explain what no package has changed, so a file with another digest is never used.
+"""
+import gzip
+import io
+import os
+import re
+
+from aide_compare.ending import Fault, reason
+from aide_compare.escapes import shown
+from aide_compare.files import nameless, open_regular
+
+SUFFIX = ".packages"
+MARK = "aide-compare baseline sha256=%s\n"
+# The member is stored, not packed, so its text can be read at the end of the file. A sum and a size of eight bytes follow.
+MARKED = re.compile(rb"aide-compare baseline sha256=([0-9a-f]{64})\n.{8}\Z", re.DOTALL)
+END_BYTES = 200
+
+
+def _mark(digest):
+    text = io.BytesIO()
+    with gzip.GzipFile(filename="", mode="wb", compresslevel=0, fileobj=text, mtime=0) as member:
+        member.write((MARK % digest).encode())
+    return text.getvalue()
+
+
+def records_for(digest):
+    """A descriptor of dpkg's records of now, for the baseline with this digest; None on a machine without dpkg."""
+    from aide_compare.reasons.records import has_records, write_records
+    if not has_records():
+        return None
+    target = nameless()
+    try:
+        with open(os.dup(target), "wb") as file:
+            write_records(file)
+            file.write(_mark(digest))
+        return target
+    except BaseException:
+        os.close(target)
+        raise
+
+
+def digest_in(descriptor):
+    """The digest of the baseline to which records belong; "" if they do not say."""
+    size = os.fstat(descriptor).st_size
+    found = MARKED.search(os.pread(descriptor, END_BYTES, max(size - END_BYTES, 0)))
+    return found.group(1).decode() if found else ""
+
+
+def misfit(path, digest):
+    """Why the records at a path are not those of the time of a baseline with this digest; "" if nothing speaks against it.
+    Records that name no baseline are the caller's own. A Fault if they cannot be opened."""
+    descriptor = open_regular(path, "the packages' records ")
+    try:
+        found = digest_in(descriptor)
+    finally:
+        os.close(descriptor)
+    return "" if found in ("", digest) else "they belong to another baseline; aide-compare-accept writes them anew"
+
+
+class Records:
+    """dpkg's records beside a baseline. The former ones go before the baseline does, and the new ones come after it, so that
+    at no moment the records of an older time are beside a newer baseline."""
+
+    def __init__(self, baseline, digest):
+        self.baseline, self.digest, self.why, self.fd = baseline, digest, "", None
+        try:
+            self.fd = records_for(digest)
+        except Fault as fault:
+            self.why = fault.text
+        except OSError as error:
+            self.why = reason(error)
+
+    def are_there(self):
+        descriptor = self.baseline.reading_beside(SUFFIX)
+        if descriptor is None:
+            return False
+        try:
+            return digest_in(descriptor) == self.digest
+        finally:
+            os.close(descriptor)
+
+    def remove(self):
+        try:
+            self.baseline.remove_beside(SUFFIX)
+        except OSError as error:
+            raise self.baseline.fault("its %s cannot be removed: %s" % (SUFFIX, reason(error)))
+
+    def keep(self):
+        """Writes the records, if there are any. Returns a line that says what was done; nothing without dpkg."""
+        place = shown(self.baseline.path) + SUFFIX
+        if self.fd is None:
+            return "no packages' records were kept: %s" % self.why if self.why else ""
+        try:
+            self.baseline.put_beside(self.fd, SUFFIX)
+        except Fault as fault:
+            return "no packages' records were kept as %s: %s" % (place, fault.text)
+        return "packages: dpkg's records of now are kept as %s" % place

@@ -1,0 +1,222 @@
+"""aide-compare-run --reasons: what is said of changes that something explains, in all places where people and programs read."""
+import gzip
+import json
+import os
+import re
+
+from .accepting import marked
+from .sandbox import END
+
+TOOL = "aide-compare-run"
+HEAD = b"@@begin_db\n@@db_spec name attr perm uid gid size\n"
+ALL, GROWING, GOES = 60, 1 << 40, 1 << 29
+# A removed file and a grown one whose rules allow that, a file with another mode, and a new set-user-ID program.
+OLD = HEAD + b"/etc/gone %d 100644 0 0 5\n/etc/plain %d 100644 0 0 5\n/srv/log %d 100644 0 33 5\n" % (
+    ALL | GOES, ALL, ALL | GROWING) + END
+NEW = HEAD + b"/etc/plain %d 100600 0 0 5\n/srv/log %d 100644 0 33 9\n/usr/.x%%20y %d 104755 0 0 7\n" % (
+    ALL, ALL | GROWING, ALL) + END
+# The same without what nothing explains.
+GREW = OLD.replace(b"33 5", b"33 9")
+GONE = HEAD + OLD.partition(b"\n/etc/plain")[2].join([b"/etc/plain", b""])
+TABLE = b"high new-set-id /**\nmedium any /etc/**\nlow any /**\n"
+COUNTS = {"explained": "1", "not_verified": "1", "unexplained": "2", "high": "1", "medium": "1", "low": "1"}
+WORDS = "2 unexplained, 1 not verified of 4 changes, 1 high, 1 medium"
+BRIEF = """%s
+
+Unexplained:
+  high    added    /usr/.x y: -rwsr-xr-x root:root 7 bytes
+  medium  changed  /etc/plain: mode -rw-r--r-- -> -rw-------
+
+Not verified:
+  grew, content not verified: 1 change
+
+Explained:
+  gone, as its rule allows (ARF): 1 change
+
+""" % WORDS
+REASONS = ["--reasons", "--severity", "table"]
+
+
+def prepare(sandbox):
+    for name, text in (("o.db", OLD), ("n.db", NEW), ("grew.db", GREW), ("gone.db", GONE), ("table", TABLE)):
+        sandbox.write(name, text)
+
+
+def try_explained(sandbox):
+    for trial in (try_places, try_levels, try_outputs, try_lines, try_many, try_hostile, try_records, try_misuse, try_no_reasons):
+        trial(sandbox)
+
+
+def run(sandbox, *words, **more):
+    return sandbox.call(TOOL, *REASONS, *words, **more)
+
+
+def try_places(sandbox):
+    """The report is that of a run without reasons; standard error and the state have the counts, and --brief the text."""
+    prepare(sandbox)
+    plain = sandbox.call(TOOL, "o.db", "n.db")
+    answer = run(sandbox, "--state", "state", "--brief", "brief", "o.db", "n.db")
+    line = "%s: unexplained=2 not_verified=1 explained=1 high=1 medium=1 low=1\n" % WORDS
+    sandbox.expect("with reasons", answer, 7, plain.output, plain.errors + b"aide-compare-run: " + line.encode())
+    sandbox.check("nothing else is said", len(answer.errors) == len(plain.errors) + len("aide-compare-run: " + line), answer)
+    state = sandbox.state()
+    sandbox.check("the state has the counts", COUNTS.items() <= state.items() and state["status"] == "7", state)
+    sandbox.check("what people read first", sandbox.read("brief").decode() == BRIEF, sandbox.read("brief"))
+    sandbox.check("who may read it", os.stat(sandbox.path("brief")).st_mode & 0o777 == 0o600)
+    sandbox.call(TOOL, "--state", "state", "o.db", "n.db")
+    sandbox.check("a state without reasons", not COUNTS.keys() & sandbox.state().keys(), sandbox.state())
+    answer = run(sandbox, "--state", "state", "--brief", "brief", "o.db", "o.db")
+    sandbox.expect("no difference", answer, 0, b"NO differences", b"0 changes, all explained: unexplained=0")
+    sandbox.check("its state", sandbox.state()["explained"] == sandbox.state()["unexplained"] == "0", sandbox.state())
+    answer = run(sandbox, "--brief", "brief", "o.db", "gone.db")
+    sandbox.expect("all is explained", answer, 2, None, b"1 change, all explained: unexplained=0 not_verified=0 explained=1")
+    sandbox.check("what people read first then", sandbox.read("brief").startswith(b"1 change, all explained\n\nExplained:\n"))
+
+
+def try_levels(sandbox):
+    """A report of each level has the same reasons, also one that lists no entry, and one for which the configuration is fixed."""
+    prepare(sandbox)
+    levels = ["minimal", "summary", "database_attributes", "list_entries", "added_removed_entries"]
+    texts = ["report_level=%s" % level for level in levels] + ["report_grouped=no\nreport_summarize_changes=no", "report_quiet=yes"]
+    for text in texts:
+        plain = sandbox.call(TOOL, "o.db", "n.db", "--", "-A", text)
+        answer = run(sandbox, "--brief", "brief", "--lines", "lines", "o.db", "n.db", "--", "-A", text)
+        sandbox.expect("reasons at " + text, answer, 7, plain.output, WORDS.encode())
+        sandbox.check("the report at " + text, answer.output == plain.output)
+        sandbox.check("the text at " + text, sandbox.read("brief").decode() == BRIEF, sandbox.read("brief"))
+        sandbox.check("the lines at " + text, len(entries(sandbox, "lines")) == 4, sandbox.read("lines"))
+    sandbox.write("conf", "report_url=stdout\nreport_level=minimal\n")
+    answer = run(sandbox, "-c", "conf", "--brief", "brief", "o.db", "n.db")
+    sandbox.expect("a fixed configuration", answer, 7, None, WORDS.encode())
+
+
+def entries(sandbox, name):
+    objects = [json.loads(line) for line in sandbox.read(name).decode().splitlines()]
+    return [fields for fields in objects if fields["record"] == "entry"]
+
+
+def try_outputs(sandbox):
+    """The places of --lines and --brief: a file, a descriptor, and what cannot be written."""
+    prepare(sandbox)
+    answer = run(sandbox, "--brief", "/dev/stderr", "o.db", "n.db")
+    sandbox.expect("to standard error", answer, 7, b"Added entries:", BRIEF.encode())
+    with open(sandbox.path("there"), "wb") as file:
+        done = run(sandbox, "--brief", "/dev/fd/%d" % file.fileno(), "o.db", "n.db", pass_fds=[file.fileno()])
+    sandbox.check("to a descriptor", done.status == 7 and sandbox.read("there").decode() == BRIEF, done)
+    with open(sandbox.path("there"), "rb") as file:
+        done = run(sandbox, "--lines", "/dev/fd/%d" % file.fileno(), "o.db", "n.db", pass_fds=[file.fileno()])
+    sandbox.expect("to one that is only read", done, 18, b"", b"has not opened it for writing")
+    os.symlink("there", sandbox.path("link"))
+    for name, status in (("link", 18), ("bin", 15), ("table/x", 18)):
+        sandbox.expect("to " + name, run(sandbox, "--lines", name, "o.db", "n.db"), status, b"", b"cannot write" if status == 18 else None)
+    with open("/dev/full", "wb") as full:
+        done = run(sandbox, "--brief", "/dev/stderr", "o.db", "n.db", stderr=full)
+    sandbox.check("to a full device", done.status == 18 and b"Added entries:" in done.output, done)
+    for name in ("lines", "brief"):
+        sandbox.write(name, "of an earlier run")
+    done = run(sandbox, "--lines", "lines", "--brief", "brief", "o.db", "missing.db")
+    sandbox.check("nothing is left of an earlier run", done.status == 18 and sandbox.read("lines") == sandbox.read("brief") == b"")
+
+
+def try_lines(sandbox):
+    """The lines are those of aide-compare-json and aide-compare-reasons, and the summary also says what was left out."""
+    prepare(sandbox)
+    report = sandbox.call(TOOL, "o.db", "n.db").output
+    json_lines = sandbox.call("aide-compare-json", text=report).output
+    reasons = sandbox.call("aide-compare-reasons", "--databases", "o.db", "n.db", "--severity", "table", text=json_lines).output
+    run(sandbox, "--lines", "lines", "o.db", "n.db")
+    sandbox.check("the lines with reasons", sandbox.read("lines") == reasons, (sandbox.read("lines"), reasons))
+    answer = sandbox.call(TOOL, "--lines", "lines", "o.db", "n.db")
+    sandbox.expect("the lines alone", answer, 7, report, b"SHA-256")
+    sandbox.check("they are those of aide-compare-json", sandbox.read("lines") == json_lines and b"unexplained" not in answer.errors)
+    sandbox.call(TOOL, "--lines", "lines", "--without-path", "/etc/*", "o.db", "n.db")
+    summary = json.loads(sandbox.read("lines").split(b"\n")[0])
+    sandbox.check("what was left out", summary["left_out"] == {"old": 2, "new": 1} and len(entries(sandbox, "lines")) == 2, summary)
+    page = sandbox.call("aide-compare-html", "--plain", "lines")
+    sandbox.check("a page of them", page.status == 0 and b">log<" in page.output, page.output[-2000:])
+    sandbox.call(TOOL, "--lines", "lines", "o.db", "o.db")
+    summary = json.loads(sandbox.read("lines").split(b"\n")[0])
+    sandbox.check("the lines of no difference", summary["differences"] is False and "left_out" not in summary, summary)
+
+
+def try_many(sandbox):
+    """Of many entries the first are listed, the most severe first, and the others are counted."""
+    prepare(sandbox)
+    new = b"".join(b"/m/%04d %d 100644 0 0 1\n" % (number, ALL) for number in range(3000))
+    sandbox.write("many.db", NEW.replace(b"/srv", new + b"/srv"))
+    run(sandbox, "--brief", "brief", "o.db", "many.db")
+    text = sandbox.read("brief").decode()
+    places = [text.find(part) for part in ("3002 unexplained, 1 not verified of 3004", "/usr/.x y", "/etc/plain", "/m/0000",
+                                           "  low     and 2800 more\n", "Not verified:", "Explained:")]
+    sandbox.check("many entries", -1 not in places and places == sorted(places) and text.count("/m/") == 200, (places, text[:500]))
+    sandbox.write("large.db", HEAD + b"".join(b"/g/%05d %d 100644 0 0 1\n" % (number, ALL | GOES) for number in range(30000)) + END)
+    sandbox.write("none.db", HEAD + END)
+    answer = run(sandbox, "--brief", "brief", "large.db", "none.db", "--", "-A", "report_level=summary")
+    sandbox.expect("30,000 explained entries", answer, 2, None, b"30000 changes, all explained")
+
+
+def try_hostile(sandbox):
+    """Names of others are escaped in the text, and cannot make a line of it."""
+    prepare(sandbox)
+    for name in (b"/a%0aUnexplained:", b"/a%1b[31m", b"/a%e2%80%ae", b"/a%ff", b"/a\\\\b"):
+        sandbox.write("h.db", HEAD + name + b" %d 100644 0 0 1\n" % ALL + END)
+        sandbox.write("none.db", HEAD + END)
+        run(sandbox, "--brief", "brief", "none.db", "h.db")
+        text = sandbox.read("brief")
+        good = text.count(b"\n") == 5 and not re.search(rb"[\x00-\x09\x0b-\x1f\x7f-\xff]", text)
+        sandbox.check("the hostile name %r" % name, good and b"\\" in text, text)
+
+
+def try_records(sandbox):
+    """Records of packages beside the old database are used only if they say that they are those of this database."""
+    prepare(sandbox)
+    sandbox.write("dpkg/status", "Package: one\nStatus: install ok installed\nVersion: 1\n\n")
+    sandbox.write("dpkg/info/one.list", "/.\n")
+    done = sandbox.call("aide-compare-accept", "--only-packages", "o.db")
+    sandbox.expect("the records are kept", done, 0, b"packages: dpkg's records of now are kept as o.db.packages\n", b"")
+    again = sandbox.call("aide-compare-accept", "--only-packages", "o.db")
+    sandbox.expect("they are kept once", again, 0, b"packages: they are kept already\n", b"")
+    answer = run(sandbox, "o.db", "n.db")
+    sandbox.check("the records are taken", b"no package explains" not in answer.errors and WORDS.encode() in answer.errors, answer)
+    kept = sandbox.read("o.db.packages")
+    end = kept[kept.rindex(b"\x1f\x8b"):]
+    sandbox.check("the records end with the digest", gzip.decompress(end) == gzip.decompress(marked(OLD)), end)
+    for label, text, said in (("of another baseline", kept[:-len(end)] + marked(NEW), b"they belong to another baseline"),
+                              ("that are damaged", b"x" * 50, b"no package explains a change: o.db.packages: "),
+                              ("that others can write", kept, b"other users can write")):
+        sandbox.write("o.db.packages", text, 0o666 if b"others" in said + b"others" * ("others" in label) else 0o600)
+        answer = run(sandbox, "o.db", "n.db")
+        sandbox.expect("records " + label, answer, 7, b"Added entries:", [said, WORDS.encode()])
+    sandbox.write("o.db.packages", kept[:-len(end)] + marked(NEW), 0o600)
+    answer = run(sandbox, "--packages", "o.db.packages", "o.db", "n.db")
+    sandbox.expect("records of another baseline by name", answer, 7, None, [b"they belong to another baseline", WORDS.encode()])
+    os.remove(sandbox.path("o.db.packages"))
+    answer = run(sandbox, "--packages", "missing", "o.db", "n.db")
+    sandbox.expect("records that are missing", answer, 7, None, [b"missing: cannot open", WORDS.encode()])
+
+
+def try_misuse(sandbox):
+    prepare(sandbox)
+    for words in (["--brief", "x"], ["--packages", "x"], ["--rules", "table"], ["--severity", "table"], ["--archive", "bin"]):
+        sandbox.expect("%s alone" % words[0], sandbox.call(TOOL, *words, "o.db", "n.db"), 15, b"", b"needs --reasons")
+    sandbox.write("bad", "high odd /**\n")
+    for words, status in ((["--severity", "bad"], 15), (["--rules", "bad"], 15), (["--rules", "missing"], 18)):
+        answer = sandbox.call(TOOL, "--reasons", *words, "o.db", "n.db")
+        sandbox.expect("%s" % words, answer, status, b"")
+
+
+def try_no_reasons(sandbox):
+    """If the changes cannot be explained, the report, the status and the state stand, and the state has no reasons."""
+    prepare(sandbox)
+    name = "lib/aide_compare/reasons/explainer.py"
+    text = sandbox.read(name)
+    line = "        changes = [self._found(fields) for fields in objects]\n"
+    for fault, said in (("raise KeyError('x')", b"a fault of this command: KeyError"), ("raise MemoryError", b"out of memory"),
+                        ("raise OSError(28, 'no room')", b"no room"), ("return []", b"no counts")):
+        sandbox.write(name, text.replace(line.encode(), ("        %s\n" % fault).encode() + line.encode()))
+        answer = run(sandbox, "--state", "state", "--brief", "brief", "--lines", "lines", "o.db", "n.db")
+        sandbox.expect("no reasons by " + fault, answer, 7, b"Added entries:", b"the changes are not explained: ")
+        good = not COUNTS.keys() & sandbox.state().keys() and sandbox.state()["status"] == "7"
+        sandbox.check("the state then", good and sandbox.read("brief") == sandbox.read("lines") == b"", sandbox.state())
+        sandbox.check("what is said by " + fault, said in answer.errors or said == b"no counts", answer)
+    sandbox.write(name, text)
