@@ -7,6 +7,7 @@ from aide_compare.baseline import Baseline
 from aide_compare.ending import Fault, Status, say, write_all
 from aide_compare.escapes import shown
 from aide_compare.files import reopened
+from aide_compare.kept_records import Records
 from aide_compare.options import Parser, size, some_text
 from aide_compare.state import read_state
 from aide_compare.times import date_of
@@ -70,7 +71,7 @@ class Accepted:
 
     def __init__(self, new, former, belongs=None, belonged=None):
         self.new, self.former, self.belongs, self.belonged = new, former, belongs, belonged
-        self.is_replaced = belongs is not None
+        self.is_replaced, self.records = belongs is not None, ""
 
 
 def _digest_of_former(baseline, most):
@@ -85,7 +86,7 @@ def _digest_of_former(baseline, most):
         os.close(descriptor)
 
 
-def accept(digest, new, path, most=MOST_BYTES):
+def accept(digest, new, path, most=MOST_BYTES, keeps_records=True):
     """Makes the database `new` the baseline at a path if its SHA-256 is `digest`; otherwise a Fault of status 24."""
     wanted, offered = Wanted(digest), Offered(new, most)
     if not wanted.fits(offered.sha256):
@@ -93,12 +94,30 @@ def accept(digest, new, path, most=MOST_BYTES):
                     "the SHA-256 that was given: %s" % wanted.digits,
                     "the SHA-256 of the database: %s" % offered.sha256)
     baseline = Baseline(path)
-    former = _digest_of_former(baseline, most)
+    former, found = _digest_of_former(baseline, most), baseline.former
+    records = Records(baseline, offered.sha256) if keeps_records else None
     if former == offered.sha256:
-        return Accepted(offered, former)
-    belongs = baseline.replace(offered.fd, offered.size)
-    found = baseline.former
-    return Accepted(offered, former, belongs, found and (found.st_uid, found.st_gid))
+        done = Accepted(offered, former)
+        done.records = records.keep() if records and not records.are_there() else ""
+        return done
+    if records:
+        records.remove()
+    belongs = baseline.replace(offered.fd)
+    done = Accepted(offered, former, belongs, found and (found.st_uid, found.st_gid))
+    done.records = records.keep() if records else ""
+    return done
+
+
+def keep_records_only(path, most):
+    """Keeps dpkg's records beside a baseline that is there. Returns the line that says so."""
+    baseline = Baseline(path)
+    digest = _digest_of_former(baseline, most)
+    if not digest:
+        raise Fault(Status.DEVICE, "there is no baseline %s that can be read" % shown(path))
+    records = Records(baseline, digest)
+    if records.fd is None:
+        raise Fault(Status.DEVICE, records.why or "this machine has no records of dpkg")
+    return "packages: they are kept already" if records.are_there() else records.keep()
 
 
 def _counts(state, done):
@@ -133,6 +152,8 @@ def _told(done, path, new, counts):
     written = "at an unknown time" if done.new.written is None else date_of(done.new.written)
     yield "new: SHA-256 %s, written %s" % (done.new.sha256, written)
     yield counts
+    if done.records:
+        yield done.records
     if not done.is_replaced:
         return
     if done.former is None:
@@ -146,21 +167,45 @@ def _told(done, path, new, counts):
 def _parser():
     parser = Parser(NAME, DESCRIPTION, epilog=EPILOG)
     add = parser.add_argument
-    add("--sha256", metavar="DIGEST", type=some_text, required=True,
+    add("--sha256", metavar="DIGEST", type=some_text,
         help="the SHA-256 in the report or mail that was read: 16 or more first digits of base 16, or all of it in "
              "base 64")
     add("--state", metavar="FILE", type=some_text,
         help="print the time and the counts of the comparison from this file (%s); it decides nothing" % STATE)
     add("--most", metavar="BYTES", type=size, default=MOST_BYTES,
         help="refuse a database that has more bytes unpacked: plain, or with k, M or G (1024G)")
-    add("new", metavar="NEW", type=some_text, help="the new database, plain or compressed by gzip")
-    add("baseline", metavar="BASELINE", type=some_text, help="the file that it replaces")
+    add("--no-packages", action="store_true",
+        help="keep no records of dpkg: the database is that of another machine, or of another time")
+    add("--only-packages", action="store_true",
+        help="accept nothing: keep dpkg's records beside BASELINE as it is, as after a first aideinit")
+    add("files", metavar="NEW BASELINE", nargs="*", type=some_text,
+        help="the new database, plain or compressed by gzip, and the file that it replaces; only BASELINE with --only-packages")
     return parser
 
 
-def main(arguments):
+def _given(arguments):
+    """The options; a Fault if the files are not as many as they ask for."""
     given = _parser().parse(arguments)
-    state, unknown = None, ""
+    many = 1 if given.only_packages else 2
+    if len(given.files) != many:
+        raise Fault(Status.USAGE, "name BASELINE alone" if given.only_packages else "name NEW and BASELINE",
+                    "try: %s --help" % NAME)
+    if given.only_packages == bool(given.sha256) or (given.only_packages and given.no_packages):
+        raise Fault(Status.USAGE, "--only-packages goes with no other of these options" if given.only_packages
+                    else "--sha256 DIGEST is needed", "try: %s --help" % NAME)
+    return given
+
+
+def _print(lines):
+    write_all(1, "".join("%s\n" % line for line in lines).encode("utf-8", "backslashreplace"))
+
+
+def main(arguments):
+    given = _given(arguments)
+    if given.only_packages:
+        _print([keep_records_only(given.files[0], given.most)])
+        return Status.OK
+    state, unknown, (new, path) = None, "", given.files
     Wanted(given.sha256)
     try:
         state = read_state(given.state or STATE)
@@ -168,12 +213,11 @@ def main(arguments):
         if given.state:
             raise
         unknown = "no counts are known: %s" % fault.text
-    done = accept(given.sha256, given.new, given.baseline, given.most)
+    done = accept(given.sha256, new, path, given.most, not given.no_packages)
     counts = _counts(state, done) if state else unknown
-    lines = "".join("%s\n" % line for line in _told(done, given.baseline, given.new, counts))
     try:
-        write_all(1, lines.encode("utf-8", "backslashreplace"))
+        _print(_told(done, path, new, counts))
     except OSError:
-        say("%s is the baseline, but that could not be printed" % shown(given.new))
+        say("%s is the baseline, but that could not be printed" % shown(new))
         return Status.DEVICE
     return Status.OK

@@ -57,7 +57,7 @@ def accept(place, digest):
     if not found:
         raise place.fault("cannot find aide-compare-accept")
     say_what(place, digest)
-    words = [found[0], "--sha256", digest, place.file("aide.db.new"), place.file("aide.db")]
+    words = [found[0], "--no-packages", "--sha256", digest, place.file("aide.db.new"), place.file("aide.db")]
     child = os.posix_spawn(words[0], words, os.environ)
     status = os.waitstatus_to_exitcode(os.waitpid(child, 0)[1])
     return status if status in (0, 15, 18, 22, 24) else Status.DEVICE

@@ -16,6 +16,7 @@ from aide_compare.files import ANYBODY, NEW_FILE, NO_TMPFILE, failure, kind_of, 
 
 BLOCK = 1 << 20
 FILE_MODES = 0o666
+PLAIN_FILE = os.O_RDONLY | os.O_NOFOLLOW | os.O_NONBLOCK | os.O_NOCTTY | os.O_CLOEXEC
 FIRST_MODE = 0o600
 SECONDS_FOR_LOCK = 60
 SECONDS_FOR_WORK = 60
@@ -96,15 +97,48 @@ class Baseline:
     def fault(self, text):
         return Fault(Status.DEVICE, "cannot write the baseline %s: %s" % (shown(self.path), text))
 
-    def replace(self, source, size):
+    def _work(self, work, source):
+        """Does work in the folder over an open file, with the rights that the folder asks for."""
+        if self.owner is None:
+            return work()
+        from aide_compare.rights import with_rights_of
+        seconds = SECONDS_FOR_WORK + os.fstat(source).st_size // BYTES_A_SECOND
+        return with_rights_of(self.owner, work, seconds, (self.folder, source))
+
+    def put_beside(self, source, suffix):
+        """Makes a copy of an open file the file beside the baseline whose name ends so, with the owner and the mode of the
+        baseline. The former one is replaced in one step."""
+        name = self.name + suffix
+        try:
+            self._work(lambda: self._put(source, name, PART % name), source)
+        except OSError as error:
+            raise Fault(Status.DEVICE, reason(error))
+
+    def remove_beside(self, suffix):
+        """Removes the file beside the baseline whose name ends so, if it is there."""
+        self._work(lambda: self._unlink(self.name + suffix), self.folder)
+
+    def reading_beside(self, suffix):
+        """A descriptor to read the file beside the baseline whose name ends so; None if that is no readable plain file."""
+        try:
+            descriptor = os.open(self.name + suffix, PLAIN_FILE, dir_fd=self.folder)
+        except OSError:
+            return None
+        if stat.S_ISREG(os.fstat(descriptor).st_mode):
+            return descriptor
+        os.close(descriptor)
+        return None
+
+    def _put(self, source, name, part):
+        self._unlink(part)
+        self._named_copy(source, part)
+        self._rename(part, name)
+        os.fsync(self.folder)
+
+    def replace(self, source):
         """Makes a copy of an open file the baseline. Returns the numbers of the user and group that it belongs to."""
         try:
-            if self.owner is None:
-                answer = self._replace(source)
-            else:
-                from aide_compare.rights import with_rights_of
-                answer = with_rights_of(self.owner, lambda: self._replace(source),
-                                        SECONDS_FOR_WORK + size // BYTES_A_SECOND, (self.folder, source))
+            answer = self._work(lambda: self._replace(source), source)
             self._check_place(answer)
         except Fault as fault:
             raise self.fault(fault.text)
@@ -122,30 +156,35 @@ class Baseline:
     def _replace(self, source):
         """The work in the folder. From here on only names in the open folder and descriptors are used."""
         self._unlink(self.part)
-        new, name = self._new_file()
         try:
-            self._copy(source, new)
-            os.fsync(new)
-            found = os.fstat(new)
-            if not name:
-                os.link("/proc/self/fd/%d" % new, self.part, dst_dir_fd=self.folder)
+            found = self._named_copy(source, self.part)
             self._put_in_place(found)
             os.fsync(self.folder)
         except BaseException:
             self._unlink(self.part)
             raise
-        finally:
-            os.close(new)
         return b"%d %d %d %d" % (identity(found) + (found.st_uid, found.st_gid))
 
-    def _new_file(self):
+    def _named_copy(self, source, part):
+        """Copies an open file, on the disk before it gets a name. Returns what fstat says of it."""
+        new, has_name = self._new_file(part)
+        try:
+            self._copy(source, new)
+            os.fsync(new)
+            if not has_name:
+                os.link("/proc/self/fd/%d" % new, part, dst_dir_fd=self.folder)
+            return os.fstat(new)
+        finally:
+            os.close(new)
+
+    def _new_file(self, part):
         """A new file in the folder, and whether it has the name of the part: not where it can be made without one."""
         try:
             return os.open(".", os.O_TMPFILE | os.O_RDWR | os.O_CLOEXEC, 0o600, dir_fd=self.folder), False
         except OSError as error:
             if error.errno not in NO_TMPFILE:
                 raise
-        return os.open(self.part, NEW_FILE, 0o600, dir_fd=self.folder), True
+        return os.open(part, NEW_FILE, 0o600, dir_fd=self.folder), True
 
     def _copy(self, source, new):
         """Copies the bytes, then the owner where the caller can give it, then the mode."""

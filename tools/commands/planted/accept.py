@@ -3,7 +3,7 @@ from .plant import Plant
 
 ACCEPT, BASELINE, FOLDERS, RIGHTS = ("commands/lib/aide_compare/%s.py" % name
                                      for name in ("accept", "baseline", "folders", "rights"))
-REPLACE = "    belongs = baseline.replace(offered.fd, offered.size)\n"
+REPLACE = "    belongs = baseline.replace(offered.fd)\n"
 LINK_RULE = "        if owner not in (0, os.geteuid()) or not self.folder.is_safe():"
 # The baseline is written by its name, so a link there is followed; or a new file takes its place in a folder that is
 # opened anew by its name.
@@ -39,8 +39,7 @@ PLANTED = [
     Plant(file=ACCEPT, old="FEWEST_DIGITS, ALL_DIGITS = 16, 64", new="FEWEST_DIGITS, ALL_DIGITS = 15, 64",
           seen_by="accept.try_refusals"),
     Plant(file=ACCEPT, old="        if given.state:\n            raise\n", new="", seen_by="accept.try_refusals"),
-    Plant(file=ACCEPT, old="    if former == offered.sha256:\n        return Accepted(offered, former)\n", new="",
-          seen_by="accept.try_digests"),
+    Plant(file=ACCEPT, old="    if former == offered.sha256:\n", new="    if False:\n", seen_by="accept.try_digests"),
     Plant(file=ACCEPT, old="if state.new_sha256 != done.new.sha256:", new="if False:", seen_by="accept.try_told"),
     Plant(file=ACCEPT, old="state.old_sha256 != done.former", new="False", seen_by="accept.try_told"),
     Plant(file=ACCEPT, old="        return Status.DEVICE\n    return Status.OK", new="    return Status.OK",
@@ -59,10 +58,10 @@ PLANTED = [
           seen_by="accept.try_places"),
     Plant(file=BASELINE, old=EXCHANGE, new=NO_NAME, seen_by="accept_kills.try_kills"),
     Plant(file=BASELINE, old=EXCHANGE, new=OTHER_ORDER, seen_by="accept_kills.try_kills"),
-    Plant(file=BASELINE, old="        self._unlink(self.part)\n        new, name", new="        new, name",
-          seen_by="accept_kills.try_kills"),
-    Plant(file=BASELINE, old="            if self.owner is None:\n                answer",
-          new="            if True:\n                answer", seen_by="accept.try_owner"),
+    Plant(file=BASELINE, old="        self._unlink(self.part)\n        try:\n            found",
+          new="        try:\n            found", seen_by="accept_kills.try_kills"),
+    Plant(file=BASELINE, old="        if self.owner is None:\n            return work()",
+          new="        if True:\n            return work()", seen_by="accept.try_owner"),
     Plant(file=ACCEPT, old="self.fd = reopened(copy, os.O_RDONLY)", new="self.fd = os.open(path, os.O_RDONLY)",
           seen_by="accept_attacks.try_swapped_database"),
     Plant(file=ACCEPT, old=REPLACE, new=THROUGH_A_LINK, seen_by="accept_attacks.try_baseline_at_calls"),

@@ -2,15 +2,16 @@
 import fcntl
 import os
 
-from .accepting import BASE, OLDER, accept_at, contents, fresh, is_tried, library
-from .sandbox import NEW, NOBODY, OLD
+from .accepting import BASE, OLDER, accept_at, contents, fresh, is_tried, library, records_of, small_dpkg
+from .sandbox import NEW, NOBODY, OLD, sha256
 
 KILLED = 1
-MOST_CALLS = 120
+MOST_CALLS = 250
 
 
 def try_accept_kills(sandbox):
     if is_tried(sandbox):
+        small_dpkg(sandbox)
         try_order(sandbox)
         try_kills(sandbox)
 
@@ -68,9 +69,11 @@ def kill_at(sandbox, settings, number, form, owner, child, old):
     kept = former == OLD if baseline == NEW else former in (OLD, OLDER, NEW) or (old and former is None)
     path = sandbox.path(BASE + "aide.db")
     whole = baseline in (OLD, NEW) and kept and new == NEW and os.stat(path).st_mode & 0o777 == 0o600
-    ended = done.status == (18 if child else -9)
+    ended, records = done.status == (18 if child else -9), records_of(sandbox)
     sandbox.check("killed %s before call %d" % (form, number), ended and whole, (done, baseline, former))
+    sandbox.check("the records, killed %s before call %d" % (form, number), records in (None, sha256(baseline)), records)
     again = accept_at(sandbox, settings, AT_NUMBER=0)
-    sandbox.check("the next run, killed %s before call %d" % (form, number),
-                  again.status == 0 and contents(sandbox) == (NEW, OLD, NEW, 3), (again, contents(sandbox)))
+    good = contents(sandbox) == (NEW, OLD, NEW, 3) and records_of(sandbox) == sha256(NEW)
+    sandbox.check("the next run, killed %s before call %d" % (form, number), again.status == 0 and good,
+                  (again, contents(sandbox), records_of(sandbox)))
     return ended and whole
