@@ -1,4 +1,5 @@
 """aide-compare-mail: compares two databases and mails what differs, or why nothing was compared."""
+import fcntl
 import os
 import re
 import shlex
@@ -9,6 +10,8 @@ from aide_compare.ending import Fault, Status, say
 from aide_compare.files import nameless
 from aide_compare.message import Result, build, clean, host, text_of
 from aide_compare.options import Parser, duration, size, some_text
+from aide_compare.readers import ALARMS
+from aide_compare.reason_counts import counted
 from aide_compare.sending import SECONDS, Sendmail, Smtp, alert, deliver
 
 NAME = "aide-compare-mail"
@@ -16,10 +19,12 @@ DESCRIPTION = """Runs aide-compare-run with all other arguments, and mails the r
 nothing was compared. No mail is sent if there is no difference."""
 EPILOG = """Status: that of aide-compare-run(1); 18 if no mail can be sent. With --alarm-sent-is-success it is 0 if the mail
 went out or was kept in the queue."""
-RUN_VALUES = ("-c", "--config", "--state", "--most", "--most-report", "--age", "--without", "--without-path")
-OWN_VALUES = ("--to", "--most-mail", "--smtp", "--queue", "--send-queue", "--user", "--mail-time")
+RUN_VALUES = ("-c", "--config", "--state", "--most", "--most-report", "--age", "--without", "--without-path", "--lines",
+              "--brief", "--packages", "--packages-now", "--archive", "--keyring", "--rules", "--severity")
+OWN_VALUES = ("--to", "--most-mail", "--smtp", "--queue", "--send-queue", "--user", "--mail-time", "--alarm")
 OWN_FLAGS = ("--html", "--test", "--alarm-sent-is-success", "--help", "-h", "--version")
 MOST_ERRORS = 1 << 20
+BRIEF, LINES = 3, 4  # The descriptors of what aide-compare-run writes for a mail beside the report.
 
 
 def address(text):
@@ -35,6 +40,8 @@ def parser():
     add("--to", metavar="ADDRESS", type=address, default="root", help="where the mail goes (root)")
     add("--html", action="store_true", help="send the report as a text and as a page")
     add("--most-mail", metavar="SIZE", type=size, default=1 << 20, help="cut a mail that would be larger (1M)")
+    add("--alarm", choices=ALARMS, default=ALARMS[0],
+        help="with --reasons: unexplained mails nothing if every change is explained (differences)")
     add("--test", action="store_true", help="compare nothing, and send a test mail the same way")
     add("--weekly", metavar="DAY", nargs="?", const="Mon", choices=weekly.DAYS,
         help="with --state: mail a sign of life on one day of the week (Mon)")
@@ -65,28 +72,52 @@ def split(arguments):
     return own, others
 
 
+def before_dashes(words):
+    return words[:words.index("--")] if "--" in words else words
+
+
+def has_flag(flag, words):
+    """Whether aide-compare-run is given an option that has no value."""
+    words = before_dashes(words)
+    return any(word == flag and before not in RUN_VALUES for word, before in zip(words, [""] + words))
+
+
 def value_of(option, words):
     """The value of an option of aide-compare-run; None without it."""
-    words = words[:words.index("--")] if "--" in words else words
+    words = before_dashes(words)
     pairs = zip(words, words[1:] + [""])
     return next((word.partition("=")[2] or following for word, following in pairs if word.partition("=")[0] == option), None)
 
 
-def run_comparison(folder, words):
-    """Runs aide-compare-run to its end. Its output goes to private files, so their room is known before a mail is begun."""
-    path = os.path.join(folder, "aide-compare-run")
-    report, errors = nameless(), nameless()
-    actions = [(os.POSIX_SPAWN_DUP2, report, 1), (os.POSIX_SPAWN_DUP2, errors, 2)]
-    try:
-        child = os.posix_spawn(path, [path] + words, os.environ, file_actions=actions)
-        status = os.waitstatus_to_exitcode(os.waitpid(child, 0)[1])
-    except OSError as error:
-        raise Fault(Status.DEVICE, "cannot run %s: %s" % (path, error.strerror))
-    text = os.pread(errors, MOST_ERRORS, 0)
-    if status < 0 or (status > 7 and status not in (15, 17, 18, 22, 24)):
-        text += ("%s: aide-compare-run ended with %d\n" % (NAME, status)).encode()
-        status = int(Status.DEVICE)
-    return Result(status, report, text + owner_hint(text))
+class Comparison:
+    """aide-compare-run, run to its end. Its output goes to private files, so their room is known before a mail is begun."""
+
+    def __init__(self, folder, words, wants_lines):
+        self.path, self.words = os.path.join(folder, "aide-compare-run"), words
+        self.report, self.errors, self.brief = nameless(), nameless(), nameless()
+        self.lines = nameless() if wants_lines else None
+
+    def _start(self):
+        actions = [(os.POSIX_SPAWN_DUP2, self.report, 1), (os.POSIX_SPAWN_DUP2, self.errors, 2)]
+        words = [self.path]
+        places = [(self.brief, BRIEF, "--brief")] if has_flag("--reasons", self.words) else []
+        places += [(self.lines, LINES, "--lines")] if self.lines is not None else []
+        raised = [(fcntl.fcntl(descriptor, fcntl.F_DUPFD_CLOEXEC, 10), place, name) for descriptor, place, name in places]
+        for descriptor, place, name in raised:
+            actions.append((os.POSIX_SPAWN_DUP2, descriptor, place))
+            words += [name, "/dev/fd/%d" % place]
+        return os.posix_spawn(self.path, words + self.words, os.environ, file_actions=actions)
+
+    def result(self):
+        try:
+            status = os.waitstatus_to_exitcode(os.waitpid(self._start(), 0)[1])
+        except OSError as error:
+            raise Fault(Status.DEVICE, "cannot run %s: %s" % (self.path, error.strerror))
+        text = os.pread(self.errors, MOST_ERRORS, 0)
+        if status < 0 or (status > 7 and status not in (15, 17, 18, 22, 24)):
+            text += ("%s: aide-compare-run ended with %d\n" % (NAME, status)).encode()
+            status = int(Status.DEVICE)
+        return Result(status, self.report, text + owner_hint(text), os.pread(self.brief, MOST_ERRORS, 0))
 
 
 def owner_hint(text):
@@ -99,34 +130,30 @@ def owner_hint(text):
         NAME, pwd.getpwuid(os.geteuid()).pw_name, os.fsdecode(found.group(1)))).encode()
 
 
-def page_of(folder, result, most):
-    """The plain page of a report, or None with the reason: an alarm is not lost if there can be no page."""
-    if result.size > most // 2:
+def page_of(folder, lines, most):
+    """The plain page of the lines of a report, or None with the reason: an alarm is not lost if there can be no page."""
+    if os.fstat(lines).st_size > most:
         return None, "the report is too large for one"
-    lines, page, errors = nameless(), nameless(), nameless()
-    os.lseek(result.report, 0, os.SEEK_SET)
-    steps = ((result.report, lines, ["aide-compare-json"]),
-             (lines, page, ["aide-compare-html", "--plain", "--title", "File changes on %s" % host()]))
-    for source, target, words in steps:
-        os.lseek(source, 0, os.SEEK_SET)
-        path = os.path.join(folder, words[0])
-        actions = [(os.POSIX_SPAWN_DUP2, source, 0), (os.POSIX_SPAWN_DUP2, target, 1), (os.POSIX_SPAWN_DUP2, errors, 2)]
-        try:
-            child = os.posix_spawn(path, [path] + words[1:], os.environ, file_actions=actions)
-        except OSError as error:
-            return None, "cannot run %s: %s" % (words[0], error.strerror)
-        if os.waitpid(child, 0)[1] != 0:
-            why = os.pread(errors, 2000, 0).strip().split(b"\n")[-1]
-            return None, why.decode("utf-8", "replace") or "%s failed" % words[0]
+    page, errors, path = nameless(), nameless(), os.path.join(folder, "aide-compare-html")
+    os.lseek(lines, 0, os.SEEK_SET)
+    actions = [(os.POSIX_SPAWN_DUP2, lines, 0), (os.POSIX_SPAWN_DUP2, page, 1), (os.POSIX_SPAWN_DUP2, errors, 2)]
+    try:
+        child = os.posix_spawn(path, [path, "--plain", "--title", "File changes on %s" % host()], os.environ,
+                               file_actions=actions)
+    except OSError as error:
+        return None, "cannot run aide-compare-html: %s" % error.strerror
+    if os.waitpid(child, 0)[1] != 0:
+        why = os.pread(errors, 2000, 0).strip().split(b"\n")[-1]
+        return None, why.decode("utf-8", "replace") or "aide-compare-html failed"
     made = os.pread(page, most + 1, 0)
     return (None, "it would be larger than --most-mail") if len(made) > most // 2 else (made, None)
 
 
-def message_of(given, folder, words, result):
-    command = shlex.join([os.path.join(folder, "aide-compare-run")] + words)
+def message_of(given, folder, comparison, result):
+    command = shlex.join([comparison.path] + comparison.words)
     text, page = text_of(result, given.most_mail, command), None
-    if given.html and result.differs:
-        page, why = page_of(folder, result, given.most_mail)
+    if comparison.lines is not None and result.differs:
+        page, why = page_of(folder, comparison.lines, given.most_mail)
         text += clean(("\n%s: there is no page: %s\n" % (NAME, why)).encode()) if page is None else b""
     return build(given.to, result.subject(), text, page)
 
@@ -148,8 +175,26 @@ def simple(given, subject, text):
     return build(given.to, "aide on %s: %s" % (host(), subject), clean(text.encode("utf-8", "surrogateescape")))
 
 
+def quiet_text(runs, explained):
+    """The subject and the text of a sign of life."""
+    if not explained:
+        return "no difference in %d runs" % runs, "%d comparisons found no difference.\n" % runs
+    return "%d quiet runs, %s explained" % (runs, counted(explained, "change")), (
+        "In %d comparisons nothing was unexplained. %s had a reason.\n" % (runs, counted(explained, "change")))
+
+
+def be_quiet(given, words, way, result):
+    """A run that raises no alarm: it is counted, and once a week a mail says so."""
+    if given.weekly:
+        explained = result.reasons.explained if result.reasons else 0
+        weekly.count(value_of("--state", words), given.weekly, explained,
+                     lambda *sums: send(way, simple(given, *quiet_text(*sums))))
+    return 0 if given.alarm_sent_is_success else result.status
+
+
 def compare_and_mail(given, folder, words):
-    result = run_comparison(folder, words)
+    comparison = Comparison(folder, words, given.html)
+    result = comparison.result()
     if result.status > 7:
         os.truncate(result.report, 0)
     try:
@@ -157,13 +202,9 @@ def compare_and_mail(given, folder, words):
     except Fault as fault:
         alert("%s; %s" % (fault.text, result.subject() if result.status else "no difference"))
         raise Fault(fault.status, "%s; the comparison ended with status %d" % (fault.text, result.status))
-    if result.status == 0:
-        state = value_of("--state", words)
-        if given.weekly:
-            weekly.count(state, given.weekly, lambda runs: send(way, simple(
-                given, "no difference in %d runs" % runs, "%d comparisons found no difference.\n" % runs)))
-        return 0
-    send(way, message_of(given, folder, words, result))
+    if result.status == 0 or (given.alarm == "unexplained" and result.is_explained):
+        return be_quiet(given, words, way, result)
+    send(way, message_of(given, folder, comparison, result))
     return 0 if given.alarm_sent_is_success else result.status
 
 
@@ -185,6 +226,8 @@ def main(arguments):
     if given.user:
         from aide_compare.rights import give_up
         give_up(given.user)
+    if given.alarm == "unexplained" and not has_flag("--reasons", words):
+        raise Fault(Status.USAGE, "--alarm unexplained needs --reasons, which finds out what explains a change")
     if given.weekly and not value_of("--state", words):
         raise Fault(Status.USAGE, "--weekly needs --state, beside which the number of quiet runs is kept")
     if given.send_queue:

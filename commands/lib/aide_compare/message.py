@@ -9,12 +9,15 @@ import shlex
 import time
 
 from aide_compare.escapes import shown_lines
+from aide_compare.reason_counts import ReasonCounts
 from aide_compare.reports import HEAD_BYTES, counts_of
 
 MOST_PATHS = 1000
 MOST_LINE = 1000
 ENTRY = re.compile(rb"[^ :\n][^\n]{17}: ")
 SECTION = re.compile(rb"(?:Added|Removed|Changed) entries:$")
+REASONS = re.compile(r"^aide-compare-run: [a-z0-9 ,]+: unexplained=(\d{1,18}) not_verified=(\d{1,18}) explained=(\d{1,18}) "
+                     r"high=(\d{1,18}) medium=(\d{1,18}) low=(\d{1,18})\n", re.M)
 DATABASE = re.compile(r"^aide-compare-run: (old|new) database: (.*), written (\S+), SHA-256 ([0-9a-f]{64})$", re.M)
 KINDS = ((1, "added"), (2, "removed"), (4, "changed"))
 
@@ -31,21 +34,40 @@ def differences(status, counts):
     return ", ".join(name for bit, name in KINDS if status & bit)
 
 
-class Result:
-    """What a comparison left: its status, the report (a descriptor and its size), and the bytes of its error lines."""
+def reasons_in(text, counts):
+    """The ReasonCounts that error lines have, or None, also if they are not those of so many changes."""
+    found = REASONS.findall(text)
+    if len(found) != 1:
+        return None
+    unexplained, not_verified, explained, *severities = map(int, found[0])
+    reasons = ReasonCounts(explained, not_verified, unexplained, *severities)
+    return reasons if reasons.fits(sum(counts) if counts else reasons.total) else None
 
-    def __init__(self, status, report, errors):
-        self.status, self.report, self.errors = status, report, errors
+
+class Result:
+    """What a comparison left: its status, the report (a descriptor and its size), the bytes of its error lines, and the text
+    that people read first; there is none without --reasons."""
+
+    def __init__(self, status, report, errors, brief=b""):
+        self.status, self.report, self.errors, self.brief = status, report, errors, brief
         self.size = os.fstat(report).st_size
         self.counts = counts_of(os.pread(report, HEAD_BYTES, 0))
         text = errors.decode("utf-8", "surrogateescape")
         self.databases = {side: (name, date, digest) for side, name, date, digest in DATABASE.findall(text)}
+        self.reasons = reasons_in(text, self.counts) if 1 <= status <= 7 else None
 
     @property
     def differs(self):
         return 1 <= self.status <= 7 and self.size > 0
 
+    @property
+    def is_explained(self):
+        """Whether something explains every change for certain."""
+        return self.reasons is not None and self.reasons.total > 0 and not self.reasons.unanswered
+
     def subject(self):
+        if self.reasons:
+            return "aide on %s: %s" % (host(), self.reasons.words())
         if self.differs:
             return "aide on %s: differences (%s)" % (host(), differences(self.status, self.counts))
         return "aide on %s: no comparison (status %d)" % (host(), self.status)
@@ -64,6 +86,14 @@ def opening(result):
         lines += ["To accept what is reported here, and nothing else:", "    aide-compare-accept --sha256 %s %s %s"
                   % (result.databases["new"][2], shlex.quote(os.path.abspath(new)), shlex.quote(os.path.abspath(old)))]
     return "\n".join(lines) + "\n\n"
+
+
+def beginning(brief, most):
+    """What people read first, in whole lines and at most so many bytes."""
+    text = clean(brief)
+    if len(text) <= most:
+        return text
+    return text[:text.rfind(b"\n", 0, most) + 1] + b"  ... (the report below has all)\n\n"
 
 
 class CutReport:
@@ -107,7 +137,8 @@ class CutReport:
 
 def text_of(result, most, command):
     """The text of the mail, in bytes: whole if it fits, cut otherwise. All bytes of others are escaped."""
-    errors = DATABASE.sub("", result.errors[:most // 8 + 1].decode("utf-8", "surrogateescape")).strip("\n")
+    errors = result.errors[:most // 8 + 1].decode("utf-8", "surrogateescape")
+    errors = DATABASE.sub("", REASONS.sub("", errors)).strip("\n")
     if not result.differs:
         return clean((errors + "\n").encode("utf-8", "surrogateescape"))
     report = os.pread(result.report, most + 1, 0) if result.size <= most // 2 else b""
@@ -115,7 +146,7 @@ def text_of(result, most, command):
     if not text or len(text) > most - most // 4:
         text = clean(CutReport(result, most // 2).text(command))
     tail = clean(("\n" + errors + "\n").encode("utf-8", "surrogateescape")) if errors else b""
-    return clean(opening(result).encode("utf-8", "surrogateescape")) + text + tail
+    return beginning(result.brief, most // 8) + clean(opening(result).encode("utf-8", "surrogateescape")) + text + tail
 
 
 def clean(data):

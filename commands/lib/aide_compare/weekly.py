@@ -1,4 +1,5 @@
-"""The sign of life: how many quiet runs there were, kept beside the state, and when it was mailed last."""
+"""The sign of life: how many quiet runs there were, how many changes were explained in them, and when it was mailed last. The
+numbers are kept beside the state."""
 import os
 import time
 
@@ -9,29 +10,33 @@ DAYS = ("Mon", "Tue", "Wed", "Thu", "Fri", "Sat", "Sun")
 
 
 def _read(path):
-    """The number of quiet runs, and the time of the last sign of life; zeros if there is no such file."""
+    """The number of quiet runs, the time of the last sign of life, and the number of explained changes; zeros without such a
+    file. One with two numbers is of a time when no changes were explained."""
     try:
         descriptor = open_regular(path)
     except Fault:
-        return 0, 0
+        return 0, 0, 0
     try:
         words = os.read(descriptor, 100).split()
     finally:
         os.close(descriptor)
-    return tuple(map(int, words)) if len(words) == 2 and all(word.isdigit() for word in words) else (0, 0)
+    is_whole = len(words) in (2, 3) and all(word.isdigit() for word in words)
+    return tuple(map(int, words + [b"0"]))[:3] if is_whole else (0, 0, 0)
 
 
-def count(state, day, send):
-    """Counts a quiet run. On the day, or a week after the last sign of life, `send(runs)` is called and the count begins anew."""
+def count(state, day, explained, send):
+    """Counts a quiet run and its explained changes. On the day, or a week after the last sign of life, `send(runs, changes)`
+    is called and both counts begin anew."""
     path, now = state + ".quiet", int(time.time())
-    runs, sent = _read(path)
+    runs, sent, changes = _read(path)
     runs += 1
+    changes += explained
     is_day = DAYS[time.localtime(now).tm_wday] == day and time.localtime(now)[:3] != time.localtime(sent)[:3]
     file = Replacement(path, what="the number of quiet runs in").begin()
     try:
         if is_day or (sent and now - sent > 7 * 86400):
-            send(runs)
-            runs, sent = 0, now
-        file.commit(b"%d %d\n" % (runs, sent))
+            send(runs, changes)
+            runs, sent, changes = 0, now, 0
+        file.commit(b"%d %d %d\n" % (runs, sent, changes))
     finally:
         file.close()

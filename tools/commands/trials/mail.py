@@ -258,8 +258,6 @@ def try_test_and_weekly(sandbox):
 def try_pages(sandbox):
     prepare(sandbox)
     note = b"\naide-compare-mail: there is no page: "
-    for name in ("json", "html"):
-        sandbox.stub("aide-compare-" + name, "cat", "bin")
     sandbox.write("bin/aide-compare-html", '#!/bin/sh\ncat > /dev/null; printf "<p>%s</p>" "$*"\n', 0o755)
     sandbox.expect("a page", call(sandbox, "--html", "old.db", "new.db"), 7, b"", b"")
     message = sent(sandbox)
@@ -267,7 +265,7 @@ def try_pages(sandbox):
     kinds = [each.get_content_type() for each in parts]
     sandbox.check("the parts", kinds == ["text/plain", "text/html"], message)
     sandbox.check("a plain page with the host", len(parts) == 2 and b"--plain --title File changes on " in body(parts[1]), parts)
-    sandbox.stub("aide-compare-json", 'echo "an odd report" >&2; exit 3', "bin")
+    sandbox.stub("aide-compare-html", 'echo "an odd report" >&2; exit 3', "bin")
     sandbox.expect("a page that fails", call(sandbox, "--html", "old.db", "new.db"), 7, b"", b"")
     sandbox.check("a mail without a page", body(sent(sandbox)).endswith(note + b"an odd report\n"))
 
