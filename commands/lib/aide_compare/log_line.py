@@ -21,6 +21,7 @@ def line_of(path, most_age):
     if state.status == 0:
         return "no difference: " + counts
     if state.status <= 7:
+        counts = "%s %s" % (state.reasons.line(), counts) if state.reasons else counts
         return "differences: %s new_sha256=%s old=%s new=%s" % (counts, state.new_sha256, state.old, state.new)
     return "no comparison: status=%d error=%s" % (state.status, state.error)
 

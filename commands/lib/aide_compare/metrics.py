@@ -12,12 +12,21 @@ GAUGES = (
     ("changed_entries", "changed", "Entries that both databases have and that differ."),
     ("end_time_seconds", "time", "When the last run ended, in seconds since 1970."),
 )
+REASONS = (
+    ("explained_changes", "explained", "Changes with a reason that is verified."),
+    ("not_verified_changes", "not_verified", "Changes with a reason that is not verified."),
+    ("unexplained_changes", "unexplained", "Changes without a reason."),
+    ("high_changes", "high", "Changes of high severity that are unexplained or not verified."),
+    ("medium_changes", "medium", "Changes of medium severity that are unexplained or not verified."),
+    ("low_changes", "low", "Changes of low severity that are unexplained or not verified."),
+)
 TEXT = "# HELP aide_compare_%s %s\n# TYPE aide_compare_%s gauge\naide_compare_%s %d\n"
 
 
 def metrics_of(state):
     """The text that the node exporter reads. A count that is not known is left out."""
-    values = ((name, words, getattr(state, key)) for name, key, words in GAUGES)
+    values = [(name, words, getattr(state, key)) for name, key, words in GAUGES]
+    values += [(name, words, getattr(state.reasons, key)) for name, key, words in REASONS] if state.reasons else []
     return "".join(TEXT % (name, words, name, name, value) for name, words, value in values if value is not None).encode()
 
 

@@ -7,6 +7,8 @@ from aide_compare.state import read_state
 
 STATE = "/var/lib/aide-compare/daily/state"
 AGE = 26 * 3600
+# Which changes raise an alarm: all, or only those that nothing explains for certain.
+ALARMS = ("differences", "unexplained")
 # Clocks of two machines that share a file may differ so much.
 AHEAD = 300
 
