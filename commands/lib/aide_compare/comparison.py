@@ -71,15 +71,21 @@ class Comparison:
                                       % (shown(self.path), len(included), shown(included[0], 200)))
         before, after = ((text or "").encode("utf-8", "surrogateescape")
                          for text in (self.request.before, self.request.after))
-        texts = Texts(before, config, after)
-        return texts.unfixed(("config",)) if after else texts
+        self.given = Texts(before, config, after)
+        return self.given.unfixed(("config",)) if after else self.given
 
     def run(self):
         """Compares. A Fault ends it if the command itself cannot go on; the outcome then has what is known until there."""
-        if self._names_are_known():
+        if self._is_sound() and self._names_are_known():
             self._copy()
             self._compare()
         return self.outcome
+
+    def _is_sound(self):
+        """Whether the configuration as it was given is right: a comparison does not see the lines that -A replaces."""
+        if self.texts.config != self.given.config:
+            os.close(self._run("-D", self.given, b""))
+        return not self.outcome.status
 
     def _names_are_known(self):
         request, outcome = self.request, self.outcome
@@ -171,7 +177,7 @@ class Comparison:
             self.outcome.status = ended.status
             self.outcome.errors = _moved_back(os.pread(errors, MOST_ERRORS, 0), moved)
             if ended.status > 7:
-                self.outcome.hints = explained(self.outcome.errors, self.texts, self.path, self.outcome.copies)
+                self.outcome.hints = explained(self.outcome.errors, texts, self.path, self.outcome.copies)
             return output
         except BaseException:
             os.close(output)

@@ -158,6 +158,6 @@ def cut_copy(descriptor, rules):
 def left_out_words(side, counts):
     """The lines that say what was left out of a database."""
     total = sum(counts.values())
-    yield "left out of the %s database: %d entries" % (side, total)
+    yield "left out of the %s database: %s" % (side, "1 entry" if total == 1 else "%d entries" % total)
     for rule, count in sorted(counts.items(), key=lambda pair: -pair[1]):
         yield "  %d by %s" % (count, rule.words())
