@@ -8,27 +8,35 @@ from aide_compare.escapes import shown
 ENTRY = re.compile(rb"((?:user|group|mask|other):[^\x00-\x20:,#\x7f]{0,300}:[r-][w-][x-])(?:[\t ]+(#effective:[r-][w-][x-]))?")
 
 
-def _entries(text, before):
+def _entries(text):
     """The entries of a list, None if it is not one."""
     entries = []
     for line in text.rstrip(b"\n").split(b"\n", MOST // 10):
         found = ENTRY.fullmatch(line)
         if not found:
             return None
-        entries.append(before + " ".join(shown(part) for part in found.groups() if part))
+        entries.append(tuple(shown(part) for part in found.groups() if part))
     return entries
 
 
-def acl_text(value):
-    """Both lists of a field, the one of defaults with `default:` before each entry, as getfacl prints them."""
+def acl_lists(value):
+    """The entries of both lists of a field, each with what the mask leaves of it; None if it is no such field."""
     kind, *lists = value.split(b",", 3)
     if kind != b"POSIX" or len(lists) != 2:
         return None
-    entries = []
-    for field, before in zip(lists, ("", "default:")):
-        text = from_base64(field)
-        found = [] if text == b"" else _entries(text, before) if text else None
-        if found is None:
+    found = []
+    for text in map(from_base64, lists):
+        entries = [] if text == b"" else _entries(text) if text else None
+        if entries is None:
             return None
-        entries += found
+        found.append(entries)
+    return found
+
+
+def acl_text(value):
+    """Both lists in one line, that of defaults with `default:` before each entry, as getfacl prints them."""
+    lists = acl_lists(value)
+    if not lists:
+        return None
+    entries = [before + " ".join(entry) for before, found in zip(("", "default:"), lists) for entry in found]
     return cut(", ".join(entries)) or None

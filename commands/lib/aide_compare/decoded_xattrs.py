@@ -49,16 +49,19 @@ def value_text(name, data):
     return "0s" + base64.b64encode(data[:MOST]).decode()
 
 
-def xattrs_text(value):
-    """All attributes of a field in one line: NAME: VALUE; NAME: VALUE."""
-    number, *fields = value.split(b",", 2 * MOST)
+def attributes_of(value):
+    """The names and values of a field; None if it is no such field."""
+    number, *fields = value.split(b",")
     if not NUMBER.fullmatch(number) or len(fields) != 2 * int(number):
         return None
+    found = [(unquote_to_bytes(name), from_base64(field)) for name, field in zip(fields[::2], fields[1::2])]
+    return found if all(name and data is not None for name, data in found) else None
+
+
+def xattrs_text(value):
+    """All attributes of a field in one line: NAME: VALUE; NAME: VALUE."""
     parts, length = [], 0
-    for name, field in zip(fields[::2], fields[1::2]):
-        name, data = unquote_to_bytes(name), from_base64(field)
-        if not name or data is None:
-            return None
+    for name, data in attributes_of(value) or ():
         parts.append("%s: %s" % (shown(name, 300).translate(NAME_ESCAPES), value_text(name, data)))
         length += len(parts[-1])
         if length > MOST:

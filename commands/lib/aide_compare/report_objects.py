@@ -1,12 +1,50 @@
 """The objects of the entries of a report, in JSON: what the lists and the details say of each, in the order of paths."""
 import heapq
 
+from aide_compare.report_details import read_detail
 from aide_compare.report_lines import Refused, put_bytes
 from aide_compare.report_marks import misfit
+from aide_compare.report_shapes import ShapedDetail
 from aide_compare.report_values import TYPES, attribute_of
 
 
-def object_of(entry, detail, digests):
+class Making:
+    """How the objects of a report are made: with which digests so far, with texts or without (None), by shapes or by lines."""
+
+    def __init__(self, digests, values=None, shapes=None):
+        self.digests, self.values, self.shapes = digests, values, shapes
+
+    def attributes(self, entry, detail, summary):
+        """The attributes that the details show of an entry. An entry of a doubtful kind that has both sides is changed."""
+        attributes = {block.label: attribute_of(block, entry, self.digests) for block in detail.blocks}
+        other = 'old' if entry.kind == 'added' else 'new'
+        if entry.doubtful and any(sides[other] not in (None, '') for sides in attributes.values()):
+            raise Changed
+        if summary and entry.kind == 'changed' and misfit(summary, attributes):
+            raise Refused(detail.number, 'the list says something else of %s' % misfit(summary, attributes))
+        if self.values:
+            self.values.begin(entry, detail.title)
+            for label, fields in attributes.items():
+                self.values.put_texts(label, fields)
+        if self.shapes:
+            self.shapes.learn(detail.blocks, self.digests)
+        return attributes
+
+    def shown(self, entry, detail, summary):
+        """The attributes: written already if a shape fits, or as objects."""
+        if isinstance(detail, ShapedDetail):
+            written = detail.written(entry, self.digests)
+            if written is not None:
+                return written
+            detail = detail.read_again(read_detail)
+        return self.attributes(entry, detail, summary)
+
+
+class Changed(Exception):
+    """The details of an entry that was taken for an added or removed one have both sides."""
+
+
+def object_of(entry, detail, making):
     """The object of an entry, with its attributes if the details show it."""
     fields = {'record': 'entry', 'kind': entry.kind}
     put_bytes(fields, 'path', entry.path)
@@ -20,13 +58,10 @@ def object_of(entry, detail, digests):
     if title and title != b'Entry':
         fields['type'] = title.decode()
     if detail:
-        attributes = {block.label: attribute_of(block, entry, digests) for block in detail.blocks}
-        other = 'old' if entry.kind == 'added' else 'new'
-        if entry.doubtful and any(sides[other] not in (None, '') for sides in attributes.values()):
-            return object_of(entry._replace(kind='changed', doubtful=False), detail, digests)
-        if entry.letters and entry.kind == 'changed' and misfit(fields['summary'], attributes):
-            raise Refused(detail.number, 'the list says something else of %s' % misfit(fields['summary'], attributes))
-        fields['attributes'] = attributes
+        try:
+            fields['attributes'] = making.shown(entry, detail, fields.get('summary'))
+        except Changed:
+            return object_of(entry._replace(kind='changed', doubtful=False), detail, making)
     if entry.doubtful:
         fields['uncertain'] = ['kind']
     return fields
@@ -44,12 +79,12 @@ def in_order(sections):
         yield entry
 
 
-def objects_of(sections, details, digests):
+def objects_of(sections, details, making):
     """The objects of all entries in the order of their paths."""
     detail = next(details, None)
     for entry in in_order(sections):
         is_shown = detail is not None and detail.path == entry.path
-        yield object_of(entry, detail if is_shown else None, digests)
+        yield object_of(entry, detail if is_shown else None, making)
         if is_shown:
             detail = next(details, None)
     if detail is not None:

@@ -4,9 +4,11 @@ import re
 from collections import namedtuple
 
 from aide_compare.files import nameless
-from aide_compare.report_lines import LINE_LIMIT, RULE, Refused, put_bytes, unprinted
-from aide_compare.report_objects import objects_of
-from aide_compare.report_values import FORMS, PIECE, TYPES, Block, Digests
+from aide_compare.report_details import read_details
+from aide_compare.report_lines import Refused, put_bytes, unprinted
+from aide_compare.report_objects import Making, objects_of
+from aide_compare.report_shapes import Shapes
+from aide_compare.report_values import Digests
 
 FORMAT = 1
 LEVELS = ['minimal', 'summary', 'database_attributes', 'list_entries', 'changed_attributes',
@@ -19,21 +21,14 @@ COUNTS = {'total': b'Total number of entries:', 'added': b'Added entries:', 'rem
 KINDS = ['added', 'removed', 'changed']
 TOGETHER, DETAILS, DATABASES = (b'Added, removed and changed entries:', b'Detailed information about changes:',
                                 b'The attributes of the databases:')
-INDENT = b' ' * 14
-NAMES = {label.ljust(10).encode(): label for label in FORMS}
-ORDER = {label: place for place, label in enumerate(FORMS)}
 
 LETTERS = b'[fdlcbps?!][l+:. -][<>+:= -]' + b''.join(b'[%c+:. -]' % letter for letter in b'bpugamcinHAXSEC')
 LISTED = re.compile(b'(?:(' + LETTERS + b')|(added|removed|changed)): (/.*)')
 ALL_ADDED, ALL_REMOVED = 17 * b'+', 17 * b'-'
-TITLED = re.compile(b'(' + b'|'.join(TYPES.values()) + b'): (/.*)')
-FIRST_LINE = re.compile(rb'  ([^ ].{9}): (.{32}) \| (.{0,32})')
-NEXT_LINE = re.compile(rb' {14}(.{32}) \| (.{0,32})')
 DIGEST_LINES = [re.compile(rb'  SHA256    : (.{32})'), re.compile(rb' {14}(.{1,32})')]
 
 # An entry of a list; it is doubtful if the text leaves open whether it is of this kind or changed.
 Entry = namedtuple('Entry', 'number kind doubtful letters path')
-Detail = namedtuple('Detail', 'number title path blocks')
 
 
 def read_counts(lines):
@@ -102,37 +97,6 @@ def read_sections(lines, title, counts):
     return sections, title
 
 
-def read_block(lines):
-    """The lines of an attribute."""
-    name, old, new = lines.match(FIRST_LINE, 'an attribute').groups()
-    lefts, rights, number = [old], [new], lines.number
-    if name not in NAMES:
-        raise Refused(number, 'this attribute is unknown')
-    while lines.coming is not None and lines.coming.startswith(INDENT):
-        old, new = lines.match(NEXT_LINE, 'a piece of a value').groups()
-        lefts.append(old)
-        rights.append(new)
-        if len(lefts) * PIECE > LINE_LIMIT:
-            raise Refused(lines.number, 'the value is too long')
-    return Block(number, NAMES[name], lefts, rights)
-
-
-def read_details(lines):
-    """Yields the entries of the details, and takes the empty line after them."""
-    lines.expect(b'')
-    while True:
-        found = lines.match(TITLED, 'an entry of the details')
-        number, blocks = lines.number, []
-        while not blocks or lines.coming:
-            blocks.append(read_block(lines))
-            if len(blocks) > 1 and ORDER[blocks[-2].label] >= ORDER[blocks[-1].label]:
-                raise Refused(blocks[-1].number, 'this attribute comes before the one above it')
-        lines.expect(b'')
-        yield Detail(number, found.group(1), unprinted(found.group(2), number), blocks)
-        if lines.coming == RULE:
-            return
-
-
 class Levels:
     """The levels that a report with lists can be of."""
 
@@ -170,9 +134,9 @@ def read_databases(lines, digests):
     return objects
 
 
-def read_parts(lines, counts, summary):
+def read_parts(lines, counts, summary, making):
     """Yields the objects of the parts after the summary, and adds to its object what they say of the whole."""
-    digests, sections = Digests(), []
+    sections = []
     lines.expect(b'')
     title, changes = lines.read_title(), any(counts[kind] for kind in KINDS)
     summary['levels'] = LEVELS[2:3] if changes else LEVELS[2:]
@@ -181,7 +145,7 @@ def read_parts(lines, counts, summary):
         sections, title = read_sections(lines, title, counts)
         has_details = title == DETAILS
         summary['summarized'], levels = sections[0].summarized, Levels(has_details)
-        for fields in objects_of(sections, read_details(lines) if has_details else iter(()), digests):
+        for fields in objects_of(sections, read_details(lines, making.shapes) if has_details else iter(()), making):
             levels.add(fields)
             yield fields
         if not levels.possible:
@@ -190,12 +154,16 @@ def read_parts(lines, counts, summary):
         title = lines.read_title() if has_details else title
     if title != DATABASES:
         raise Refused(lines.number - 1, 'this is not the title "%s"' % DATABASES.decode())
-    yield from read_databases(lines, digests)
-    summary['base16'] = 16 in digests.bases
+    yield from read_databases(lines, making.digests)
+    summary['base16'] = 16 in making.digests.bases
 
 
-def read_report(lines):
-    """Yields the objects of a report, the summary's last. An empty report has no levels."""
+def read_report(lines, values=None, by_shapes=False):
+    """Yields the objects of a report, the summary's last. An empty report has no levels.
+
+    With `values` attributes have texts for people. `by_shapes` is fast: then most attributes are JSON that is written already.
+    """
+    making = Making(Digests(), values, Shapes(values) if by_shapes else None)
     summary = {'record': 'summary', 'format': FORMAT, 'differences': False, **dict.fromkeys(COUNTS), 'levels': None,
                'grouped': None, 'summarized': None, 'base16': None}
     if lines.coming is not None:
@@ -209,7 +177,7 @@ def read_report(lines):
             raise Refused(lines.number, 'the counts do not fit the first line')
         summary.update(counts, levels=LEVELS[1:2])
     if lines.coming is not None:
-        yield from read_parts(lines, counts, summary)
+        yield from read_parts(lines, counts, summary, making)
     else:
         summary['uncertain'] = ['end']
     yield summary

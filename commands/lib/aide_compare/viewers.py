@@ -1,10 +1,10 @@
-"""The commands that show a report in other forms: aide-compare-json and aide-compare-html."""
+"""What the commands share that show a report in other forms, and aide-compare-html itself."""
 import os
 import stat
 
 from aide_compare.ending import Fault, Status, reason
 from aide_compare.escapes import shown
-from aide_compare.files import nameless, open_regular
+from aide_compare.files import open_regular
 from aide_compare.options import Parser
 from aide_compare.report_lines import Refused
 
@@ -29,7 +29,7 @@ def _opened(path):
     return open(int(number), "rb", buffering=BLOCK, closefd=False)
 
 
-def _run(path, work):
+def run(path, work):
     """Does the work over the input and standard output. What is no whole input is refused with a status of its own."""
     try:
         with _opened(path) as source, open(1, "wb", buffering=BLOCK, closefd=False) as target:
@@ -40,37 +40,6 @@ def _run(path, work):
     except OSError as error:
         raise Fault(Status.DEVICE, "cannot read or write: %s" % reason(error)) from None
     return Status.OK
-
-
-def _write_json(source, target, given):
-    """Writes the objects of a report: the summary's first, though it is known last."""
-    import json
-    from aide_compare.report_lines import Lines
-    from aide_compare.report_parts import judge, read_report
-    encode, count, summary = json.JSONEncoder(separators=(",", ":")).encode, 0, None
-    with open(nameless(), "w+b", buffering=BLOCK) as body:
-        for count, fields in enumerate(read_report(Lines(source)), 1):
-            if fields["record"] == "summary":
-                summary = fields
-            else:
-                body.write(encode(fields).encode() + b"\n")
-        judge(summary, given.least, given.empty)
-        body.seek(0)
-        target.write(encode({**summary, "lines": count}).encode() + b"\n")
-        for block in iter(lambda: body.read(BLOCK), b""):
-            target.write(block)
-
-
-def json_main(arguments):
-    from aide_compare.report_parts import LEVELS
-    parser = parser_of("aide-compare-json", "the report", "Reads a report of aide-compare and writes it as JSON, one object a line.",
-                       "The manual page aide-compare-json(1) describes the objects.")
-    parser.add_argument("--least", choices=LEVELS, metavar="LEVEL",
-                        help="refuse a report of a lower level; from database_attributes on, every cut is seen")
-    parser.add_argument("--empty", action="store_true",
-                        help="take an empty report for one without differences (report_quiet)")
-    given = parser.parse(arguments)
-    return _run(given.file, lambda source, target: _write_json(source, target, given))
 
 
 def _write_page(source, target, given):
@@ -85,4 +54,4 @@ def html_main(arguments):
     parser.add_argument("--title", metavar="TEXT", help="the heading of the page, such as the name of the host")
     parser.add_argument("--plain", action="store_true", help="no script: the lists only, as for mail")
     given = parser.parse(arguments)
-    return _run(given.file, lambda source, target: _write_page(source, target, given))
+    return run(given.file, lambda source, target: _write_page(source, target, given))

@@ -1,0 +1,93 @@
+"""What each line of aide-compare-json says of the comparison: where, when, of which databases, with which status."""
+import argparse
+import os
+import re
+import time
+
+from aide_compare.ending import Fault, Status
+from aide_compare.escapes import shown
+from aide_compare.report_lines import put_bytes
+from aide_compare.reports import status_of
+from aide_compare.state import read_state
+from aide_compare.times import date_of
+
+REFUSED = 65
+NAME = re.compile("[A-Za-z_@][A-Za-z0-9_.@-]{0,63}")
+MOST_MEMBERS, LONGEST = 64, 4096
+# The members that lines have themselves.
+TAKEN = frozenset("record kind path path_hex summary type attributes uncertain severity reason reasons side sha256 format "
+                  "differences total added removed changed levels grouped summarized base16 lines left_out".split())
+DIGITS = 16
+COUNTS = ("added", "removed", "changed")
+
+
+def member(text):
+    """A member of each line, from NAME=VALUE."""
+    name, equals, value = text.partition("=")
+    if not equals or not NAME.fullmatch(name) or name in TAKEN:
+        raise argparse.ArgumentTypeError("needs NAME=VALUE with a name of letters, digits and _ . @ - that lines do not have "
+                                         "yet: %s" % shown(text, 100))
+    if len(value) > LONGEST or any("\ud800" <= letter <= "\udfff" for letter in value):
+        raise argparse.ArgumentTypeError("needs a value in UTF-8 of at most %d letters: %s" % (LONGEST, shown(text, 100)))
+    return name, value
+
+
+def members(pairs):
+    """The members by --with, each once."""
+    found = dict(pairs)
+    if len(found) < len(pairs) or len(found) > MOST_MEMBERS:
+        raise Fault(Status.USAGE, "more than %d members, or one given twice by --with" % MOST_MEMBERS,
+                    "try: aide-compare-json --help")
+    return found
+
+
+def time_member(seconds):
+    return None if seconds is None else date_of(seconds)
+
+
+class Occasion:
+    """The comparison that a report is of, as a state file, the options and the report tell it."""
+
+    def __init__(self, state, old, new):
+        self.path, self.state, self.names = state, None, {"old": old, "new": new}
+
+    def read(self):
+        """Reads the state file. Whoever writes the report into a pipe has written it when the report ends."""
+        if self.path:
+            self.state = read_state(self.path)
+
+    def check(self, summary, databases):
+        """Refuses a state file that is of another comparison than the report."""
+        state = self.state
+        if not state:
+            return
+        counts = tuple(summary[kind] for kind in COUNTS)
+        digests = {fields["side"]: fields["sha256"] for fields in databases}
+        others = [side for side in digests if getattr(state, side + "_sha256") != digests[side]]
+        if state.status > 7 or None not in counts and state.counts != counts or others \
+                or summary["differences"] != (state.status > 0):
+            raise Fault(REFUSED, "the state file %s is of another comparison than the report" % shown(self.path))
+
+    def name(self, fields):
+        """Puts the name of a database in the place of the descriptor by which it was read."""
+        given, side = self.names[fields["side"]], fields["side"]
+        if given is not None or self.state and getattr(self.state, side):
+            fields.pop("path_hex", None)
+            put_bytes(fields, "path", os.fsencode(given) if given is not None else getattr(self.state, side).encode())
+
+    def left_out(self):
+        """How many entries of each database were left out, if the state file says it."""
+        more = self.state.more if self.state else {}
+        found = {side: more.get("left_out_" + side, "") for side in ("old", "new")}
+        return {side: int(count) for side, count in found.items() if count.isascii() and count.isdigit() and len(count) < 19}
+
+    def members(self, summary, databases):
+        """What --full adds to each line."""
+        state, counts = self.state, tuple(summary[kind] for kind in COUNTS)
+        found = {"host": os.uname().nodename, "@timestamp": date_of(state.time if state else int(time.time()))}
+        found["status"] = state.status if state else None if None in counts else status_of(counts)
+        for side in ("old", "new"):
+            found[side + "_time"] = time_member(getattr(state, side + "_written")) if state else None
+        for fields in databases:
+            found[fields["side"] + "_digest"] = fields["sha256"][:DIGITS]
+        return found
