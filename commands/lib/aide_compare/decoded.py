@@ -3,13 +3,13 @@
 Nothing is refused here. A value that does not decode has no text, a long text is cut, and the exact value stands beside it
 in any case. Bytes of others are escaped in every text.
 """
-import time
 from functools import lru_cache
 
 from aide_compare.decoded_acl import acl_text
 from aide_compare.decoded_base import exact_bytes
 from aide_compare.decoded_caps import named_capabilities
 from aide_compare.decoded_flags import flags_text
+from aide_compare.decoded_times import time_text
 from aide_compare.decoded_xattrs import label_text, xattrs_text
 from aide_compare.escapes import shown
 from aide_compare.shown_text import letters_of
@@ -17,22 +17,8 @@ from aide_compare.shown_text import letters_of
 # The first letter of a mode by the type of the file in words, as reports name it.
 TYPE_LETTERS = {"File": "-", "Directory": "d", "Link": "l", "Character device": "c", "Block device": "b", "FIFO": "p",
                 "Socket": "s"}
-# Times outside of the years 1 to 9999 have no date.
-FIRST, LAST = -62135596800, 253402300799
 # Texts of values up to this length are kept, since most files of a system share theirs.
 KEPT = 600
-
-
-def time_text(seconds):
-    """A time in the zone of this host (or of TZ), as AIDE prints it: 2026-11-25 07:00:00 +0100."""
-    if not FIRST <= seconds <= LAST:
-        return None
-    try:
-        given = time.localtime(seconds)
-    except (OverflowError, ValueError, OSError):
-        return None
-    offset = given.tm_gmtoff
-    return "%04d-%02d-%02d %02d:%02d:%02d %s%02d%02d" % (given[:6] + ("-" if offset < 0 else "+",) + divmod(abs(offset) // 60, 60))
 
 
 @lru_cache(maxsize=4096)

@@ -67,15 +67,18 @@ def object_of(entry, detail, making):
     return fields
 
 
+def names_of(entry):
+    return entry.path.split(b'/')
+
+
 def in_order(sections):
     """The entries of all lists in the order of their paths."""
-    def order(entry):
-        return entry.path.split(b'/')
-    before = []
-    for entry in heapq.merge(*(section.entries() for section in sections), key=order):
-        if not before < order(entry):
+    lists, before = [section.entries() for section in sections], []
+    for entry in lists[0] if len(lists) == 1 else heapq.merge(*lists, key=names_of):
+        names = names_of(entry)
+        if not before < names:
             raise Refused(entry.number, 'the entry is not in the order of paths')
-        before = order(entry)
+        before = names
         yield entry
 
 

@@ -43,9 +43,8 @@ def read_counts(lines):
     return counts
 
 
-def kinds_of(found):
+def kinds_of(letters, kind):
     """The kinds that a line of a list can be of."""
-    letters, kind = found.group(1, 2)
     if kind:
         return [kind.decode()]
     marks = letters[1:]
@@ -60,24 +59,24 @@ class Section:
         self.file, self.number, self.counts = open(nameless(), 'w+b'), lines.number, counts
         self.possible, self.summarized = dict.fromkeys(KINDS, 0), None
         for _ in range(sum(counts.values())):
-            found = lines.match(LISTED, 'an entry of this list')
-            kinds, summarized = [kind for kind in kinds_of(found) if kind in counts], bool(found.group(1))
-            if not kinds or self.summarized not in (None, summarized):
+            letters, kind, _ = found = lines.match(LISTED, 'an entry of this list').groups()
+            kinds = [kind for kind in kinds_of(letters, kind) if kind in counts]
+            if not kinds or self.summarized not in (None, bool(letters)):
                 lines.refuse(b'', 'an entry of this list')
-            self.summarized = summarized
+            self.summarized = bool(letters)
             for kind in kinds:
                 self.possible[kind] += 1
-            self.file.write(found.group() + b'\n')
+            self.file.write(b': '.join((letters or found[1], found[2])) + b'\n')
         if any(self.possible[kind] < count for kind, count in counts.items()):
             raise Refused(lines.number, 'the list has not as many entries of each kind as the summary says')
 
     def entries(self):
         self.file.seek(0)
         for number, line in enumerate(self.file, self.number + 1):
-            found = LISTED.fullmatch(line[:-1])
-            kinds = [kind for kind in kinds_of(found) if self.counts.get(kind)]
+            letters, kind, path = LISTED.fullmatch(line[:-1]).groups()
+            kinds = [kind for kind in kinds_of(letters, kind) if self.counts.get(kind)]
             doubtful = len(kinds) > 1 and self.possible[kinds[0]] > self.counts[kinds[0]]
-            yield Entry(number, kinds[0], doubtful, found.group(1), unprinted(found.group(3), number))
+            yield Entry(number, kinds[0], doubtful, letters, unprinted(path, number))
 
 
 def read_sections(lines, title, counts):
@@ -105,12 +104,11 @@ class Levels:
 
     def add(self, entry):
         """Takes out the levels at which this entry would be shown in another way."""
-        if 'uncertain' in entry:
+        if 'uncertain' in entry or entry['kind'] == 'changed' and 'attributes' in entry:
             return
         if entry['kind'] == 'changed':
             # A letter is an attribute that has changed, and so one that the details show.
-            has_letter = re.search('[A-Za-z<>]', entry.get('summary', '')[1:])
-            out = [] if 'attributes' in entry else LEVELS[4:] if has_letter else LEVELS[5:]
+            out = LEVELS[4:] if re.search('[A-Za-z<>]', entry.get('summary', '')[1:]) else LEVELS[5:]
         elif 'attributes' in entry:
             out = LEVELS[4:6]
         else:

@@ -83,12 +83,12 @@ class ShapedDetail:
     """An entry of the details that a pattern has taken."""
 
     def __init__(self, number, shape, found, values):
-        self.number, self.shape, self.groups, self.text, self.values = number, shape, found.groups(), found.group(), values
+        self.number, self.shape, self.groups, self.found, self.values = number, shape, found.groups(), found, values
         self.title, self.path = self.groups[0], unprinted(self.groups[1], number)
 
     def read_again(self, read):
         """The entry as it is read by lines."""
-        return read(Lines(io.BytesIO(self.text), self.number - 1))
+        return read(Lines(io.BytesIO(self.found.group()), self.number - 1))
 
     def written(self, entry, digests):
         """The attributes as JSON, None if they have to be read by lines, so that what does not fit is refused."""

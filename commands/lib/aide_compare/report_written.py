@@ -1,32 +1,21 @@
 """The attributes of an entry as JSON, with the texts for people beside the exact values."""
 import json
-from datetime import date
 from functools import lru_cache
 
-from aide_compare.decoded import decoded, name_text, time_text
+from aide_compare.decoded import decoded, name_text
+from aide_compare.decoded_times import date_of, time_text
 from aide_compare.report_values import Block, Digests, attribute_of
 
-FIRST, LAST, EPOCH_DAY = -62135596800, 253402300799, date(1970, 1, 1).toordinal()
 # What is kept of values that come again: so many, of at most so many bytes.
 MOST_KEPT, LONGEST_KEPT = 4000, 600
 SIDES = ('old', 'new')
 encode = json.JSONEncoder(separators=(',', ':')).encode
 
 
-@lru_cache(maxsize=1000)
-def _day(number):
-    return date.fromordinal(EPOCH_DAY + number).isoformat()
-
-
-def time_members(side, text):
+def time_members(side, seconds):
     """The members of one side of a time."""
-    if text is None:
-        return '"%s":null' % side
-    seconds = int(text)
-    if not FIRST <= seconds <= LAST:
-        return '"%s":%d' % (side, seconds)
-    days, rest = divmod(seconds, 86400)
-    return '"%s":%d,"%s_time":"%sT%02d:%02d:%02dZ"' % (side, seconds, side, _day(days), rest // 3600, rest // 60 % 60, rest % 60)
+    date = date_of(seconds)
+    return '"%s":%d' % (side, seconds) if date is None else '"%s":%d,"%s_time":"%s"' % (side, seconds, side, date)
 
 
 def bytes_of(fields, side):
@@ -75,12 +64,15 @@ class Values:
 
     def time_object(self, old, new):
         """The object of a time, as `attribute_of` and `put_texts` make it."""
-        text = '{%s,%s' % (time_members('old', old), time_members('new', new))
+        given = [(side, int(text)) for side, text in zip(SIDES, (old, new)) if text is not None]
+        members = [time_members(side, seconds) for side, seconds in given]
+        if len(given) == 1:
+            members.insert(old is not None, '"%s":null' % ('old' if old is None else 'new'))
         if self.has_texts:
-            texts = [None if given is None else time_text(int(given)) for given in (old, new)]
-            if texts[0] is None or texts[0] != texts[1] or old == new:
-                text += ''.join(',"%s_text":"%s"' % pair for pair in zip(SIDES, texts) if pair[1] is not None)
-        return (text + '}').encode()
+            texts = [time_text(seconds) for _, seconds in given]
+            if len(texts) == 1 or texts[0] is None or texts[0] != texts[1] or old == new:
+                members += ['"%s_text":"%s"' % (side, text) for (side, _), text in zip(given, texts) if text is not None]
+        return ('{%s}' % ','.join(members)).encode()
 
     def written(self, piece, groups, entry, base):
         """The object of an attribute that a template cannot write."""
