@@ -22,9 +22,11 @@ from tools.commands.base.files import try_files
 from tools.commands.base.texts import try_texts
 from tools.commands.trials.age import try_age
 from tools.commands.trials.attacks import try_attacks
+from tools.commands.trials.cut_reports import try_cut_reports
 from tools.commands.trials.explained import try_explained
 from tools.commands.trials.explained_readers import try_explained_readers
 from tools.commands.trials.fleet import try_fleet
+from tools.commands.trials.hosts_report import try_hosts_report
 from tools.commands.trials.faults import try_faults, try_signals
 from tools.commands.trials.mail import try_mail
 from tools.commands.trials.sandbox import Sandbox, shells
@@ -36,8 +38,9 @@ from tools.lib.tally import Tally, program_of, side_by_side
 
 BASE = [try_texts, try_files]
 # The longest come first, so that none of them is left at the end.
-TRIALS = [try_accept_attacks, try_accept_kills, try_sorting, try_readers, try_mail, try_run, try_attacks, try_fleet, try_faults,
-          try_accept, try_without, try_explained, try_explained_readers, try_age, try_signals]
+TRIALS = [try_accept_attacks, try_accept_kills, try_sorting, try_readers, try_mail, try_run, try_attacks, try_fleet,
+          try_hosts_report, try_cut_reports, try_faults, try_accept, try_without, try_explained, try_explained_readers, try_age,
+          try_signals]
 
 
 def try_base(trial, tally):

@@ -3,6 +3,7 @@ import os
 import signal
 import time
 
+from aide_compare.cut_reports import CUT_WORDS
 from aide_compare.ending import Fault, Status, say, write_all
 from aide_compare.escapes import guarded, shown, shown_lines
 from aide_compare.fetching import add_place
@@ -18,6 +19,8 @@ NAME = "compare-host"
 MOST_BASELINE, LEAST_BOUND, MOST_REPORT, SAME_FOR = 4 << 30, 64 << 20, 4 << 20, 50 * 3600
 MOST_ERRORS = 1 << 20
 MOST_AHEAD = 600
+# The level at which an added file has its values, so that report-hosts can tell whether it is the same one on two hosts.
+LEVEL = "report_level=added_removed_entries"
 
 
 class Outcome:
@@ -80,7 +83,7 @@ def run(place, program, words, copies, configuration, part, most):
             os.kill(child, signal.SIGKILL)
             os.waitpid(child, 0)
     if whole > part.size:
-        part.write(b"\n%s: cut here: the report has %d bytes, and --most-report allows %d\n" % (NAME.encode(), whole, most))
+        part.write(b"\n" + (CUT_WORDS % (whole, most)).encode())
     lines = os.pread(errors, MOST_ERRORS, 0)
     os.close(errors)
     return Outcome(status if 0 <= status < 128 else int(Status.DEVICE), counts_of(head), None, lines)
@@ -99,18 +102,22 @@ def copied(place, given):
 
 
 def words_of(given, arguments, last=""):
-    """The arguments of the program, which takes each option once: lines of the caller come before those of this command."""
-    after, others, rest = [], [], list(arguments)
+    """The arguments of the program, which takes each option once: lines of the caller come before those of this command. The
+    level comes first, so that the configuration or the caller may name another one."""
+    before, after, others, rest = [LEVEL], [], [], list(arguments)
+    takes = {"-B": before, "--before": before, "-A": after, "--after": after}
     while rest:
         word = rest.pop(0)
-        if word in ("-A", "--after") and rest:
-            after.append(rest.pop(0))
-        elif word.startswith("--after="):
-            after.append(word[len("--after="):])
+        name, equals, value = word.partition("=")
+        if word in takes and rest:
+            takes[word].append(rest.pop(0))
+        elif equals and name in ("--before", "--after"):
+            takes[name].append(value)
         else:
             others.append(word)
-    lines = "\n".join(after + [DATABASES] + [last] * bool(last))
-    return ["-E", "-c", "/proc/self/fd/5" if given.conf else "/dev/null", "-A", lines] + others
+    after += [DATABASES] + [last] * bool(last)
+    file = "/proc/self/fd/5" if given.conf else "/dev/null"
+    return ["-E", "-c", file, "-B", "\n".join(before), "-A", "\n".join(after)] + others
 
 
 def compared(place, given, arguments, part, jobs):

@@ -90,30 +90,39 @@ class Part:
 
 
 class Place:
-    """The folder of one host, which one process at a time works in."""
+    """The folder of one host, which one process at a time works in. Without `make` nothing is made: a reader makes no host."""
 
-    def __init__(self, store, host):
+    def __init__(self, store, host, make=True):
         self.host = check_name(host)
         self.path = "%s/hosts/%s" % (store, host)
         self.state_path = "%s/states/%s" % (store, host)
-        open_folder(store, make=True).close()
-        _opened(store).close()
-        _make(store + "/hosts", 0o700)
-        _make(self.path, 0o700)
+        self._locked = self._readable = None
+        if make:
+            open_folder(store, make=True).close()
+            _opened(store).close()
+            _make(store + "/hosts", 0o700)
+            _make(self.path, 0o700)
         self.folder = _opened(self.path)
         self.fd = self.folder.fd
 
-    def lock(self, deadline):
+    def lock(self, deadline, how=fcntl.LOCK_EX):
         """Waits for the other runs over this host, but not for ever."""
         flags = os.O_RDWR | os.O_CREAT | os.O_NOFOLLOW | os.O_CLOEXEC
-        lock = os.open("lock", flags, 0o600, dir_fd=self.fd)
+        self._locked = os.open("lock", flags, 0o600, dir_fd=self.fd)
         while True:
             try:
-                return fcntl.flock(lock, fcntl.LOCK_EX | fcntl.LOCK_NB)
+                return fcntl.flock(self._locked, how | fcntl.LOCK_NB)
             except BlockingIOError:
                 if seconds_left(deadline) <= 0:
                     raise self.fault("another run is at work on it")
             time.sleep(0.05)
+
+    def close(self):
+        """Ends the work here, and the lock. Only who goes on to other hosts needs this."""
+        self.folder.close()
+        for descriptor in (self._locked, self._readable):
+            if descriptor is not None:
+                os.close(descriptor)
 
     def fault(self, text, status=Status.DEVICE):
         return Fault(status, "%s: %s" % (self.host, text))
@@ -134,7 +143,7 @@ class Place:
         return disk.f_bavail * disk.f_frsize // (2 * jobs + 2)
 
     def open_folder(self):
-        if not hasattr(self, "_readable"):
+        if self._readable is None:
             self._readable = os.open(".", os.O_RDONLY | os.O_DIRECTORY | os.O_CLOEXEC, dir_fd=self.fd)
         return self._readable
 

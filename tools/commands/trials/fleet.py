@@ -39,7 +39,7 @@ class Fleet:
 
     def __init__(self, sandbox):
         self.sandbox = sandbox
-        for command in ('fetch-host', 'compare-host', 'accept-host', 'compare-hosts'):
+        for command in ('fetch-host', 'compare-host', 'accept-host', 'compare-hosts', 'report-hosts'):
             sandbox.write('fleet/' + command, open_text(sandbox, command), 0o755)
         sandbox.stub('ssh', SSH.replace('ROOT', sandbox.root))
         for host in PAIR:

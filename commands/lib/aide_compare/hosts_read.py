@@ -1,0 +1,108 @@
+"""What the store knows of each host of a file: its state, and the changes of the report that was kept of it."""
+import fcntl
+import os
+import time
+
+from aide_compare.cut_reports import KeptReport
+from aide_compare.ending import Fault, Status
+from aide_compare.escapes import shown
+from aide_compare.files import open_regular
+from aide_compare.fleet_store import Place, check_name
+from aide_compare.readers import Reading
+from aide_compare.report_lines import Lines, Refused
+from aide_compare.report_parts import read_report
+from aide_compare.reports import HEAD_BYTES, counts_of
+from aide_compare.times import age_in_words, date_of
+
+WHOLE, CUT, NO_LIST, UNREADABLE = "whole", "cut", "no list", "unreadable"
+
+
+class Host:
+    """A host: its name, its status, what that says, its state (None if there is none that counts), how many of its changes are
+    listed, and what its report is: one of the words above, or None if there are no differences."""
+
+    def __init__(self, name, status, text, state=None):
+        self.name, self.status, self.state = name, int(status), state
+        self.text = text[len(name) + 2:] if text.startswith(name + ": ") else text
+        self.report, self.listed = None, 0
+
+    @property
+    def differs(self):
+        return 1 <= self.status <= 7
+
+    def fields(self):
+        """Its object."""
+        fields = {"record": "host", "host": shown(self.name, 200), "status": self.status}
+        if self.state:
+            fields["time"] = date_of(self.state.time)
+        if self.status > 7:
+            return {**fields, "error": self.text}
+        fields.update(zip(("added", "removed", "changed"), self.state.counts or (None,) * 3))
+        fields["new_sha256"] = self.state.new_sha256
+        return {**fields, "report": self.report, "listed": self.listed} if self.report else fields
+
+
+def state_of(place, name, age):
+    """The host by its state. One that is too old says nothing of today."""
+    if not os.path.lexists(place.state_path):
+        return Host(name, Status.DEVICE, "was never compared")
+    reading = Reading(place.state_path)
+    state = reading.state
+    if reading.future:
+        return Host(name, Status.DEVICE, "was compared in the future; is the clock of this host right?")
+    if age and reading.age > age:
+        return Host(name, Status.DEVICE, "was compared %s ago and not since" % age_in_words(reading.age), state)
+    return Host(name, state.status, state.error, state)
+
+
+def entries_of(host, report, descriptor):
+    """Yields the objects of the entries in a report, and sets what it is. Of a cut one all are given that are whole."""
+    counts = counts_of(os.pread(descriptor, HEAD_BYTES, 0))
+    host.report = CUT if report.size else WHOLE if counts else NO_LIST
+    if counts != host.state.counts and counts:
+        host.report = UNREADABLE  # It is the report of another run.
+        return
+    try:
+        for fields in read_report(Lines(report)):
+            if fields["record"] == "entry":
+                host.listed += 1
+                yield fields
+    except Refused:
+        host.report = CUT if report.size else UNREADABLE
+    if host.report == WHOLE and host.listed != sum(counts):
+        host.report = NO_LIST
+
+
+def changes_of(host, place):
+    """Yields the objects of the changes of a host."""
+    try:
+        descriptor = open_regular(place.file("report"))
+    except Fault:
+        host.report = UNREADABLE
+        return
+    report = KeptReport(descriptor)
+    try:
+        yield from entries_of(host, report, descriptor)
+    finally:
+        report.close()
+
+
+def read_host(name, given, take):
+    """Reads what is kept of a host, and gives each object of its changes to `take`. No run is at work on the host then."""
+    place = None
+    try:
+        check_name(name)
+        if not os.path.lexists("%s/hosts/%s" % (given.store, name)):
+            return Host(name, Status.DEVICE, "was never compared")
+        place = Place(given.store, name, make=False)
+        place.lock(time.monotonic() + given.time, fcntl.LOCK_SH)
+        host = state_of(place, name, given.age)
+    except Fault as fault:
+        host = Host(name, fault.status, fault.text)
+    try:
+        for fields in changes_of(host, place) if host.differs else ():
+            take(fields)
+        return host
+    finally:
+        if place:
+            place.close()

@@ -1,0 +1,175 @@
+"""report-hosts: what differs on all hosts, each change once with the hosts that have it, as text, as JSON or as a mail."""
+import os
+import shlex
+import sys
+
+from aide_compare.ending import Fault, Status, say, write_all
+from aide_compare.external_sort import ExternalSort
+from aide_compare.files import nameless
+from aide_compare.folders import open_folder
+from aide_compare.fleet_store import STORE
+from aide_compare.host_changes import ChangeLines, encoded, path_in, same_changes
+from aide_compare.hosts import hosts_of
+from aide_compare.hosts_read import CUT, WHOLE, read_host
+from aide_compare.mail import address
+from aide_compare.options import Parser, duration, size, some_text
+from aide_compare.patterns import BadPattern, Pattern
+from aide_compare.private_room import stoppable
+from aide_compare.readers import AGE
+
+NAME = "report-hosts"
+FORMAT = 1
+BLOCK = 1 << 18
+MOST_NAMES = 100000
+GREATEST = 10 ** 12
+LEAST_MAIL = 16 << 10
+
+
+def number(text):
+    if not (text.isascii() and text.isdigit() and 1 <= int(text[:9]) <= MOST_NAMES):
+        raise Fault(Status.USAGE, "--most-hosts needs a number from 1 to %d" % MOST_NAMES)
+    return int(text)
+
+
+def pattern(text):
+    try:
+        return Pattern(os.fsencode(text))
+    except BadPattern as fault:
+        raise Fault(Status.USAGE, "--only-path: %s" % fault)
+
+
+def is_wanted(fields, patterns):
+    pieces = path_in(fields)[1:].split(b"/")
+    return not patterns or any(each.matches(pieces) for each in patterns)
+
+
+def read_hosts(names, given, sorter):
+    """Reads all hosts one after the other. Their changes go to the sorter."""
+    lines, hosts = ChangeLines(), []
+    for place, name in enumerate(names):
+        def take(fields):
+            if is_wanted(fields, given.only_path):
+                sorter.put(lines.of(place, fields))
+        hosts.append(read_host(name, given, take))
+    return hosts
+
+
+def ordered(changes, order):
+    """The objects of the changes as lines, in another order than that of paths if that is asked for."""
+    if order == "path":
+        for fields in changes:
+            yield encoded(fields).encode() + b"\n"
+        return
+    with ExternalSort() as sorter:
+        for fields in changes:
+            key = fields["hosts"] if order == "rare" else GREATEST - fields["hosts"]
+            sorter.put(b"%012d\t%s\n" % (key, encoded(fields).encode()))
+        for line in sorter.lines():
+            yield line[13:]
+
+
+class HostsReport:
+    """The report: the summary, the objects of the hosts, and those of the changes in a private file, a line each."""
+
+    def __init__(self, names, given):
+        self.body, count = open(nameless(), "w+b", buffering=BLOCK), 0
+        with ExternalSort() as sorter:
+            hosts = read_hosts(names, given, sorter)
+            for line in ordered(same_changes(sorter.lines(), names, given.most_hosts), given.order):
+                self.body.write(line)
+                count += 1
+        self.body.flush()
+        differ = [host for host in hosts if host.differs]
+        self.worst, self.hosts = max(host.status for host in hosts), [host.fields() for host in hosts]
+        self.summary = {
+            "record": "summary", "format": FORMAT, "hosts": len(hosts), "unchanged": sum(host.status == 0 for host in hosts),
+            "differ": len(differ), "not_compared": sum(host.status > 7 for host in hosts),
+            "cut": sum(host.report == CUT for host in differ),
+            "not_listed": sum(host.report not in (WHOLE, CUT) for host in differ),
+            "changes": count, "order": given.order, "lines": 1 + len(hosts) + count}
+
+    def changes(self):
+        import json
+        self.body.seek(0)
+        return map(json.loads, self.body)
+
+    def write_json(self):
+        for fields in [self.summary] + self.hosts:
+            write_all(1, encoded(fields).encode() + b"\n")
+        self.body.seek(0)
+        for block in iter(lambda: self.body.read(BLOCK), b""):
+            write_all(1, block)
+
+    def write_text(self):
+        from aide_compare.hosts_text import report_lines
+        with open(1, "wb", buffering=BLOCK, closefd=False) as target:
+            for line in report_lines(self.summary, self.hosts, self.changes(), self.summary["order"]):
+                target.write((line + "\n").encode("utf-8", "backslashreplace"))
+
+    def mail(self, given, command):
+        """Sends one mail about all hosts, and none if there is nothing to say."""
+        from aide_compare.hosts_text import fitting, headline
+        from aide_compare.message import build, clean
+        from aide_compare.sending import Sendmail, Smtp, deliver
+        way = Smtp(given.smtp, given.mail_time) if given.smtp else Sendmail(seconds=given.mail_time)
+        if not self.worst:
+            return
+        lines, left_out = fitting(self.summary, self.hosts, self.changes(), self.summary["order"], given.most_mail * 3 // 4)
+        if left_out:
+            lines += ["This mail is cut: %d more changes are left out. This command prints all:" % left_out,
+                      "    " + command, ""]
+        text = clean("\n".join(lines).encode("utf-8", "backslashreplace"))
+        note = deliver(way, build(given.to, headline(self.summary), text))
+        if note:
+            say(note)
+
+
+def options():
+    parser = Parser(NAME, "Reports what differs on the hosts of HOSTS-FILE, as compare-hosts has found it: which hosts were\n"
+                          "not compared, and each change once with the hosts that have it.",
+                    epilog="Ends with the greatest status of all hosts, as compare-hosts does: 0, up to 7 if there are\n"
+                           "differences and each host was compared, more if a host was not. 15, 18 or 22 if it cannot do\n"
+                           "its work.")
+    parser.add_argument("--store", type=some_text, default=STORE, metavar="DIR",
+                        help="where the reports are kept (%s)" % STORE)
+    parser.add_argument("--order", choices=("path", "rare", "common"),
+                        help="changes by path (as JSON), on the fewest hosts first (as text), or on the most")
+    parser.add_argument("--only-path", type=pattern, action="append", default=[], metavar="PATTERN",
+                        help="only changes of these paths, as in /usr/local/**")
+    parser.add_argument("--most-hosts", type=number, default=20, metavar="N",
+                        help="how many hosts of a change are named (20)")
+    parser.add_argument("--age", type=duration, default=AGE, metavar="TIME",
+                        help="a host that was compared longer ago counts as not compared (26h; 0: no limit)")
+    parser.add_argument("--time", type=duration, default=600, metavar="TIME",
+                        help="how long to wait for a run over a host (10m)")
+    form = parser.add_mutually_exclusive_group()
+    form.add_argument("--json", action="store_true", help="write JSON, one object a line")
+    form.add_argument("--to", type=address, metavar="ADDRESS",
+                      help="mail the text, if a host differs or was not compared")
+    parser.add_argument("--most-mail", type=size, default=1 << 20, metavar="SIZE",
+                        help="cut a mail that would be larger (1M)")
+    parser.add_argument("--smtp", type=some_text, metavar="HOST[:PORT]",
+                        help="send by SMTP to this server, not by sendmail")
+    parser.add_argument("--mail-time", type=duration, default=60, metavar="TIME",
+                        help="how long sending may take (60s)")
+    parser.add_argument("file", metavar="HOSTS-FILE")
+    return parser
+
+
+def main(arguments):
+    given = options().parse(arguments)
+    given.order = given.order or ("path" if given.json else "rare")
+    if given.most_mail < LEAST_MAIL:
+        raise Fault(Status.USAGE, "--most-mail needs at least %d bytes" % LEAST_MAIL)
+    names = hosts_of(given.file, (1, 1))
+    open_folder(given.store).close()
+
+    def work():
+        report = HostsReport(names, given)
+        if given.to:
+            words = [sys.argv[0], "--store", os.path.abspath(given.store), os.path.abspath(given.file)]
+            report.mail(given, shlex.join(words))
+        else:
+            (report.write_json if given.json else report.write_text)()
+        return report.worst
+    return stoppable(work)

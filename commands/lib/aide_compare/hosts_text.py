@@ -1,0 +1,121 @@
+"""The report of all hosts as text: which were not compared, which differ, and each change with the hosts that have it."""
+from aide_compare.escapes import guarded, shown
+from aide_compare.hosts_read import CUT, NO_LIST, UNREADABLE
+from aide_compare.shown_text import letters_of
+
+MOST_VALUE = 200
+DIGESTS = ("SHA256", "SHA512", "SHA3-256", "SHA3-512", "SHA512/256", "STRIBOG256", "STRIBOG512", "WHIRLPOOL", "SHA1",
+           "RMD160", "MD5", "TIGER", "HAVAL", "GOST", "CRC32", "CRC32B")
+WHY = {CUT: ("its report was cut (--most-report of compare-hosts)", ", not all with values"),
+       NO_LIST: ("its report has no list of them", ""), UNREADABLE: ("its report cannot be read", "")}
+ORDERS = {"path": "in the order of paths", "rare": "those on the fewest hosts first",
+          "common": "those on the most hosts first"}
+
+
+def headline(summary):
+    return "aide on %d hosts: %d differ, %d not compared" % (summary["hosts"], summary["differ"], summary["not_compared"])
+
+
+def value_of(both, side, label):
+    """A value for people, or None if the entry has none or it is not the same on all hosts."""
+    value = both.get(side)
+    if value is None:
+        return None
+    if both.get(side + "_text"):
+        return guarded(str(both[side + "_text"])[:MOST_VALUE])
+    if both.get(side + "_time"):
+        return guarded(str(both[side + "_time"]))
+    if isinstance(value, int):
+        return str(value)
+    if label == "Perm":
+        return "%s %s" % (shown(value, 8), letters_of(value))
+    return shown(bytes.fromhex(both[side + "_hex"]) if side + "_hex" in both else value, MOST_VALUE)
+
+
+def values(fields):
+    """The attributes of a change, one by one. One digest says as much as all of them, and the type is said already."""
+    attributes = fields.get("attributes", {})
+    digest = next((label for label in DIGESTS if label in attributes), None)
+    for label, both in attributes.items():
+        if label == "Type" and fields["kind"] != "changed" or label in DIGESTS and label != digest:
+            continue
+        old, new = (value_of(both, side, label) for side in ("old", "new"))
+        if fields["kind"] == "changed":
+            yield "%s %s -> %s" % (label, "none" if old is None and "old" in both else old or "(various)", new or "none")
+        else:
+            yield "%s %s" % (label, new if fields["kind"] == "added" else old or "(various)")
+
+
+def change_lines(fields, hosts):
+    """The lines of a change. The path stands last in its line, so that no path can look like another line's words."""
+    path = bytes.fromhex(fields["path_hex"]) if "path_hex" in fields else fields["path"].encode()
+    more = fields["hosts"] - len(fields["names"])
+    yield "%s on %d of %d hosts: %s %s" % (fields["kind"], fields["hosts"], hosts, fields.get("type", "Entry"), shown(path))
+    yield "    on " + ", ".join(fields["names"]) + (" and %d more" % more if more else "")
+    line = ", ".join(values(fields))
+    if line:
+        yield "    " + line
+    elif fields.get("summary"):
+        yield "    " + shown(fields["summary"], 18)
+    if fields.get("per_host"):
+        yield "    of each host: " + ", ".join(fields["per_host"])
+
+
+def some(title, lines, most):
+    """A list with its title; nothing if it is empty."""
+    if lines:
+        yield title
+        yield from ("  " + line for line in lines[:most])
+        if len(lines) > most:
+            yield "  and %d more" % (len(lines) - most)
+        yield ""
+
+
+def counts_text(fields):
+    if fields["added"] is None:
+        return "no counts are known"
+    return "added %d, removed %d, changed %d" % (fields["added"], fields["removed"], fields["changed"])
+
+
+def not_listed(fields):
+    total = "?" if fields["added"] is None else fields["added"] + fields["removed"] + fields["changed"]
+    why, more = WHY[fields["report"]]
+    return "%s: %s; %d of %s changes are listed below%s" % (fields["host"], why, fields["listed"], total, more)
+
+
+def head_lines(summary, hosts, most):
+    """The lines before the changes: how many hosts there are of each kind, and which."""
+    yield "%s, %d without differences" % (headline(summary), summary["unchanged"])
+    yield ""
+    yield from some("Not compared:", ["%s: %s (status %d)" % (each["host"], guarded(each["error"]), each["status"])
+                                      for each in hosts if each["status"] > 7], most)
+    differ = [each for each in hosts if 1 <= each["status"] <= 7]
+    yield from some("Of these not all is listed below:", [not_listed(each) for each in differ if each["report"] in WHY],
+                    most)
+    yield from some("Hosts that differ:", ["%s: %s" % (each["host"], counts_text(each)) for each in differ], most)
+
+
+def report_lines(summary, hosts, changes, order, most=1 << 62):
+    """All lines of the text, each list of hosts with so many of them."""
+    yield from head_lines(summary, hosts, most)
+    if summary["changes"]:
+        yield "%d different changes, %s:" % (summary["changes"], ORDERS[order])
+        yield ""
+    for fields in changes:
+        yield from change_lines(fields, summary["hosts"])
+        yield ""
+
+
+def fitting(summary, hosts, changes, order, room):
+    """The lines of a text of at most so many bytes, and how many changes do not fit and are left out."""
+    lines, left_out = list(report_lines(summary, hosts, (), order, max(room // 2000, 10))), 0
+    room -= sum(len(line.encode("utf-8", "backslashreplace")) + 1 for line in lines)
+    for fields in changes:
+        block = list(change_lines(fields, summary["hosts"])) + [""]
+        size = sum(len(line.encode("utf-8", "backslashreplace")) + 1 for line in block)
+        if left_out or size > room:
+            left_out += 1
+        else:
+            room -= size
+            lines += block
+    return lines, left_out

@@ -1,0 +1,266 @@
+"""The report of many hosts: the same change on some of them, cut reports, hosts that say nothing, hostile names, one mail, and
+how much memory and how many open files it takes."""
+import base64
+import hashlib
+import json
+import os
+import re
+import shutil
+import signal
+import subprocess
+import time
+
+from .fleet import Fleet, wait_for
+from .sandbox import END, NEW, OLD
+
+SPEC = b"@@begin_db\n@@db_spec name perm uid gid size mtime inode lcount attr sha256\n"
+HOSTILE = (b"/a%0Aadded%20on%209%20of%209%20hosts:%20File%20/b", b"/a%1B[31m", b"/a%E2%80%AEb", b"/a%FFb", b"/a%09b",
+           b"/a%00b", b"/a%2541", b"/a%20%20", b"/a%20b", b"/a/b", b"/a%01b", b"/a-b", b"/" + b"n" * 6000)
+
+
+def line(path, text=b"", inode=1, perm=b"100644", when=1700000000):
+    """The line of a database for a file with this text. A folder has a size, but no digest."""
+    digest = base64.b64encode(hashlib.sha256(text).digest()) if perm.startswith(b"10") else b"0"
+    return b" ".join([path, perm, b"0 0 %d" % len(text), base64.b64encode(b"%d" % when), b"%d 1 35433483069" % inode, digest])
+
+
+def database(*lines):
+    ordered = sorted(lines, key=lambda each: decoded(each.split(b" ")[0]).split(b"/"))
+    return SPEC + b"".join(each + b"\n" for each in ordered) + END
+
+
+def decoded(path):
+    return re.sub(b"%([0-9A-F]{2})", lambda found: bytes([int(found.group(1), 16)]), path)
+
+
+class Hosts(Fleet):
+    """A store in which some hosts have been compared."""
+
+    def compared(self, texts, *words):
+        """Fetches and compares hosts, each given by its old and its new database."""
+        for host, (old, new) in texts.items():
+            self.put(host, new, old)
+        self.sandbox.write("hosts", "".join("%s\n" % host for host in texts))
+        return self.call("compare-hosts", *words, self.sandbox.path("hosts"))
+
+    def copies(self, host, names):
+        """More hosts with the report and the state of one."""
+        for name in names:
+            shutil.copytree(self.sandbox.path("store/hosts/" + host), self.sandbox.path("store/hosts/" + name))
+            shutil.copy(self.sandbox.path("store/states/" + host), self.sandbox.path("store/states/" + name))
+        self.sandbox.write("hosts", "".join("%s\n" % name for name in names))
+
+    def report(self, *words, before=()):
+        return self.call("report-hosts", *words, self.sandbox.path("hosts"), before=before)
+
+    def objects(self, *words):
+        """The objects of a report in JSON: the summary, the hosts by their names, and the changes."""
+        status, output, errors = self.report("--json", *words)
+        found = [json.loads(each) for each in output.splitlines()]
+        good = bool(found) and found[0]["lines"] == len(found) and [each["record"] for each in found] == (
+            ["summary"] + ["host"] * found[0]["hosts"] + ["change"] * found[0]["changes"])
+        self.sandbox.check("JSON of %s" % (words,), good and output.isascii(), (status, output[-300:], errors))
+        hosts = {each["host"]: each for each in found if each["record"] == "host"}
+        return found[0] if found else {}, hosts, [each for each in found if each["record"] == "change"]
+
+
+def path_of(fields):
+    return bytes.fromhex(fields["path_hex"]) if "path_hex" in fields else fields["path"].encode()
+
+
+def try_hosts_report(sandbox):
+    for trial in (try_same, try_orders, try_not_compared, try_hostile_names, try_mail, try_many_hosts, try_ends):
+        trial(sandbox)
+
+
+def four_hosts(sandbox):
+    """Three hosts with the same new file, and one with another text of it."""
+    hosts, old = Hosts(sandbox), [line(b"/etc/p", b"1"), line(b"/gone", b"1"), line(b"/d", b"", 5, b"40755")]
+
+    def new(text, number):
+        return database(line(b"/etc/p", b"2", number, b"100600"), line(b"/d", b"x" * number, 5, b"40700"),
+                        line(b"/usr/.x", text, number, b"104755", 1700000000 + number))
+    texts = {"www%d" % number: (database(*old), new(b"evil", number)) for number in (1, 2, 3)}
+    texts["www4"] = (database(line(b"/etc/p", b"0"), *old[1:]), new(b"other", 4))
+    texts["calm"] = (database(*old), database(*old))
+    status, output, errors = hosts.compared(texts)
+    sandbox.check("five hosts", status == 7 and "5 hosts: 1 without differences, 4 with" in output, (output, errors))
+    return hosts
+
+
+def try_same(sandbox):
+    """The same change is one, whatever the inodes and times are; another digest is another change."""
+    hosts = four_hosts(sandbox)
+    summary, found, changes = hosts.objects()
+    wanted = {"hosts": 5, "unchanged": 1, "differ": 4, "not_compared": 0, "cut": 0, "not_listed": 0, "changes": 5}
+    sandbox.check("the summary", all(summary[key] == value for key, value in wanted.items()), summary)
+    sandbox.check("a host", found["www1"]["listed"] == 4 and found["www1"]["report"] == "whole", found)
+    got = [(each["kind"], each["path"], each["hosts"], each["names"]) for each in changes]
+    most, all_of_them = ["www1", "www2", "www3"], ["www1", "www2", "www3", "www4"]
+    sandbox.check("the changes", got[:2] == [("changed", "/d", 4, all_of_them), ("changed", "/etc/p", 4, all_of_them)]
+                  and got[2] == ("removed", "/gone", 4, all_of_them)
+                  and sorted(got[3:]) == [("added", "/usr/.x", 1, ["www4"]), ("added", "/usr/.x", 3, most)], got)
+    folder, file, _, *new = changes
+    same = next(each for each in new if each["hosts"] == 3)
+    other = next(each for each in new if each["hosts"] == 1)
+    good = folder["per_host"] == ["Size"] and list(folder["attributes"]) == ["Perm"]
+    sandbox.check("a folder's size is its own", good, folder)
+    sandbox.check("old values that are not the same", file["per_host"] == ["Inode"]
+                  and all("old" not in both and "new" in both for both in file["attributes"].values()), file)
+    sandbox.check("values of three hosts", same["attributes"]["Perm"]["new"] == "4755" and "SHA256" in same["attributes"]
+                  and {"Inode", "Mtime"} <= set(same["per_host"]) and not {"Inode", "Mtime"} & set(same["attributes"]), same)
+    sandbox.check("values of one host", other["attributes"]["Inode"]["new"] == 4 and "per_host" not in other, other)
+
+
+def try_orders(sandbox):
+    """The orders, the bound of the names, and the paths that are asked for."""
+    hosts = four_hosts(sandbox)
+    for order, wanted in (("rare", [1, 3, 4, 4, 4]), ("common", [4, 4, 4, 3, 1])):
+        changes = hosts.objects("--order", order)[2]
+        sandbox.check("the order " + order, [each["hosts"] for each in changes] == wanted, changes)
+        paths = [each["path"] for each in changes if each["hosts"] == 4]
+        sandbox.check("paths within the order " + order, paths == ["/d", "/etc/p", "/gone"], paths)
+    changes = hosts.objects("--most-hosts", "2", "--only-path", "/usr/**")[2]
+    got = sorted((each["path"], each["hosts"], each["names"]) for each in changes)
+    sandbox.check("two names", got == [("/usr/.x", 1, ["www4"]), ("/usr/.x", 3, ["www1", "www2"])], got)
+    status, output, errors = hosts.report("--most-hosts", "2")
+    good = output.startswith("aide on 5 hosts: 4 differ, 0 not compared, 1 without differences\n") and status == 7
+    sandbox.check("the text", good and not errors, (status, output, errors))
+    parts = ("added on 3 of 5 hosts: File /usr/.x\n    on www1, www2 and 1 more\n    Size 4, Perm 4755 rwsr-xr-x, UID 0",
+             "added on 1 of 5 hosts: File /usr/.x\n    on www4\n", "changed on 4 of 5 hosts: File /etc/p\n",
+             "\n    Perm (various) -> 0600 rw-------, ", "\n  www4: added 1, removed 1, changed 2\n")
+    for part in parts:
+        sandbox.check("the text has %r" % part, part in output, output)
+    for words in (["--most-hosts", "0"], ["--order", "x"], ["--only-path", "x"], ["--age", "31d"], ["--json", "--to", "root"],
+                  ["--most-mail", "1k"], ["--to", "-x"], ["x"]):
+        status, output, errors = hosts.report(*words)
+        sandbox.check("the words %r" % words, status == 15 and not output and errors, (status, output, errors))
+
+
+def try_not_compared(sandbox):
+    """Whatever is not the result of today counts as not compared."""
+    hosts = Hosts(sandbox)
+    pair = (OLD, NEW)
+    hosts.compared({"good1": pair, "unknown": pair, "stale": pair, "ahead": pair, "odd": pair, "busy": pair, "linked": pair})
+    for name, seconds in (("stale", -27 * 3600), ("ahead", 7200)):
+        text = sandbox.read("store/states/" + name).decode()
+        sandbox.write("store/states/" + name, re.sub("\ntime=.*", "\ntime=%d" % (time.time() + seconds), text))
+    sandbox.write("store/states/odd", "status=0\n")
+    os.rename(sandbox.path("store/hosts/linked/report"), sandbox.path("elsewhere"))
+    os.symlink(sandbox.path("elsewhere"), sandbox.path("store/hosts/linked/report"))
+    sandbox.write("hosts", "good1\nunknown\nstale\nahead\nodd\nbusy\nnever\na..b\nlinked\n")
+    lock = subprocess.Popen(["flock", sandbox.path("store/hosts/busy/lock"), "sleep", "100"], start_new_session=True)
+    try:
+        wait_for(lambda: subprocess.run(["flock", "-n", sandbox.path("store/hosts/busy/lock"), "true"]).returncode == 1)
+        summary, found, changes = hosts.objects("--time", "1s")
+        status, output, _ = hosts.report("--time", "1s")
+    finally:
+        os.killpg(lock.pid, signal.SIGKILL)
+        lock.wait()
+    sandbox.check("how many", summary["not_compared"] == 7 and summary["differ"] == 2 and status == 18, (status, summary))
+    for name, want in (("unknown", "Host key verification failed"), ("stale", "was compared 27 hours ago and not since"),
+                       ("ahead", "in the future"), ("odd", "is no state file"), ("busy", "another run is at work on it"),
+                       ("never", "was never compared"), ("a..b", "the name of a host")):
+        good = found[name]["status"] in (15, 18) and want in found[name]["error"]
+        sandbox.check("the host " + name, good and "\n  %s: " % name in output and want in output, (found[name], output))
+    sandbox.check("only those of today", all(set(each["names"]) <= {"good1", "linked"} for each in changes), changes)
+    sandbox.check("nothing is made for a host", not os.path.exists(sandbox.path("store/hosts/never")))
+    found = hosts.objects("--age", "0", "--time", "1s")[1]
+    sandbox.check("any age", found["stale"]["status"] == 7, found["stale"])
+    if os.getuid() == 0:
+        os.chown(sandbox.path("store/hosts/good1"), 65534, 65534)
+        found = hosts.objects("--time", "1s")[1]
+        os.chown(sandbox.path("store/hosts/good1"), 0, 0)
+        good = "another user can write" in found["good1"].get("error", "")
+        sandbox.check("the folder of another user", good, found["good1"])
+
+
+def try_hostile_names(sandbox):
+    """Names that hosts have chosen: in the order of paths, exact in JSON, escaped in the text, and always last in a line."""
+    hosts = Hosts(sandbox)
+    lines = [line(path, path) for path in HOSTILE]
+    hosts.compared({"good1": (database(), database(*lines)), "good2": (database(), database(*lines))})
+    changes = hosts.objects()[2]
+    paths, wanted = [path_of(each) for each in changes], [decoded(path) for path in HOSTILE]
+    sandbox.check("the order of paths", paths == sorted(wanted, key=lambda path: path.split(b"/")), paths)
+    sandbox.check("all on two hosts", all(each["hosts"] == 2 for each in changes), changes)
+    output = hosts.start(hosts.words("report-hosts", sandbox.path("hosts"))).communicate()[0]
+    good = not re.search(rb"[\x00-\x09\x0b-\x1f\x7f]", output) and "\u202e".encode() not in output
+    sandbox.check("escaped", good, output[:900])
+    sandbox.check("UTF-8", output.decode() and max(map(len, output.split(b"\n"))) < 6000, max(map(len, output.split(b"\n"))))
+    starts = re.findall(rb"^added on (\d+) of (\d+) hosts: ", output, re.M)
+    sandbox.check("no name begins a line", starts == [(b"2", b"2")] * len(HOSTILE), starts)
+
+
+def try_mail(sandbox):
+    """One mail for all hosts; none without differences; bounded; an error if it cannot be sent."""
+    hosts = Hosts(sandbox)
+    sandbox.stub("sendmail", 'cat > "%s/mail"; exit $(cat "%s/answer")' % (sandbox.root, sandbox.root))
+    sandbox.write("answer", "0")
+    hosts.compared({"calm": (OLD, OLD)})
+    status, output, errors = hosts.report("--to", "root")
+    good = status == 0 and not os.path.exists(sandbox.path("mail")) and not output + errors
+    sandbox.check("no mail", good, (status, errors))
+    new = database(*(line(b"/n%04d" % number, b"%d" % number) for number in range(500)))
+    hosts.compared({"calm": (OLD, OLD), "good1": (database(), new), "good2": (database(), new), "unknown": (OLD, OLD)})
+    status, output, errors = hosts.report("--to", "root", "--most-mail", "30k")
+    mail = sandbox.read("mail")
+    good = b"\nSubject: aide on 4 hosts: 2 differ, 1 not compared\n" in mail and mail.startswith(b"To: root\n")
+    sandbox.check("its subject", good and status == 18 and not output + errors, (status, output, errors, mail[:300]))
+    sandbox.check("its bound", 10000 < len(mail) < 30 << 10, len(mail))
+    listed, left = mail.count(b"\nadded on 2 of 4 hosts: File /n"), re.search(rb"cut: (\d+) more changes are left out", mail)
+    sandbox.check("what is left out", left and listed + int(left.group(1)) == 500, (listed, left and left.group()))
+    command = mail.decode().rstrip("\n").split("\n")[-1].strip()
+    done = subprocess.run(["sh", "-c", command], stdout=subprocess.PIPE, env=sandbox.environment())
+    sandbox.check("the command that prints all", done.stdout.count(b"\nadded on 2 of 4 hosts: File /n") == 500, command)
+    sandbox.write("answer", "75")
+    status, output, errors = hosts.report("--to", "root")
+    sandbox.check("a mail that is refused", status == 18 and "cannot send the mail: status 75" in errors, (status, errors))
+
+
+def try_many_hosts(sandbox):
+    """300 hosts with 200 changes each: few open files, and no more memory than 30 hosts take."""
+    hosts = Hosts(sandbox)
+    new = database(*(line(b"/n%04d" % number, b"%d" % number) for number in range(200)))
+    hosts.compared({"first": (database(), new)})
+    sizes = []
+    for count in (30, 300):
+        hosts.copies("first", ["h%d-%d" % (count, number) for number in range(count)])
+        words = ["sh", "-c", "ulimit -n 40; exec \"$@\"", "sh"] + hosts.words("report-hosts", "--json", sandbox.path("hosts"))
+        run = hosts.start(words)
+        output = run.stdout.read()
+        _, status, used = os.wait4(run.pid, 0)
+        run.returncode = os.waitstatus_to_exitcode(status)
+        sizes.append(used.ru_maxrss)
+        lines = output.splitlines()
+        good = run.returncode == 1 and len(lines) == 1 + count + 200 and json.loads(lines[-1])["hosts"] == count
+        sandbox.check("%d hosts" % count, good, (run.returncode, run.stderr.read(), output[:300]))
+    sandbox.check("their memory", sizes[1] < sizes[0] + 8000 and sizes[1] < 60000, sizes)
+
+
+def try_ends(sandbox):
+    """Ended by a signal, or without room: a status that is no comparison's, and nothing is left."""
+    hosts = four_hosts(sandbox)
+    for number in (signal.SIGTERM, signal.SIGINT, signal.SIGHUP):
+        lock = subprocess.Popen(["flock", sandbox.path("store/hosts/www2/lock"), "sleep", "100"], start_new_session=True)
+        run = hosts.start(hosts.words("report-hosts", sandbox.path("hosts")))
+        wait_for(lambda: any(name.startswith(".aide-compare-sort-") for name in os.listdir(sandbox.room)))
+        run.send_signal(number)
+        run.communicate(timeout=30)
+        os.killpg(lock.pid, signal.SIGKILL)
+        lock.wait()
+        got = run.returncode, sandbox.leftovers()
+        sandbox.check("signal %d" % number, got == (-number, []), got)
+    status, output, errors = hosts.report(before=["sh", "-c", "ulimit -f 0; exec \"$@\"", "sh"])
+    sandbox.check("no room", status == 18 and not output and errors and not sandbox.leftovers(), (status, output, errors))
+    run = hosts.start(hosts.words("report-hosts", sandbox.path("hosts")), preexec_fn=None)
+    run.stdout.close()
+    run.wait()
+    sandbox.check("nobody reads", run.returncode > 7 or run.returncode < 0, run.returncode)
+    os.chmod(sandbox.path("store"), 0o777)
+    status, output, _ = hosts.report()
+    os.chmod(sandbox.path("store"), 0o755)
+    sandbox.check("a store that everybody can write", status == 18 and "4 differ" not in output, output)
+    shutil.rmtree(sandbox.path("store"))
+    status, output, errors = hosts.report()
+    sandbox.check("no store", status == 18 and errors and not output, (status, output, errors))
