@@ -192,7 +192,7 @@ try_ssh() {
     check 'compare-hosts by ssh' ends_with 18 "$fleet/compare-hosts" /etc/aide-compare/hosts
     "$fleet/compare-hosts" --quiet /etc/aide-compare/hosts > "$folder/lines"
     check 'the line of a host' grep -qx 'www 7 added 1, removed 1, changed 1' "$folder/lines"
-    check 'the line of a host that is down' grep -q '^down 18 fetch-host: down: .*Connection refused' "$folder/lines"
+    check 'the line of a host that is down' grep -q '^down 18 down: .*Connection refused' "$folder/lines"
 }
 
 munge_is_ready() { munge -n; }
@@ -243,19 +243,24 @@ try_ansible() {
         echo 'skipped: ansible-core is not installed'
         return
     fi
-    printf '[watched]\nwww\n[collector]\nhere\n[all:vars]\nansible_connection=local\n' > "$folder/inventory"
-    printf 'collector_address=192.0.2.7\ncollector_key="ssh-ed25519 AAAA trial"\n' >> "$folder/inventory"
+    printf '[watched]\nwww ansible_host=127.0.0.1 ansible_port=2222\n[collector]\nhere\n' > "$folder/inventory"
+    printf '[all:vars]\nansible_connection=local\ncollector_address=127.0.0.1\n' >> "$folder/inventory"
+    rm -rf /var/lib/aide-compare/hosts/www
     playbook=/usr/local/share/doc/aide-compare/examples/fleet/playbook.yaml
     sed -i 's/^COMMAND=.*/COMMAND=check/' /etc/default/aide
     check 'the playbook' ansible-playbook -i "$folder/inventory" "$playbook"
     check 'the playbook sets the nightly run' grep -qx 'COMMAND=update' /etc/default/aide
-    check 'the playbook adds the key' grep -q '^restrict,from="192.0.2.7",command="cat /var/lib/aide/aide.db.new" ssh-ed25519 AAAA' \
+    check 'the playbook adds the key' grep -q "^restrict,from=\"127.0.0.1\",command=.*$(cut -d ' ' -f 2 /root/.ssh/aide-compare.pub)" \
         /root/.ssh/authorized_keys
+    check 'the playbook keeps the key of the host' grep -qF "www $(cut -d ' ' -f 1,2 /etc/ssh/ssh_host_ed25519_key.pub)" \
+        /etc/aide-compare/known_hosts
+    check 'the playbook makes the first baseline' cmp /var/lib/aide/aide.db.new /var/lib/aide-compare/hosts/www/aide.db
     check 'the playbook writes the hosts' grep -qx www /etc/aide-compare/hosts
     check 'the playbook a second time' sh -c "ansible-playbook -i '$folder/inventory' '$playbook' | grep -c 'changed=0' | grep -qx 2"
     sed -i 's/^[0-9]* [0-9]* \* \* \*/* * * * */' /etc/cron.d/aide-compare-fleet
     rm -f /var/lib/aide-compare/states/www
     check "the playbook's cron job runs" wait_for 75 test -s /var/lib/aide-compare/states/www
+    check "the playbook's cron job compares" grep -qx status=0 /var/lib/aide-compare/states/www
 }
 
 try_full_disk() {
