@@ -7,6 +7,7 @@ from tools.packaging.installing.trial import HERE, texts, tree
 
 BASH = "share/bash-completion/completions/"
 ZSH = "share/zsh/site-functions/_aide-compare"
+FLEET = "lib/aide-compare/fleet/"
 FISH = "share/fish/vendor_completions.d/"
 LEVELS = ["minimal", "summary", "database_attributes", "list_entries", "changed_attributes", "added_removed_attributes",
           "added_removed_entries"]
@@ -17,8 +18,9 @@ load() { . "$1"; }
 load "$1"
 shift
 COMP_WORDS=("$@") COMP_CWORD=$(($# - 1)) COMPREPLY=()
-complete -p "$1" > /dev/null || exit 9
-_aide_compare
+function=$(complete -p "$1") || exit 9
+function=${function#*-F }
+"${function%% *}"
 printf '%s\n' "${COMPREPLY[@]}"
 """
 
@@ -42,7 +44,12 @@ print -r -- "$answer"
 
 def commands(trial):
     found = tree(trial.path("first/usr/local"))
-    return sorted(path for path in found if re.match(r"(bin|lib/nagios/plugins)/.", path))
+    return sorted(path for path in found if re.match(r"(bin|lib/nagios/plugins|lib/aide-compare/fleet)/.", path))
+
+
+def zsh_file(path):
+    """The file with the completions of zsh for a command. Those for many hosts have one of their own."""
+    return ZSH + "-fleet" if path.startswith(FLEET) else ZSH
 
 
 def is_comparison(name):
@@ -89,10 +96,10 @@ def named_in(text):
 def try_files(trial):
     """Each command has its file for bash and fish, and its name in that of zsh."""
     found = texts(tree(trial.path("first/usr/local")))
-    named = found[ZSH].split("\n")[0].split()
-    trial.check(named[0] == "#compdef", "the first line for zsh", named)
     for path in commands(trial):
-        name = os.path.basename(path)
+        name, zsh = os.path.basename(path), found[zsh_file(path)]
+        named = zsh.split("\n")[0].split()
+        trial.check(named[0] == "#compdef", "the first line for zsh", named)
         trial.check(BASH + name in found, "a completion of bash for " + name)
         trial.check(FISH + name + ".fish" in found, "a completion of fish for " + name)
         trial.check(name in named, "a completion of zsh for " + name)
@@ -104,7 +111,7 @@ def try_files(trial):
             form += r"|-a '(?:[^']* )?%s[ ']" % option
             trial.check(re.search(form, fish), "%s %s in fish" % (name, option))
             # A star says that an option may be given again.
-            trial.check(re.search(r"[{,'(*)]%s(?![\w-])" % option, found[ZSH]), "%s %s in zsh" % (name, option))
+            trial.check(re.search(r"[{,'(*)]%s(?![\w-])" % option, zsh), "%s %s in zsh" % (name, option))
 
 
 def ask_bash(trial, name, *words):
@@ -142,7 +149,10 @@ def try_bash(trial):
                           (["aide-compare-mail", "--queue", "pack"], ["packaging"]),
                           (["aide-compare-mail", "--queue", "VERS"], []),
                           (["aide-compare-mail", "--", "-A", "report_l"], ["report_level="]),
-                          (["aide-compare-sort", "VERS"], ["VERSION"])):
+                          (["aide-compare-sort", "VERS"], ["VERSION"]),
+                          (["report-hosts", "--order", ""], ["common", "path", "rare"]),
+                          (["report-hosts", "--store", "pack"], ["packaging"]),
+                          (["compare-hosts", "VERS"], ["VERSION"])):
         given = ask_bash(trial, words[0], *words[1:])
         trial.check(sorted(given) == sorted(wanted), "bash completes " + " ".join(words), given)
 
@@ -159,7 +169,8 @@ def try_zsh(trial):
                          ("aide-compare-mail --most-r", "aide-compare-mail --most-report"),
                          ("aide-compare-mail -- --aft", "aide-compare-mail -- --after="),
                          ("aide-compare-sort --h", "aide-compare-sort --help"),
-                         ("aide-compare-sort VERS", "aide-compare-sort VERSION")):
+                         ("aide-compare-sort VERS", "aide-compare-sort VERSION"),
+                         ("report-hosts --order=ra", "report-hosts --order=rare")):
         done = trial.run(["zsh", "-f", "-c", ASK_ZSH, "zsh", folder, line], cwd=trial.source, timeout=60)
         trial.check(done[0] == 0 and wanted in done[1].replace("\r", ""), "zsh completes " + line, done)
 
@@ -171,11 +182,15 @@ def try_fish(trial):
     home = trial.path("home")
     os.makedirs(home)
     surroundings = dict(os.environ, HOME=home, XDG_DATA_DIRS=trial.path("first/usr/local/share"),
-                        PATH=trial.path("first/usr/local/bin") + ":" + os.environ["PATH"])
-    for line, wanted in (("aide-compare --config-c", ["--config-check"]), ("aide-compare -A report_level=su", ["report_level=summary"]),
+                        PATH=":".join([trial.path("first/usr/local", "bin"), trial.path("first/usr/local", FLEET),
+                                       os.environ["PATH"]]))
+    for line, wanted in (("aide-compare --config-c", ["--config-check"]),
+                         ("aide-compare -A report_level=su", ["report_level=summary"]),
                          ("aide-compare-sort --h", ["--help"]), ("aide-compare-sort VERS", ["VERSION"]),
-                         ("aide-compare-run --without-", ["--without-path"]), ("aide-compare-mail --most-r", ["--most-report"]),
-                         ("aide-compare-mail -- --aft", ["--after"]), ("aide-compare ", [])):
+                         ("aide-compare-run --without-", ["--without-path"]),
+                         ("aide-compare-mail --most-r", ["--most-report"]), ("aide-compare-mail -- --aft", ["--after"]),
+                         ("report-hosts --order ra", ["rare"]),
+                         ("aide-compare ", [])):
         done = trial.run(["fish", "-c", "complete -C '%s'" % line], cwd=trial.source, env=surroundings, timeout=60)
         given = [one.split("\t")[0] for one in done[1].splitlines()]
         trial.check(done[0] == 0 and given == wanted, "fish completes " + line, done)

@@ -1,0 +1,10 @@
+# Completions of fish for compare-host.
+complete -c compare-host -f -a '(__fish_print_hostnames)'
+complete -c compare-host -l store -rF -d 'Where the databases are kept'
+complete -c compare-host -l time -x -d 'The most time for a host'
+complete -c compare-host -l conf -rF -d 'A configuration for aide-compare'
+complete -c compare-host -l most-unpacked -x -d 'The most bytes of the unpacked database'
+complete -c compare-host -l most-report -x -d 'The most bytes of a report that are kept'
+complete -c compare-host -l same-for -x -d 'How long a host may send the same bytes'
+complete -c compare-host -l help -d 'Print a short help'
+complete -c compare-host -l version -d 'Print the version'
