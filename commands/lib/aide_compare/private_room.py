@@ -14,6 +14,7 @@ from aide_compare.escapes import shown
 from aide_compare.files import open_folder, private_folder, reopened
 
 SIGNALS = (signal.SIGHUP, signal.SIGINT, signal.SIGQUIT, signal.SIGTERM)
+AGAIN = 2
 FOLDER = os.O_RDONLY | os.O_DIRECTORY | os.O_NOFOLLOW | os.O_CLOEXEC
 
 
@@ -26,8 +27,14 @@ class Stopped(BaseException):
 
 
 def _stop(number, _):
+    """Raises Stopped, and again after some seconds: Python drops an exception that comes while it takes an object away."""
+    def again(*_):
+        raise Stopped(number)
+
     for other in SIGNALS:
         signal.signal(other, signal.SIG_IGN)
+    signal.signal(signal.SIGALRM, again)
+    signal.setitimer(signal.ITIMER_REAL, AGAIN, AGAIN)
     raise Stopped(number)
 
 
@@ -35,7 +42,7 @@ class Unbroken:
     """No signal comes in between what is done here; one that came is heeded at the end."""
 
     def __enter__(self):
-        self.mask = signal.pthread_sigmask(signal.SIG_BLOCK, SIGNALS)
+        self.mask = signal.pthread_sigmask(signal.SIG_BLOCK, SIGNALS + (signal.SIGALRM,))
 
     def __exit__(self, *_):
         signal.pthread_sigmask(signal.SIG_SETMASK, self.mask)
@@ -49,6 +56,7 @@ def stoppable(work):
     try:
         return work()
     except Stopped as stopped:
+        signal.setitimer(signal.ITIMER_REAL, 0)
         signal.signal(stopped.number, signal.SIG_DFL)
         os.kill(os.getpid(), stopped.number)
         raise

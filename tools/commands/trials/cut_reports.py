@@ -76,8 +76,8 @@ def try_cut_stream(sandbox):
     parts = ("long: its report was cut (--most-report of compare-hosts); 201 of 201 changes are listed below, not all with ",
              "listless: its report has no list of them; 0 of 201 changes are listed below")
     sandbox.check("the text says so", status == 4 and all(part in output for part in parts), output[:800])
-    sandbox.write("store/hosts/short/report", sandbox.read("store/hosts/short/report")[:-90], 0o600)
     sandbox.write("store/hosts/listless/report", sandbox.read("store/hosts/short/report"), 0o600)
+    sandbox.write("store/hosts/short/report", sandbox.read("store/hosts/short/report")[:-90], 0o600)
     found = hosts.objects()[1]
     got = [found[name]["report"] for name in ("short", "listless")]
     sandbox.check("a damaged report, and that of another run", got == ["unreadable"] * 2, got)

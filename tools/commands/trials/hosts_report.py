@@ -1,5 +1,4 @@
-"""The report of many hosts: the same change on some of them, cut reports, hosts that say nothing, hostile names, one mail, and
-how much memory and how many open files it takes."""
+"""The report of many hosts: the same change on some of them, hosts that say nothing, hostile names, and one mail for all."""
 import base64
 import hashlib
 import json
@@ -69,7 +68,7 @@ def path_of(fields):
 
 
 def try_hosts_report(sandbox):
-    for trial in (try_same, try_orders, try_not_compared, try_hostile_names, try_mail, try_many_hosts, try_ends):
+    for trial in (try_same, try_orders, try_not_compared, try_hostile_names, try_mail):
         trial(sandbox)
 
 
@@ -100,16 +99,18 @@ def try_same(sandbox):
     sandbox.check("the changes", got[:2] == [("changed", "/d", 4, all_of_them), ("changed", "/etc/p", 4, all_of_them)]
                   and got[2] == ("removed", "/gone", 4, all_of_them)
                   and sorted(got[3:]) == [("added", "/usr/.x", 1, ["www4"]), ("added", "/usr/.x", 3, most)], got)
-    folder, file, _, *new = changes
-    same = next(each for each in new if each["hosts"] == 3)
-    other = next(each for each in new if each["hosts"] == 1)
+    found = {(each["path"], each["hosts"]): {"attributes": {}, "per_host": [], **each} for each in changes}
+    folder, file, same, other = (found.get(key, {"attributes": {}, "per_host": []})
+                                 for key in (("/d", 4), ("/etc/p", 4), ("/usr/.x", 3), ("/usr/.x", 1)))
     good = folder["per_host"] == ["Size"] and list(folder["attributes"]) == ["Perm"]
     sandbox.check("a folder's size is its own", good, folder)
-    sandbox.check("old values that are not the same", file["per_host"] == ["Inode"]
-                  and all("old" not in both and "new" in both for both in file["attributes"].values()), file)
-    sandbox.check("values of three hosts", same["attributes"]["Perm"]["new"] == "4755" and "SHA256" in same["attributes"]
-                  and {"Inode", "Mtime"} <= set(same["per_host"]) and not {"Inode", "Mtime"} & set(same["attributes"]), same)
-    sandbox.check("values of one host", other["attributes"]["Inode"]["new"] == 4 and "per_host" not in other, other)
+    values = list(file["attributes"].values())
+    good = file["per_host"] == ["Inode"] and values and all("old" not in both and "new" in both for both in values)
+    sandbox.check("old values that are not the same", good, file)
+    good = "SHA256" in same["attributes"] and not {"Inode", "Mtime"} & set(same["attributes"])
+    sandbox.check("values of three hosts", good and {"Inode", "Mtime"} <= set(same["per_host"]), same)
+    good = other["attributes"].get("Inode", {}).get("new") == 4 and not other["per_host"]
+    sandbox.check("values of one host", good, other)
 
 
 def try_orders(sandbox):
@@ -216,51 +217,3 @@ def try_mail(sandbox):
     sandbox.write("answer", "75")
     status, output, errors = hosts.report("--to", "root")
     sandbox.check("a mail that is refused", status == 18 and "cannot send the mail: status 75" in errors, (status, errors))
-
-
-def try_many_hosts(sandbox):
-    """300 hosts with 200 changes each: few open files, and no more memory than 30 hosts take."""
-    hosts = Hosts(sandbox)
-    new = database(*(line(b"/n%04d" % number, b"%d" % number) for number in range(200)))
-    hosts.compared({"first": (database(), new)})
-    sizes = []
-    for count in (30, 300):
-        hosts.copies("first", ["h%d-%d" % (count, number) for number in range(count)])
-        words = ["sh", "-c", "ulimit -n 40; exec \"$@\"", "sh"] + hosts.words("report-hosts", "--json", sandbox.path("hosts"))
-        run = hosts.start(words)
-        output = run.stdout.read()
-        _, status, used = os.wait4(run.pid, 0)
-        run.returncode = os.waitstatus_to_exitcode(status)
-        sizes.append(used.ru_maxrss)
-        lines = output.splitlines()
-        good = run.returncode == 1 and len(lines) == 1 + count + 200 and json.loads(lines[-1])["hosts"] == count
-        sandbox.check("%d hosts" % count, good, (run.returncode, run.stderr.read(), output[:300]))
-    sandbox.check("their memory", sizes[1] < sizes[0] + 8000 and sizes[1] < 60000, sizes)
-
-
-def try_ends(sandbox):
-    """Ended by a signal, or without room: a status that is no comparison's, and nothing is left."""
-    hosts = four_hosts(sandbox)
-    for number in (signal.SIGTERM, signal.SIGINT, signal.SIGHUP):
-        lock = subprocess.Popen(["flock", sandbox.path("store/hosts/www2/lock"), "sleep", "100"], start_new_session=True)
-        run = hosts.start(hosts.words("report-hosts", sandbox.path("hosts")))
-        wait_for(lambda: any(name.startswith(".aide-compare-sort-") for name in os.listdir(sandbox.room)))
-        run.send_signal(number)
-        run.communicate(timeout=30)
-        os.killpg(lock.pid, signal.SIGKILL)
-        lock.wait()
-        got = run.returncode, sandbox.leftovers()
-        sandbox.check("signal %d" % number, got == (-number, []), got)
-    status, output, errors = hosts.report(before=["sh", "-c", "ulimit -f 0; exec \"$@\"", "sh"])
-    sandbox.check("no room", status == 18 and not output and errors and not sandbox.leftovers(), (status, output, errors))
-    run = hosts.start(hosts.words("report-hosts", sandbox.path("hosts")), preexec_fn=None)
-    run.stdout.close()
-    run.wait()
-    sandbox.check("nobody reads", run.returncode > 7 or run.returncode < 0, run.returncode)
-    os.chmod(sandbox.path("store"), 0o777)
-    status, output, _ = hosts.report()
-    os.chmod(sandbox.path("store"), 0o755)
-    sandbox.check("a store that everybody can write", status == 18 and "4 differ" not in output, output)
-    shutil.rmtree(sandbox.path("store"))
-    status, output, errors = hosts.report()
-    sandbox.check("no store", status == 18 and errors and not output, (status, output, errors))

@@ -1,0 +1,88 @@
+"""The report of many hosts: how much memory and how many open files it takes, and what is left when it is ended half way."""
+import json
+import os
+import shutil
+import signal
+import subprocess
+import sys
+import time
+
+from .fleet import wait_for
+from .hosts_report import Hosts, database, four_hosts, line
+
+# A signal that comes while an object is taken away: Python drops what its handler raises.
+DROPPED = """import os, signal, sys, time
+sys.path.insert(0, sys.argv[1])
+from aide_compare import private_room
+class Object:
+    def __del__(self):
+        os.kill(os.getpid(), signal.SIGTERM)
+        for _ in range(1000):
+            pass
+def work():
+    Object()
+    time.sleep(60)
+private_room.stoppable(work)
+"""
+
+
+def try_hosts_ends(sandbox):
+    for trial in (try_many_hosts, try_ends, try_dropped):
+        trial(sandbox)
+
+
+def try_many_hosts(sandbox):
+    """300 hosts with 200 changes each: few open files, and no more memory than 30 hosts take."""
+    hosts = Hosts(sandbox)
+    new = database(*(line(b"/n%04d" % number, b"%d" % number) for number in range(200)))
+    hosts.compared({"first": (database(), new)})
+    sizes = []
+    for count in (30, 300):
+        hosts.copies("first", ["h%d-%d" % (count, number) for number in range(count)])
+        words = ["sh", "-c", "ulimit -n 40; exec \"$@\"", "sh"] + hosts.words("report-hosts", "--json", sandbox.path("hosts"))
+        run = hosts.start(words)
+        output = run.stdout.read()
+        _, status, used = os.wait4(run.pid, 0)
+        run.returncode = os.waitstatus_to_exitcode(status)
+        sizes.append(used.ru_maxrss)
+        lines = output.splitlines()
+        good = run.returncode == 1 and len(lines) == 1 + count + 200 and json.loads(lines[-1])["hosts"] == count
+        sandbox.check("%d hosts" % count, good, (run.returncode, run.stderr.read(), output[:300]))
+    sandbox.check("their memory", sizes[1] < sizes[0] + 8000 and sizes[1] < 60000, sizes)
+
+
+def try_ends(sandbox):
+    """Ended by a signal, or without room: a status that is no comparison's, and nothing is left."""
+    hosts = four_hosts(sandbox)
+    for number in (signal.SIGTERM, signal.SIGINT, signal.SIGHUP):
+        lock = subprocess.Popen(["flock", sandbox.path("store/hosts/www2/lock"), "sleep", "100"], start_new_session=True)
+        run = hosts.start(hosts.words("report-hosts", sandbox.path("hosts")))
+        wait_for(lambda: any(name.startswith(".aide-compare-sort-") for name in os.listdir(sandbox.room)))
+        time.sleep(0.2)
+        run.send_signal(number)
+        run.communicate(timeout=30)
+        os.killpg(lock.pid, signal.SIGKILL)
+        lock.wait()
+        got = run.returncode, sandbox.leftovers()
+        sandbox.check("signal %d" % number, got == (-number, []), got)
+    status, output, errors = hosts.report(before=["sh", "-c", "ulimit -f 0; exec \"$@\"", "sh"])
+    sandbox.check("no room", status == 18 and not output and errors and not sandbox.leftovers(), (status, output, errors))
+    run = hosts.start(hosts.words("report-hosts", sandbox.path("hosts")), preexec_fn=None)
+    run.stdout.close()
+    run.wait()
+    sandbox.check("nobody reads", run.returncode > 7 or run.returncode < 0, run.returncode)
+    os.chmod(sandbox.path("store"), 0o777)
+    status, output, _ = hosts.report()
+    os.chmod(sandbox.path("store"), 0o755)
+    sandbox.check("a store that everybody can write", status == 18 and "4 differ" not in output, output)
+    shutil.rmtree(sandbox.path("store"))
+    status, output, errors = hosts.report()
+    sandbox.check("no store", status == 18 and errors and not output, (status, output, errors))
+
+
+def try_dropped(sandbox):
+    words = [sys.executable, "-c", DROPPED, sandbox.path("lib")]
+    begun = time.time()
+    done = subprocess.run(words, stdout=subprocess.PIPE, stderr=subprocess.PIPE, timeout=100)
+    good = b"Exception ignored" in done.stderr and done.returncode == -signal.SIGTERM and time.time() - begun < 40
+    sandbox.check("a signal that Python drops", good, done)
