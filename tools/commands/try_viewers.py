@@ -22,16 +22,17 @@ from tools.oracle.database import database_of, first_fault
 from tools.oracle.report import report_of
 from tools.program.random_texts.databases import random_pair
 from tools.lib.tally import Tally, program_of
-from tools.commands.viewers import HTML, JSON, hostile
+from tools.commands.viewers import HTML, JSON, hostile, looks
 from tools.commands.viewers.expected import faults_of
 from tools.commands.viewers.deep import try_deep, try_script, try_times
 from tools.commands.viewers.large import try_large
+from tools.commands.viewers.lines import lines_of, objects_of, page_of, run
 from tools.commands.viewers.pages import bytes_shown, contrast_faults, page_faults
 from tools.commands.viewers.refused import LINE_EDITS, REPORT_EDITS, TOGETHER, WITH_ALL_DETAILS, rich_report
 
 from aide_compare import report_parts
 from aide_compare.json_lines import Report
-from aide_compare.page import page, part_of
+from aide_compare.page import part_of, script_of
 from aide_compare.report_lines import Lines, Refused
 from aide_compare.report_parts import judge, read_report
 from aide_compare.shown_text import shown, shown_path
@@ -43,28 +44,6 @@ DOUBTS = {'kind', 'end', 'old-empty', 'old-blanks', 'new-empty'}
 BLANKS_THAT_ARE_LETTERS = '\u115f\u1160\u2800\u3164\uffa0'
 # So many reports meet each doubt with any seed: the rarest is met once in some 150.
 MOST_REPORTS = 20000
-
-
-def run(words, text=b'', **streams):
-    """Status, output and error lines of a command."""
-    done = subprocess.run(words, input=text, timeout=120, env={**os.environ, 'PYTHONDONTWRITEBYTECODE': ''},
-                          **{'stdout': subprocess.PIPE, 'stderr': subprocess.PIPE, **streams})
-    return done.returncode, done.stdout, done.stderr
-
-
-def objects_of(text, least=None, takes_empty=False):
-    """The objects of a report, as aide-compare-json writes them."""
-    *rest, summary = read_report(Lines(io.BytesIO(text)))
-    judge(summary, least, takes_empty)
-    return [{**summary, 'lines': 1 + len(rest)}] + rest
-
-
-def lines_of(objects):
-    return b''.join(json.dumps(fields).encode() + b'\n' for fields in objects)
-
-
-def page_of(objects, is_plain=False):
-    return b''.join(page(io.BytesIO(lines_of(objects)), None, is_plain)).decode()
 
 
 def is_page_refused(lines):
@@ -303,9 +282,13 @@ def main():
     try_commands(tally)
     try_installed(tally)
     tally.add('contrast', contrast_faults(part_of('page.css')))
-    try_script(part_of('page.js'), tally)
+    try_script(script_of(), tally)
     try_times(tally)
     try_deep(tally)
+    looks.try_views(tally)
+    looks.try_heading(tally)
+    looks.try_reasons(given.seed, tally)
+    looks.try_only(tally)
     try_levels(tally)
     try_doubt(tally)
     try_cuts(tally)

@@ -1,20 +1,33 @@
-"""Reads the lines of aide-compare-json: all of them, or none."""
+"""Reads the lines of aide-compare-json, with or without those members that aide-compare-reasons adds: all, or none."""
 import json
 import re
 from collections import namedtuple
 
 from aide_compare.report_lines import Refused
 from aide_compare.report_values import FORMS
-from aide_compare.shown_text import PLAIN, note_of, shown
+from aide_compare.shown_text import PLAIN, notes_of, shown, shown_note, shown_path
 
 # An entry has at most the bytes of two lines of databases, and six times as many in JSON, some of them in base 16 too.
 LINE_LIMIT = 2 ** 25
-KINDS = ['added', 'removed', 'changed']
-LETTERS, PERMISSIONS = re.compile('[A-Za-z?!<>=:.+ -]{18}'), re.compile('[0-7]{4}')
-DATE = re.compile('[0-9]{4}-[0-9]{2}-[0-9]{2}T[0-9]{2}:[0-9]{2}:[0-9]{2}Z')
+KINDS = ["added", "removed", "changed"]
+SEVERITIES = ["high", "medium", "low"]
+GRADES = ["databases", "dpkg", "rpm", "archive", "rules"]
+LABELS = list(FORMS)
+PLACES = {label: place for place, label in enumerate(LABELS)}
+DIGESTS = {label: place for label, place in PLACES.items() if isinstance(FORMS[label], tuple)}
+NOTED = frozenset(place for label, place in PLACES.items() if FORMS[label] != "number" and label not in DIGESTS)
+LETTERS, PERMISSIONS = re.compile("[A-Za-z?!<>=:.+ -]{18}"), re.compile("[0-7]{4}")
+DATE = re.compile("[0-9]{4}-[0-9]{2}-[0-9]{2}T[0-9]{2}:[0-9]{2}:[0-9]{2}Z")
+TEXTS = frozenset((str, type(None)))
+# The digest that people look at first, if an entry has it, and so on.
+STRENGTH = ("SHA256", "SHA512", "SHA3-256", "SHA3-512", "SHA512/256", "STRIBOG256", "STRIBOG512", "WHIRLPOOL", "RMD160", "SHA1",
+            "GOST", "TIGER", "HAVAL", "MD5", "CRC32", "CRC32B")
+ADDED_BY_COUNTS = ["explained", "not_verified", "unexplained"] + SEVERITIES
 
-# An entry as it is shown. Each row is [label, old value, new value, note on the old one, note on the new one].
-Entry = namedtuple('Entry', 'kind doubtful path letters rows')
+# An entry; `names` are the pieces of its path, `name` is the path as it is shown, `size` the length of the line. A row is [place of its label, old value, new value, old note, new note], where both notes may be
+# missing. `digests` are the rows of digests, the strongest first. `severity` is a place in SEVERITIES, or None; `reason` is None or a Reason.
+Entry = namedtuple("Entry", "kind doubtful path names name letters rows digests severity reason size")
+Reason = namedtuple("Reason", "text verified grade")
 
 
 class Malformed(Exception):
@@ -28,81 +41,130 @@ def demand(holds, words):
 
 def bytes_of(fields, key):
     """The bytes that an object has as text, or in base 16 where they are not UTF-8."""
-    return bytes.fromhex(fields[key + '_hex']) if key + '_hex' in fields else fields[key].encode('utf-8')
+    return bytes.fromhex(fields[key + "_hex"]) if key + "_hex" in fields else fields[key].encode("utf-8")
 
 
-def value_of(fields, side):
+def is_usual(line):
+    """Whether every text of a line is shown as it is: all is ASCII, nothing is escaped in JSON or is a control byte, no text
+    begins or ends with a blank, and none is given in base 16 too."""
+    return (line.isascii() and b"\\" not in line and b"\x7f" not in line and b'" ' not in line and b' "' not in line
+            and b'_hex"' not in line)
+
+
+def value_of(fields, side, usual):
     """A value as it is shown; None if there is none."""
     value = fields[side]
-    if value is None:
-        return None
+    if value is None or usual and type(value) is str:
+        return value
     if type(value) is int:
         return str(value)
-    demand(type(value) is str, 'a value is a number or a text')
+    demand(type(value) is str, "a value is a number or a text")
     return value if PLAIN.fullmatch(value) else shown(bytes_of(fields, side))
 
 
-def row_of(label, fields):
-    old, new = value_of(fields, 'old'), value_of(fields, 'new')
-    demand(label in FORMS, 'this attribute is unknown')
-    demand(label != 'Perm' or all(value is None or PERMISSIONS.fullmatch(value) for value in (old, new)),
-           'permissions are four digits')
-    for date in (fields.get('old_time'), fields.get('new_time')):
-        demand(date is None or DATE.fullmatch(date), 'a time has another form')
-    return [label, old, new, note_of(label, fields, 'old'), note_of(label, fields, 'new')]
+def row_of(label, fields, usual):
+    """The row of an attribute that is no digest."""
+    place = PLACES[label]
+    row = [place, value_of(fields, "old", usual), value_of(fields, "new", usual)]
+    if place not in NOTED:
+        return row
+    if label == "Perm":
+        demand(all(value is None or PERMISSIONS.fullmatch(value) for value in row[1:]), "permissions are four digits")
+    if "old_time" in fields or "new_time" in fields:
+        for date in (fields.get("old_time"), fields.get("new_time")):
+            demand(date is None or DATE.fullmatch(date), "a time has another form")
+    notes = notes_of(label, fields)
+    return row + notes if any(notes) else row
 
 
-def entry_of(fields):
-    path = bytes_of(fields, 'path')
-    demand(path[:1] == b'/', 'a path begins with a slash')
-    letters = fields.get('summary', '')
-    demand(letters == '' or LETTERS.fullmatch(letters), 'a summary string has 18 letters')
-    rows = [row_of(label, attribute) for label, attribute in fields.get('attributes', {}).items()]
-    return Entry(KINDS.index(fields['kind']), 'uncertain' in fields, path, letters, rows)
+def strongest_first(digests, attributes):
+    strongest = next(DIGESTS[label] for label in STRENGTH if label in attributes)
+    for place, row in enumerate(digests):
+        if row[0] == strongest:
+            return [row] + digests[:place] + digests[place + 1:]
+    return digests
+
+
+def rows_of(attributes, usual):
+    """The rows of attributes: those of digests apart, the strongest one first."""
+    rows, digests = [], []
+    for label, fields in attributes.items():
+        place = DIGESTS.get(label)
+        if place is None:
+            rows.append(row_of(label, fields, usual))
+            continue
+        old, new = fields["old"], fields["new"]
+        if not usual or type(old) not in TEXTS or type(new) not in TEXTS:
+            old, new = value_of(fields, "old", False), value_of(fields, "new", False)
+        digests.append([place, old, new])
+    return rows, strongest_first(digests, attributes) if len(digests) > 1 else digests
+
+
+def reason_of(fields):
+    demand(type(fields["verified"]) is bool and fields["grade"] in GRADES, "a reason has another form")
+    return Reason(shown_note(fields["text"]), fields["verified"], fields["grade"])
+
+
+def entry_of(fields, line):
+    usual, path = is_usual(line), bytes_of(fields, "path")
+    demand(path[:1] == b"/", "a path begins with a slash")
+    letters = fields.get("summary", "")
+    demand(letters == "" or LETTERS.fullmatch(letters), "a summary string has 18 letters")
+    rows, digests = rows_of(fields.get("attributes", {}), usual)
+    severity, reason = fields.get("severity"), fields.get("reason")
+    name = fields["path"] if usual and b" " not in path else shown_path(path)
+    return Entry(KINDS.index(fields["kind"]), "uncertain" in fields, path, path.split(b"/"), name, letters, rows, digests,
+                 None if severity is None else SEVERITIES.index(severity), None if reason is None else reason_of(reason),
+                 len(line))
 
 
 def judge_summary(fields):
-    demand(fields['record'] == 'summary' and fields['format'] == 1, 'the first object is the summary, of format 1')
-    demand(type(fields['differences']) is bool and type(fields['lines']) is int, 'the summary has other values')
-    for name in ['total'] + KINDS:
-        demand(fields[name] is None or type(fields[name]) is int, 'a count is a number')
+    demand(fields["record"] == "summary" and fields["format"] == 1, "the first object is the summary, of format 1")
+    demand(type(fields["differences"]) is bool and type(fields["lines"]) is int, "the summary has other values")
+    for name in ["total"] + KINDS:
+        demand(fields[name] is None or type(fields[name]) is int, "a count is a number")
+    if "reasons" in fields:
+        demand(all(type(fields["reasons"][name]) is int for name in ADDED_BY_COUNTS), "a count of reasons is a number")
 
 
 def judge_database(fields, side):
-    demand(fields['record'] == 'database' and fields['side'] == side, 'the %s database comes here' % side)
-    demand(re.fullmatch('[0-9a-f]{64}', fields['sha256']), 'a digest has 64 digits')
-    bytes_of(fields, 'path')
+    demand(fields["record"] == "database" and fields["side"] == side, "the %s database comes here" % side)
+    demand(re.fullmatch("[0-9a-f]{64}", fields["sha256"]), "a digest has 64 digits")
+    bytes_of(fields, "path")
 
 
 class Report:
     """A report, read from its lines: the summary and the databases. Each entry is given away as it comes."""
 
-    def __init__(self, source, give):
-        self.summary, self.databases, self.count, self.last, self.give = None, [], 0, [], give
+    def __init__(self, source, give, begin=None):
+        """`begin` is called with the summary before the first entry is given."""
+        self.summary, self.databases, self.count, self.last = None, [], 0, []
+        self.give, self.begin = give, begin
         number = 0
-        for number, line in enumerate(iter(lambda: source.readline(LINE_LIMIT), b''), 1):
+        for number, line in enumerate(iter(lambda: source.readline(LINE_LIMIT), b""), 1):
             try:
-                demand(line[-1:] == b'\n', 'the line is cut, or too long')
-                self.add(json.loads(line))
+                demand(line[-1:] == b"\n", "the line is cut, or too long")
+                self.add(json.loads(line.decode()), line)
             except (ValueError, KeyError, TypeError, AttributeError, IndexError, RecursionError) as error:
-                raise Refused(number, 'this is no line of aide-compare-json (%s)' % type(error).__name__) from None
+                raise Refused(number, "this is no line of aide-compare-json (%s)" % type(error).__name__) from None
             except Malformed as malformed:
                 raise Refused(number, malformed) from None
-        if self.summary is None or number != self.summary['lines'] or self.count not in (0, self.changes()):
-            raise Refused(number, 'lines of aide-compare-json are missing')
+        if self.summary is None or number != self.summary["lines"] or self.count not in (0, self.changes()):
+            raise Refused(number, "lines of aide-compare-json are missing")
 
-    def add(self, fields):
+    def add(self, fields, line):
         if self.summary is None:
             judge_summary(fields)
             self.summary = fields
-        elif fields['record'] == 'entry' and not self.databases:
-            entry = entry_of(fields)
-            names = entry.path.split(b'/')
-            demand(self.last < names, 'the entry is not in the order of paths')
-            self.last, self.count = names, self.count + 1
+            if self.begin:
+                self.begin(fields)
+        elif fields["record"] == "entry" and not self.databases:
+            entry = entry_of(fields, line)
+            demand(self.last < entry.names, "the entry is not in the order of paths")
+            self.last, self.count = entry.names, self.count + 1
             self.give(entry)
         else:
-            judge_database(fields, ['old', 'new'][len(self.databases)])
+            judge_database(fields, ["old", "new"][len(self.databases)])
             self.databases.append(fields)
 
     def changes(self):

@@ -1,88 +1,74 @@
-"""The entries of a report as a page has them: plain lists in their folders, and the data of the page's script."""
-import json
+"""The entries of a report as plain lists, for readers that run no script: in their folders, or by what explains them."""
 from array import array
 from html import escape
 
 from aide_compare.files import nameless
-from aide_compare.json_lines import KINDS
-from aide_compare.report_values import FORMS
-from aide_compare.shown_text import shown, shown_path
+from aide_compare.json_lines import KINDS, SEVERITIES
+from aide_compare.page_items import GRADES, Room, bar, counted, entries, files
+from aide_compare.page_view import STANDINGS
+from aide_compare.shown_text import shown
 
-SIGNS = ['+', '\N{MINUS SIGN}', '~']
-ENCODER = json.JSONEncoder(separators=(',', ':'))
-# A line of the plain lists that begins so becomes the beginning of a folder when its counts are known.
-FOLDER = b'\0'
-
-
-def number(count):
-    return format(count, ',')
+# A line of the lists in folders that begins so becomes the beginning of a folder when its counts are known.
+FOLDER, END = b"\0", b"</ul></details>\n"
+FOLDER_SIZE = 420
+TITLES = {"unexplained": "Not explained", "not_verified": "Explained, but not verified", "explained": "Explained"}
 
 
-def counted(counts):
-    """The counts of a folder: a number for each kind that it has."""
-    return ' '.join('<span class="%s" title="%s">%s%s</span>' % (kind, kind, sign, number(count))
-                    for kind, sign, count in zip(KINDS, SIGNS, counts) if count)
-
-
-def bar(counts, whole):
-    """A bar that shows how many entries of each kind there are, as a share of a whole."""
-    parts, left = '', 0.0
-    for kind, count in zip(KINDS, counts):
-        width = 100 * count / whole
-        if count:
-            parts += '<rect class="%s" x="%.2f" width="%.2f" height="8"/>' % (kind, left, width)
-        left += width
-    return '<svg class="bar" viewBox="0 0 100 8" preserveAspectRatio="none" aria-hidden="true">%s</svg>' % parts
-
-
-def cell(value, note):
-    if value is None:
-        return '<td class="none">none'
-    return '<td>%s%s' % (escape(value), '<small>%s</small>' % escape(note) if note else '')
-
-
-def item_of(entry, name):
-    """An entry of the plain lists. Only its name is shown: its folder stands above it."""
-    kind = KINDS[entry.kind]
-    head = '<b class="%s">%s</b> <code>%s</code>' % (kind, kind + (' or changed' if entry.doubtful else ''), escape(name))
-    if not entry.rows:
-        return '<li>%s\n' % head
-    rows = ''.join('<tr><th>%s%s%s' % (label, cell(old, old_note), cell(new, new_note))
-                   for label, old, new, old_note, new_note in entry.rows)
-    return '<li><details><summary>%s <i>%s</i></summary><table><tr><th>Attribute<th>Old<th>New%s</table></details>\n' \
-        % (head, ' '.join(row[0] for row in entry.rows), rows)
-
-
-class PlainLists:
+class FolderLists:
     """Entries in their folders. Each folder counts what is in it and below it, and itself if it is an entry.
 
     In the order of paths all that is below a folder follows it without a gap. So the open folders are those around one
-    entry, and an entry is a folder if the next one is below it.
+    entry, and an entry is a folder if the next one is below it. A folder with nothing but one folder is shown with that.
     """
 
-    def __init__(self):
-        self.file, self.waiting = open(nameless(), 'w+b'), None
-        self.names, self.places, self.counts = [b''], [0], array('Q', [0, 0, 0])
+    def __init__(self, whole, valued):
+        self.file, self.waiting, self.room, self.count = open(nameless(), "w+b"), None, Room(whole, valued), 0
+        self.names, self.places = [b""], [0]
+        # Of each folder: how many entries of each kind, how many entries of its own, and how many folders.
+        self.counts, self.own, self.below = array("Q", [0, 0, 0]), array("Q", [0]), array("Q", [0])
 
-    def add(self, entry):
+    def add(self, entry, group=None):
+        self.count += 1
         if self.waiting:
-            self.put(self.waiting, entry.path.startswith(self.waiting.path + b'/'))
+            self.put(self.waiting, entry.path.startswith(self.waiting.path + b"/"))
         self.waiting = entry
 
     def put(self, entry, is_folder):
-        names = entry.path.split(b'/')
-        folder = names if is_folder else names[:-1]
+        names = entry.names
+        self.enter(names if is_folder else names[:-1])
+        self.counts[3 * self.places[-1] + entry.kind] += 1
+        if self.room.is_full:
+            return
+        name = shown(names[-1]) if names[-1] and not is_folder else entry.name
+        item = self.room.item(entry, name)
+        if item:
+            self.file.write(item)
+            self.own[self.places[-1]] += 1
+            if self.own[self.places[-1]] == 1 and self.below[self.places[-1]] < 2:
+                self.room.take(FOLDER_SIZE)
+
+    def enter(self, folder):
+        """Leaves the open folders that are not around a folder, and opens what is missing."""
+        if folder == self.names:
+            return
         common = next((depth for depth, pair in enumerate(zip(self.names, folder)) if pair[0] != pair[1]),
                       min(len(self.names), len(folder)))
         self.leave(common)
-        while len(self.names) < len(folder):
-            self.names.append(folder[len(self.names)])
-            self.places.append(len(self.counts))
-            self.counts.extend([0, 0, 0])
-            self.file.write(FOLDER + shown(self.names[-1]).encode() + b'\n')
-        self.counts[self.places[-1] + entry.kind] += 1
-        name = shown(names[-1]) if names[-1] and not is_folder else shown_path(entry.path)
-        self.file.write(item_of(entry, name).encode())
+        while len(self.names) < len(folder) and not self.room.is_full:
+            self.open_folder(folder[len(self.names)])
+
+    def open_folder(self, name):
+        text, around = escape(shown(name)).encode(), self.places[-1]
+        becomes_shown = self.below[around] == 1 and not self.own[around]
+        if not self.room.take(len(text) + 1 + FOLDER_SIZE * becomes_shown):
+            return
+        self.below[around] += 1
+        self.names.append(name)
+        self.places.append(len(self.own))
+        self.counts.extend([0, 0, 0])
+        self.own.append(0)
+        self.below.append(0)
+        self.file.write(FOLDER + text + b"\n")
 
     def leave(self, depth):
         """Closes the open folders from a depth on, and adds their counts to those around them."""
@@ -90,49 +76,103 @@ class PlainLists:
             self.names.pop()
             place = self.places.pop()
             for kind in range(len(KINDS)):
-                self.counts[self.places[-1] + kind] += self.counts[place + kind]
-            self.file.write(b'</ul></details>\n')
+                self.counts[3 * self.places[-1] + kind] += self.counts[3 * place + kind]
+            self.file.write(END)
+
+    def end(self):
+        if self.waiting:
+            self.put(self.waiting, False)
+        self.waiting = None
+        self.leave(1)
+
+    def listed(self):
+        """How many entries are listed, and how many of them with their values."""
+        return self.room.names, self.room.values
 
     def parts(self):
         """Yields the lists."""
-        if self.waiting:
-            self.put(self.waiting, False)
-        self.leave(1)
         self.file.seek(0)
-        totals, place = [sum(self.counts[:3])], 0
+        # Of each open folder: whether it is shown by itself, and how many entries it has, or else the one around it.
+        place, names, opened = 0, [], [(True, sum(self.counts[:3]))]
         yield b'<ul class="plain">\n'
         for line in self.file:
             if line.startswith(FOLDER):
-                place += 3
-                counts = self.counts[place:place + 3]
-                yield ('<li><details><summary><code>%s/</code> %s %s</summary><ul>\n' % (
-                    escape(line[1:-1].decode()), bar(counts, totals[-1]), counted(counts))).encode()
-                totals.append(sum(counts))
-            else:
-                if line == b'</ul></details>\n':
-                    totals.pop()
+                place += 1
+                names.append(line[1:-1])
+                if not self.own[place] and self.below[place] == 1:
+                    opened.append((False, opened[-1][1]))
+                    continue
+                counts = self.counts[3 * place:3 * place + 3]
+                yield b"<li><details><summary><code>%s/</code> %s %s</summary><ul>\n" % (
+                    b"/".join(names), bar(counts, opened[-1][1]).encode(), counted(counts).encode())
+                names = []
+                opened.append((True, sum(counts)))
+            elif line != END or opened.pop()[0]:
                 yield line
-        yield b'</ul>\n'
+        yield b"</ul>\n"
 
 
-class Embedded:
-    """The entries for the script, written so that they cannot end its element."""
+class ReasonLists:
+    """Entries by what explains them: those that nothing explains first, the severe ones before the others."""
 
-    def __init__(self):
-        self.file, self.places = open(nameless(), 'w+b'), {label: place for place, label in enumerate(FORMS)}
+    def __init__(self, whole, valued):
+        # Entries that are not explained have at most three quarters of the room, the others what is left.
+        self.rooms, self.left = [Room(3 * whole // 4, valued), Room(whole, valued // 2)], whole
+        self.files = [open(nameless(), "w+b") for _ in self.rooms]
+        self.places, self.counts, self.count, self.names, self.values = {}, {}, 0, 0, 0
 
-    def add(self, entry):
-        rows = [[self.places[label], old, new] + ([old_note, new_note] if old_note or new_note else [])
-                for label, old, new, old_note, new_note in entry.rows]
-        text = ENCODER.encode([entry.kind, int(entry.doubtful), shown_path(entry.path), entry.letters, rows])
-        self.file.write(text.replace('<', '\\u003c').replace('>', '\\u003e').encode() + b'\n')
+    def add(self, entry, group=None):
+        """Adds an entry; `group` is the group of its reason, None without one."""
+        self.count += 1
+        standing = 0 if group is None else 2 if group.verified else 1
+        key = (standing, group if standing == 2 else entry.severity)
+        self.counts[key] = self.counts.get(key, 0) + 1
+        stream = standing == 2
+        item = self.rooms[stream].item(entry, entry.name, group.text if standing == 1 else "")
+        if item:
+            self.places.setdefault(key, array("Q")).append(self.files[stream].tell())
+            self.files[stream].write(item)
+
+    def end(self):
+        pass
+
+    def listed(self):
+        """How many entries were listed, and how many of them with their values."""
+        return self.names, self.values
 
     def parts(self):
-        """Yields the data."""
-        self.file.seek(0)
-        yield ('{"labels":%s,"entries":[\n' % ENCODER.encode(list(FORMS))).encode()
-        comma = b''
-        for line in self.file:
-            yield comma + line
-            comma = b','
-        yield b']}'
+        for standing, name in enumerate(STANDINGS):
+            keys = [key for key in self.counts if key[0] == standing]
+            if not keys:
+                continue
+            count = sum(self.counts[key] for key in keys)
+            yield ('<h2 class="standing">%s: %s</h2>\n' % (TITLES[name], entries(count))).encode()
+            order = (lambda key: (-self.counts[key], key[1].key)) if standing == 2 else (lambda key: (key[1] is None, key[1] or 0))
+            for key in sorted(keys, key=order):
+                yield from self.group_parts(key)
+
+    def group_parts(self, key):
+        standing, what = key
+        if standing == 2:
+            yield ("<details><summary><code>%s</code>: %s, %s</summary>" % (
+                escape(what.text), files(self.counts[key]), GRADES[what.grade])).encode()
+        elif what is not None:
+            yield ('<h3 class="%s">Severity %s: %s</h3>' % (SEVERITIES[what], SEVERITIES[what], entries(self.counts[key]))).encode()
+        yield b'<ul class="plain">\n'
+        names = self.names
+        yield from self.items(self.files[standing == 2], self.places.get(key, ()))
+        if self.names - names < self.counts[key]:
+            yield ("<li>%s more that this page has no room for\n" % entries(self.counts[key] - self.names + names)).encode()
+        yield b"</ul></details>\n" if standing == 2 else b"</ul>\n"
+
+    def items(self, file, places):
+        """The items at some places of a file, as far as there is room."""
+        for place in places:
+            file.seek(place)
+            item = file.readline()
+            self.left -= len(item)
+            if self.left < 0:
+                return
+            self.names += 1
+            self.values += b"<table>" in item
+            yield item

@@ -4,16 +4,17 @@ import re
 from aide_compare import escapes
 
 # Printable ASCII without the backslash, and without blanks at its ends.
-PLAIN = re.compile(r'[!-\[\]-~](?:[ -\[\]-~]*[!-\[\]-~])?')
-PLAIN_PATH = re.compile(rb'[!-\[\]-~]*')
+PLAIN = re.compile(r"[!-\[\]-~](?:[ -\[\]-~]*[!-\[\]-~])?")
+PLAIN_PATH = re.compile(rb"[!-\[\]-~]*")
 # Letters by their class, and yet blank.
-BLANK_LETTERS = '\u115f\u1160\u2800\u3164\uffa0'
-TRIPLES = ['---', '--x', '-w-', '-wx', 'r--', 'r-x', 'rw-', 'rwx']
-NOTES = {'blanks': 'perhaps with blanks at its end', 'empty': 'no link name, an empty one, or no such attribute'}
+BLANK_LETTERS = "\u115f\u1160\u2800\u3164\uffa0"
+TRIPLES = ["---", "--x", "-w-", "-wx", "r--", "r-x", "rw-", "rwx"]
+NOTES = {"blanks": "perhaps with blanks at its end", "empty": "no link name, an empty one, or no such attribute"}
+NOTE_LIMIT = 4000
 
 
 def octal(character):
-    return ''.join('\\%03o' % byte for byte in character.encode('utf-8', 'surrogateescape'))
+    return "".join("\\%03o" % byte for byte in character.encode("utf-8", "surrogateescape"))
 
 
 def shown(value):
@@ -25,37 +26,64 @@ def shown(value):
     if PLAIN.fullmatch(text):
         return text
     if not text.isprintable() or any(letter in text for letter in BLANK_LETTERS):
-        text = ''.join(character if character.isprintable() and character not in BLANK_LETTERS else octal(character)
+        text = "".join(character if character.isprintable() and character not in BLANK_LETTERS else octal(character)
                        for character in text)
-    inner = text.strip(' ')
+    inner = text.strip(" ")
     if not inner:
         return octal(text)
-    before, after = len(text) - len(text.lstrip(' ')), len(text) - len(text.rstrip(' '))
-    return octal(' ' * before) + inner + octal(' ' * after)
+    before, after = len(text) - len(text.lstrip(" ")), len(text) - len(text.rstrip(" "))
+    return octal(" " * before) + inner + octal(" " * after)
 
 
 def shown_path(path):
     """A path, each of its names shown by itself."""
-    return path.decode() if PLAIN_PATH.fullmatch(path) else '/'.join(shown(name) for name in path.split(b'/'))
+    return path.decode() if PLAIN_PATH.fullmatch(path) else "/".join(shown(name) for name in path.split(b"/"))
 
 
 def letters_of(perm):
     """Permissions such as 4755 in letters: rwsr-xr-x."""
     special, *digits = (int(digit) for digit in perm)
     triples = [list(TRIPLES[digit]) for digit in digits]
-    for bit, triple, sign in zip((4, 2, 1), triples, 'sst'):
+    for bit, triple, sign in zip((4, 2, 1), triples, "sst"):
         if special & bit:
-            triple[2] = sign if triple[2] == 'x' else sign.upper()
-    return ''.join(sign for triple in triples for sign in triple)
+            triple[2] = sign if triple[2] == "x" else sign.upper()
+    return "".join(sign for triple in triples for sign in triple)
+
+
+def shown_note(text, most=200):
+    """A text for people that a command of ours has written, such as a reason, in which names are escaped already."""
+    guarded = escapes.guarded(text[:most + 1])
+    if not guarded.isprintable() or any(letter in guarded for letter in BLANK_LETTERS):
+        guarded = "".join(character if character.isprintable() and character not in BLANK_LETTERS else octal(character)
+                          for character in guarded)
+    return guarded[:most] + "..." if len(guarded) > most else guarded
+
+
+def date_of(date):
+    """A time as JSON has it, such as 2026-11-24T06:00:00Z, as people read it."""
+    return date.replace("T", " ").replace("Z", " UTC")
 
 
 def note_of(label, fields, side):
-    """What is shown beside a value: the date of a time, letters of permissions, or what is uncertain."""
-    value = fields[side]
+    """What people read in place of a value: the value decoded, the date of a time, or permissions in letters."""
+    value, text = fields[side], fields.get(side + "_text")
+    if value is None:
+        return ""
+    if text is not None:
+        return shown_note(text, NOTE_LIMIT)
     if type(value) is int:
-        date = fields.get(side + '_time')
-        return shown(date.replace('T', ' ').replace('Z', ' UTC').encode()) if date else ''
-    if label == 'Perm' and value is not None:
-        return letters_of(value)
-    doubts = fields.get('uncertain')
-    return '; '.join(note for doubt, note in NOTES.items() if '%s-%s' % (side, doubt) in doubts) if doubts else ''
+        date = fields.get(side + "_time")
+        return date_of(date) if date else ""
+    return letters_of(value) if label == "Perm" else ""
+
+
+def doubt_of(fields, side):
+    """What the report leaves open of a value."""
+    doubts = fields.get("uncertain")
+    return "; ".join(note for doubt, note in NOTES.items() if "%s-%s" % (side, doubt) in doubts) if doubts else ""
+
+
+def notes_of(label, fields):
+    """Four notes: what people read in place of the old value and of the new one, and what is open of each."""
+    notes = [note_of(label, fields, "old"), note_of(label, fields, "new")]
+    return notes + [doubt_of(fields, "old"), doubt_of(fields, "new")] if "uncertain" in fields else notes

@@ -43,15 +43,23 @@ def run(path, work):
 
 
 def _write_page(source, target, given):
+    import gc
     from aide_compare.page import page
-    for part in page(source, given.title, given.plain):
+    gc.disable()  # Entries have no cycles, and looking for cycles takes a tenth of the time.
+    for part in page(source, given.title, given.plain, given.only):
         target.write(part)
 
 
 def html_main(arguments):
+    from aide_compare.page_view import fault_of
     parser = parser_of("aide-compare-html", "the lines", "Makes a page to look at from the lines of aide-compare-json.",
                        "Example: aide-compare-run old.gz new.gz | aide-compare-json | aide-compare-html > page.html")
     parser.add_argument("--title", metavar="TEXT", help="the heading of the page, such as the name of the host")
     parser.add_argument("--plain", action="store_true", help="no script: the lists only, as for mail")
+    parser.add_argument("--only", metavar="FILTER", default="",
+                        help="what the page shows at first, and with --plain all that it lists, such as standing=unexplained")
     given = parser.parse(arguments)
+    fault = fault_of(given.only)
+    if fault is not None:
+        parser.error("no such filter: %s" % shown(fault, 100))
     return run(given.file, lambda source, target: _write_page(source, target, given))

@@ -1,7 +1,7 @@
 """Parts of try_viewers by name, for the bugs that are planted against them."""
 from tools.commands import try_viewers
-from tools.commands.viewers import deep
-from aide_compare.page import part_of
+from tools.commands.viewers import deep, looks
+from aide_compare.page import script_of
 
 SEED, REPORTS = 20261125, 80
 
@@ -10,12 +10,32 @@ def try_times(sandbox):
     deep.try_times(sandbox.tally)
 
 
-def try_deep(sandbox):
-    deep.try_deep(sandbox.tally)
+def try_work(sandbox):
+    deep.try_work(sandbox.tally)
+
+
+def try_memory(sandbox):
+    deep.try_memory(sandbox.tally)
+
+
+def try_sizes(sandbox):
+    deep.try_sizes(sandbox.tally)
 
 
 def try_script(sandbox):
-    deep.try_script(part_of("page.js"), sandbox.tally)
+    deep.try_script(script_of(), sandbox.tally)
+
+
+def try_heading(sandbox):
+    looks.try_heading(sandbox.tally)
+
+
+def try_reasons(sandbox):
+    looks.try_reasons(SEED, sandbox.tally)
+
+
+def try_views(sandbox):
+    looks.try_views(sandbox.tally)
 
 
 def try_cuts(sandbox):

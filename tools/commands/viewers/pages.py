@@ -5,11 +5,15 @@ import json
 import re
 from html.parser import HTMLParser
 
+from tools.commands.viewers.packed import entries_of, is_kept
+
 TAGS = set('''html head meta title style body header h1 p dl dt dd div details summary code small main section label
-    input nav h2 ul ol li button span noscript svg rect b i table tr th td script'''.split())
+    input nav h2 h3 ul ol li button span noscript svg rect b i em a select table tr th td script'''.split())
 ATTRIBUTES = set('''lang charset http-equiv content name class id for type placeholder autocomplete spellcheck role
-    aria-label aria-hidden aria-pressed hidden title scope viewbox preserveaspectratio x width height'''.split())
+    aria-label aria-labelledby aria-hidden aria-pressed hidden title scope viewbox preserveaspectratio x width height href
+    tabindex colspan'''.split())
 KINDS = ['added', 'removed', 'changed']
+SEVERITIES = ['high', 'medium', 'low']
 SIGNS = dict(zip('+\N{MINUS SIGN}~', range(3)))
 ESCAPE = re.compile(r'\\([0-7]{3})')
 DIRECTIONS = re.compile('[\u061c\u200b-\u200f\u2028-\u202e\u2060-\u206f\ufeff\ud800-\udfff\x00-\x09\x0b-\x1f\x7f-\x9f]')
@@ -38,7 +42,7 @@ class Page(HTMLParser):
         if fields.get('http-equiv') == 'Content-Security-Policy':
             self.policy = fields['content']
         if tag == 'script':
-            self.scripts.append([fields.get('type'), ''])
+            self.scripts.append([fields.get('type'), '', fields.get('id')])
         if tag == 'b' and fields.get('class') in KINDS:
             self.entries.append([KINDS.index(fields['class']), None])
         self.inside.append(tag)
@@ -76,49 +80,102 @@ def hashed(text):
 
 
 def wanted_folders(entries):
-    """The folders of entries in the order of paths, each with the counts of what is in and below it, and of itself."""
-    counts = {}
+    """The folders of entries in the order of paths, each with the counts of what is in and below it, and of itself.
+
+    A folder that has nothing but one folder in it is shown with that one.
+    """
+    counts, own, below = {}, {}, {}
     for kind, path in entries:
         pieces = path.split(b'/')
         for end in range(2, len(pieces)):
             counts.setdefault(tuple(pieces[1:end]), [0, 0, 0])[kind] += 1
     for kind, path in entries:
-        own = tuple(path.split(b'/')[1:])
-        if own in counts:
-            counts[own][kind] += 1
-    return [[folder[-1], counts[folder]] for folder in sorted(counts)]
+        pieces = tuple(path.split(b'/')[1:])
+        if pieces in counts:
+            counts[pieces][kind] += 1
+        own[pieces if pieces in counts else pieces[:-1]] = True
+    for folder in counts:
+        below.setdefault(folder[:-1], []).append(folder)
+    names, wanted = {}, []
+    for folder in sorted(counts):
+        name = names.get(folder[:-1], b'') + folder[-1]
+        if folder not in own and len(below.get(folder, ())) == 1:
+            names[folder] = name + b'/'
+        else:
+            wanted.append([name, counts[folder]])
+    return wanted
+
+
+def severity_of(fields):
+    return SEVERITIES.index(fields['severity']) if 'severity' in fields else 3
+
+
+def bytes_of(fields):
+    return bytes.fromhex(fields['path_hex']) if 'path_hex' in fields else fields['path'].encode()
+
+
+def growth_of(fields):
+    size = fields.get('attributes', {}).get('Size', {'old': None, 'new': None})
+    return (size['new'] or 0) - (size['old'] or 0)
+
+
+def packed_faults(page, objects):
+    """What is wrong with the entries that are packed for the script, if the page has room for all."""
+    layers = {name: text for kind, text, name in page.scripts if kind == 'text/plain'}
+    data, faults = json.loads(next(text for kind, text, _ in page.scripts if kind == 'application/json')), []
+    packed, entries = entries_of(layers), [fields for fields in objects if fields['record'] == 'entry']
+    if [entry.place for entry in packed] != list(range(len(entries))) or not all(map(is_kept, packed)):
+        return ['not all entries are packed']
+    for entry, fields in zip(packed, entries):
+        reason = None if entry.group is None else data['groups'][entry.group]
+        told = fields.get('reason')
+        given = (KINDS[entry.kind], bytes_shown(entry.path), entry.severity, entry.growth, entry.values[0],
+                 sorted(row[0] for row in entry.values[2] + entry.digests), reason and (bytes_shown(reason[1]), bool(reason[3])))
+        wanted = (fields['kind'], bytes_of(fields), severity_of(fields), growth_of(fields), fields.get('summary', ''),
+                  sorted(map(data['labels'].index, fields.get('attributes', ()))), told and (bytes_shown(told['text']), told['verified']))
+        if given != wanted:
+            faults.append('it is packed as %r, and not %r' % (given, wanted))
+        spoken = entry.path + entry.facts + ''.join(str(text) for row in entry.values[2] + entry.digests for text in row[1:])
+        if DIRECTIONS.search(spoken):
+            faults.append('a text for the script is not shown as it should be')
+    return faults[:5]
+
+
+def script_faults(page, has_script):
+    """What is wrong with the scripts of a page, and what its policy should be."""
+    kinds = [kind for kind, _, _ in page.scripts]
+    if kinds != (['application/json'] + 6 * ['text/plain'] + [None] if has_script else []):
+        return ['it has the scripts %r' % kinds], None
+    policy = "default-src 'none'; base-uri 'none'; form-action 'none'; style-src " + hashed(''.join(page.styles))
+    if not has_script:
+        return [], policy
+    faults = ['%s may end its element' % name for kind, text, name in page.scripts[:-1] if set(text) & set('<>')]
+    return faults, policy + '; script-src ' + hashed(page.scripts[-1][1])
 
 
 def page_faults(text, objects, is_plain):
-    """What is wrong with the page of a report."""
-    page, faults = Page(text), []
+    """What is wrong with the page of a report, if it has room for all."""
+    page = Page(text)
+    entries = [(KINDS.index(fields['kind']), bytes_of(fields)) for fields in objects if fields['record'] == 'entry']
+    has_script, has_reasons = bool(entries) and not is_plain, 'reasons' in objects[0]
+    faults, policy = script_faults(page, has_script)
+    if policy is None:
+        return faults
     if page.tags - TAGS or page.names - ATTRIBUTES:
         faults.append('it has %r' % sorted(page.tags - TAGS | page.names - ATTRIBUTES))
-    entries = [(KINDS.index(fields['kind']), bytes.fromhex(fields['path_hex']) if 'path_hex' in fields
-                else fields['path'].encode()) for fields in objects if fields['record'] == 'entry']
-    policy = "default-src 'none'; base-uri 'none'; form-action 'none'; style-src " + hashed(''.join(page.styles))
-    has_script = bool(entries) and not is_plain
-    if [kind for kind, _ in page.scripts] != (['application/json', None] if has_script else []):
-        return faults + ['it has the scripts %r' % [kind for kind, _ in page.scripts]]
     if has_script:
-        policy += '; script-src ' + hashed(page.scripts[1][1])
-        if set(page.scripts[0][1]) & set('<>'):
-            faults.append('the entries for the script may end their element')
-        data = json.loads(page.scripts[0][1])
-        if [(entry[0], bytes_shown(entry[2])) for entry in data['entries']] != entries:
-            faults.append('the entries for the script are others')
-        if [len(entry[4]) for entry in data['entries']] != [len(fields.get('attributes', ())) for fields in objects
-                                                            if fields['record'] == 'entry']:
-            faults.append('the attributes for the script are others')
-        spoken = ''.join(str(value) for entry in data['entries'] for row in entry[4] for value in row[1:])
-        if DIRECTIONS.search(spoken + ''.join(entry[2] for entry in data['entries'])):
-            faults.append('a text for the script is not shown as it should be')
+        faults += packed_faults(page, objects)
     if page.policy != policy:
         faults.append('the content policy is %r' % page.policy)
-    if [kind for kind, _ in page.entries] != [kind for kind, _ in entries] or any(
-            not path.endswith(bytes_shown(name)) for (_, path), (_, name) in zip(entries, page.entries)):
+    given, wanted = page.entries, entries
+    if has_reasons:
+        given, wanted = sorted((bytes_shown(path), kind) for kind, path in given), sorted((path, kind) for kind, path in entries)
+        if given != wanted:
+            faults.append('the plain lists have other entries')
+    elif [kind for kind, _ in given] != [kind for kind, _ in wanted] or any(
+            not path.endswith(bytes_shown(name)) for (_, path), (_, name) in zip(wanted, given)):
         faults.append('the plain lists have other entries')
-    if page.folders != wanted_folders(entries):
+    if not has_reasons and page.folders != wanted_folders(entries):
         faults.append('the folders are %r, and not %r' % (page.folders[:5], wanted_folders(entries)[:5]))
     if DIRECTIONS.search(text):
         faults.append('a character is in it that is not seen')

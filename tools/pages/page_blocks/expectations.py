@@ -87,6 +87,13 @@ def has_page(sandbox, done):
     sandbox.check(not done[1] and not faults_in(done[2]) and text.endswith("</html>\n") and "/c" in text, "the page", done)
 
 
+def has_lists(sandbox, done):
+    """A page without script, of the entries that were added or removed."""
+    text = sandbox.read("/tmp/page.html")
+    found = ["<code>%s</code>" % name in text for name in "abc"]
+    sandbox.check(not done[1] and not faults_in(done[2]) and "<script" not in text and found[2] is False and any(found), "the lists", done)
+
+
 def put_logs(sandbox):
     """Files of which some change on every day, and some must not."""
     paths = ["/etc/passwd", "/srv/mail", "/srv/mail/inbox", "/srv/mail/queue/1", "/var/log", "/var/log/dpkg.log", "/var/log/syslog"]

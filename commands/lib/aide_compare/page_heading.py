@@ -1,0 +1,91 @@
+"""What stands over the entries of a page: of which host and which databases it is, the counts, and what is missing."""
+from html import escape
+
+from aide_compare.json_lines import DATE, KINDS, SEVERITIES, bytes_of
+from aide_compare.page_items import entries, number
+from aide_compare.shown_text import date_of, shown, shown_note
+
+OUTCOMES = {True: "The two databases differ", False: "No differences between the two databases"}
+KNOWN = {"record", "format", "differences", "total", "added", "removed", "changed", "levels", "grouped", "summarized", "base16",
+         "lines", "uncertain", "reasons", "left_out", "host", "@timestamp", "old_time", "new_time"}
+MOST_MEMBERS, MOST_LETTERS = 20, 5000
+HINT = ("Reasons are hints: they come from files of the host, such as dpkg's records, and whoever has taken over the host can forge "
+        "these. The evidence of an archive is kept elsewhere and is stronger.")
+
+
+def member(summary, name):
+    """A member of the summary that is a text, as it is shown; a date is shown as people read it."""
+    value = summary.get(name)
+    if not isinstance(value, str):
+        return ""
+    return date_of(value) if DATE.fullmatch(value) else shown_note(value)
+
+
+def title_of(title, summary):
+    """The heading: what the caller has given, or else the host."""
+    host = member(summary, "host")
+    return shown(title[:MOST_LETTERS]) if title else "File changes on %s" % host if host else "File changes"
+
+
+def facts(summary):
+    """The host, the time, and what else the caller has written into the summary."""
+    more = [name for name, value in summary.items() if name not in KNOWN and isinstance(value, str)][:MOST_MEMBERS]
+    rows = [("Host", member(summary, "host")), ("Compared", member(summary, "@timestamp"))]
+    rows += [(shown_note(name), member(summary, name)) for name in more]
+    text = "".join("<div><dt>%s</dt><dd>%s</dd></div>" % (escape(name), escape(value)) for name, value in rows if value)
+    return '<dl class="facts">%s</dl>\n' % text if text else ""
+
+
+def databases(report):
+    """The databases, with the time of each if the summary has it."""
+    lines = ""
+    for fields in report.databases:
+        time = member(report.summary, fields["side"] + "_time")
+        lines += "<dt>%s</dt><dd><code>%s</code>%s<small>SHA-256 <code>%s</code></small></dd>" % (
+            fields["side"].capitalize(), escape(shown(bytes_of(fields, "path")[:MOST_LETTERS])),
+            " <span>of %s</span>" % escape(time) if time else "", fields["sha256"])
+    return '<details class="databases"><summary>Databases</summary><dl>%s</dl></details>\n' % lines if lines else ""
+
+
+def card(name, text, count, more=""):
+    return '<div class="%s"><dt>%s</dt><dd>%s</dd>%s</div>' % (name, text, number(count), more)
+
+
+def counts(report):
+    """The counts of the summary, if the report has it."""
+    if report.changes() is None:
+        return ""
+    cards = "".join(card(kind, kind.capitalize(), report.summary[kind]) for kind in KINDS)
+    return '<dl class="counts">%s%s</dl>\n' % (cards, card("all", "All entries", report.summary["total"]))
+
+
+def reason_counts(reasons):
+    """How many entries nothing explains, how severe they are, and how many are explained."""
+    if not reasons.has_any:
+        return ""
+    open_ones, not_verified, explained = reasons.standings
+    severe = ", ".join("%s %s" % (number(count), name) for name, count in zip(SEVERITIES, reasons.severities) if count)
+    cards = card("unexplained", "Not explained", open_ones) + card("unverified", "Explained, not verified", not_verified)
+    cards += card("explained", "Explained", explained)
+    severities = '<p class="severities">Severity of what is not explained or not verified: %s</p>\n' % severe if severe else ""
+    return '<dl class="counts reasons">%s</dl>\n%s<p class="hint">%s</p>\n' % (cards, severities, HINT)
+
+
+def left_out(value):
+    """What the comparison has left out, as far as the summary says it."""
+    if type(value) is int:
+        return "The comparison left out %s." % entries(value) if value else ""
+    if isinstance(value, dict):
+        parts = ["%s: %s" % (shown_note(str(name)), shown_note(str(count))) for name, count in value.items() if count]
+        return "The comparison left out entries (%s)." % "; ".join(parts[:MOST_MEMBERS]) if parts else ""
+    return "The comparison left out entries: %s" % shown_note(value) if isinstance(value, str) and value else ""
+
+
+def remarks(report, more):
+    """What a reader should know of what is missing."""
+    found = [left_out(report.summary.get("left_out"))]
+    if "uncertain" in report.summary:
+        found.append("The report ends after its first part. A report that was cut there looks the same.")
+    elif report.changes() and not report.count:
+        found.append("A report of this level lists no entries.")
+    return "".join('<p class="remark">%s</p>\n' % escape(text) for text in found + more if text)

@@ -1,0 +1,154 @@
+"""What a page says of reasons, severities, hosts and times, and how its filters and orders work."""
+import json
+import os
+import random
+import re
+
+from tools.commands.viewers import HTML  # It puts the modules of the commands in reach.
+from tools.commands.viewers.hostile import NAMES
+from tools.commands.viewers.lines import lines_of, objects_of, page_of, run
+from tools.commands.viewers.pages import bytes_shown, page_faults
+from tools.commands.viewers.refused import rich_report
+
+from aide_compare.escapes import shown as escaped
+from aide_compare.json_lines import GRADES, KINDS, SEVERITIES
+from aide_compare.page_view import CHOICES, STANDINGS, Seen, View
+
+CASES = os.path.join(os.path.dirname(os.path.abspath(__file__)), "views.json")
+REPORTS = 60
+
+
+def cases():
+    with open(CASES, encoding="utf-8") as file:
+        return json.load(file)
+
+
+def seen_of(place, fields, attributes):
+    """An entry of the table of cases as filters see it."""
+    severity = SEVERITIES.index(fields["severity"]) if "severity" in fields else 3
+    return Seen(place, KINDS.index(fields["kind"]), STANDINGS.index(fields.get("standing", "unexplained")), severity,
+                [attributes.index(name) for name in fields["attributes"]], fields.get("reason", ""), fields.get("group", 0),
+                fields.get("growth", 0), fields["path"])
+
+
+def try_views(tally):
+    """Each case of the table: what a view finds, in which order, and how it is written."""
+    table = cases()
+    known, CHOICES["attribute"] = CHOICES["attribute"], table["attributes"]
+    try:
+        entries = [seen_of(place, fields, table["attributes"]) for place, fields in enumerate(table["entries"])]
+        for case in table["cases"]:
+            view = View(case["view"])
+            found, text = [seen.path for seen in view.ordered(entries)], case.get("text", case["view"])
+            tally.add("view %s" % case["view"], [] if found == case["found"] else ["it finds %r" % found])
+            tally.add("text of %s" % case["view"], [] if view.text() == text else ["it is %r" % view.text()])
+    finally:
+        CHOICES["attribute"] = known
+
+
+def with_reasons(objects, pick):
+    """The objects with severities and reasons, as aide-compare-reasons adds them, some of them with hostile names."""
+    texts = [escaped(name, 100) for name in pick.sample(NAMES, 5)] + ["openssl 3.0.15-1~deb12u1", "grew, content not verified"]
+    counts = dict.fromkeys(("explained", "not_verified", "unexplained", "high", "medium", "low"), 0)
+    for fields in objects:
+        if fields["record"] != "entry":
+            continue
+        fields["severity"] = pick.choice(SEVERITIES)
+        if pick.random() < 0.6:
+            fields["reason"] = {"class": "package", "text": pick.choice(texts), "verified": pick.random() < 0.6,
+                                "grade": pick.choice(GRADES)}
+        told = fields.get("reason")
+        counts["unexplained" if not told else "explained" if told["verified"] else "not_verified"] += 1
+        counts[fields["severity"]] += not (told and told["verified"])
+    objects[0]["reasons"] = counts
+    return objects
+
+
+def standing_of(fields):
+    told = fields.get("reason")
+    return 0 if not told else 2 if told["verified"] else 1
+
+
+def order_faults(text, entries):
+    """What is wrong with the order of the plain lists: first what is not explained, the severe of it at the front."""
+    lists = text[text.index("<noscript>") if "<noscript>" in text else text.index('id="content"'):]
+    found = re.findall(r'<b class="[a-z]+">[a-z ]+</b> <em class="([a-z]+)">[a-z]+</em> <code>([^<]*)</code>', lists)
+    wanted = sorted((fields for fields in entries if standing_of(fields) < 2),
+                    key=lambda fields: (standing_of(fields), SEVERITIES.index(fields["severity"])))
+    if [severity for severity, _ in found[:len(wanted)]] != [fields["severity"] for fields in wanted]:
+        return ["the order is %r" % found]
+    groups = {}
+    for fields in entries:
+        if standing_of(fields) == 2:
+            key = (fields["reason"]["text"], fields["reason"]["grade"])
+            groups[key] = groups.get(key, 0) + 1
+    told = [int(count.replace(",", "")) for count in re.findall(r"</code>: ([0-9,]+) files?, ", lists)]
+    return [] if told == sorted(groups.values(), reverse=True) else ["the groups have %r, and not %r" % (told, groups)]
+
+
+def card_faults(text, counts):
+    """What is wrong with the counts of reasons at the top of a page."""
+    told = [int(count.replace(",", "")) for count in re.findall(
+        r'<div class="(?:unexplained|unverified|explained)"><dt>[^<]*</dt><dd>([0-9,]+)</dd>', text)]
+    wanted = [counts[name] for name in ("unexplained", "not_verified", "explained")]
+    faults = [] if told == wanted else ["the cards have %r, and not %r" % (told, wanted)]
+    severe = dict((name, int(count)) for count, name in re.findall(r"([0-9]+) (high|medium|low)", "".join(
+        re.findall(r'<p class="severities">[^<]*', text))))
+    if severe != {name: counts[name] for name in SEVERITIES if counts[name]}:
+        faults.append("the severities are %r" % severe)
+    return faults + ([] if "Reasons are hints" in text else ["it does not say what reasons are worth"])
+
+
+def try_reasons(seed, tally):
+    """Reports with severities and reasons, in both forms of the page."""
+    for number in range(REPORTS):
+        pick = random.Random("reasons %d %d" % (seed, number))
+        objects, is_plain = with_reasons(objects_of(rich_report({"report_level": "added_removed_entries"})), pick), number % 2 == 1
+        text, entries = page_of(objects, is_plain), [fields for fields in objects if fields["record"] == "entry"]
+        faults = page_faults(text, objects, is_plain) + order_faults(text, entries) + card_faults(text, objects[0]["reasons"])
+        tally.add("reasons %d" % number, faults)
+    objects = objects_of(rich_report({"report_level": "summary"}))
+    objects[0]["reasons"] = {"explained": 4, "not_verified": 1, "unexplained": 3, "high": 2, "medium": 0, "low": 2}
+    tally.add("reasons without entries", card_faults(page_of(objects), objects[0]["reasons"]))
+
+
+def try_heading(tally):
+    """The host, the times, further members, and what was left out: each is there if the summary has it, and is text."""
+    objects = objects_of(rich_report({}))
+    more = {"host": "www<b>", "@timestamp": "2026-11-25T05:23:11Z", "old_time": "2026-11-24T05:20:00Z", "<i>": "a\u202eb", "left_out": 3,
+            "status": 7}
+    text = page_of([{**objects[0], **more}] + objects[1:])
+    for part in ("<h1>File changes on www&lt;b&gt;</h1>", "<dd>www&lt;b&gt;</dd>", "<dd>2026-11-25 05:23:11 UTC</dd>",
+                 "<span>of 2026-11-24 05:20:00 UTC</span>", "<dt>&lt;i&gt;</dt><dd>a\\342\\200\\256b</dd>",
+                 '<p class="remark">The comparison left out 3 entries.</p>'):
+        tally.add("the heading has " + part, [] if part in text.partition("</header>")[0] else ["it has not"])
+    plain = page_of(objects, True)
+    for part in ('class="facts"', "left out", "<span>of ", 'class="hint"', "<script"):
+        tally.add("an ordinary page has no " + part, ["it has"] if part in plain else [])
+    both = {"Size": {"old": None, "new": 18344}, "Perm": {"old": None, "new": "4755", "new_text": "-rwsr-xr-x"},
+            "UID": {"old": None, "new": 0}, "GID": {"old": None, "new": 50}, "ACL": {"old": None, "new": "POSIX,dXNl", "new_text": "user::rw-<"}}
+    entry = next(fields for fields in objects if fields.get("kind") == "added")
+    entry["attributes"] = both
+    for is_plain in (False, True):
+        text = page_of(objects, is_plain)
+        tally.add("a new file", [] if "<i>-rwsr-xr-x  0:50  18344 bytes</i>" in text else ["its mode and owner are not there"])
+        tally.add("a decoded value", [] if '<td title="POSIX,dXNl">user::rw-&lt;' in text else ["it is not there"])
+
+
+def try_only(tally):
+    """With a filter, a plain page lists only what fits, and says so."""
+    objects = with_reasons(objects_of(rich_report({})), random.Random(3))
+    lines = lines_of(objects)
+    entries = [fields for fields in objects if fields["record"] == "entry"]
+    for words, wanted in (("standing=unexplained", [fields for fields in entries if standing_of(fields) == 0]),
+                          ("kind=added,removed", [fields for fields in entries if fields["kind"] != "changed"]),
+                          ("severity=high&path=ETC", [fields for fields in entries
+                                                      if fields["severity"] == "high" and "etc" in fields["path"]])):
+        status, output, errors = run([HTML, "--plain", "--only", words], lines)
+        names = re.findall(r'<b class="[a-z]+">[a-z ]+</b> <em class="[a-z]+">[a-z]+</em> <code>([^<]*)</code>', output.decode())
+        good = not status and sorted(names) == sorted(fields["path"] for fields in wanted)
+        tally.add("only " + words, [] if good else ["status %d, %r, %r" % (status, names, errors)])
+        said = "These lists have the %d entr" % len(wanted)
+        tally.add("only %s is said" % words, [] if said in output.decode() else ["it is not"])
+    status, output, errors = run([HTML, "--only", "severity=grave"], lines)
+    tally.add("a filter that is none", [] if status == 15 and not output and b"severity=grave" in errors else ["%d %r" % (status, errors)])

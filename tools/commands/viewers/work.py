@@ -1,0 +1,116 @@
+"""Counts the work of the page's code, without a clock: lines of Python that ran, pieces of paths that were looked at, and
+bytes that were held at once.
+
+Work that grows as its input does doubles with it; a walk within a walk makes it four times as much.
+"""
+import io
+import sys
+import tracemalloc
+
+from tools.commands.viewers import HTML  # It puts the modules of the commands in reach.
+
+from aide_compare.page import page
+from aide_compare.page_lists import FolderLists
+from aide_compare.report_lines import Lines
+from aide_compare.report_parts import read_report
+
+OURS = HTML.rsplit("/", 2)[0] + "/lib/aide_compare/"
+MOST_GROWTH = 1.3
+
+
+def lines_run(work):
+    """How many lines of the commands' modules a call runs."""
+    count = 0
+
+    def see_line(frame, event, _):
+        nonlocal count
+        count += event == "line"
+        return see_line
+
+    def see_call(frame, event, _):
+        return see_line if frame.f_code.co_filename.startswith(OURS) else None
+    before = sys.gettrace()
+    sys.settrace(see_call)
+    try:
+        work()
+    finally:
+        sys.settrace(before)
+    return count
+
+
+def bytes_held(work):
+    """The most bytes that a call holds at once."""
+    tracemalloc.start()
+    try:
+        work()
+        return tracemalloc.get_traced_memory()[1]
+    finally:
+        tracemalloc.stop()
+
+
+def pages_of(lines):
+    """A call that makes both forms of a page."""
+    def work():
+        for is_plain in (False, True):
+            for _ in page(io.BytesIO(lines), None, is_plain):
+                pass
+    return work
+
+
+def objects_of(report):
+    """A call that reads a report."""
+    def work():
+        for _ in read_report(Lines(io.BytesIO(report))):
+            pass
+    return work
+
+
+class Pieces(list):
+    """A list of the pieces of a path that counts the pieces that are looked at, copied or compared."""
+
+    looked_at = 0
+
+    @classmethod
+    def look_at(cls, count):
+        cls.looked_at += count
+
+    def __getitem__(self, key):
+        found = super().__getitem__(key)
+        self.look_at(len(found) if isinstance(key, slice) else 1)
+        return Pieces(found) if isinstance(key, slice) else found
+
+    def __iter__(self):
+        for piece in super().__iter__():
+            self.look_at(1)
+            yield piece
+
+    def __eq__(self, other):
+        self.look_at(min(len(self), len(other)))
+        return super().__eq__(other)
+
+    def __ne__(self, other):
+        return not self == other
+
+
+def pieces_looked_at(entries):
+    """How many pieces of paths the lists in folders look at, for some entries."""
+    Pieces.looked_at = 0
+    lists = FolderLists(1 << 30, 0)
+    lists.names = Pieces(lists.names)
+    for entry in entries:
+        lists.add(entry._replace(names=Pieces(entry.names)))
+    lists.end()
+    for _ in lists.parts():
+        pass
+    return Pieces.looked_at
+
+
+def growth_faults(measure, given_of, size):
+    """What is wrong with the growth of some work from a size to twice that size: it grows as its input does.
+
+    `given_of` gives what to measure at a size, and the size of that input.
+    """
+    (small, few), (large, more) = [(measure(given), length) for given, length in map(given_of, (size, 2 * size))]
+    if not small:
+        return ["nothing was counted"]
+    return ["%d at %d, %d at %d" % (small, few, large, more)] if large * few > MOST_GROWTH * small * more else []
