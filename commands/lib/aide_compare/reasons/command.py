@@ -6,7 +6,7 @@ from aide_compare.reasons.evidence import add_evidence_options, evidence_of
 from aide_compare.reasons.explainer import Explainer
 from aide_compare.reasons.lines import Lines
 from aide_compare.unpack import copy_database
-from aide_compare.viewers import _run as run_over, parser_of
+from aide_compare.viewers import parser_of, run as run_over
 
 NAME = "aide-compare-reasons"
 MOST_DATABASE = 4 << 30
