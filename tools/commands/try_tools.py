@@ -29,6 +29,7 @@ from tools.commands.trials.fleet import try_fleet
 from tools.commands.trials.hosts_ends import try_hosts_ends
 from tools.commands.trials.hosts_report import try_hosts_report
 from tools.commands.trials.faults import try_faults, try_signals
+from tools.commands.trials.lost_modules import try_lost_modules
 from tools.commands.trials.mail import try_mail
 from tools.commands.trials.sandbox import Sandbox, shells
 from tools.commands.trials.run import try_run
@@ -41,7 +42,7 @@ BASE = [try_texts, try_files]
 # The longest come first, so that none of them is left at the end.
 TRIALS = [try_accept_attacks, try_accept_kills, try_sorting, try_readers, try_mail, try_run, try_attacks, try_fleet,
           try_hosts_report, try_hosts_ends, try_cut_reports, try_faults, try_accept, try_without, try_explained,
-          try_explained_readers, try_age, try_signals]
+          try_explained_readers, try_age, try_signals, try_lost_modules]
 
 
 def try_base(trial, tally):

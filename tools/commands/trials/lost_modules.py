@@ -1,0 +1,43 @@
+"""The commands without their modules, as after a copy of one file or a broken update: they say so, and report nothing."""
+import os
+import shutil
+import subprocess
+import tempfile
+
+from tools.commands.trials.sandbox import HERE, TIME_LIMIT
+
+FOLDERS = ("bin", "fleet", "nagios")
+
+
+def started(path):
+    """The status and both outputs of a command that is started without arguments."""
+    done = subprocess.run([path], stdin=subprocess.DEVNULL, stdout=subprocess.PIPE, stderr=subprocess.PIPE, timeout=TIME_LIMIT)
+    return done.returncode, done.stdout, done.stderr
+
+
+def try_one(sandbox, folder, name, path, why):
+    status, output, errors = started(path)
+    if folder == "nagios":
+        wanted = status == 3 and output.startswith(b"AIDE UNKNOWN: ")
+    else:
+        wanted = status == 18 and output == b"" and errors.startswith(name.encode() + b": cannot start: ")
+    sandbox.check("%s, %s" % (name, why), wanted, (status, output, errors))
+
+
+def try_lost_modules(sandbox):
+    room, found = tempfile.mkdtemp(prefix="try-lost-"), 0
+    try:
+        broken = os.path.join(room, "broken", "lib", "aide_compare")
+        os.makedirs(broken)
+        with open(os.path.join(broken, "__init__.py"), "w") as file:
+            file.write("this is no Python\n")
+        for folder in FOLDERS:
+            for name in sorted(os.listdir(os.path.join(HERE, "commands", folder))):
+                for place, why in (("alone", "no modules"), ("broken/" + folder, "broken modules")):
+                    os.makedirs(os.path.join(room, place), exist_ok=True)
+                    path = shutil.copy(os.path.join(HERE, "commands", folder, name), os.path.join(room, place, name))
+                    try_one(sandbox, folder, name, path, why)
+                    found += 1
+        sandbox.check("a command is found", found > 20, found)
+    finally:
+        shutil.rmtree(room, ignore_errors=True)
