@@ -1,6 +1,6 @@
 //! The columns of a database.
-ghost use Rattle.std.specs.Prelude.{◌≡◌, ◌+◌, ◌*◌, ◌<◌, ◌≤◌, [], ◌∷◌, ◌++◌, length, true, false, take};
-ghost use Rattle.std.specs.Prelude.{map, All, ℕ, List, None, IfNone, IfSome, drop};
+ghost use Rattle.std.specs.Prelude.{◌≡◌, ◌+◌, ◌*◌, ◌<◌, ◌≤◌, [], ◌∷◌, ◌++◌, length, true, false};
+ghost use Rattle.std.specs.Prelude.{take, map, All, ℕ, List, None, IfNone, IfSome, drop};
 ghost use Rattle.aide_entry.specs.Fields.{is_column, field_under};
 ghost use Rattle.aide_entry.specs.FirstColumns.{AreFirstColumns};
 ghost use Rattle.aide_entry.specs.Spans.{first_in};
