@@ -1,0 +1,11 @@
+# Completions of fish for aide-compare-reasons.
+complete -c aide-compare-reasons -l databases -r -d 'The two databases that were compared'
+complete -c aide-compare-reasons -l packages -r -d 'Records of the packages of the old night'
+complete -c aide-compare-reasons -l packages-now -r -d 'Records of the packages of the new night'
+complete -c aide-compare-reasons -l archive -x -a '(__fish_complete_directories)' -d 'A folder with packages or signed indexes'
+complete -c aide-compare-reasons -l keyring -r -d 'The keys of the archive'
+complete -c aide-compare-reasons -l rules -r -d 'Reasons of your own'
+complete -c aide-compare-reasons -l severity -r -d 'A table of severities'
+complete -c aide-compare-reasons -l most -x -d 'Refuse a larger database'
+complete -c aide-compare-reasons -l version -d 'Print the version'
+complete -c aide-compare-reasons -l help -d 'Print a short help'
