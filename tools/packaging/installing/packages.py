@@ -13,6 +13,9 @@ from tools.packaging.installing.trial import files, rights, texts, tree
 
 FIXED = 1767225600
 
+# The configuration files of the Debian package, and the example that each is.
+CONFIGURATION = {"etc/aide/aide.conf.d/31_aide_aide-compare": "31_aide_aide-compare", "etc/aide-compare/without": "debian.without"}
+
 
 def make(trial, name, **more):
     """Runs packaging/make_package into a new folder: its status and outputs, and the files there."""
@@ -128,10 +131,11 @@ def try_debian(trial, path, time):
     sums = found["DEBIAN/md5sums"][1].decode().splitlines()
     kept = {name: data for name, (_, data) in files(found).items() if not name.startswith("DEBIAN/")}
     # dpkg itself keeps the sums of what an administrator may change.
-    rules = kept.pop("etc/aide/aide.conf.d/31_aide_aide-compare", None)
     conffiles = found["DEBIAN/conffiles"][1].decode() if "DEBIAN/conffiles" in found else ""
-    trial.check(rules == kept["usr/share/doc/aide-compare/examples/aide/31_aide_aide-compare"] and
-                conffiles == "/etc/aide/aide.conf.d/31_aide_aide-compare\n", "the rules for AIDE are a configuration file", conffiles)
+    for name, example in CONFIGURATION.items():
+        same = kept.pop(name, None) == kept["usr/share/doc/aide-compare/examples/aide/" + example]
+        trial.check(same, "a configuration file: " + name)
+    trial.check(conffiles == "".join("/%s\n" % name for name in CONFIGURATION), "the configuration files", conffiles)
     trial.check(sorted(sums) == sorted("%s  %s" % (hashlib.md5(data).hexdigest(), name) for name, data in kept.items()),
                 "md5sums")
     installed = {name[len("usr/local/"):] for name in files(tree(trial.path("first")))} - {"lib/aide-compare/installed"}
