@@ -20,7 +20,7 @@ parent, (one, other, spare, target) = os.getppid(), sys.argv[1:]
 exchange = ctypes.CDLL(None).renameat2
 %s
 count = 0
-while os.getppid() == parent:
+while os.getppid() == parent != 1:
     if not os.path.islink(one) and not os.path.islink(other):
         os.symlink(target, spare)
         os.rename(spare, other)
