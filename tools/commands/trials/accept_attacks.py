@@ -8,7 +8,7 @@ from .others_folder import BASELINE, SECRET, Swapping, call, harm, put, roots
 from .sandbox import NEW, NOBODY, OLD, sha256
 
 ROUNDS = 200
-MOST_CALLS = 120
+MOST_CALLS = 250
 FOR_THE_CALL, FOR_GOOD = 2, 3
 
 

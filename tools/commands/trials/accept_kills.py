@@ -1,6 +1,7 @@
 """aide-compare-accept is killed before each of its calls, also on an old file system; and what is on the disk when."""
 import fcntl
 import os
+import shutil
 
 from .accepting import BASE, OLDER, accept_at, contents, fresh, is_tried, library, records_of, small_dpkg
 from .sandbox import NEW, NOBODY, OLD, sha256
@@ -11,9 +12,9 @@ MOST_CALLS = 250
 
 def try_accept_kills(sandbox):
     if is_tried(sandbox):
-        small_dpkg(sandbox)
         try_order(sandbox)
         try_kills(sandbox)
+        try_kills_of_records(sandbox)
 
 
 def try_order(sandbox):
@@ -42,13 +43,23 @@ def wait_for_child(sandbox):
 
 
 def try_kills(sandbox):
-    settings = library(sandbox)
-    if not settings:
-        return
     forms = [("in the caller's folder", None, 0, 0), ("on an old file system", None, 0, 1)]
     if os.getuid() == 0:
         forms += [("in another user's folder", NOBODY, 0, 0), ("in the child", NOBODY, 1, 0)]
-    for form, owner, child, old in forms:
+    kill_everywhere(sandbox, forms)
+
+
+def try_kills_of_records(sandbox):
+    """On a machine with dpkg: at no moment records of another baseline are beside the one that is there."""
+    small_dpkg(sandbox)
+    kill_everywhere(sandbox, [("with records", None, 0, 0)] + ([("with records in the child", NOBODY, 1, 0)]
+                                                                if os.getuid() == 0 else []))
+    shutil.rmtree(sandbox.path("dpkg"))
+
+
+def kill_everywhere(sandbox, forms):
+    settings = library(sandbox)
+    for form, owner, child, old in forms if settings else ():
         number = 1
         while number < MOST_CALLS and kill_at(sandbox, settings, number, form, owner, child, old):
             number += 1
@@ -73,7 +84,8 @@ def kill_at(sandbox, settings, number, form, owner, child, old):
     sandbox.check("killed %s before call %d" % (form, number), ended and whole, (done, baseline, former))
     sandbox.check("the records, killed %s before call %d" % (form, number), records in (None, sha256(baseline)), records)
     again = accept_at(sandbox, settings, AT_NUMBER=0)
-    good = contents(sandbox) == (NEW, OLD, NEW, 3) and records_of(sandbox) == sha256(NEW)
+    wanted = sha256(NEW) if os.path.isdir(sandbox.path("dpkg")) else None
+    good = contents(sandbox) == (NEW, OLD, NEW, 3) and records_of(sandbox) == wanted
     sandbox.check("the next run, killed %s before call %d" % (form, number), again.status == 0 and good,
                   (again, contents(sandbox), records_of(sandbox)))
     return ended and whole

@@ -285,6 +285,12 @@ def try_counts(sandbox):
         )
 
 
+    sandbox.write('faulty', 'report_url=stdout\nreport_level=nonsense\n')
+    for words in ([], ['--', '-A', 'report_level=summary']):
+        answer = sandbox.call(TOOL, '-c', 'faulty', 'old.db', 'new.db', *words)
+        sandbox.expect('a fault in a line that -A replaces, with %r' % words, answer, 17, b'', [b'aide: config:2: bad value', b'line 2: report_level=nonsense'])
+
+
 def try_runs(sandbox):
     """The program compares once. Only a report of the level minimal has no counts, so that a state needs a second run."""
     program = sandbox.path('bin/aide-compare')

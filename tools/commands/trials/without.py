@@ -142,6 +142,8 @@ def try_left_out(sandbox):
     sandbox.check("the state has both, and the digests of the whole databases", want.items() <= state.items(), state)
     answer = sandbox.call(TOOL, "--without-path", "/var/log/x y", "--without-path=/etc/**", "o.db", "n.db")
     sandbox.expect("by single lines", answer, 2, [b"Removed entries:         1"], [b"1 by /var/log/x y (--without-path)"])
+    answer = sandbox.call(TOOL, "--without-path", "/etc/a", "o.db", "n.db")
+    sandbox.expect("one entry", answer, 7, None, [b"left out of the old database: 1 entry\n"])
     answer = sandbox.call(TOOL, "--without-path", "/nothing", "o.db", "n.db")
     sandbox.expect("nothing is left out", answer, 7, None, [b"left out of the new database: 0 entries"])
     sandbox.check("without the option nothing is said", b"left out" not in sandbox.call(TOOL, "o.db", "n.db").errors)

@@ -29,6 +29,7 @@ def left_out(olds, news):
     lines = []
     for side, counts in (("old", olds), ("new", news)):
         total = sum(count for count, _ in counts)
-        lines.append("aide-compare-run: left out of the %s database: %d entries\n" % (side, total))
+        entries = "1 entry" if total == 1 else "%d entries" % total
+        lines.append("aide-compare-run: left out of the %s database: %s\n" % (side, entries))
         lines += ["aide-compare-run:   %d by %s\n" % each for each in counts]
     return "".join(lines)
