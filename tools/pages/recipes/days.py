@@ -22,6 +22,15 @@ def put_stubs(trial):
     trial.stub("systemctl", "exit 0")
     trial.stub("chown", 'printf "%%s\\n" "$*" >> "%s/tmp/owners"' % trial.root)
     put_stub(trial)
+    put_packages(trial, "3.0.16-1", {})
+
+
+def put_packages(trial, version, digests):
+    """dpkg's records of a machine with one package, openssl, and the MD5 sums of its files by path."""
+    trial.write("/var/lib/dpkg/status", "Package: openssl\nStatus: install ok installed\nArchitecture: amd64\nVersion: %s\n\n" % version)
+    trial.write("/var/lib/dpkg/diversions", "")
+    trial.write("/var/lib/dpkg/info/openssl.list", "/.\n" + "".join(path + "\n" for path in digests))
+    trial.write("/var/lib/dpkg/info/openssl.md5sums", "".join("%s  %s\n" % (sum, path[1:]) for path, sum in digests.items()))
 
 
 def taken(trial, name):
@@ -35,11 +44,12 @@ def taken(trial, name):
 
 
 def unit_commands(trial):
-    """What the services of systemd start: the comparison, and then the sending. A file local.conf beside a unit comes last,
+    """What the services of systemd start: the comparison, and then the sending. The files in a folder beside a unit come last,
     and an ExecStart= without a command takes back those before it."""
     commands = []
     for name in ("aide-compare.service", "aide-compare-mail.service"):
-        text = trial.read("/usr/local/lib/systemd/system/" + name) + trial.read("/etc/systemd/system/%s.d/local.conf" % name)
+        drop_ins = sorted(glob.glob(trial.path("/etc/systemd/system/%s.d/*.conf" % name)))
+        text = trial.read("/usr/local/lib/systemd/system/" + name) + "".join(open(path).read() for path in drop_ins)
         found = re.findall(r"^ExecStart=(.*)$", text.replace("\\\n", " "), re.M)
         starts = found[len(found) - found[::-1].index("") :] if "" in found else found
         trial.check(len(starts) == 1, "%s starts one command" % name, starts)
@@ -102,6 +112,11 @@ class Day:
         good = good and tuple(map(int, numbers[:3])) == counts
         self.check(done[0] == (0 if self.counts is None else 2) and good, "the check (%s)" % text, done)
         self.prints("check", done[1])
+        done = self.page.run("check limits", rights=NOBODY)
+        words = ("OK", "WARNING", "CRITICAL")
+        state = self.trial.read(STATE)
+        wanted = 0 if self.counts is None else 1 if "\nhigh=0\n" in state else 2
+        self.check(done[0] == wanted and words[wanted] in done[1], "the check with limits", (done, state))
 
     def ask_metrics(self):
         done = self.page.run("metrics")
@@ -151,10 +166,15 @@ def play(trial, page, watched):
     watched.baseline()
     watched.nightly()
     done = page.run("first")
-    trial.check(done[0] == 0 and done[2] == trial.below(PASSED_OVER), "first", done)
-    wanted = "_aide: %s\n" % trial.path(BASELINE)
-    trial.check(taken(trial, "owners") == wanted, "first: the baseline is given to the user of the timer")
+    trial.check(done[0] == 0 and done[2] == "", "first", done)
+    wanted = "".join("_aide: %s\n" % trial.path(name) for name in (STORE + "/daily", BASELINE))
+    trial.check(taken(trial, "owners") == wanted, "first: folder and baseline are given to the user of the timer")
     page.prints("first", done[1])
+    # The days that follow are those of the unit as it is installed.
+    shutil.rmtree(trial.path("/etc/systemd/system/aide-compare.service.d"))
+    done = page.run("at once")
+    trial.check(done[0] == 0 and done[2] == trial.below(PASSED_OVER), "at once", done)
+    page.prints("at once", done[1])
     page.prints("compare", done[2])
     done = page.run("cron daily")
     trial.check(done == (0, "", ""), "cron daily", done)

@@ -1,10 +1,12 @@
 """Quiet days on Debian: logs and caches change every night, and what is no log is still reported."""
+import base64
 import gzip
+import hashlib
 import os
 import re
 import shutil
 
-from .days import BASELINE, NEWEST, STATE, crons_command, put_stubs, taken, unit_commands
+from .days import BASELINE, NEWEST, STATE, crons_command, put_packages, put_stubs, taken, unit_commands
 from .hosts import HEAD
 from .said import introduction, left_out
 from .trial import NOBODY
@@ -69,14 +71,14 @@ def try_job(trial, name, commands):
     trial.check(good, "quiet %s: no mail of a night of logs" % name, (mail, state))
     put(trial, INTRUDER)
     mail = mails_of(trial, commands) or ""
-    good = "differences (1 added, 1 changed)" in mail and "/etc/ld.so.preload\n" in mail
+    good = "Subject: " in mail and ": 2 unexplained of 2 changes, " in mail and "/etc/ld.so.preload\n" in mail
     trial.check(good and "left out of the new database: 5 entries\n" in mail, "quiet %s: the mail of an intruder" % name, mail)
 
 
 def try_timer(trial, page):
     put(trial, NIGHT)
     mail = mails_of(trial, unit_commands(trial)) or ""
-    trial.check("differences (1 added, 2 removed, 4 changed)" in mail, "the timer as installed mails a night of logs", mail)
+    trial.check(": 7 unexplained of 7 changes" in mail, "the timer as installed mails a night of logs", mail)
     done = page.run("quiet timer")
     trial.check(done == (0, "", ""), "quiet timer", done)
     text = trial.read(DROP_IN + "/local.conf")
@@ -106,7 +108,8 @@ def own_files(trial):
         yield "d", folder
         yield from (("f", os.path.join(folder, name)) for name in names)
     yield "f", trial.path(STATE + ".quiet")
-    yield "f", trial.path(BASELINE + ".previous")
+    for ending in (".previous", ".packages"):
+        yield "f", trial.path(BASELINE + ending)
     yield "f", "/var/lib/systemd/timers/stamp-aide-compare.timer"
 
 
@@ -153,11 +156,68 @@ def try_owner(trial, page):
     for name, owner in (("the user of the databases", NOBODY), ("root, whose AIDE wrote the new one", 0)):
         os.chown(trial.path(NEWEST), owner, owner)
         mail = mails_of(trial, [crons_command(trial)]) or ""
-        trial.check(": differences (" in mail, "cron: %s compares" % name, mail)
+        trial.check(" unexplained of " in mail, "cron: %s compares" % name, mail)
         trial.check(os.stat(trial.path(STATE)).st_uid == owner, "cron: %s writes the state" % name)
     for path, found in owners.items():
         os.chown(trial.path(path), found.st_uid, found.st_gid)
     shutil.rmtree(trial.path(folder))
+
+
+# A night in which openssl is upgraded, and another one with an intruder.
+FILES = ("/usr/bin/openssl", "/usr/lib/ssl.so")
+COLUMNS = "@@begin_db\n@@db_spec name attr perm uid gid size md5\n"
+
+
+def sums_of(texts):
+    return {path: hashlib.md5(text.encode()) for path, text in texts.items()}
+
+
+def put_night(trial, name, texts):
+    """A database of files with these texts, which root owns."""
+    lines = ["%s 4156 100755 0 0 1 %s\n" % (path, base64.b64encode(sum.digest()).decode()) for path, sum in sums_of(texts).items()]
+    trial.write(name, gzip.compress((COLUMNS + "".join(sorted(lines)) + "@@end_db\n").encode()), 0o600)
+
+
+def is_sign_of_life(mail):
+    """The one mail of a quiet run, on Mondays."""
+    return mail is None or "quiet runs" in mail or "no difference in" in mail
+
+
+def try_upgrade(trial, page):
+    """The first three commands: a quiet night, one of an upgrade, and then an intruder beside it."""
+    before = {**dict.fromkeys(FILES, "old"), "/usr/bin/ls": "as it is"}
+    after = {**before, **dict.fromkeys(FILES, "new")}
+    trial.stub("aideinit", "exit 0")
+    put_packages(trial, "3.0.16-1", {})
+    put_night(trial, BASELINE, before)
+    put_night(trial, NEWEST, before)
+    done = page.run("first")
+    trial.check(done[0] == 0 and done[2] == "", "the first three commands", done)
+    trial.check(is_sign_of_life(mails_of(trial, unit_commands(trial))), "a quiet night")
+    put_packages(trial, "3.0.17-1", {path: sum.hexdigest() for path, sum in sums_of(after).items() if path in FILES})
+    put_night(trial, NEWEST, after)
+    trial.check(is_sign_of_life(mails_of(trial, unit_commands(trial))), "a night of an upgrade")
+    state = trial.read(STATE)
+    trial.check("\nexplained=2\n" in state and "\nunexplained=0\n" in state, "the state of an upgrade", state)
+    put_night(trial, NEWEST, {**after, "/usr/bin/ls": "with a back door"})
+    mail = mails_of(trial, unit_commands(trial)) or ""
+    subject, _, text = mail.partition("\n\n")
+    trial.check(": 1 unexplained of 3 changes, 1 high\n" in subject + "\n", "the subject after an intruder", mail)
+    page.prints("first mail", text)
+    done = page.run("reasons")
+    trial.check(done[0] == 4 and "1 unexplained of 3 changes" in done[2], "reasons", done)
+    page.prints("reasons", done[1])
+
+
+def try_lines(trial, page):
+    """Lines with reasons and with what was left out, and the page of them."""
+    for name, sizes in (("old", OLD), ("new", INTRUDER)):
+        lines = ["%s 36 100644 %d\n" % pair for pair in sizes.items()]
+        trial.write("/tmp/%s.db.gz" % name, gzip.compress((HEAD + "".join(sorted(lines)) + "@@end_db\n").encode()))
+    done = page.run("lines")
+    trial.check(done[0] == 0 and "unexplained" in done[2], "lines", done)
+    trial.check('"left_out":{"old":3,"new":4}' in trial.read("/tmp/lines") and "</html>" in trial.read("/tmp/page.html"),
+                "lines: what was left out, and the page", trial.read("/tmp/lines")[:500])
 
 
 def try_quiet(trial, page, with_packages):
@@ -165,7 +225,7 @@ def try_quiet(trial, page, with_packages):
     put_stubs(trial)
     names = (("database_in", BASELINE), ("database_new", NEWEST))
     trial.write("/etc/aide/aide.conf", "".join("%s=file:%s\n" % (key, trial.path(name)) for key, name in names))
-    for part in (try_timer, try_cron, try_own_files, try_owner, try_one_mail):
+    for part in (try_timer, try_cron, try_own_files, try_owner, try_one_mail, try_upgrade, try_lines):
         part(trial, page)
         shutil.rmtree(trial.path(DROP_IN), ignore_errors=True)
     try_command(trial, page)

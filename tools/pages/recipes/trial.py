@@ -24,6 +24,7 @@ FOLDERS = [
     "/usr/local",
     "/var/lib/aide",
     "/var/lib/aide-compare",
+    "/var/lib/dpkg",
     "/var/lib/prometheus",
     "/var/log/aide",
     "/var/log/aide-compare",
