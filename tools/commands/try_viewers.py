@@ -23,12 +23,17 @@ from tools.oracle.report import report_of
 from tools.program.random_texts.databases import random_pair
 from tools.lib.tally import Tally, program_of
 from tools.commands.viewers import HTML, JSON, hostile, looks
+from tools.commands.viewers.aide_form import try_aide_form
 from tools.commands.viewers.expected import faults_of
 from tools.commands.viewers.deep import try_deep, try_script, try_times
 from tools.commands.viewers.large import try_large
 from tools.commands.viewers.lines import lines_of, objects_of, page_of, run
+from tools.commands.viewers.occasion import try_occasion
 from tools.commands.viewers.pages import bytes_shown, contrast_faults, page_faults
 from tools.commands.viewers.refused import LINE_EDITS, REPORT_EDITS, TOGETHER, WITH_ALL_DETAILS, rich_report
+from tools.commands.viewers.schema import Validator, schema_of_lines
+from tools.commands.viewers.shapes import try_shapes
+from tools.commands.viewers.texts import text_faults, try_table
 
 from aide_compare import report_parts
 from aide_compare.json_lines import Report
@@ -80,6 +85,7 @@ def configuration_of(settings):
 
 def try_program(program, seed, count, tally):
     """The program's own reports of random databases, through both commands."""
+    validator = Validator(schema_of_lines())
     for number in range(count):
         pick = random.Random('program %d %d' % (seed, number))
         texts = random_pair(pick)
@@ -97,15 +103,17 @@ def try_program(program, seed, count, tally):
             tally.add(label, ['status %d, %r' % (status, errors)])
             continue
         objects = [json.loads(line) for line in output.splitlines()]
-        tally.add(label, faults_of(objects, *databases, texts, settings))
-        status, output, errors = run([HTML] + ['--plain'] * (number % 2), lines_of(objects))
+        faults = [fault for fields in objects for fault in validator.faults(fields)]
+        status, page_text, errors = run([HTML] + ['--plain'] * (number % 2), output)
+        faults += text_faults(objects)
+        tally.add(label, faults + faults_of(objects, *databases, texts, settings))
         faults = ['status %d, %r' % (status, errors)] if status or errors else []
-        tally.add(label + ', page', faults or page_faults(output.decode(), objects, number % 2 == 1))
+        tally.add(label + ', page', faults or page_faults(page_text.decode(), objects, number % 2 == 1))
 
 
 def try_hostile(seed, count, tally):
     """Reports with names and values that could be taken for something else, and further ones until each doubt was met."""
-    doubts = set()
+    doubts, validator = set(), Validator(schema_of_lines())
     for number in range(max(count, MOST_REPORTS)):
         if number >= count and doubts == DOUBTS:
             break
@@ -115,7 +123,8 @@ def try_hostile(seed, count, tally):
         report, _ = report_of(*databases, texts, settings)
         try:
             objects = objects_of(report, takes_empty=True)
-            faults = faults_of(objects, *databases, texts, settings)
+            faults = [fault for fields in objects for fault in validator.faults(fields)]
+            faults += faults_of(objects, *databases, texts, settings)
             faults += page_faults(page_of(objects, number % 2 == 1), objects, number % 2 == 1) if number % 4 < 2 else []
         except Refused as refused:
             objects, faults = [], ['it is refused: %s' % refused]
@@ -284,6 +293,9 @@ def main():
     tally.add('contrast', contrast_faults(part_of('page.css')))
     try_script(script_of(), tally)
     try_times(tally)
+    try_table(tally)
+    try_occasion(program, tally)
+    try_aide_form(program, tally)
     try_deep(tally)
     looks.try_views(tally)
     looks.try_heading(tally)
@@ -294,6 +306,7 @@ def main():
     try_cuts(tally)
     try_edits(tally)
     try_shown(given.seed, tally)
+    try_shapes(given.seed, given.count, tally)
     try_hostile(given.seed, 10 * given.count, tally)
     try_program(program, given.seed, given.count, tally)
     tally.end()

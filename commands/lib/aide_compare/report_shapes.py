@@ -12,7 +12,7 @@ from operator import ne
 from aide_compare.report_lines import Lines, Refused, unprinted
 from aide_compare.report_marks import misfit
 from aide_compare.report_pieces import Piece, picker
-from aide_compare.report_values import TYPES
+from aide_compare.report_values import FORMS, TYPES
 
 # A shape has to come so often before it gets a pattern. So many of the same attributes are tried at an entry, and no further
 # shapes are counted after so many.
@@ -141,9 +141,10 @@ class Shapes:
 
     def learn(self, blocks, digests):
         """Takes notice of an entry that was read by lines, and whose values are good."""
-        if len(digests.bases) != 1 or len(self.seen) >= MOST_COUNTED:
+        base = min(digests.bases) if len(digests.bases) == 1 else None
+        is_open = base is None and any(isinstance(FORMS[block.label], tuple) for block in blocks)
+        if is_open or len(self.seen) >= MOST_COUNTED:
             return
-        base = min(digests.bases)
         pieces = [Piece(block, base) for block in blocks]
         key = b''.join(piece.pattern for piece in pieces)
         self.seen[key] += 1

@@ -1,6 +1,6 @@
 """Parts of try_viewers by name, for the bugs that are planted against them."""
 from tools.commands import try_viewers
-from tools.commands.viewers import deep, looks
+from tools.commands.viewers import aide_form, deep, looks, occasion, shapes, texts
 from aide_compare.page import script_of
 
 SEED, REPORTS = 20261125, 80
@@ -56,3 +56,23 @@ def try_commands(sandbox):
 
 def try_hostile(sandbox):
     try_viewers.try_hostile(SEED, REPORTS, sandbox.tally)
+
+
+def try_program(sandbox):
+    try_viewers.try_program(sandbox.program, SEED, REPORTS // 4, sandbox.tally)
+
+
+def try_table(sandbox):
+    texts.try_table(sandbox.tally)
+
+
+def try_shapes(sandbox):
+    shapes.try_shapes(SEED, REPORTS // 2, sandbox.tally)
+
+
+def try_aide_form(sandbox):
+    aide_form.try_aide_form(sandbox.program, sandbox.tally)
+
+
+def try_occasion(sandbox):
+    occasion.try_occasion(sandbox.program, sandbox.tally)

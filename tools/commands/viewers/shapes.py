@@ -1,0 +1,113 @@
+"""Reports of many entries of few shapes, whole and damaged: read by shapes and by lines, with the same answer."""
+import io
+import json
+import random
+
+from aide_compare.report_json import LineWriter
+from aide_compare.report_lines import Lines, Refused
+from aide_compare.report_parts import read_report
+from aide_compare.report_shapes import Written
+from aide_compare.report_written import Values
+from tools.oracle.attributes import ATTRIBUTES
+from tools.oracle.configuration import DEFAULTS, LEVELS
+from tools.oracle.report import report_of
+
+from . import hostile
+
+OPAQUE = [b'524288', b'524304', b'POSIX,dXNlcjo6cnctCg==,0', b'1,user.a,YQ==', b'x' * 40]
+LETTERS = b'\n |:0129aZ=+-/\\\x01'
+# A fifth of the entries of whole reports are read by shapes at least. It is about a third.
+LEAST_SHARE = 5
+
+
+def usual_value(pick, form):
+    """A value as most files have it."""
+    if form == 'perm':
+        return pick.choice([0o644, 0o755, 0o4755])
+    if form in ('number', 'time'):
+        return pick.randrange(2 * 10**9)
+    if form == 'opaque':
+        return pick.choice(OPAQUE)
+    return pick.getrandbits(8 * form[0]).to_bytes(form[0], 'big') if isinstance(form, tuple) else None
+
+
+def values_of(pick, attributes, is_usual):
+    found = {}
+    for attribute in attributes:
+        value = usual_value(pick, attribute.form) if is_usual else None
+        found[attribute.name] = hostile.random_value(pick, attribute.form) if value is None else value
+    return found
+
+
+def databases_of(pick):
+    """Two databases in which most entries have the same attributes."""
+    some = pick.sample(ATTRIBUTES, pick.randint(1, 14))
+    attributes, old, new = [attribute for attribute in ATTRIBUTES if attribute in some], {}, {}
+    for number in range(pick.choice([20, 60, 120])):
+        path = b'/d/%03d' % number + (pick.choice(hostile.NAMES) if pick.random() < 0.1 else b'')
+        before, after = (values_of(pick, attributes, pick.random() < 0.95) for _ in range(2))
+        for name in list(before) if pick.random() < 0.2 else ():
+            if pick.random() < 0.3:
+                after[name] = before[name]
+            elif pick.random() < 0.1:
+                before.pop(name)
+        kind = pick.random()
+        if kind < 0.8:
+            old[path] = before
+        if kind < 0.6 or kind >= 0.8:
+            new[path] = after
+    return hostile.Database(old), hostile.Database(new)
+
+
+def damaged(pick, report):
+    """A report in which a byte or a line is another."""
+    place, way = pick.randrange(len(report)), pick.randrange(7)
+    if way < 4:
+        other = b'' if way < 2 else bytes([pick.choice(LETTERS)])
+        return report[:place] if way == 0 else report[:place] + other + report[place + (way != 3):]
+    lines = report.split(b'\n')
+    first, second = pick.randrange(len(lines)), pick.randrange(len(lines))
+    if way == 4:
+        lines.pop(first)
+    elif way == 5:
+        lines.insert(first, lines[second])
+    else:
+        lines[first], lines[second] = lines[second], lines[first]
+    return b'\n'.join(lines)
+
+
+def answer(report, has_texts, by_shapes):
+    """The lines of a report up to the fault for which it is refused, and how many entries were read by a shape."""
+    lines, writer, count = [], LineWriter(), 0
+    try:
+        for fields in read_report(Lines(io.BytesIO(report)), Values(has_texts), by_shapes):
+            count += isinstance(fields.get('attributes'), Written)
+            lines.append(writer.line(fields))
+    except Refused as refused:
+        lines.append(str(refused).encode())
+    return lines, count
+
+
+def try_shapes(seed, count, tally):
+    """Both readings of whole and of damaged reports."""
+    shaped = entries = 0
+    for number in range(count):
+        pick = random.Random('shapes %d %d' % (seed, number))
+        old, new = databases_of(pick)
+        settings = {**DEFAULTS, 'database_in': b'/a', 'database_new': b'/b', 'report_level': pick.choice(LEVELS[4:]),
+                    'report_base16': pick.random() < 0.3, 'report_summarize_changes': pick.random() < 0.8,
+                    'report_grouped': pick.random() < 0.8}
+        report, _ = report_of(old, new, [b'old', b'new'], settings)
+        for way in range(5):
+            text, has_texts = damaged(pick, report) if way else report, pick.random() < 0.7
+            by_shapes, found = answer(text, has_texts, True)
+            by_lines, _ = answer(text, has_texts, False)
+            label = 'seed %d, shapes %d, way %d' % (seed, number, way)
+            other = next((pair for pair in zip(by_shapes, by_lines) if pair[0] != pair[1]), None)
+            tally.add(label, ['%r' % (other,)] if other else [] if len(by_shapes) == len(by_lines) else ['another length'])
+            if not way:
+                shaped, entries = shaped + found, entries + sum(b'"attributes"' in line for line in by_lines)
+                tally.add(label + ', JSON', [] if all(json.loads(line) for line in by_lines) else ['it is none'])
+    good = entries and shaped * LEAST_SHARE >= entries
+    tally.add('read by shapes', [] if good else ['%d of %d entries' % (shaped, entries)])
+    return shaped, entries
