@@ -14,8 +14,7 @@ KINDS = ("added", "removed", "changed")
 OUTLINES = {True: "AIDE found differences between the two databases!!",
             False: "AIDE found NO differences between the two databases. Looks okay!!"}
 NAMES = {"Type": "file_type", "Lname": "link_name", "Bcount": "block_count", "Atime": "access_time", "Mtime": "modify_time",
-         "Ctime": "change_time", "Linkcount": "link_count", "SHA512/256": "sha512_256", "SHA3-256": "sha3_256",
-         "SHA3-512": "sha3_512", "Caps": "capabilities"}
+         "Ctime": "change_time", "Linkcount": "link_count", "Caps": "capabilities"}
 # The level that AIDE does not name, since it is its own.
 USUAL_LEVEL = "changed_attributes"
 GRAPHIC = re.compile(rb"[!-~]*\0?")
@@ -80,7 +79,7 @@ def details_of(fields):
     attributes, kind, found = fields["attributes"], fields.get("type"), {}
     kinds = {side: attributes.get("Type", {}).get(side) or kind for side in ("old", "new")}
     for label, sides in attributes.items():
-        found[NAMES.get(label, label.lower())] = {side: value_of(label, sides, side, kinds[side]) for side in ("old", "new")
+        found[NAMES.get(label) or re.sub("[/-]", "_", label.lower())] = {side: value_of(label, sides, side, kinds[side]) for side in ("old", "new")
                                                   if sides[side] is not None}
     return found
 

@@ -8,6 +8,8 @@ import json
 import os
 import subprocess
 
+from tools.oracle.configuration import LEVELS
+
 from . import COMMANDS, JSON
 
 HERE = os.path.join(os.path.dirname(os.path.abspath(__file__)), 'aide_objects')
@@ -60,7 +62,7 @@ def try_forms(program, tally):
     for level, more, members in (
             ('minimal', '', ['outline']), ('summary', '', ['outline', 'report_level', 'number_of_entries']),
             ('changed_attributes', '', ['outline', 'number_of_entries', 'added', 'removed', 'changed', 'details', 'databases']),
-            ('list_entries', 'report_grouped=no', ['outline', 'report_level', 'number_of_entries', 'entries', 'databases'])):
+            (LEVELS[3], 'report_grouped=no', ['outline', 'report_level', 'number_of_entries', 'entries', 'databases'])):
         status, given = aide_object(report(program, pair, level, more))
         tally.add('%s %s' % (level, more), [] if status == 0 and list(given) == members else ['%r' % (given,)])
     status, given = aide_object(report(program, pair, more='report_summarize_changes=no'), '--with', 'site=berlin')

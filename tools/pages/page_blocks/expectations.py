@@ -124,6 +124,13 @@ def put_json(sandbox):
     sandbox.run("aide-compare-run old.gz new.gz | aide-compare-json > lines.json")
 
 
+def has_events(sandbox, done):
+    """Each line has a host, a date, a kind and a path."""
+    event = re.compile(r"[^\t\n]+\t[0-9]{4}-[0-9]{2}-[0-9]{2}T[0-9:]{8}Z\t(added|removed|changed)\t/[^\t\n]*")
+    lines = done[1].splitlines()
+    sandbox.check(lines and all(event.fullmatch(line) for line in lines), "events that stand alone", done)
+
+
 def is_logged(sandbox, done):
     words, _, line = (taken(sandbox.trial, "logged") or "").partition("\n")
     good = words == "-t aide-compare -p auth.notice"

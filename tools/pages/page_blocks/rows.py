@@ -95,6 +95,7 @@ ROWS = [
     Commands("man/aide-compare-html.1", "A page of the differences between two databases:", [0], expectations.has_page),
     Commands("man/aide-compare-html.1", "Lists for mail, of what was added or removed:", [0], expectations.has_lists),
     Commands(JSON, "The paths of all entries that were added:", [0], expectations.prints("/a\n"), needs="jq"),
+    Commands(JSON, "Where, when and what, for an event that has to stand alone:", [0], expectations.has_events, needs="jq"),
     Commands(JSON, "All files whose new permissions let everybody write them:", [0], expectations.prints("/2\n/3\n/6\n/7\n"),
              prepare=expectations.put_json, given="/tmp/lines.json", needs="jq"),
     Commands("man/aide-compare-log.1", "EXAMPLES", [0], expectations.is_logged, prepare=expectations.compare),
