@@ -150,6 +150,11 @@ def try_debian(trial, path, time):
         named = [] if "/kubernetes" in name else re.findall(r"/usr/local/(?:bin/a|lib/|share/)[\w./-]*", text)
         trial.check(not named, "no /usr/local in " + name, named)
         trial.check(not text.startswith("#!/usr/bin/env python3") or "/examples/" in name, "the interpreter of " + name)
+    documents = "usr/share/doc/aide-compare/"
+    links = [(name, link) for name, text in texts(found).items() if name.startswith(documents) and name.endswith(".md")
+             for link in re.findall(r"\]\(([^)#:]+)(?:#[^)]*)?\)", text)]
+    lost = [(name, link) for name, link in links if documents + link not in kept]
+    trial.check(len(links) > 5 and not lost, "the documents of the package link to what it has", lost)
     page = gzip.decompress(kept["usr/share/man/man1/aide-compare.1.gz"]).decode()
     trial.check(".Os aide-compare " + trial.version in page and "/usr/local" not in page, "a page of the package")
     log = gzip.decompress(kept["usr/share/doc/aide-compare/changelog.Debian.gz"]).decode()

@@ -58,16 +58,14 @@ def try_pages(trial):
 
 
 def try_documents(trial):
-    """Documents link to one another where they lie now."""
+    """Documents link to one another where they lie now, and to nothing that is not installed."""
     found = texts(tree(trial.path("first/usr/local")))
     count = 0
     for path, text in found.items():
         if path.startswith(DOCUMENTS) and path.endswith(".md"):
-            for name in re.findall(r"\]\(([^)#:]*\.md)(?:#[^)]*)?\)", text):
-                folder, name = os.path.split(name)
-                if folder in ("", "docs", "..") and DOCUMENTS + "/" + name in found:
-                    count += 1
-                    trial.check(folder == "", "a link in " + path, folder + "/" + name)
+            for name in re.findall(r"\]\(([^)#:]+)(?:#[^)]*)?\)", text):
+                count += 1
+                trial.check(os.path.exists(trial.path("first/usr/local", DOCUMENTS, name)), "a link in " + path, name)
     trial.check(count > 5, "links between the documents", count)
 
 
