@@ -119,6 +119,45 @@ def try_lines(trial):
     trial.check(done[0] == 0 and "\nadded=1\nremoved=1\nchanged=1\n" in done[1], "everyone may read the state of a host", done)
 
 
+def asked(trial, page, name, words):
+    """Runs a block of the page, or the same words as long as the page has none."""
+    if ("try", name) in page.blocks:
+        return page.run(name)
+    return trial.run([tool(trial, words[0])] + words[1:] + [trial.path(HOSTS)])
+
+
+def try_report(trial, page):
+    """What differs on all hosts at once: each change once, and one mail."""
+    done = asked(trial, page, "report hosts", ["report-hosts"])
+    first = "aide on %d hosts: 2 differ, %d not compared, 2 without differences\n" % (len(WANTED), len(WANTED) - 4)
+    trial.check(done[0] == 24 and done[1].startswith(first), "report-hosts: how many", done)
+    parts = ["added on 2 of %d hosts: File /a é\n    on other, user@other.example-1\n    Size 5, Perm 0644" % len(WANTED),
+             "changed on 2 of %d hosts: File /c\n" % len(WANTED), "\n  forged: ",
+             "\n  down: ssh: connect to host down port 22: No route to host", "\n  a b: the name of a host"]
+    for part in parts:
+        trial.check(part in done[1], "report-hosts: %r" % part, done[1])
+    trial.stub("sendmail", 'cat > "%s/mail"' % trial.path("/tmp"))
+    done = asked(trial, page, "mail hosts", ["report-hosts", "--to", "root"])
+    got = trial.read("/tmp/mail")
+    good = done[0] == 24 and "\nSubject: aide on %d hosts: 2 differ, %d not compared\n" % (len(WANTED), len(WANTED) - 4) in got
+    trial.check(good and parts[0] in got, "one mail for all hosts", (done, got[:500]))
+
+
+def try_check(trial):
+    """A host that differed is UNKNOWN as soon as it cannot be fetched, and critical again when it can."""
+    put_host(trial, "turns", NEW)
+    words = [tool(trial, "compare-hosts"), "--one", "turns"]
+    check = [trial.path("/usr/local/lib/nagios/plugins/check_aide_compare"), "--state", trial.path(STORE + "/states/turns")]
+    trial.check(trial.run(words)[0] == 7 and trial.run(check)[0] == 2, "a host that differs is critical", trial.run(check))
+    os.rename(trial.path("/remote/turns"), trial.path("/remote/away"))
+    done = trial.run(words)
+    got = trial.run(check, rights=NOBODY)
+    good = done[0] == 18 and got[0] == 3 and "ssh ended with" in got[1]
+    trial.check(good, "a host that is not fetched is UNKNOWN", (done, got))
+    os.rename(trial.path("/remote/away"), trial.path("/remote/turns"))
+    trial.check(trial.run(words)[0] == 7 and trial.run(check)[0] == 2, "and critical again", trial.run(check))
+
+
 def try_slow(trial):
     put_host(trial, "slow", OLD)
     trial.write("/tmp/slow", "slow\n")
@@ -262,7 +301,7 @@ def try_options(trial):
 
 def try_words(trial):
     """Arguments that are wrong end with 15 and a line, and --help says what there is."""
-    for name in ("fetch-host", "compare-host", "accept-host", "compare-hosts"):
+    for name in ("fetch-host", "compare-host", "accept-host", "compare-hosts", "report-hosts"):
         done = trial.run([tool(trial, name), "--help"])
         trial.check(done[0] == 0 and done[1].startswith("usage: " + name) and not done[2], name + " --help", done)
         for words in ([], ["--nope", "x"], ["--store"], ["a", "b"]):
@@ -274,8 +313,9 @@ def try_words(trial):
 
 
 def try_hosts(trial, page, with_packages):
-    del page, with_packages
+    del with_packages
     put_hosts(trial)
     try_lines(trial)
-    for part in (try_slow, try_quiet, try_first, try_stale, try_killed, try_twice, try_place, try_options, try_words):
+    try_report(trial, page)
+    for part in (try_check, try_slow, try_quiet, try_first, try_stale, try_killed, try_twice, try_place, try_options, try_words):
         part(trial)
