@@ -9,7 +9,10 @@ import time
 
 from .fleet import wait_for
 from .hosts_report import Hosts, database, four_hosts, line
+from .sandbox import after
 
+# Whoever starts the trials may ignore these signals, and the command would too.
+HEEDED = "for number in (signal.SIGINT, signal.SIGHUP, signal.SIGTERM): signal.signal(number, signal.SIG_DFL)"
 # A signal that comes while an object is taken away: Python drops what its handler raises.
 DROPPED = """import os, signal, sys, time
 sys.path.insert(0, sys.argv[1])
@@ -56,7 +59,7 @@ def try_ends(sandbox):
     hosts = four_hosts(sandbox)
     for number in (signal.SIGTERM, signal.SIGINT, signal.SIGHUP):
         lock = subprocess.Popen(["flock", sandbox.path("store/hosts/www2/lock"), "sleep", "100"], start_new_session=True)
-        run = hosts.start(hosts.words("report-hosts", sandbox.path("hosts")))
+        run = hosts.start(after(HEEDED, hosts.words("report-hosts", sandbox.path("hosts"))))
         wait_for(lambda: any(name.startswith(".aide-compare-sort-") for name in os.listdir(sandbox.room)))
         time.sleep(0.2)
         run.send_signal(number)

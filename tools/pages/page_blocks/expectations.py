@@ -250,6 +250,12 @@ def compare_host(sandbox):
         os.environ["DIGEST"] = re.search("^new_sha256=(.*)$", file.read(), re.M).group(1)
 
 
+def is_mailed_for_hosts(sandbox, done):
+    mail = taken(sandbox.trial, "mailed") or ""
+    good = "To: root\nSubject: aide on 1 hosts: 1 differ, 0 not compared\n" in mail and "\n    on www\n" in mail
+    sandbox.check(good and not done[1] and not done[2], "the mail", (mail[:600], done))
+
+
 def is_accepted_for_host(sandbox, done):
     sandbox.check(same_files(sandbox, HOST, AIDE + ".new"), "the baseline of the host", done)
 

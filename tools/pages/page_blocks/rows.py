@@ -7,7 +7,7 @@ from .pages import HERE
 
 README, EXAMPLES, RUN, MAIN = "README.md", "examples/README.md", "man/aide-compare-run.1", "man/aide-compare.1"
 CONF, HOSTS = "man/aide-compare.conf.5", "man/compare-hosts.1"
-JSON = "man/aide-compare-json.1"
+JSON, REPORT = "man/aide-compare-json.1", "man/report-hosts.1"
 
 
 class Row:
@@ -133,6 +133,13 @@ ROWS = [
     Commands(HOSTS, "A new host:", [0], expectations.is_first_of_host),
     Commands(HOSTS, "The database of a report that was read becomes the baseline:", [0], expectations.is_accepted_for_host,
              prepare=expectations.compare_host),
+    Commands(REPORT, "The changes of today, those on one host first:", [7],
+             expectations.prints("aide on 1 hosts: 1 differ, 0 not compared, 0 without differences\n\nHosts that differ:"),
+             prepare=expectations.compare_host),
+    Commands(REPORT, "What is new or changed below one folder, with all hosts that have it:", [7],
+             expectations.prints("aide on 1 hosts: 1 differ"), prepare=expectations.compare_host),
+    Commands(REPORT, "One mail for all hosts, after they were compared:", [7, 7], expectations.is_mailed_for_hosts,
+             prepare=expectations.put_baseline),
     Shown(README, "A report of two databases that AIDE has written (`examples/small_tree`), shortened:",
           expectations.is_shortened_report),
     FirstAnswer(README, "## First answer in a minute", [7], expectations.is_first_answer),
