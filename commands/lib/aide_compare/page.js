@@ -14,6 +14,12 @@ const opened = new Set([0]);
 const number = (count) => count.toLocaleString('en');
 const entriesOf = (count) => count === 1 ? '1 entry' : number(count) + ' entries';
 let view = viewOf('', choices), entries = [], matching = [], shownOrder = '';
+// All entries in each order that was asked for: they are sorted once.
+const sorted = new Map();
+function inOrder(order) {
+  if (!sorted.has(order)) sorted.set(order, ordered(entries, order));
+  return sorted.get(order);
+}
 
 function make(tag, name, text) {
   const element = document.createElement(tag);
@@ -124,7 +130,7 @@ const total = (node) => counts[3 * node] + counts[3 * node + 1] + counts[3 * nod
 function filter() {
   const folded = view.path.toLowerCase(), everywhere = { ...view, folder: '' };
   const order = view.order || (data.hasReasons ? 'importance' : 'path');
-  const fitting = entries.filter((entry) => fits(everywhere, folded, entry));
+  const fitting = inOrder(order).filter((entry) => fits(everywhere, folded, entry));
   counts = new Uint32Array(3 * nodes.length);
   direct = new Uint32Array(nodes.length);
   below = new Uint32Array(nodes.length);
@@ -137,7 +143,7 @@ function filter() {
     for (let kind = 0; kind < 3; kind += 1) counts[3 * parent + kind] += counts[3 * node + kind];
     if (total(node)) below[parent] += 1;
   }
-  matching = ordered(view.folder ? fitting.filter((entry) => fits(view, folded, entry)) : fitting, order);
+  matching = view.folder ? fitting.filter((entry) => fits(view, folded, entry)) : fitting;
   shownOrder = order;
 }
 
@@ -383,27 +389,30 @@ function entryItem(entry) {
   return item;
 }
 
-// What entries have in common that stand together in the order by importance.
-function sectionOf(entry) {
-  if (shownOrder !== 'importance') return '';
+// Which entries stand together in the order by importance, as a number, and what they have in common.
+const sectionOf = (entry) => 10 * (entry.standing === 2 ? entry.group : entry.severity) + entry.standing;
+
+function sectionName(entry) {
   if (entry.standing === 2) return entry.known.text + ' (' + entry.known.grade + ')';
   const name = entry.standing ? 'Explained, but not verified' : 'Not explained';
   return entry.severity < 3 ? name + ', severity ' + SEVERITIES[entry.severity] : name;
 }
 
+function sectionItem(entry, count) {
+  const item = make('li', 'section standing-' + entry.standing);
+  item.append(make('h3', '', sectionName(entry) + ': ' + entriesOf(count)));
+  return item;
+}
+
 // The entries of a page, with a heading where a section begins, and how many entries that has on all pages.
 function listItems(from, count) {
-  const items = [], sizes = new Map();
-  if (shownOrder === 'importance') {
-    for (const entry of matching) sizes.set(sectionOf(entry), (sizes.get(sectionOf(entry)) || 0) + 1);
-  }
-  let section = '';
+  const items = [], sizes = new Map(), hasSections = shownOrder === 'importance';
+  if (hasSections) for (const entry of matching) sizes.set(sectionOf(entry), (sizes.get(sectionOf(entry)) || 0) + 1);
+  let section = -1;
   for (const entry of matching.slice(from, from + count)) {
-    if (sectionOf(entry) !== section) {
+    if (hasSections && sectionOf(entry) !== section) {
       section = sectionOf(entry);
-      const heading = make('li', 'section standing-' + entry.standing);
-      heading.append(make('h3', '', section + ': ' + entriesOf(sizes.get(section))));
-      items.push(heading);
+      items.push(sectionItem(entry, sizes.get(section)));
     }
     items.push(entryItem(entry));
   }

@@ -7,7 +7,7 @@ from html import escape
 
 from aide_compare.files import nameless
 from aide_compare.json_lines import KINDS, LABELS, Report
-from aide_compare.page_heading import OUTCOMES, counts, databases, facts, reason_counts, remarks, title_of
+from aide_compare.page_heading import OUTCOMES, counts, databases, facts, remarks, title_of
 from aide_compare.page_items import GRADES, entries, number
 from aide_compare.page_lists import FolderLists, ReasonLists
 from aide_compare.page_reasons import Reasons, standing_of
@@ -122,7 +122,7 @@ def head(report, contents, title, parts):
         title, ", ".join("%s %s" % (number(report.summary[kind]), kind) for kind in KINDS))
     text = part_of("page.html")
     for mark, part in (("POLICY", policy), ("HEADING", escape(heading)), ("STYLE", style), ("OUTCOME", OUTCOMES[
-            report.summary["differences"]]), ("COUNTS", reason_counts(contents.reasons) + counts(report)),
+            report.summary["differences"]]), ("COUNTS", counts(report, contents.reasons)),
                        ("REMARKS", remarks(report, more)), ("DATABASES", facts(report.summary) + databases(report)),
                        ("TITLE", escape(title))):
         before, _, after = text.partition("<!-- %s -->" % mark)

@@ -47,28 +47,31 @@ def databases(report):
     return '<details class="databases"><summary>Databases</summary><dl>%s</dl></details>\n' % lines if lines else ""
 
 
-def card(name, text, count, more=""):
-    return '<div class="%s"><dt>%s</dt><dd>%s</dd>%s</div>' % (name, text, number(count), more)
+def card(name, text, count):
+    return '<div class="%s"><dt>%s</dt><dd>%s</dd></div>' % (name, text, number(count))
 
 
-def counts(report):
-    """The counts of the summary, if the report has it."""
-    if report.changes() is None:
-        return ""
-    cards = "".join(card(kind, kind.capitalize(), report.summary[kind]) for kind in KINDS)
-    return '<dl class="counts">%s%s</dl>\n' % (cards, card("all", "All entries", report.summary["total"]))
+def counts(report, reasons):
+    """The counts of the page: of what is explained, and of each kind, as far as the lines have them."""
+    cards = []
+    if reasons.has_any:
+        open_ones, not_verified, explained = reasons.standings
+        cards.append(card("unexplained", "Not explained", open_ones) + card("unverified", "Explained, not verified", not_verified)
+                     + card("explained", "Explained", explained))
+    if report.changes() is not None:
+        cards.append("".join(card(kind, kind.capitalize(), report.summary[kind]) for kind in KINDS)
+                     + card("all", "All entries", report.summary["total"]))
+    text = "".join('<dl class="counts">%s</dl>' % part for part in cards)
+    return '<div class="cards">%s</div>\n%s' % (text, worth(reasons)) if cards else ""
 
 
-def reason_counts(reasons):
-    """How many entries nothing explains, how severe they are, and how many are explained."""
+def worth(reasons):
+    """How severe is what is not explained, and what reasons are worth."""
     if not reasons.has_any:
         return ""
-    open_ones, not_verified, explained = reasons.standings
     severe = ", ".join("%s %s" % (number(count), name) for name, count in zip(SEVERITIES, reasons.severities) if count)
-    cards = card("unexplained", "Not explained", open_ones) + card("unverified", "Explained, not verified", not_verified)
-    cards += card("explained", "Explained", explained)
-    severities = '<p class="severities">Severity of what is not explained or not verified: %s</p>\n' % severe if severe else ""
-    return '<dl class="counts reasons">%s</dl>\n%s<p class="hint">%s</p>\n' % (cards, severities, HINT)
+    text = '<p class="severities">Severity of what is not explained or not verified: %s</p>\n' % severe if severe else ""
+    return '%s<p class="hint">%s</p>\n' % (text, HINT)
 
 
 def left_out(value):

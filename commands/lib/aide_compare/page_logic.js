@@ -47,12 +47,17 @@ function textOf(view, choices) {
   return parts.toString().replaceAll('%2C', ',').replaceAll('%2F', '/').replaceAll('%3A', ':');
 }
 
+function hasOne(places, attributes) {
+  for (const place of places) if (attributes >> place & 1) return true;
+  return false;
+}
+
 // Whether an entry fits; `folded` is the text of the path filter in small letters.
 function fits(view, folded, entry) {
   return (!view.kind.size || view.kind.has(entry.kind))
     && (!view.standing.size || view.standing.has(entry.standing))
     && (!view.severity.size || view.severity.has(entry.severity))
-    && (!view.attribute.size || [...view.attribute].some((place) => entry.attributes >> place & 1))
+    && (!view.attribute.size || hasOne(view.attribute, entry.attributes))
     && (!view.reason.size || view.reason.has(entry.reason))
     && (!folded || entry.folded.includes(folded))
     && (!view.folder || entry.path === view.folder || entry.path.startsWith(view.folder + '/'));

@@ -1,0 +1,223 @@
+"""Trials of the page in a browser: what a reader clicks and types, and what the page then shows."""
+import json
+import os
+import time
+
+from tools.commands.viewers.looks import cases
+from tools.commands.viewers.samples import DEMO
+
+from aide_compare.json_lines import KINDS, SEVERITIES
+from aide_compare.page import part_of
+from aide_compare.page_view import STANDINGS
+
+READY = "document.documentElement.dataset.ready"
+ENTRY = "#list > li:not(.section)"
+SHOWN = "document.querySelectorAll('%s').length" % ENTRY
+FOUND = "document.getElementById('found').textContent"
+PATHS = "[...document.querySelectorAll('#list code')].map((one) => one.textContent)"
+HASH = "location.hash"
+FOCUS = "document.activeElement"
+
+
+def wait_for(browser, expression, wanted):
+    for _ in range(200):
+        given = browser.value(expression)
+        if given == wanted:
+            return []
+        time.sleep(0.05)
+    return ["%s is %r, and not %r" % (expression, given, wanted)]
+
+
+def opened(browser, path, address=""):
+    """Opens a page and waits until its entries are there."""
+    browser.open("/proc/version")
+    browser.open(path + address)
+    return wait_for(browser, READY, "true")
+
+
+def click(browser, selector, text=""):
+    """Presses the first element that a selector finds, with a text in it."""
+    browser.value("[...document.querySelectorAll(%s)].find((one) => one.textContent.includes(%s)).click()"
+                  % (json.dumps(selector), json.dumps(text)))
+
+
+def search(browser, text):
+    browser.value("{ const field = document.getElementById('search'); field.value = %s; "
+                  "field.dispatchEvent(new Event('input')); }" % json.dumps(text))
+
+
+def try_views(browser, tally):
+    """The table of views, by the functions of the page's script."""
+    table = cases()
+    entries = [{"path": one["path"], "folded": one["path"].lower(), "kind": KINDS.index(one["kind"]), "growth": one.get("growth", 0),
+                "severity": SEVERITIES.index(one["severity"]) if "severity" in one else 3, "group": one.get("group", 0),
+                "standing": STANDINGS.index(one.get("standing", "unexplained")), "reason": one.get("reason", ""),
+                "attributes": sum(1 << table["attributes"].index(name) for name in one["attributes"])} for one in table["entries"]]
+    browser.open("/proc/version")
+    for case in table["cases"]:
+        found, text = browser.value("(() => { %s; const entries = %s, choices = choicesOf(%s), view = viewOf(%s, choices); "
+                                    "const fitting = entries.filter((entry) => fits(view, view.path.toLowerCase(), entry)); return "
+                                    "[ordered(fitting, view.order || 'path').map((entry) => entry.path), textOf(view, choices)]; })()" % (
+                                        part_of("page_logic.js"), json.dumps(entries), json.dumps(table["attributes"]),
+                                        json.dumps(case["view"])))
+        tally.add("view %s" % case["view"], [] if found == case["found"] else ["it finds %r" % found])
+        wanted = case.get("text", case["view"])
+        tally.add("text of %s" % case["view"], [] if text == wanted else ["it is %r" % text])
+
+
+def try_filters(browser, path, tally):
+    tally.add("the first page", opened(browser, path) + wait_for(browser, SHOWN, 100))
+    total = int(browser.value(FOUND).split()[0])
+    click(browser, "#next")
+    tally.add("the second page", wait_for(browser, "document.getElementById('place').textContent", "Page 2 of 3"))
+    click(browser, "#kind button", "removed")
+    removed = "document.querySelectorAll('#list b.removed').length"
+    count = browser.value("Number(document.querySelector('#kind button.removed small').textContent)")
+    tally.add("removed ones", wait_for(browser, FOUND, "%d of %d entries" % (count, total)) + wait_for(browser, removed, count))
+    tally.add("all of them are removed", wait_for(browser, "document.querySelectorAll('#list b:not(.removed)').length", 0))
+    click(browser, "#kind button", "removed")
+    click(browser, "#attribute button", "Digests")
+    tally.add("an attribute", wait_for(browser, "[...document.querySelectorAll('#list b.changed ~ .names')].every((one) => "
+                                                "one.textContent.includes('Digests'))", True))
+    click(browser, "#clear")
+    search(browser, "ETC/")
+    tally.add("a path", wait_for(browser, FOUND, "%d of %d entries" % (len(DEMO) - 1, total)))
+    tally.add("folders of a path", wait_for(browser, "document.querySelectorAll('#tree > li').length", 1))
+    search(browser, "")
+    tally.add("no path", wait_for(browser, FOUND, "%d entries" % total))
+    click(browser, "#tree .folder", "etc/")
+    tally.add("a folder", wait_for(browser, FOUND, "%d of %d entries in /etc/" % (len(DEMO) - 1, total)))
+    click(browser, "#unfold")
+    tally.add("values", wait_for(browser, "document.querySelectorAll('#list .values > table').length", len(DEMO) - 1))
+    tally.add("no fault", browser.faults)
+
+
+def try_entries(browser, path, pictures, tally):
+    """What matters most comes first; digests and exact values open on demand; a new file shows its mode."""
+    opened(browser, path)
+    browser.value("document.querySelectorAll('#list > li').length")
+    first = ["/etc/passwd", "/etc/ssh/sshd_config", "/usr/local/sbin/.x", "/etc/cron.d/backup", "/etc/motd"]
+    tally.add("the severe first", wait_for(browser, PATHS + ".slice(0, 5)", first))
+    heading = "document.querySelector('#list h3').textContent"
+    tally.add("the first heading", wait_for(browser, heading, "Not explained, severity high: 3 entries"))
+    facts = "[...document.querySelectorAll('#list li')].find((one) => one.textContent.includes('sbin/.x')).querySelector('.facts').textContent"
+    tally.add("a new file", wait_for(browser, facts, "rwsr-xr-x  0:0  18344 bytes"))
+    click(browser, "#list summary", "etc/passwd")
+    rows = "[...document.querySelectorAll('#list .values > table tbody th')].map((one) => one.textContent)"
+    tally.add("one digest", wait_for(browser, rows, ["Size", "Mtime", "SHA256"]))
+    click(browser, "#list .others > summary")
+    tally.add("the other digests", wait_for(browser, "document.querySelectorAll('#list .others tbody tr').length", 4))
+    exact = "[...document.querySelectorAll('#list td details')].map((one) => one.textContent)[0]"
+    tally.add("an exact value", wait_for(browser, exact, "2026-01-01 00:00:00 UTC1767225600"))
+    for name, width, height, dark in (("light", 1280, 900, False), ("dark", 1280, 900, True), ("narrow", 320, 2400, False)):
+        if pictures:
+            browser.picture(os.path.join(pictures, name + ".png"), width, height, dark)
+    browser.ask("Emulation.setDeviceMetricsOverride", width=320, height=900, deviceScaleFactor=1, mobile=False)
+    tally.add("no sideways scrolling at 320", wait_for(browser, "document.documentElement.scrollWidth <= 320", True))
+    narrow = "Math.min(...[...document.querySelectorAll('#tree > li > .folder code')].map((one) => one.clientWidth || one.offsetWidth))"
+    tally.add("folder names have room at 320", [] if browser.value(narrow) >= 150 else ["%r" % browser.value(narrow)])
+    browser.ask("Emulation.setDeviceMetricsOverride", width=1280, height=900, deviceScaleFactor=1, mobile=False)
+
+
+def try_address(browser, path, tally):
+    """The address has what was asked for, and a page that is opened with it shows that."""
+    opened(browser, path)
+    click(browser, "#severity button", "high")
+    search(browser, "sshd")
+    tally.add("the address", wait_for(browser, HASH, "#severity=high&path=sshd"))
+    browser.value("{ const order = document.getElementById('order'); order.value = 'size'; order.dispatchEvent(new Event('change')); }")
+    tally.add("the order in the address", wait_for(browser, HASH, "#severity=high&path=sshd&order=size"))
+    opened(browser, path, "#kind=added&order=size&standing=unexplained")
+    tally.add("a page of an address", wait_for(browser, PATHS, ["/usr/local/sbin/.x", "/etc/cron.d/backup"]))
+    tally.add("its buttons", wait_for(browser, "[...document.querySelectorAll('.choices [aria-pressed=true]')].map((one) => "
+                                               "one.firstChild.textContent.trim())", ["not explained", "added"]))
+    browser.value("location.hash = 'folder=/etc&page=1'")
+    tally.add("another address", wait_for(browser, FOUND.replace(".textContent", ".textContent.slice(0, 2)"), "4 "))
+
+
+def try_keyboard(browser, path, tally):
+    opened(browser, path)
+    browser.press("Tab", 9)
+    tally.add("the first stop skips to the entries", wait_for(browser, FOCUS + ".className", "skip"))
+    browser.press("Enter", 13)
+    tally.add("it goes to the entries", wait_for(browser, FOCUS + ".id", "content"))
+    browser.value("document.getElementById('search').focus()")
+    browser.press("Tab", 9)
+    tally.add("a row of buttons is next", wait_for(browser, FOCUS + ".closest('#standing') !== null", True))
+    browser.press("ArrowRight", 39)
+    tally.add("an arrow goes on", wait_for(browser, FOCUS + ".textContent.includes('not verified')", True))
+    browser.press("Enter", 13)
+    tally.add("it is pressed", wait_for(browser, FOCUS + ".getAttribute('aria-pressed')", "true"))
+    browser.press("Enter", 13)
+    stops = 0
+    while stops < 40 and not browser.value("document.getElementById('tree').contains(document.activeElement)"):
+        browser.press("Tab", 9)
+        stops += 1
+    tally.add("few stops before the tree", [] if 0 < stops <= 6 else ["%d" % stops])
+    was = browser.value(FOCUS + ".dataset.node")
+    browser.press("ArrowDown", 40)
+    tally.add("the next folder", [] if browser.value(FOCUS + ".dataset.node") != was else ["it is the same"])
+    browser.press("Home", 36)
+    browser.press("Enter", 13)
+    tally.add("a folder is chosen", wait_for(browser, FOCUS + ".getAttribute('aria-selected')", "true"))
+    tally.add("one stop in the tree", wait_for(browser, "document.querySelectorAll('#tree [tabindex=\"0\"]').length", 1))
+    browser.value("document.querySelector('#list summary').focus()")
+    was = browser.value(FOCUS + ".parentElement.open")
+    browser.press("Enter", 13)
+    tally.add("an entry opens", wait_for(browser, FOCUS + ".parentElement.open", not was))
+
+
+def try_printing(browser, path, tally):
+    """All entries that fit are printed, and not only those of a page."""
+    opened(browser, path, "#kind=changed")
+    total = int(browser.value(FOUND).split()[0])
+    browser.value("window.dispatchEvent(new Event('beforeprint'))")
+    tally.add("all are printed", wait_for(browser, SHOWN, total) if total > 200 else ["only %d" % total])
+    tally.add("what is printed is said", wait_for(browser, "document.getElementById('asked').textContent",
+                                                 "Only entries with: kind changed."))
+    browser.value("window.dispatchEvent(new Event('afterprint'))")
+    tally.add("then a page again", wait_for(browser, SHOWN, 100))
+    pages = browser.ask("Page.printToPDF", transferMode="ReturnAsBase64")["data"]
+    tally.add("a file to print", [] if len(pages) > 100000 else ["%d letters" % len(pages)])
+
+
+def try_hostile(browser, path, pictures, tally):
+    tally.add("hostile entries", opened(browser, path))
+    total = int(browser.value(FOUND).split()[0])
+    tally.add("they are shown", wait_for(browser, SHOWN, min(total, 100)) if total > 50 else ["only %d" % total])
+    click(browser, "#unfold")
+    tally.add("their values", wait_for(browser, "document.querySelectorAll('#list .values').length > 50", True))
+    for selector in ("img", "body script:not([id]) ~ script", "#list script", "#tree b", "iframe", "noscript *", "header script"):
+        tally.add("no " + selector, wait_for(browser, "document.querySelectorAll(%s).length" % json.dumps(selector), 0))
+    direction = r"/[\u202a-\u202e\u2066-\u2069]/.test(document.documentElement.outerHTML)"
+    tally.add("no direction", wait_for(browser, direction, False))
+    if pictures:
+        browser.picture(os.path.join(pictures, "hostile.png"), 1280, 1000)
+    tally.add("no fault of hostile entries", browser.faults)
+
+
+def try_policy(browser, path, write, tally):
+    """A script or a style that somebody added does not run."""
+    with open(path, "rb") as file:
+        text = file.read()
+    other = write(path + ".html", text.replace(b"</header>", b'</header><script>document.title = "ran"</script><p id="loud" '
+                                               b'style="color: red" onclick="1"><img src="file:///etc/hostname">'))
+    browser.open(other)
+    tally.add("another script", wait_for(browser, "document.title === 'ran'", False))
+    red = "getComputedStyle(document.getElementById('loud')).color === 'rgb(255, 0, 0)'"
+    tally.add("another style", wait_for(browser, red, False))
+    breaches = len([fault for fault in browser.faults if "Content Security Policy" in fault])
+    tally.add("breaches are told", [] if breaches >= 3 else ["%d" % breaches])
+    browser.faults.clear()
+
+
+def try_without_script(browser, paths, pictures, tally):
+    for name, path, off in (("without scripts", paths[0], True), ("plain", paths[1], False)):
+        browser.ask("Emulation.setScriptExecutionDisabled", value=off)
+        browser.open(path)
+        given, entries = browser.count_of("ul.plain > li > details > table"), browser.count_of("ul.plain b")
+        tally.add(name, [] if entries > 200 and given > 200 else ["%d entries, %d tables" % (entries, given)])
+        if pictures:
+            browser.picture(os.path.join(pictures, name.replace(" ", "_") + ".png"), 1280, 900)
+    browser.ask("Emulation.setScriptExecutionDisabled", value=False)
+    tally.add("no fault without scripts", browser.faults)

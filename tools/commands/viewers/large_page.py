@@ -1,0 +1,97 @@
+"""Lines of very many changes, and how fast the page of them is in a browser; tried by hand."""
+import base64
+import json
+import os
+import random
+import subprocess
+import sys
+import time
+
+from tools.commands.viewers import HTML
+from tools.commands.viewers.large import paths_of
+
+DIGESTS = (("MD5", 16), ("SHA1", 20), ("SHA256", 32), ("SHA512", 64), ("RMD160", 20), ("TIGER", 24), ("CRC32", 4), ("HAVAL", 32),
+           ("GOST", 32), ("WHIRLPOOL", 64), ("STRIBOG512", 64))
+MOST_BYTES, MOST_SECONDS, MOST_ANSWER = 20000000, 3, 200
+FIRST = 1700000000
+# The memory of a command that a large process starts would be counted with that of the large one.
+MEASURE = """import resource, subprocess, sys
+status = subprocess.call(sys.argv[1:])
+used = resource.getrusage(resource.RUSAGE_CHILDREN)
+sys.stderr.write("used %f %d" % (used.ru_utime + used.ru_stime, used.ru_maxrss))
+sys.exit(status)"""
+SEARCH = """(async () => {
+  const field = document.getElementById('search'), began = performance.now();
+  field.value = '%s'; field.dispatchEvent(new Event('input'));
+  const before = document.getElementById('found').textContent;
+  while (document.getElementById('found').textContent === before) await new Promise((done) => setTimeout(done, 1));
+  document.body.offsetHeight;
+  return performance.now() - began - 100;
+})()"""
+
+
+def date(seconds):
+    return time.strftime("%Y-%m-%dT%H:%M:%SZ", time.gmtime(seconds))
+
+
+def entry_of(pick, number, path):
+    """A changed entry with eleven digests, as stock Debian's configuration asks for."""
+    kind = {0: "added", 1: "removed"}.get(number % 20, "changed")
+    fields = {"record": "entry", "kind": kind, "path": path, "severity": "high" if number % 1000 == 2 else "medium"}
+    if kind == "changed":
+        times = [FIRST + number, FIRST + number + 86400]
+        stamped = {"old": times[0], "old_time": date(times[0]), "new": times[1], "new_time": date(times[1])}
+        digests = {name: {side: base64.b64encode(pick.getrandbits(8 * size).to_bytes(size, "big")).decode()
+                          for side in ("old", "new")} for name, size in DIGESTS}
+        fields["attributes"] = {"Size": {"old": 4096 + number, "new": 4096 + 2 * number}, "Mtime": stamped, "Ctime": stamped,
+                                "Inode": {"old": number, "new": number + 100}, **digests}
+    if number % 50:
+        fields["reason"] = {"class": "package", "text": "package-%04d 1.%d-1" % (number // 200, number % 3),
+                            "verified": number % 9 != 0, "grade": "archive" if number % 3 else "dpkg"}
+    return fields
+
+
+def write_lines(path, count):
+    """Lines of so many changes, with severities and reasons."""
+    pick, encode = random.Random(1), json.JSONEncoder(separators=(",", ":")).encode
+    kinds = [{0: "added", 1: "removed"}.get(number % 20, "changed") for number in range(count)]
+    summary = {"record": "summary", "format": 1, "differences": True, "total": count, "lines": count + 1, "reasons": dict.fromkeys(
+        ("explained", "not_verified", "unexplained", "high", "medium", "low"), 0)}
+    summary.update((kind, kinds.count(kind)) for kind in ("added", "removed", "changed"))
+    with open(path, "w") as file:
+        file.write(encode(summary) + "\n")
+        for number, name in enumerate(paths_of(count)):
+            file.write(encode(entry_of(pick, number, name)) + "\n")
+
+
+def made(source, target, *words):
+    """Status, seconds of the processor and megabytes that a page takes, and how many bytes it has."""
+    with open(source, "rb") as text, open(target, "wb") as output:
+        done = subprocess.run([sys.executable, "-c", MEASURE, HTML, *words], stdin=text, stdout=output, stderr=subprocess.PIPE)
+    seconds, kilobytes = done.stderr.split(b"used ")[-1].split()
+    return done.returncode, float(seconds), float(kilobytes) / 1024, os.path.getsize(target)
+
+
+def try_large(browser, count, folder, tally):
+    """The time that a large page takes to be there, and to answer. Other work on the machine makes it slower."""
+    lines, path = os.path.join(folder, "lines"), os.path.join(folder, "large.html")
+    write_lines(lines, count)
+    for words in (["--plain"], []):
+        status, seconds, megabytes, size = made(lines, path, *words)
+        print("%d changes%s: %.1f s of the processor, %.0f MB of memory, a page of %.1f MB" % (
+            count, " ".join([""] + words), seconds, megabytes, size / 1e6), flush=True)
+        tally.add("a large page %s" % words, [] if not status and size <= MOST_BYTES else ["status %d, %d bytes" % (status, size)])
+    browser.open("/proc/version")
+    began = time.time()
+    browser.open(path)
+    while browser.value("document.documentElement.dataset.ready") != "true":
+        time.sleep(0.02)
+    seconds, answers = time.time() - began, [browser.value(SEARCH % text) for text in ("package-00", "zzz", "file-07.so")]
+    filtered = browser.value("(() => { const began = performance.now(); document.querySelector('#kind button').click(); "
+                             "document.body.offsetHeight; return performance.now() - began; })()")
+    memory = browser.value("performance.memory.usedJSHeapSize")
+    print("shown in %.1f s, %.0f MB of the script, a search answers in %s ms, a filter in %.0f ms; load %.1f" % (
+        seconds, memory / 1e6, ", ".join("%.0f" % answer for answer in answers), filtered, os.getloadavg()[0]))
+    tally.add("it is shown soon", [] if seconds < MOST_SECONDS or os.getloadavg()[0] > 2 else ["%.1f s" % seconds])
+    tally.add("a search answers soon", [] if max(answers) < MOST_ANSWER or os.getloadavg()[0] > 2 else ["%r ms" % answers])
+    tally.add("no fault of a large page", browser.faults)
