@@ -66,14 +66,14 @@ def row_of(label, fields, usual):
     """The row of an attribute that is no digest."""
     place = PLACES[label]
     row = [place, value_of(fields, "old", usual), value_of(fields, "new", usual)]
-    if place not in NOTED:
+    if place not in NOTED and "old_text" not in fields and "new_text" not in fields:
         return row
     if label == "Perm":
         demand(all(value is None or PERMISSIONS.fullmatch(value) for value in row[1:]), "permissions are four digits")
     if "old_time" in fields or "new_time" in fields:
         for date in (fields.get("old_time"), fields.get("new_time")):
             demand(date is None or DATE.fullmatch(date), "a time has another form")
-    notes = notes_of(label, fields)
+    notes = notes_of(label, fields, usual)
     return row + notes if any(notes) else row
 
 

@@ -7,7 +7,7 @@ from aide_compare.shown_text import date_of, shown, shown_note
 
 OUTCOMES = {True: "The two databases differ", False: "No differences between the two databases"}
 KNOWN = {"record", "format", "differences", "total", "added", "removed", "changed", "levels", "grouped", "summarized", "base16",
-         "lines", "uncertain", "reasons", "left_out", "host", "@timestamp", "old_time", "new_time"}
+         "lines", "uncertain", "reasons", "left_out", "host", "@timestamp", "old_time", "new_time", "old_digest", "new_digest"}
 MOST_MEMBERS, MOST_LETTERS = 20, 5000
 HINT = ("Reasons are hints: they come from files of the host, such as dpkg's records, and whoever has taken over the host can forge "
         "these. The evidence of an archive is kept elsewhere and is stronger.")
@@ -75,13 +75,12 @@ def worth(reasons):
 
 
 def left_out(value):
-    """What the comparison has left out, as far as the summary says it."""
-    if type(value) is int:
-        return "The comparison left out %s." % entries(value) if value else ""
-    if isinstance(value, dict):
-        parts = ["%s: %s" % (shown_note(str(name)), shown_note(str(count))) for name, count in value.items() if count]
-        return "The comparison left out entries (%s)." % "; ".join(parts[:MOST_MEMBERS]) if parts else ""
-    return "The comparison left out entries: %s" % shown_note(value) if isinstance(value, str) and value else ""
+    """What the comparison has left out, as far as the summary says it: for each database, how many entries."""
+    counts = [value.get(side) for side in ("old", "new")] if isinstance(value, dict) else [value]
+    if not all(type(count) is int for count in counts) or not any(counts):
+        return ""
+    where = " and ".join("%s of the %s database" % (entries(count), side) for count, side in zip(counts, ("old", "new")))
+    return "The comparison left out %s, by the rules of --without." % (where if len(counts) == 2 else entries(counts[0]))
 
 
 def remarks(report, more):

@@ -107,15 +107,18 @@ def growth_of(entry):
     return 0
 
 
+def told(row, side):
+    """A value as people read it."""
+    return len(row) > 3 and row[side + 2] or row[side]
+
+
 def facts_of(entry):
     """Permissions, owner and size of an entry that is there on one side only."""
     side = 2 if entry.kind == 0 else 1
-    values = {row[0]: row for row in entry.rows}
-    perm = values.get(PERM)
-    owner = [values[place][side] for place in (UID, GID) if place in values]
-    size = values[SIZE][side] if SIZE in values else None
-    parts = [perm[side + 2] if len(perm) > 3 else perm[side]] if perm else []
-    return "  ".join(part for part in parts + [":".join(filter(None, owner)), size and size + " bytes"] if part)
+    values = {row[0]: told(row, side) for row in entry.rows}
+    owner = [values[place] for place in (UID, GID) if values.get(place)]
+    size = values.get(SIZE)
+    return "  ".join(filter(None, (values.get(PERM), ":".join(owner), size and size + " bytes")))
 
 
 def attributes_of(entry):

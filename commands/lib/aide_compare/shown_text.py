@@ -17,6 +17,14 @@ def octal(character):
     return "".join("\\%03o" % byte for byte in character.encode("utf-8", "surrogateescape"))
 
 
+def seen(text):
+    """A text in which every character is seen."""
+    if text.isprintable() and not any(letter in text for letter in BLANK_LETTERS):
+        return text
+    return "".join(character if character.isprintable() and character not in BLANK_LETTERS else octal(character)
+                   for character in text)
+
+
 def shown(value):
     """Bytes as text: as the report prints them, and in the same way all that has no shape of its own.
 
@@ -25,9 +33,7 @@ def shown(value):
     text = escapes.shown(value, len(value))
     if PLAIN.fullmatch(text):
         return text
-    if not text.isprintable() or any(letter in text for letter in BLANK_LETTERS):
-        text = "".join(character if character.isprintable() and character not in BLANK_LETTERS else octal(character)
-                       for character in text)
+    text = seen(text)
     inner = text.strip(" ")
     if not inner:
         return octal(text)
@@ -52,10 +58,7 @@ def letters_of(perm):
 
 def shown_note(text, most=200):
     """A text for people that a command of ours has written, such as a reason, in which names are escaped already."""
-    guarded = escapes.guarded(text[:most + 1])
-    if not guarded.isprintable() or any(letter in guarded for letter in BLANK_LETTERS):
-        guarded = "".join(character if character.isprintable() and character not in BLANK_LETTERS else octal(character)
-                          for character in guarded)
+    guarded = seen(escapes.guarded(text[:most + 1]))
     return guarded[:most] + "..." if len(guarded) > most else guarded
 
 
@@ -64,13 +67,16 @@ def date_of(date):
     return date.replace("T", " ").replace("Z", " UTC")
 
 
-def note_of(label, fields, side):
-    """What people read in place of a value: the value decoded, the date of a time, or permissions in letters."""
+def note_of(label, fields, side, usual):
+    """What people read in place of a value: the value decoded, the date of a time, or permissions in letters.
+
+    `usual` says that every text of the object is shown as it is.
+    """
     value, text = fields[side], fields.get(side + "_text")
     if value is None:
         return ""
     if text is not None:
-        return shown_note(text, NOTE_LIMIT)
+        return text if usual and len(text) <= NOTE_LIMIT else shown_note(text, NOTE_LIMIT)
     if type(value) is int:
         date = fields.get(side + "_time")
         return date_of(date) if date else ""
@@ -83,7 +89,7 @@ def doubt_of(fields, side):
     return "; ".join(note for doubt, note in NOTES.items() if "%s-%s" % (side, doubt) in doubts) if doubts else ""
 
 
-def notes_of(label, fields):
+def notes_of(label, fields, usual):
     """Four notes: what people read in place of the old value and of the new one, and what is open of each."""
-    notes = [note_of(label, fields, "old"), note_of(label, fields, "new")]
+    notes = [note_of(label, fields, "old", usual), note_of(label, fields, "new", usual)]
     return notes + [doubt_of(fields, "old"), doubt_of(fields, "new")] if "uncertain" in fields else notes

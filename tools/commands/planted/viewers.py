@@ -6,7 +6,7 @@ LIB = "commands/lib/aide_compare/"
 PLANTED = [
     Plant(file=LIB + "json_lines.py", old="date is None or DATE.fullmatch(date)", new="True",
           seen_by="viewers.try_times"),
-    Plant(file=LIB + "json_lines.py", old="DATE = re.compile('[0-9]{4}", new="DATE = re.compile(r'\\d{4}",
+    Plant(file=LIB + "json_lines.py", old='DATE = re.compile("[0-9]{4}', new='DATE = re.compile(r"\\d{4}',
           seen_by="viewers.try_times"),
     Plant(file=LIB + "page_items.py", old="(escape(value), escape(note)) if note", new="(escape(value), note) if note",
           seen_by="viewers.try_times"),
@@ -40,11 +40,11 @@ PLANTED = [
           new="    if not re.fullmatch(rb\"(?:[^\\\\]|\\\\[01][0-7][0-7])*\", text):", seen_by="viewers.try_memory"),
     Plant(file=LIB + "report_lines.py", old="|\\\\(?!0[0-3][0-7]|134|177)", new="", seen_by="viewers.try_edits"),
     Plant(file=LIB + "shown_text.py", old="escapes.shown(value, len(value))",
-          new="value.decode('utf-8', 'surrogateescape')",
+          new='value.decode("utf-8", "surrogateescape")',
           seen_by="viewers.try_shown"),
     Plant(file=LIB + "shown_text.py", old="character not in BLANK_LETTERS", new="True", seen_by="viewers.try_shown"),
     Plant(file=LIB + "viewers.py", old="REFUSED = 65", new="REFUSED = 1", seen_by="viewers.try_commands"),
     Plant(file=LIB + "viewers.py", old="        judge(summary, given.least, given.empty)\n", new="",
           seen_by="viewers.try_commands"),
-    Plant(file=LIB + "page.py", old="('TITLE', escape(title))", new="('TITLE', title)", seen_by="viewers.try_commands"),
+    Plant(file=LIB + "page.py", old='("TITLE", escape(title))', new='("TITLE", title)', seen_by="viewers.try_commands"),
 ]

@@ -115,12 +115,13 @@ def try_reasons(seed, tally):
 def try_heading(tally):
     """The host, the times, further members, and what was left out: each is there if the summary has it, and is text."""
     objects = objects_of(rich_report({}))
-    more = {"host": "www<b>", "@timestamp": "2026-11-25T05:23:11Z", "old_time": "2026-11-24T05:20:00Z", "<i>": "a\u202eb", "left_out": 3,
+    more = {"host": "www<b>", "@timestamp": "2026-11-25T05:23:11Z", "old_time": "2026-11-24T05:20:00Z", "<i>": "a\u202eb", "left_out": {"old": 1, "new": 2300},
             "status": 7}
     text = page_of([{**objects[0], **more}] + objects[1:])
     for part in ("<h1>File changes on www&lt;b&gt;</h1>", "<dd>www&lt;b&gt;</dd>", "<dd>2026-11-25 05:23:11 UTC</dd>",
                  "<span>of 2026-11-24 05:20:00 UTC</span>", "<dt>&lt;i&gt;</dt><dd>a\\342\\200\\256b</dd>",
-                 '<p class="remark">The comparison left out 3 entries.</p>'):
+                 '<p class="remark">The comparison left out 1 entry of the old database and 2,300 entries of the new database, '
+                 'by the rules of --without.</p>'):
         tally.add("the heading has " + part, [] if part in text.partition("</header>")[0] else ["it has not"])
     plain = page_of(objects, True)
     for part in ('class="facts"', "left out", "<span>of ", 'class="hint"', "<script"):

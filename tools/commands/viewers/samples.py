@@ -96,7 +96,7 @@ def hostile_lines():
                 fields["reason"] = {"class": "package", "text": names[number % 5], "verified": number % 3 > 0, "grade": "dpkg"}
             for sides in fields.get("attributes", {}).values():
                 sides["new_text"] = names[number % 5]
-    objects[0].update(host=names[0], **{"@timestamp": names[2], "<b>": names[3], "left_out": names[1]})
+    objects[0].update(host=names[0], **{"@timestamp": names[2], "<b>": names[3], "left_out": {"old": 3, "new": 0}})
     return b"".join(json.dumps(fields).encode() + b"\n" for fields in objects)
 
 
