@@ -34,8 +34,9 @@ class Browser:
         self.write, self.read, self.session = write, read, None
         target = next(target for target in self.ask('Target.getTargets')['targetInfos'] if target['type'] == 'page')
         self.session = self.ask('Target.attachToTarget', targetId=target['targetId'], flatten=True)['sessionId']
-        for domain in ('Page', 'Runtime', 'Log', 'DOM', 'Performance'):
+        for domain in ('Page', 'Runtime', 'Log', 'DOM'):
             self.ask(domain + '.enable')
+        self.ask('Performance.enable', timeDomain='threadTicks')
 
     def receive(self):
         """The next message of the browser."""
@@ -76,6 +77,11 @@ class Browser:
         if 'exceptionDetails' in answer:
             raise SystemExit('%s: %s' % (expression, json.dumps(answer['exceptionDetails'])[:300]))
         return answer['result'].get('value')
+
+    def worked(self):
+        """Seconds of the processor that the page's thread has worked."""
+        metrics = {metric['name']: metric['value'] for metric in self.ask('Performance.getMetrics')['metrics']}
+        return metrics['TaskDuration']
 
     def count_of(self, selector):
         """How many elements there are; this asks no script of the page."""

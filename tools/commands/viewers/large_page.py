@@ -12,7 +12,7 @@ from tools.commands.viewers.large import paths_of
 
 DIGESTS = (("MD5", 16), ("SHA1", 20), ("SHA256", 32), ("SHA512", 64), ("RMD160", 20), ("TIGER", 24), ("CRC32", 4), ("HAVAL", 32),
            ("GOST", 32), ("WHIRLPOOL", 64), ("STRIBOG512", 64))
-MOST_BYTES, MOST_SECONDS, MOST_ANSWER = 20000000, 3, 200
+MOST_BYTES, MOST_SECONDS, MOST_ANSWER = 20000000, 3, 0.2
 FIRST = 1700000000
 # The memory of a command that a large process starts would be counted with that of the large one.
 MEASURE = """import resource, subprocess, sys
@@ -20,13 +20,12 @@ status = subprocess.call(sys.argv[1:])
 used = resource.getrusage(resource.RUSAGE_CHILDREN)
 sys.stderr.write("used %f %d" % (used.ru_utime + used.ru_stime, used.ru_maxrss))
 sys.exit(status)"""
+SEARCHES = ("package-00", "zzz", "file-07.so")
 SEARCH = """(async () => {
-  const field = document.getElementById('search'), began = performance.now();
+  const field = document.getElementById('search'), before = document.getElementById('found').textContent;
   field.value = '%s'; field.dispatchEvent(new Event('input'));
-  const before = document.getElementById('found').textContent;
-  while (document.getElementById('found').textContent === before) await new Promise((done) => setTimeout(done, 1));
+  while (document.getElementById('found').textContent === before) await new Promise((done) => setTimeout(done, 20));
   document.body.offsetHeight;
-  return performance.now() - began - 100;
 })()"""
 
 
@@ -73,7 +72,7 @@ def made(source, target, *words):
 
 
 def try_large(browser, count, folder, tally):
-    """The time that a large page takes to be there, and to answer. Other work on the machine makes it slower."""
+    """The time of the processor that a large page takes to be there, and to answer; by the clock other work makes it longer."""
     lines, path = os.path.join(folder, "lines"), os.path.join(folder, "large.html")
     write_lines(lines, count)
     for words in (["--plain"], []):
@@ -82,16 +81,19 @@ def try_large(browser, count, folder, tally):
             count, " ".join([""] + words), seconds, megabytes, size / 1e6), flush=True)
         tally.add("a large page %s" % words, [] if not status and size <= MOST_BYTES else ["status %d, %d bytes" % (status, size)])
     browser.open("/proc/version")
-    began = time.time()
+    began, worked = time.time(), browser.worked()
     browser.open(path)
     while browser.value("document.documentElement.dataset.ready") != "true":
         time.sleep(0.02)
-    seconds, answers = time.time() - began, [browser.value(SEARCH % text) for text in ("package-00", "zzz", "file-07.so")]
-    filtered = browser.value("(() => { const began = performance.now(); document.querySelector('#kind button').click(); "
-                             "document.body.offsetHeight; return performance.now() - began; })()")
+    seconds, work, answers = time.time() - began, browser.worked() - worked, []
+    for what in [SEARCH % text for text in SEARCHES] + ["document.querySelector('#kind button').click()"]:
+        before = browser.worked()
+        browser.value(what)
+        answers.append(browser.worked() - before)
     memory = browser.value("performance.memory.usedJSHeapSize")
-    print("shown in %.1f s, %.0f MB of the script, a search answers in %s ms, a filter in %.0f ms; load %.1f" % (
-        seconds, memory / 1e6, ", ".join("%.0f" % answer for answer in answers), filtered, os.getloadavg()[0]))
-    tally.add("it is shown soon", [] if seconds < MOST_SECONDS or os.getloadavg()[0] > 2 else ["%.1f s" % seconds])
-    tally.add("a search answers soon", [] if max(answers) < MOST_ANSWER or os.getloadavg()[0] > 2 else ["%r ms" % answers])
+    print("shown with %.1f s of the processor (%.1f s by the clock, load %.1f), %.0f MB of the script, searches answer with %s ms, "
+          "a filter with %.0f ms" % (work, seconds, os.getloadavg()[0], memory / 1e6, ", ".join(
+              "%.0f" % (1000 * answer) for answer in answers[:-1]), 1000 * answers[-1]))
+    tally.add("it is shown soon", [] if work < MOST_SECONDS else ["%.1f s" % work])
+    tally.add("a search answers soon", [] if max(answers) < MOST_ANSWER else ["%r s" % answers])
     tally.add("no fault of a large page", browser.faults)
