@@ -90,18 +90,17 @@ class Part:
 
 
 class Place:
-    """The folder of one host, which one process at a time works in. Without `make` nothing is made: a reader makes no host."""
+    """The folder of one host, which one process at a time works in."""
 
-    def __init__(self, store, host, make=True):
+    def __init__(self, store, host):
         self.host = check_name(host)
         self.path = "%s/hosts/%s" % (store, host)
         self.state_path = "%s/states/%s" % (store, host)
         self._locked = self._readable = None
-        if make:
-            open_folder(store, make=True).close()
-            _opened(store).close()
-            _make(store + "/hosts", 0o700)
-            _make(self.path, 0o700)
+        open_folder(store, make=True).close()
+        _opened(store).close()
+        _make(store + "/hosts", 0o700)
+        _make(self.path, 0o700)
         self.folder = _opened(self.path)
         self.fd = self.folder.fd
 

@@ -58,7 +58,7 @@ def state_of(place, name, age):
 def entries_of(host, report, descriptor):
     """Yields the objects of the entries in a report, and sets what it is. Of a cut one all are given that are whole."""
     counts = counts_of(os.pread(descriptor, HEAD_BYTES, 0))
-    host.report = CUT if report.size else WHOLE if counts else NO_LIST
+    host.report = WHOLE if counts else NO_LIST
     if counts != host.state.counts and counts:
         host.report = UNREADABLE  # It is the report of another run.
         return
@@ -94,7 +94,7 @@ def read_host(name, given, take):
         check_name(name)
         if not os.path.lexists("%s/hosts/%s" % (given.store, name)):
             return Host(name, Status.DEVICE, "was never compared")
-        place = Place(given.store, name, make=False)
+        place = Place(given.store, name)
         place.lock(time.monotonic() + given.time, fcntl.LOCK_SH)
         host = state_of(place, name, given.age)
     except Fault as fault:

@@ -10,6 +10,7 @@ import time
 from .fleet import wait_for
 from .hosts_report import Hosts, database, four_hosts, line
 from .sandbox import after
+from .sorting import MEASURE
 
 # Whoever starts the trials may ignore these signals, and the command would too.
 HEEDED = "for number in (signal.SIGINT, signal.SIGHUP, signal.SIGTERM): signal.signal(number, signal.SIG_DFL)"
@@ -42,15 +43,13 @@ def try_many_hosts(sandbox):
     sizes = []
     for count in (30, 300):
         hosts.copies("first", ["h%d-%d" % (count, number) for number in range(count)])
-        words = ["sh", "-c", "ulimit -n 40; exec \"$@\"", "sh"] + hosts.words("report-hosts", "--json", sandbox.path("hosts"))
-        run = hosts.start(words)
-        output = run.stdout.read()
-        _, status, used = os.wait4(run.pid, 0)
-        run.returncode = os.waitstatus_to_exitcode(status)
-        sizes.append(used.ru_maxrss)
+        words = hosts.words("report-hosts", "--json", sandbox.path("hosts"))
+        run = hosts.start(["sh", "-c", "ulimit -n 40; exec \"$@\"", "sh", sys.executable, "-c", MEASURE] + words)
+        output, errors = run.communicate()
+        sizes.append(int(errors.split()[-1]))
         lines = output.splitlines()
         good = run.returncode == 1 and len(lines) == 1 + count + 200 and json.loads(lines[-1])["hosts"] == count
-        sandbox.check("%d hosts" % count, good, (run.returncode, run.stderr.read(), output[:300]))
+        sandbox.check("%d hosts" % count, good, (run.returncode, errors, output[:300]))
     sandbox.check("their memory", sizes[1] < sizes[0] + 8000 and sizes[1] < 60000, sizes)
 
 
