@@ -107,15 +107,22 @@ def report_lines(summary, hosts, changes, order, most=1 << 62):
 
 
 def fitting(summary, hosts, changes, order, room):
-    """The lines of a text of at most so many bytes, and how many changes do not fit and are left out."""
-    lines, left_out = list(report_lines(summary, hosts, (), order, max(room // 2000, 10))), 0
-    room -= sum(len(line.encode("utf-8", "backslashreplace")) + 1 for line in lines)
+    """The lines of a text of at most so many bytes, and how many changes do not fit and are left out. Changes whose first host
+    is the same take half of it at most, so that one host cannot crowd out what the others have."""
+    lines, left_out, taken = list(report_lines(summary, hosts, (), order, max(room // 2000, 10))), 0, {}
+    room -= size_of(lines)
+    share = room // 2
     for fields in changes:
         block = list(change_lines(fields, summary["hosts"])) + [""]
-        size = sum(len(line.encode("utf-8", "backslashreplace")) + 1 for line in block)
-        if left_out or size > room:
+        size, first = size_of(block), fields["names"][0]
+        if size > room or taken.get(first, 0) + size > share:
             left_out += 1
         else:
             room -= size
+            taken[first] = taken.get(first, 0) + size
             lines += block
     return lines, left_out
+
+
+def size_of(lines):
+    return sum(len(line.encode("utf-8", "backslashreplace")) + 1 for line in lines)
