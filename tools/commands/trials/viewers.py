@@ -38,6 +38,10 @@ def try_views(sandbox):
     looks.try_views(sandbox.tally)
 
 
+def try_only(sandbox):
+    looks.try_only(sandbox.tally)
+
+
 def try_cuts(sandbox):
     try_viewers.try_cuts(sandbox.tally)
 

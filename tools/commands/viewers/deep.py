@@ -60,14 +60,12 @@ def readers_over(report_over_size):
     return given_of
 
 
-def neighbours_of(count):
-    """Two entries: one in so many folders, and one in none of them."""
-    def given_of(pieces):
-        given = []
-        text = lines_of(report_over({}, {b"/x" * pieces: {"ftype": 0o100000}, b"/y/z": {"ftype": 0o100000}}))
-        Report(io.BytesIO(text), given.append)
-        return given * count, pieces
-    return given_of
+def neighbours(pieces):
+    """Two entries, each in so many folders that the other is not in."""
+    given = []
+    text = lines_of(report_over({}, {b"/x" * pieces: {"ftype": 0o100000}, b"/y" * pieces: {"ftype": 0o100000}}))
+    Report(io.BytesIO(text), given.append)
+    return given, pieces
 
 
 def try_work(tally):
@@ -77,7 +75,7 @@ def try_work(tally):
             ("pages of many folders", pages_over(many), 300), ("a report with a path of so many pieces", readers_over(deep_path), 3000),
             ("a report with nested folders", readers_over(nested), 150), ("a report with many folders", readers_over(many), 300)):
         tally.add("work for " + label, growth_faults(lines_run, given_of, size))
-    tally.add("pieces of deep paths", growth_faults(pieces_looked_at, neighbours_of(1), 1000))
+    tally.add("pieces of deep paths", growth_faults(pieces_looked_at, neighbours, 1000))
 
 
 def try_memory(tally):

@@ -57,6 +57,9 @@ def with_reasons(objects, pick):
         if pick.random() < 0.6:
             fields["reason"] = {"class": "package", "text": pick.choice(texts), "verified": pick.random() < 0.6,
                                 "grade": pick.choice(GRADES)}
+        for sides in fields.get("attributes", {}).values():
+            if pick.random() < 0.3:
+                sides["new_text"] = pick.choice(NAMES).decode("utf-8", "surrogateescape")
         told = fields.get("reason")
         counts["unexplained" if not told else "explained" if told["verified"] else "not_verified"] += 1
         counts[fields["severity"]] += not (told and told["verified"])

@@ -33,7 +33,7 @@ def entries_of(layers):
             entries.append(Packed(place, int(marks[0]), marks[1] == "1", int(marks[2]), int(group) if group else None, int(growth),
                                   attributes, facts, path, values[slot] if slot < len(values) else None,
                                   digests[slot] if slot < len(digests) else None))
-    return sorted(entries)
+    return sorted(entries, key=lambda entry: entry.place)
 
 
 def is_kept(entry):
