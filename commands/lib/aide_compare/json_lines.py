@@ -20,12 +20,14 @@ LETTERS, PERMISSIONS = re.compile("[A-Za-z?!<>=:.+ -]{18}"), re.compile("[0-7]{4
 DATE = re.compile("[0-9]{4}-[0-9]{2}-[0-9]{2}T[0-9]{2}:[0-9]{2}:[0-9]{2}Z")
 TEXTS = frozenset((str, type(None)))
 # The digest that people look at first, if an entry has it, and so on.
-STRENGTH = ("SHA256", "SHA512", "SHA3-256", "SHA3-512", "SHA512/256", "STRIBOG256", "STRIBOG512", "WHIRLPOOL", "RMD160", "SHA1",
-            "GOST", "TIGER", "HAVAL", "MD5", "CRC32", "CRC32B")
+STRENGTH = ("SHA256", "SHA512", "SHA3-256", "SHA3-512", "SHA512/256", "STRIBOG256", "STRIBOG512", "WHIRLPOOL", "RMD160",
+            "SHA1", "GOST", "TIGER", "HAVAL", "MD5", "CRC32", "CRC32B")
 ADDED_BY_COUNTS = ["explained", "not_verified", "unexplained"] + SEVERITIES
 
-# An entry; `names` are the pieces of its path, `name` is the path as it is shown, `size` the length of the line. A row is [place of its label, old value, new value, old note, new note], where both notes may be
-# missing. `digests` are the rows of digests, the strongest first. `severity` is a place in SEVERITIES, or None; `reason` is None or a Reason.
+# An entry; `names` are the pieces of its path, `name` is the path as it is shown, `size` the length of the line. A row is
+# [place of its label, old value, new value, old note, new note, old doubt, new doubt], where the last four may be missing.
+# `digests` are the rows of digests, the strongest first. `severity` is a place in SEVERITIES, or None; `reason` is None or a
+# Reason.
 Entry = namedtuple("Entry", "kind doubtful path names name letters rows digests severity reason size")
 Reason = namedtuple("Reason", "text verified grade")
 

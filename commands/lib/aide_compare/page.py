@@ -15,6 +15,7 @@ from aide_compare.page_streams import Stream, attributes_of, growth_of
 from aide_compare.page_view import ATTRIBUTES, Seen, View
 
 HERE = os.path.dirname(os.path.abspath(__file__))
+SCRIPTS = ("page_logic.js", "page_data.js", "page_tree.js", "page_entries.js", "page.js")
 POLICY = "default-src 'none'; base-uri 'none'; form-action 'none'; style-src '%s'"
 # The most bytes of a page; how many of them its lists have, those with values and all; and the same beside a script.
 MOST = 20000000
@@ -29,7 +30,7 @@ def part_of(name):
 
 
 def script_of():
-    return "'use strict';\n(() => {\n%s\n%s})();\n" % (part_of("page_logic.js"), part_of("page.js"))
+    return "'use strict';\n(() => {\n%s})();\n" % "\n".join(part_of(name) for name in SCRIPTS)
 
 
 def digest_of(text):
@@ -41,8 +42,8 @@ def seen_of(entry, place, group):
     """An entry as filters see it. The rank of its reason is not known yet."""
     signs = attributes_of(entry)
     severity = 3 if entry.severity is None else entry.severity
-    return Seen(place, entry.kind, standing_of(group), severity, [int(sign, 36) for sign in signs], group.key if group else "", 0,
-                growth_of(entry), entry.name)
+    return Seen(place, entry.kind, standing_of(group), severity, [int(sign, 36) for sign in signs],
+                group.key if group else "", 0, growth_of(entry), entry.name)
 
 
 class Contents:
@@ -79,7 +80,7 @@ class Contents:
         """What the script needs beside the packed entries."""
         groups = [[group.key, group.text, GRADES[group.grade], int(group.verified), group.count, group.rank]
                   for group in self.reasons.groups]
-        text = json.dumps({"labels": LABELS, "attributes": ATTRIBUTES, "groups": groups, "count": self.count, "state": self.only,
+        text = json.dumps({"labels": LABELS, "attributes": ATTRIBUTES, "groups": groups, "state": self.only,
                            "hasReasons": self.reasons.has_any}, separators=(",", ":"))
         return text.replace("<", "\\u003c").replace(">", "\\u003e").encode()
 

@@ -59,8 +59,9 @@ def digest_lines(digests):
     if not others:
         return line_of(first)
     inner = "".join(map(line_of, others))
-    return line_of(first) + '<tr><td class="others" colspan="3"><details><summary>%s</summary><table>%s%s</table></details>' % (
-        "1 other digest" if len(others) == 1 else "%d other digests" % len(others), HEADS, inner)
+    name = "1 other digest" if len(others) == 1 else "%d other digests" % len(others)
+    return '%s<tr><td class="others" colspan="3"><details><summary>%s</summary><table>%s%s</table></details>' % (
+        line_of(first), name, HEADS, inner)
 
 
 def table(entry):

@@ -147,9 +147,13 @@ class ReasonLists:
                 continue
             count = sum(self.counts[key] for key in keys)
             yield ('<h2 class="standing">%s: %s</h2>\n' % (TITLES[name], entries(count))).encode()
-            order = (lambda key: (-self.counts[key], key[1].key)) if standing == 2 else (lambda key: (key[1] is None, key[1] or 0))
-            for key in sorted(keys, key=order):
+            for key in sorted(keys, key=self.order):
                 yield from self.group_parts(key)
+
+    def order(self, key):
+        """Groups of most entries first; the severe entries first, and those without a severity last."""
+        standing, what = key
+        return (-self.counts[key], what.key) if standing == 2 else (3 if what is None else what,)
 
     def group_parts(self, key):
         standing, what = key
@@ -157,7 +161,7 @@ class ReasonLists:
             yield ("<details><summary><code>%s</code>: %s, %s</summary>" % (
                 escape(what.text), files(self.counts[key]), GRADES[what.grade])).encode()
         elif what is not None:
-            yield ('<h3 class="%s">Severity %s: %s</h3>' % (SEVERITIES[what], SEVERITIES[what], entries(self.counts[key]))).encode()
+            yield ("<h3>Severity %s: %s</h3>" % (SEVERITIES[what], entries(self.counts[key]))).encode()
         yield b'<ul class="plain">\n'
         names = self.names
         yield from self.items(self.files[standing == 2], self.places.get(key, ()))

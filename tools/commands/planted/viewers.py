@@ -41,7 +41,7 @@ PLANTED = [
     Plant(file=LIB + "page_heading.py", old="(text, HINT)", new='(text, "")', seen_by="viewers.try_reasons"),
     Plant(file=LIB + "shown_text.py", old="text if usual and len(text) <= NOTE_LIMIT else shown_note(text, NOTE_LIMIT)", new="text",
           seen_by="viewers.try_reasons"),
-    Plant(file=LIB + "page.js", old="if (opened.has(node)) waiting.push([list, node, 0]);",
+    Plant(file=LIB + "page_tree.js", old="if (opened.has(node)) waiting.push([list, node, 0]);",
           new="if (opened.has(node)) fill(list, node);",
           seen_by="viewers.try_script"),
     Plant(file=LIB + "page.js", old=" && opened.size < DEEP", new="", seen_by="viewers.try_script"),

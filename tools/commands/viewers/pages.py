@@ -123,7 +123,11 @@ def packed_faults(page, objects):
     """What is wrong with the entries that are packed for the script, if the page has room for all."""
     layers = {name: text for kind, text, name in page.scripts if kind == 'text/plain'}
     data, faults = json.loads(next(text for kind, text, _ in page.scripts if kind == 'application/json')), []
-    packed, entries = entries_of(layers), [fields for fields in objects if fields['record'] == 'entry']
+    entries = [fields for fields in objects if fields['record'] == 'entry']
+    try:
+        packed = entries_of(layers)
+    except ValueError as error:
+        return ['the entries are not packed as they should be: %s' % error]
     if [entry.place for entry in packed] != list(range(len(entries))) or not all(map(is_kept, packed)):
         return ['not all entries are packed']
     for entry, fields in zip(packed, entries):
