@@ -71,9 +71,12 @@ def neighbours(pieces):
 def try_work(tally):
     """The lines of code that run, and the pieces of paths that are looked at, grow as the input does."""
     for label, given_of, size in (
-            ("pages of a path of so many pieces", pages_over(deep_path), 1500), ("pages of nested folders", pages_over(nested), 150),
-            ("pages of many folders", pages_over(many), 300), ("a report with a path of so many pieces", readers_over(deep_path), 3000),
-            ("a report with nested folders", readers_over(nested), 150), ("a report with many folders", readers_over(many), 300)):
+            ("pages of a path of so many pieces", pages_over(deep_path), 1500),
+            ("pages of nested folders", pages_over(nested), 150),
+            ("pages of many folders", pages_over(many), 300),
+            ("a report with a path of so many pieces", readers_over(deep_path), 3000),
+            ("a report with nested folders", readers_over(nested), 150),
+            ("a report with many folders", readers_over(many), 300)):
         tally.add("work for " + label, growth_faults(lines_run, given_of, size))
     tally.add("pieces of deep paths", growth_faults(pieces_looked_at, neighbours, 1000))
 
@@ -94,10 +97,13 @@ def try_memory(tally):
 def long_lines(count, letters):
     """Lines of entries with long names and with values that cannot be packed."""
     pick = random.Random(count)
-    summary = {"record": "summary", "format": 1, "differences": True, "total": count, "added": 0, "removed": 0, "changed": count,
-               "lines": count + 1}
-    entries = [{"record": "entry", "kind": "changed", "path": "/%06d-%s" % (number, "n" * letters), "attributes": {
-        "XAttrs": {side: "%0*x" % (letters, pick.getrandbits(4 * letters)) for side in ("old", "new")}}} for number in range(count)]
+    summary = {"record": "summary", "format": 1, "differences": True, "total": count, "added": 0, "removed": 0,
+               "changed": count, "lines": count + 1}
+
+    def value():
+        return "%0*x" % (letters, pick.getrandbits(4 * letters))
+    entries = [{"record": "entry", "kind": "changed", "path": "/%06d-%s" % (number, "n" * letters),
+                "attributes": {"XAttrs": {"old": value(), "new": value()}}} for number in range(count)]
     return b"".join(json.dumps(fields).encode() + b"\n" for fields in [summary] + entries)
 
 
@@ -109,7 +115,8 @@ def try_sizes(tally):
         for words in ([HTML], [HTML, "--plain"]):
             done = subprocess.run(words, input=lines, stdout=subprocess.PIPE, stderr=subprocess.PIPE)
             good = not done.returncode and 1000 < len(done.stdout) <= MOST_BYTES
-            tally.add("size for %s %s" % (label, words[1:]), [] if good else ["status %d, %d bytes" % (done.returncode, len(done.stdout))])
+            tally.add("size for %s %s" % (label, words[1:]),
+                      [] if good else ["status %d, %d bytes" % (done.returncode, len(done.stdout))])
             says = bool(CUT.search(done.stdout))
             tally.add("%s %s is said to be cut" % (label, words[1:]), [] if says == is_cut else ["it is %s" % says])
 
@@ -124,7 +131,8 @@ def try_script(script, tally):
     """The script of the page has no function that calls itself as deep as folders are nested."""
     body = script[script.index("function fillOne("):script.index("function toggle(")]
     item = script[script.index("function folderItem("):script.index("// Folders that are open are filled")]
-    calls = [line for line in (item + body).splitlines() if "fill(" in line and "function" not in line and "CHILDREN" not in line]
+    calls = [line for line in (item + body).splitlines()
+             if "fill(" in line and "function" not in line and "CHILDREN" not in line]
     tally.add("the script fills folders in a loop", ["it calls itself in: %s" % line.strip() for line in calls])
     tally.add("few folders are open at first", [] if "opened.size < DEEP" in script else ["there is no bound"])
     for word in ("innerHTML", "outerHTML", "insertAdjacentHTML", "document.write", "eval(", "setTimeout('", ".href", ".src"):

@@ -17,6 +17,19 @@ FOUND = "document.getElementById('found').textContent"
 PATHS = "[...document.querySelectorAll('#list code')].map((one) => one.textContent)"
 HASH = "location.hash"
 FOCUS = "document.activeElement"
+# What a view finds and how it is written, by the functions of the page's script.
+VIEWED = """(() => {
+  %s
+  const entries = %s, choices = choicesOf(%s), view = viewOf(%s, choices);
+  const fitting = entries.filter((entry) => fits(view, view.path.toLowerCase(), entry));
+  return [ordered(fitting, view.order || 'path').map((entry) => entry.path), textOf(view, choices)];
+})()"""
+# The facts beside the added program, and the least width of a folder's name.
+FACTS = """[...document.querySelectorAll('#list li')].find((one) => one.textContent.includes('sbin/.x')).querySelector(
+  '.facts').textContent"""
+NARROW = """Math.min(...[...document.querySelectorAll('#tree > li > .folder code')].map(
+  (one) => one.clientWidth || one.offsetWidth))"""
+ORDER = """{ const order = document.getElementById('order'); order.value = 'size'; order.dispatchEvent(new Event('change')); }"""
 
 
 def wait_for(browser, expression, wanted):
@@ -49,17 +62,15 @@ def search(browser, text):
 def try_views(browser, tally):
     """The table of views, by the functions of the page's script."""
     table = cases()
-    entries = [{"path": one["path"], "folded": one["path"].lower(), "kind": KINDS.index(one["kind"]), "growth": one.get("growth", 0),
+    entries = [{"path": one["path"], "folded": one["path"].lower(), "kind": KINDS.index(one["kind"]),
                 "severity": SEVERITIES.index(one["severity"]) if "severity" in one else 3, "group": one.get("group", 0),
                 "standing": STANDINGS.index(one.get("standing", "unexplained")), "reason": one.get("reason", ""),
-                "attributes": sum(1 << table["attributes"].index(name) for name in one["attributes"])} for one in table["entries"]]
+                "attributes": sum(1 << table["attributes"].index(name) for name in one["attributes"]),
+                "growth": one.get("growth", 0)} for one in table["entries"]]
     browser.open("/proc/version")
     for case in table["cases"]:
-        found, text = browser.value("(() => { %s; const entries = %s, choices = choicesOf(%s), view = viewOf(%s, choices); "
-                                    "const fitting = entries.filter((entry) => fits(view, view.path.toLowerCase(), entry)); return "
-                                    "[ordered(fitting, view.order || 'path').map((entry) => entry.path), textOf(view, choices)]; })()" % (
-                                        part_of("page_logic.js"), json.dumps(entries), json.dumps(table["attributes"]),
-                                        json.dumps(case["view"])))
+        found, text = browser.value(VIEWED % (part_of("page_logic.js"), json.dumps(entries), json.dumps(table["attributes"]),
+                                              json.dumps(case["view"])))
         tally.add("view %s" % case["view"], [] if found == case["found"] else ["it finds %r" % found])
         wanted = case.get("text", case["view"])
         tally.add("text of %s" % case["view"], [] if text == wanted else ["it is %r" % text])
@@ -100,8 +111,7 @@ def try_entries(browser, path, pictures, tally):
     tally.add("the severe first", wait_for(browser, PATHS + ".slice(0, 5)", first))
     heading = "document.querySelector('#list h3').textContent"
     tally.add("the first heading", wait_for(browser, heading, "Not explained, severity high: 3 entries"))
-    facts = "[...document.querySelectorAll('#list li')].find((one) => one.textContent.includes('sbin/.x')).querySelector('.facts').textContent"
-    tally.add("a new file", wait_for(browser, facts, "rwsr-xr-x  0:0  18344 bytes"))
+    tally.add("a new file", wait_for(browser, FACTS, "rwsr-xr-x  0:0  18344 bytes"))
     click(browser, "#list summary", "etc/passwd")
     rows = "[...document.querySelectorAll('#list .values > table tbody th')].map((one) => one.textContent)"
     tally.add("one digest", wait_for(browser, rows, ["Size", "Mtime", "SHA256"]))
@@ -114,8 +124,8 @@ def try_entries(browser, path, pictures, tally):
             browser.picture(os.path.join(pictures, name + ".png"), width, height, dark)
     browser.ask("Emulation.setDeviceMetricsOverride", width=320, height=900, deviceScaleFactor=1, mobile=False)
     tally.add("no sideways scrolling at 320", wait_for(browser, "document.documentElement.scrollWidth <= 320", True))
-    narrow = "Math.min(...[...document.querySelectorAll('#tree > li > .folder code')].map((one) => one.clientWidth || one.offsetWidth))"
-    tally.add("folder names have room at 320", [] if browser.value(narrow) >= 150 else ["%r" % browser.value(narrow)])
+    width = browser.value(NARROW)
+    tally.add("folder names have room at 320", [] if width >= 150 else ["%r" % width])
     browser.ask("Emulation.setDeviceMetricsOverride", width=1280, height=900, deviceScaleFactor=1, mobile=False)
 
 
@@ -125,7 +135,7 @@ def try_address(browser, path, tally):
     click(browser, "#severity button", "high")
     search(browser, "sshd")
     tally.add("the address", wait_for(browser, HASH, "#severity=high&path=sshd"))
-    browser.value("{ const order = document.getElementById('order'); order.value = 'size'; order.dispatchEvent(new Event('change')); }")
+    browser.value(ORDER)
     tally.add("the order in the address", wait_for(browser, HASH, "#severity=high&path=sshd&order=size"))
     opened(browser, path, "#kind=added&order=size&standing=unexplained")
     tally.add("a page of an address", wait_for(browser, PATHS, ["/usr/local/sbin/.x", "/etc/cron.d/backup"]))
@@ -187,7 +197,8 @@ def try_hostile(browser, path, pictures, tally):
     tally.add("they are shown", wait_for(browser, SHOWN, min(total, 100)) if total > 50 else ["only %d" % total])
     click(browser, "#unfold")
     tally.add("their values", wait_for(browser, "document.querySelectorAll('#list .values').length > 50", True))
-    for selector in ("img", "body script:not([id]) ~ script", "#list script", "#tree b", "iframe", "noscript *", "header script"):
+    for selector in ("img", "body script:not([id]) ~ script", "#list script", "#tree b", "iframe", "noscript *",
+                     "header script"):
         tally.add("no " + selector, wait_for(browser, "document.querySelectorAll(%s).length" % json.dumps(selector), 0))
     direction = r"/[\u202a-\u202e\u2066-\u2069]/.test(document.documentElement.outerHTML)"
     tally.add("no direction", wait_for(browser, direction, False))

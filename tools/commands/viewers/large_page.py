@@ -10,8 +10,8 @@ import time
 from tools.commands.viewers import HTML
 from tools.commands.viewers.large import paths_of
 
-DIGESTS = (("MD5", 16), ("SHA1", 20), ("SHA256", 32), ("SHA512", 64), ("RMD160", 20), ("TIGER", 24), ("CRC32", 4), ("HAVAL", 32),
-           ("GOST", 32), ("WHIRLPOOL", 64), ("STRIBOG512", 64))
+DIGESTS = (("MD5", 16), ("SHA1", 20), ("SHA256", 32), ("SHA512", 64), ("RMD160", 20), ("TIGER", 24), ("CRC32", 4),
+           ("HAVAL", 32), ("GOST", 32), ("WHIRLPOOL", 64), ("STRIBOG512", 64))
 MOST_BYTES, MOST_SECONDS, MOST_ANSWER = 20000000, 3, 0.2
 FIRST = 1700000000
 # The memory of a command that a large process starts would be counted with that of the large one.
@@ -54,8 +54,8 @@ def write_lines(path, count):
     """Lines of so many changes, with severities and reasons."""
     pick, encode = random.Random(1), json.JSONEncoder(separators=(",", ":")).encode
     kinds = [{0: "added", 1: "removed"}.get(number % 20, "changed") for number in range(count)]
-    summary = {"record": "summary", "format": 1, "differences": True, "total": count, "lines": count + 1, "reasons": dict.fromkeys(
-        ("explained", "not_verified", "unexplained", "high", "medium", "low"), 0)}
+    reasons = dict.fromkeys(("explained", "not_verified", "unexplained", "high", "medium", "low"), 0)
+    summary = {"record": "summary", "format": 1, "differences": True, "total": count, "lines": count + 1, "reasons": reasons}
     summary.update((kind, kinds.count(kind)) for kind in ("added", "removed", "changed"))
     with open(path, "w") as file:
         file.write(encode(summary) + "\n")
@@ -72,14 +72,15 @@ def made(source, target, *words):
 
 
 def try_large(browser, count, folder, tally):
-    """The time of the processor that a large page takes to be there, and to answer; by the clock other work makes it longer."""
+    """The time of the processor that a large page takes to be there, and to answer."""
     lines, path = os.path.join(folder, "lines"), os.path.join(folder, "large.html")
     write_lines(lines, count)
     for words in (["--plain"], []):
         status, seconds, megabytes, size = made(lines, path, *words)
         print("%d changes%s: %.1f s of the processor, %.0f MB of memory, a page of %.1f MB" % (
             count, " ".join([""] + words), seconds, megabytes, size / 1e6), flush=True)
-        tally.add("a large page %s" % words, [] if not status and size <= MOST_BYTES else ["status %d, %d bytes" % (status, size)])
+        good = not status and size <= MOST_BYTES
+        tally.add("a large page %s" % words, [] if good else ["status %d, %d bytes" % (status, size)])
     browser.open("/proc/version")
     began, worked = time.time(), browser.worked()
     browser.open(path)
@@ -91,8 +92,8 @@ def try_large(browser, count, folder, tally):
         browser.value(what)
         answers.append(browser.worked() - before)
     memory = browser.value("performance.memory.usedJSHeapSize")
-    print("shown with %.1f s of the processor (%.1f s by the clock, load %.1f), %.0f MB of the script, searches answer with %s ms, "
-          "a filter with %.0f ms" % (work, seconds, os.getloadavg()[0], memory / 1e6, ", ".join(
+    print("shown with %.1f s of the processor (%.1f s by the clock, load %.1f), %.0f MB of the script, searches answer with "
+          "%s ms, a filter with %.0f ms" % (work, seconds, os.getloadavg()[0], memory / 1e6, ", ".join(
               "%.0f" % (1000 * answer) for answer in answers[:-1]), 1000 * answers[-1]))
     tally.add("it is shown soon", [] if work < MOST_SECONDS else ["%.1f s" % work])
     tally.add("a search answers soon", [] if max(answers) < MOST_ANSWER else ["%r s" % answers])

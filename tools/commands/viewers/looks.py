@@ -13,9 +13,12 @@ from tools.commands.viewers.refused import rich_report
 from aide_compare.escapes import shown as escaped
 from aide_compare.json_lines import GRADES, KINDS, SEVERITIES
 from aide_compare.page_view import CHOICES, STANDINGS, Seen, View
+from aide_compare.report_lines import Refused
 
 CASES = os.path.join(os.path.dirname(os.path.abspath(__file__)), "views.json")
 REPORTS = 60
+# The severity and the name of an entry of the plain lists.
+LISTED = re.compile(r'<b class="[a-z]+">[a-z ]+</b> <em class="([a-z]+)">[a-z]+</em> <code>([^<]*)</code>')
 
 
 def cases():
@@ -75,7 +78,7 @@ def standing_of(fields):
 def order_faults(text, entries):
     """What is wrong with the order of the plain lists: first what is not explained, the severe of it at the front."""
     lists = text[text.index("<noscript>") if "<noscript>" in text else text.index('id="content"'):]
-    found = re.findall(r'<b class="[a-z]+">[a-z ]+</b> <em class="([a-z]+)">[a-z]+</em> <code>([^<]*)</code>', lists)
+    found = LISTED.findall(lists)
     wanted = sorted((fields for fields in entries if standing_of(fields) < 2),
                     key=lambda fields: (standing_of(fields), SEVERITIES.index(fields["severity"])))
     if [severity for severity, _ in found[:len(wanted)]] != [fields["severity"] for fields in wanted]:
@@ -106,8 +109,14 @@ def try_reasons(seed, tally):
     """Reports with severities and reasons, in both forms of the page."""
     for number in range(REPORTS):
         pick = random.Random("reasons %d %d" % (seed, number))
-        objects, is_plain = with_reasons(objects_of(rich_report({"report_level": "added_removed_entries"})), pick), number % 2 == 1
-        text, entries = page_of(objects, is_plain), [fields for fields in objects if fields["record"] == "entry"]
+        report, is_plain = rich_report({"report_level": "added_removed_entries"}), number % 2 == 1
+        objects = with_reasons(objects_of(report), pick)
+        entries = [fields for fields in objects if fields["record"] == "entry"]
+        try:
+            text = page_of(objects, is_plain)
+        except Refused as refused:
+            tally.add("reasons %d" % number, ["it is refused: %s" % refused])
+            continue
         faults = page_faults(text, objects, is_plain) + order_faults(text, entries) + card_faults(text, objects[0]["reasons"])
         tally.add("reasons %d" % number, faults)
     objects = objects_of(rich_report({"report_level": "summary"}))
@@ -118,19 +127,20 @@ def try_reasons(seed, tally):
 def try_heading(tally):
     """The host, the times, further members, and what was left out: each is there if the summary has it, and is text."""
     objects = objects_of(rich_report({}))
-    more = {"host": "www<b>", "@timestamp": "2026-11-25T05:23:11Z", "old_time": "2026-11-24T05:20:00Z", "<i>": "a\u202eb", "left_out": {"old": 1, "new": 2300},
-            "status": 7}
+    more = {"host": "www<b>", "@timestamp": "2026-11-25T05:23:11Z", "old_time": "2026-11-24T05:20:00Z", "<i>": "a\u202eb",
+            "left_out": {"old": 1, "new": 2300}, "status": 7}
     text = page_of([{**objects[0], **more}] + objects[1:])
     for part in ("<h1>File changes on www&lt;b&gt;</h1>", "<dd>www&lt;b&gt;</dd>", "<dd>2026-11-25 05:23:11 UTC</dd>",
                  "<span>of 2026-11-24 05:20:00 UTC</span>", "<dt>&lt;i&gt;</dt><dd>a\\342\\200\\256b</dd>",
-                 '<p class="remark">The comparison left out 1 entry of the old database and 2,300 entries of the new database, '
-                 'by the rules of --without.</p>'):
+                 '<p class="remark">The comparison left out 1 entry of the old database and 2,300 entries of the new '
+                 'database, by the rules of --without.</p>'):
         tally.add("the heading has " + part, [] if part in text.partition("</header>")[0] else ["it has not"])
     plain = page_of(objects, True)
     for part in ('class="facts"', "left out", "<span>of ", 'class="hint"', "<script"):
         tally.add("an ordinary page has no " + part, ["it has"] if part in plain else [])
     both = {"Size": {"old": None, "new": 18344}, "Perm": {"old": None, "new": "4755", "new_text": "-rwsr-xr-x"},
-            "UID": {"old": None, "new": 0}, "GID": {"old": None, "new": 50}, "ACL": {"old": None, "new": "POSIX,dXNl", "new_text": "user::rw-<"}}
+            "UID": {"old": None, "new": 0}, "GID": {"old": None, "new": 50},
+            "ACL": {"old": None, "new": "POSIX,dXNl", "new_text": "user::rw-<"}}
     entry = next(fields for fields in objects if fields.get("kind") == "added")
     entry["attributes"] = both
     for is_plain in (False, True):
@@ -149,10 +159,11 @@ def try_only(tally):
                           ("severity=high&path=ETC", [fields for fields in entries
                                                       if fields["severity"] == "high" and "etc" in fields["path"]])):
         status, output, errors = run([HTML, "--plain", "--only", words], lines)
-        names = re.findall(r'<b class="[a-z]+">[a-z ]+</b> <em class="[a-z]+">[a-z]+</em> <code>([^<]*)</code>', output.decode())
+        names = [name for _, name in LISTED.findall(output.decode())]
         good = not status and sorted(names) == sorted(fields["path"] for fields in wanted)
         tally.add("only " + words, [] if good else ["status %d, %r, %r" % (status, names, errors)])
         said = "These lists have the %d entr" % len(wanted)
         tally.add("only %s is said" % words, [] if said in output.decode() else ["it is not"])
     status, output, errors = run([HTML, "--only", "severity=grave"], lines)
-    tally.add("a filter that is none", [] if status == 15 and not output and b"severity=grave" in errors else ["%d %r" % (status, errors)])
+    good = status == 15 and not output and b"severity=grave" in errors
+    tally.add("a filter that is none", [] if good else ["%d %r" % (status, errors)])

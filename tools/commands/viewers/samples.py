@@ -11,7 +11,8 @@ HOST = {"host": "www.example.org", "@timestamp": "2026-11-25T05:23:11Z", "old_ti
         "new_time": "2026-11-25T05:20:00Z"}
 FOLDERS = {"usr/bin": "openssl 3.0.17-1~deb12u3", "usr/lib/x86_64-linux-gnu": "libssl3 3.0.17-1~deb12u3",
            "usr/share/doc/openssl": "openssl 3.0.17-1~deb12u3", "usr/share/man/man1": "openssl 3.0.17-1~deb12u3",
-           "usr/lib/python3/dist-packages/apt": "python3-apt 2.6.0", "var/lib/dpkg/info": None, "usr/sbin": "openssh-server 1:9.2p1-2"}
+           "usr/lib/python3/dist-packages/apt": "python3-apt 2.6.0", "var/lib/dpkg/info": None,
+           "usr/sbin": "openssh-server 1:9.2p1-2"}
 DIGESTS = (("md5", 16), ("sha1", 20), ("sha256", 32), ("sha512", 64), ("rmd160", 20))
 DEMO = [
     ("etc/passwd", {"s": 2811, "m": 1767225600}, {"s": 2874, "m": 1795500000}, "high"),
@@ -60,7 +61,8 @@ def reason_of(path):
 
 def demo_lines():
     """The lines of that report, with a host, times, severities and reasons."""
-    objects, severe = [json.loads(line) for line in lines_of(demo_report()).splitlines()], {"/" + row[0]: row[3] for row in DEMO}
+    objects = [json.loads(line) for line in lines_of(demo_report()).splitlines()]
+    severe = {"/" + row[0]: row[3] for row in DEMO}
     counts = dict.fromkeys(("explained", "not_verified", "unexplained", "high", "medium", "low"), 0)
     for fields in objects:
         if fields["record"] != "entry":
