@@ -56,7 +56,7 @@ def one_trial(trial, program):
 
 def copied(folder):
     ignored = shutil.ignore_patterns("__pycache__")
-    for name in ("commands", "tools"):
+    for name in ("commands", "contrib", "examples", "tools"):
         shutil.copytree(os.path.join(HERE, name), os.path.join(folder, name), ignore=ignored)
     shutil.copy(os.path.join(HERE, "VERSION"), folder)
 

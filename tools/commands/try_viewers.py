@@ -33,7 +33,7 @@ from tools.commands.viewers.pages import bytes_shown, contrast_faults, page_faul
 from tools.commands.viewers.refused import LINE_EDITS, REPORT_EDITS, TOGETHER, WITH_ALL_DETAILS, rich_report
 from tools.commands.viewers.schema import Validator, schema_of_lines
 from tools.commands.viewers.shapes import try_shapes
-from tools.commands.viewers.texts import text_faults, try_table
+from tools.commands.viewers.texts import text_faults, try_table, try_zones
 
 from aide_compare import report_parts
 from aide_compare.json_lines import Report
@@ -294,6 +294,7 @@ def main():
     try_script(script_of(), tally)
     try_times(tally)
     try_table(tally)
+    try_zones(given.seed, tally)
     try_occasion(program, tally)
     try_aide_form(program, tally)
     try_deep(tally)

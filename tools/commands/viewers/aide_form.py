@@ -7,6 +7,7 @@ the time of the run, and different_attributes, is taken out of it, and the folde
 import json
 import os
 import subprocess
+import tempfile
 
 from tools.oracle.configuration import LEVELS
 
@@ -73,7 +74,23 @@ def try_forms(program, tally):
     tally.add('no differences', [] if good else ['%r' % (given,)])
 
 
+def try_bytes(program, tally):
+    """Two names that are not UTF-8 stay two, and so do their targets."""
+    entry = '/%%%02X %%%02X 120777\n'
+    with tempfile.TemporaryDirectory() as folder:
+        pair = [os.path.join(folder, name) for name in ('old', 'new')]
+        for path, step in zip(pair, (0, 2)):
+            with open(path, 'w') as file:
+                lines = ''.join(entry % (byte, byte - step) for byte in (0xFE, 0xFF))
+                file.write('@@begin_db\n@@db_spec name lname perm\n%s@@end_db\n' % lines)
+        status, given = aide_object(report(program, pair))
+    lone = {byte: chr(0xDC00 + byte) for byte in (0xFC, 0xFD, 0xFE, 0xFF)}
+    wanted = {'/' + lone[byte]: {'link_name': {'old': lone[byte], 'new': lone[byte - 2]}} for byte in (0xFE, 0xFF)}
+    tally.add('bytes that are not UTF-8', [] if status == 0 and given['details'] == wanted else ['%r' % (given,)])
+
+
 def try_aide_form(program, tally):
     for name in PAIRS:
         try_pair(program, name, tally)
     try_forms(program, tally)
+    try_bytes(program, tally)

@@ -9,6 +9,9 @@ import time
 from . import HTML, JSON
 
 SECONDS, MEGABYTES = 30, 300
+# The digests that Debian's AIDE takes of each file (its group H), with their bytes.
+DIGESTS = {'md5': 16, 'sha1': 20, 'sha256': 32, 'sha512': 64, 'rmd160': 20, 'tiger': 24, 'crc32': 4, 'crc32b': 4, 'haval': 32,
+           'whirlpool': 64, 'gost': 32}
 FOLDERS = ['usr/lib/x86_64-linux-gnu', 'usr/share/doc', 'usr/share/locale', 'usr/lib/python3/dist-packages', 'etc', 'opt/app',
            'var/lib/dpkg/info', 'usr/bin', 'usr/include/linux', 'usr/share/man/man1']
 
@@ -26,15 +29,16 @@ def write_databases(folder, count):
     names = ['old', 'new']
     files = [open(os.path.join(folder, name), 'w') for name in names]
     for file in files:
-        file.write('@@begin_db\n@@db_spec name perm uid gid size mtime ctime inode lcount sha256\n')
+        file.write('@@begin_db\n@@db_spec name perm uid gid size mtime ctime inode lcount %s\n' % ' '.join(DIGESTS))
     for number, path in enumerate(paths_of(count)):
         for side, file in enumerate(files):
             if number % 20 == side:
                 continue
-            digest = base64.b64encode(pick.getrandbits(256).to_bytes(32, 'big')).decode()
+            digests = ' '.join(base64.b64encode(pick.getrandbits(8 * length).to_bytes(length, 'big')).decode()
+                               for length in DIGESTS.values())
             mode, size = ['644', '755'][side * (number % 7 == 0)], 4096 + number * (side + 1)
             mtime, ctime = (1700000000 + number + later * side for later in (86400, 90000))
-            file.write('%s 100%s 0 0 %d %d %d %d 1 %s\n' % (path, mode, size, mtime, ctime, number + 100 * side, digest))
+            file.write('%s 100%s 0 0 %d %d %d %d 1 %s\n' % (path, mode, size, mtime, ctime, number, digests))
     for file in files:
         file.write('@@end_db\n')
         file.close()
@@ -60,6 +64,8 @@ def try_large(program, count, tally):
             file.write('report_level=added_removed_entries\n')
         for label, words, source, target in (
                 ('aide', [program, '-E', '-c', path_in('conf')], 'conf', 'report'),
+                ('aide-compare-json --no-text', [JSON, '--no-text'], 'report', 'lines'),
+                ('aide-compare-json --full', [JSON, '--full'], 'report', 'lines'),
                 ('aide-compare-json', [JSON], 'report', 'lines'), ('aide-compare-html', [HTML], 'lines', 'page'),
                 ('aide-compare-html --plain', [HTML, '--plain'], 'lines', 'plain')):
             status, clock, seconds, megabytes = measured(words, path_in(source), path_in(target))

@@ -92,6 +92,20 @@ def try_names(kept, tally):
     tally.add('no texts', [] if '_text' not in texts and '_text' in json.dumps(lines(kept.report)[1]) else ['there are some'])
 
 
+def try_one_text(kept, tally):
+    """Two values with one text, such as a list with and without its last newline: the text would hide the change."""
+    database = '@@begin_db\n@@db_spec name acl e2fsattrs\n/a POSIX,%s,0 %s\n@@end_db\n'
+    with tempfile.TemporaryDirectory() as folder:
+        pair = [os.path.join(folder, name) for name in ('old', 'new')]
+        for path, values in zip(pair, (('dXNlcjo6cnctCg==', '16'), ('dXNlcjo6cnct', '0016'))):
+            with open(path, 'w') as file:
+                file.write(database % values)
+        _, objects, _ = lines(report(kept.program, pair))
+    attributes = objects[1]['attributes']
+    good = set(attributes) == {'ACL', 'E2FSAttrs'} and all(set(fields) == {'old', 'new'} for fields in attributes.values())
+    tally.add('one text for two values', [] if good else ['%r' % attributes])
+
+
 def try_left_out(kept, folder, tally):
     path = kept.changed(folder, error='\nleft_out_old=3\nleft_out_new=5')
     status, objects, errors = lines(kept.report, '--state', path)
@@ -158,6 +172,7 @@ def try_occasion(program, tally):
         kept.program = program
         try_full(kept, tally)
         try_names(kept, tally)
+        try_one_text(kept, tally)
         try_left_out(kept, folder, tally)
         try_other_states(kept, folder, tally)
         try_members(kept, tally)

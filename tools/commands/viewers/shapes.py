@@ -3,6 +3,7 @@ import io
 import json
 import random
 
+from aide_compare import report_lines
 from aide_compare.report_json import LineWriter
 from aide_compare.report_lines import Lines, Refused
 from aide_compare.report_parts import read_report
@@ -15,9 +16,11 @@ from tools.oracle.report import report_of
 from . import hostile
 
 OPAQUE = [b'524288', b'524304', b'POSIX,dXNlcjo6cnctCg==,0', b'1,user.a,YQ==', b'x' * 40]
+# Blocks of a text, so that a line, an entry or an escape ends at each place of one.
+BLOCKS = [41, 700, 4096, 1 << 18]
 LETTERS = b'\n |:0129aZ=+-/\\\x01'
-# A fifth of the entries of whole reports are read by shapes at least. It is about a third.
-LEAST_SHARE = 5
+# One in so many entries of whole reports is read by a shape at least. With large blocks it is one in three.
+LEAST_SHARE = 20
 
 
 def usual_value(pick, form):
@@ -76,15 +79,18 @@ def damaged(pick, report):
     return b'\n'.join(lines)
 
 
-def answer(report, has_texts, by_shapes):
+def answer(report, has_texts, by_shapes, block=1 << 18):
     """The lines of a report up to the fault for which it is refused, and how many entries were read by a shape."""
-    lines, writer, count = [], LineWriter(), 0
+    lines, writer, count, before = [], LineWriter(), 0, report_lines.BLOCK
+    report_lines.BLOCK = block
     try:
         for fields in read_report(Lines(io.BytesIO(report)), Values(has_texts), by_shapes):
             count += isinstance(fields.get('attributes'), Written)
             lines.append(writer.line(fields))
     except Refused as refused:
         lines.append(str(refused).encode())
+    finally:
+        report_lines.BLOCK = before
     return lines, count
 
 
@@ -100,7 +106,7 @@ def try_shapes(seed, count, tally):
         report, _ = report_of(old, new, [b'old', b'new'], settings)
         for way in range(5):
             text, has_texts = damaged(pick, report) if way else report, pick.random() < 0.7
-            by_shapes, found = answer(text, has_texts, True)
+            by_shapes, found = answer(text, has_texts, True, pick.choice(BLOCKS))
             by_lines, _ = answer(text, has_texts, False)
             label = 'seed %d, shapes %d, way %d' % (seed, number, way)
             other = next((pair for pair in zip(by_shapes, by_lines) if pair[0] != pair[1]), None)

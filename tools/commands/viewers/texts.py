@@ -1,7 +1,11 @@
 """The texts for people in the lines of aide-compare-json: computed in another way, and a table of what real tools printed."""
+import os
+import random
 import stat
 import time
+from datetime import datetime, timedelta
 
+from aide_compare import decoded_times
 from aide_compare.decoded import decoded
 
 TYPES = {'File': stat.S_IFREG, 'Directory': stat.S_IFDIR, 'Link': stat.S_IFLNK, 'Character device': stat.S_IFCHR,
@@ -80,6 +84,47 @@ def try_table(tally):
         tally.add('%s of %d bytes' % (label, len(value)), [] if good else ['%d characters, %.1f s' % (len(text), seconds)])
 
 
+ZONES = ['UTC', 'Europe/Berlin', 'America/St_Johns', 'Asia/Kathmandu', 'Australia/Lord_Howe', 'Africa/Monrovia']
+FIRST, LAST = -62135596800, 253402300799
+
+
+def local_text(seconds):
+    """A time of the years 1 to 9999 as strftime has it."""
+    if not FIRST <= seconds <= LAST:
+        return None
+    local = time.localtime(seconds)
+    return '%04d-' % local.tm_year + time.strftime('%m-%d %H:%M:%S %z', local) if 1 <= local.tm_year <= 9999 else None
+
+
+def utc_date(seconds):
+    try:
+        return (datetime(1970, 1, 1) + timedelta(seconds=seconds)).isoformat() + 'Z'
+    except OverflowError:
+        return None
+
+
+def try_zones(seed, tally):
+    """Times of all centuries, and around each change of the clock from 1800 to 2040, in zones with odd offsets."""
+    pick, before = random.Random('zones %d' % seed), os.environ.get('TZ')
+    times = [pick.randrange(FIRST - 10, LAST + 10) for _ in range(2000)] + [FIRST - 1, FIRST, -1, 0, LAST, LAST + 1, 2**63]
+    for zone in ZONES:
+        os.environ['TZ'] = zone
+        time.tzset()
+        decoded_times._local_quarter.cache_clear()
+        hours = [hour * 3600 for hour in range(-1490000, 620000, 6)]
+        offsets = [time.localtime(seconds).tm_gmtoff for seconds in hours]
+        changes = [seconds + pick.randrange(21600) for seconds, one, other in zip(hours, offsets, offsets[1:]) if one != other]
+        around = [seconds + step for seconds in changes for step in range(-22000, 22000, 450)]
+        faults = ['%d is %r' % (seconds, decoded_times.time_text(seconds)) for seconds in times + around
+                  if decoded_times.time_text(seconds) != local_text(seconds)]
+        faults += ['%d is %r' % (seconds, decoded_times.date_of(seconds)) for seconds in times + around
+                   if decoded_times.date_of(seconds) != utc_date(seconds)]
+        tally.add('times in ' + zone, faults[:5])
+    os.environ.pop('TZ') if before is None else os.environ.update(TZ=before)
+    time.tzset()
+    decoded_times._local_quarter.cache_clear()
+
+
 def mode_of(digits, kind):
     """What ls prints of permissions, without the type if that is not known."""
     text = stat.filemode(TYPES.get(kind, stat.S_IFREG) | int(digits, 8))
@@ -94,10 +139,7 @@ def wanted_text(label, fields, side, kind):
     if label == 'Perm':
         return mode_of(value, kind)
     if label in ('Atime', 'Mtime', 'Ctime'):
-        if side + '_time' not in fields:
-            return None
-        local = time.localtime(value)
-        return '%04d-' % local.tm_year + time.strftime('%m-%d %H:%M:%S %z', local)
+        return local_text(value)
     return Ellipsis if label in DECODED else None
 
 
