@@ -77,6 +77,7 @@ def value_of(label, fields, side, kind):
 def details_of(fields):
     """The attributes of an entry by AIDE's names, without the sides that have no value."""
     attributes, kind, found = fields["attributes"], fields.get("type"), {}
+    kind = None if fields.get("summary", "").startswith("!") else kind
     kinds = {side: attributes.get("Type", {}).get(side) or kind for side in ("old", "new")}
     for label, sides in attributes.items():
         found[NAMES.get(label) or re.sub("[/-]", "_", label.lower())] = {side: value_of(label, sides, side, kinds[side]) for side in ("old", "new")

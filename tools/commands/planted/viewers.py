@@ -96,7 +96,7 @@ PLANTED = [
           seen_by="viewers.try_zones"),
     Plant(file=LIB + "report_written.py",
           old="is_known = entry.kind != 'changed' or entry.letters and entry.letters[:1] != b'!'",
-          new="is_known = True", seen_by="viewers.try_program"),
+          new="is_known = True", seen_by="viewers.try_occasion"),
     Plant(file=LIB + "report_written.py", old="        if old is not None and old == new and bytes_of",
           new="        if False and bytes_of", seen_by="viewers.try_occasion"),
     Plant(file=LIB + "report_lines.py", old="self.number += self.block.count(b'\\n', self.start, end)", new="self.number += 1",

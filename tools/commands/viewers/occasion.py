@@ -106,6 +106,22 @@ def try_one_text(kept, tally):
     tally.add('one text for two values', [] if good else ['%r' % attributes])
 
 
+def try_types(kept, tally):
+    """A mode has the letter of the type where the report tells the type of both sides."""
+    with tempfile.TemporaryDirectory() as folder:
+        pair = [os.path.join(folder, name) for name in ('old', 'new')]
+        for path, mode in zip(pair, ('100644', '41777')):
+            with open(path, 'w') as file:
+                file.write('@@begin_db\n@@db_spec name perm\n/a %s\n/b 10%s\n@@end_db\n' % (mode, mode[-4:]))
+        hidden = 'report_ignore_changed_attrs=ftype'
+        for more, wanted in (('', ('-rw-r--r--', 'drwxrwxrwt')), (hidden, ('rw-r--r--', 'rwxrwxrwt')),
+                             (hidden + '\nreport_summarize_changes=no', ('rw-r--r--', 'rwxrwxrwt'))):
+            _, objects, _ = lines(report(kept.program, pair, more=more))
+            fields = next(fields for fields in objects if fields.get('path') == '/a')['attributes']['Perm']
+            given = (fields.get('old_text'), fields.get('new_text'))
+            tally.add('types %r' % more, [] if given == wanted else ['%r' % (given,)])
+
+
 def try_left_out(kept, folder, tally):
     path = kept.changed(folder, error='\nleft_out_old=3\nleft_out_new=5')
     status, objects, errors = lines(kept.report, '--state', path)
@@ -173,6 +189,7 @@ def try_occasion(program, tally):
         try_full(kept, tally)
         try_names(kept, tally)
         try_one_text(kept, tally)
+        try_types(kept, tally)
         try_left_out(kept, folder, tally)
         try_other_states(kept, folder, tally)
         try_members(kept, tally)

@@ -2,6 +2,7 @@
 import io
 import json
 import random
+import re
 
 from aide_compare import report_lines
 from aide_compare.report_json import LineWriter
@@ -62,21 +63,38 @@ def databases_of(pick):
     return hostile.Database(old), hostile.Database(new)
 
 
-def damaged(pick, report):
-    """A report in which a byte or a line is another."""
-    place, way = pick.randrange(len(report)), pick.randrange(7)
-    if way < 4:
-        other = b'' if way < 2 else bytes([pick.choice(LETTERS)])
-        return report[:place] if way == 0 else report[:place] + other + report[place + (way != 3):]
-    lines = report.split(b'\n')
+def damaged_line(pick, report):
+    """A report in which a line is missing, is another one, or stands elsewhere."""
+    lines, way = report.split(b'\n'), pick.randrange(3)
     first, second = pick.randrange(len(lines)), pick.randrange(len(lines))
-    if way == 4:
+    if way == 0:
         lines.pop(first)
-    elif way == 5:
+    elif way == 1:
         lines.insert(first, lines[second])
     else:
         lines[first], lines[second] = lines[second], lines[first]
     return b'\n'.join(lines)
+
+
+def damaged_place(pick, report, pattern, others):
+    """A report in which a place that a pattern finds is another."""
+    places = [found.span() for found in re.finditer(pattern, report)] or [(0, 1)]
+    begin, end = pick.choice(places)
+    return report[:begin] + pick.choice(others) + report[end:]
+
+
+def damaged(pick, report):
+    """A report that is cut, or in which a byte, a line, the width of a column, or the end of a digest is another."""
+    place, way = pick.randrange(len(report)), pick.randrange(8)
+    if way == 0:
+        return report[:place]
+    if way < 3:
+        return report[:place] + (bytes([pick.choice(LETTERS)]) if way == 1 else b'') + report[place + 1:]
+    if way < 5:
+        return damaged_line(pick, report)
+    if way == 5:  # Not each letter can stand before the signs of equality.
+        return damaged_place(pick, report, rb'[A-Za-z0-9+/](?==)', [b'A', b'B', b'C', b'D', b'Q', b'g', b'w', b'x', b'z'])
+    return damaged_place(pick, report, rb'[0-9 ] \| ', [b' | ', b'   | ', b'0 | ', b'  |  '])
 
 
 def answer(report, has_texts, by_shapes, block=1 << 18):

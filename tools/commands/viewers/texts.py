@@ -31,6 +31,7 @@ TABLE = [
     ('XAttrs', b'2,user.demo,dHdv,user.bin,AAECAwQFBgcICQoLDA0ODxAREhM=',
      'user.demo: "two"; user.bin: 0sAAECAwQFBgcICQoLDA0ODxAREhM='),
     ('XAttrs', b'1,security.capability,AQAAAgAgAAAAAAAAAAAAAAAAAAA=', 'security.capability: cap_net_raw=ep'),
+    ('XAttrs', b'1,security.capability,AAAAAgAgAAAAAAAAAAAAAAAAAAA=', 'security.capability: cap_net_raw=p'),
     ('XAttrs', b'1,security.capability,AQAAAv////8AAAAA/wEAgAAAAAA=', 'security.capability: =ep 63+ep'),
     ('XAttrs', b'1,security.capability,AQAAAwEAAAAGAAAAAAEAAAAAAADoAwAA',
      'security.capability: cap_dac_override,cap_dac_read_search=ei cap_chown,cap_checkpoint_restore+ep [rootid=1000]'),
@@ -71,14 +72,22 @@ LONG = [('XAttrs', b'100000' + b',a,0' * 100000), ('XAttrs', b'1,user.a,' + b'YW
 MOST_CHARACTERS, MOST_SECONDS = 17000, 2
 
 
+def text_of(label, value):
+    """The text, or in its place the fault that should not be."""
+    try:
+        return decoded(label, value, 'File')
+    except Exception as error:
+        return '\n%s' % type(error).__name__
+
+
 def try_table(tally):
     """The table, and values of hostile sizes."""
     for label, value, text in TABLE:
-        given = decoded(label, value, 'File')
+        given = text_of(label, value)
         tally.add('%s %r' % (label, value), [] if given == text else ['it is %r, and not %r' % (given, text)])
     for label, value in LONG:
         began = time.process_time()
-        text = decoded(label, value) or ''
+        text = text_of(label, value) or ''
         seconds = time.process_time() - began
         good = len(text) <= MOST_CHARACTERS and seconds < MOST_SECONDS and text.isprintable()
         tally.add('%s of %d bytes' % (label, len(value)), [] if good else ['%d characters, %.1f s' % (len(text), seconds)])
