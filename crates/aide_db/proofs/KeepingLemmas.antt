@@ -1,8 +1,8 @@
 -- What is left of a reel after one more chunk, and what two readings take.
 use Rattle.std.specs.Prelude.{◌≡◌, true}
-use Rattle.aide_db.specs.ChunkReaderView.{ChunkReaderView}
+use Rattle.aide_db.specs.code.ChunkReaderView.{ChunkReaderView}
 use Rattle.aide_db.specs.NextChunk.{Gives}
-use Rattle.aide_db.specs.Keeping.{TellsOn}
+use Rattle.aide_db.specs.code.Keeping.{TellsOn}
 use Rattle.aide_db.specs.Told.{told, tells}
 use Rattle.aide_db.specs.declared.reel.Reel.{Ghosts as Reels}
 use Rattle.aide_db.proofs.PieceLemmas.{gives_more}

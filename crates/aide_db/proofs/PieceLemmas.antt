@@ -12,11 +12,11 @@ use Rattle.sha2.specs.Hashers.{Holds256}
 use Rattle.sha2.specs.declared.Sha256.{Sha256}
 use Rattle.std.proofs.lemmas.List.{length-append}
 use Rattle.std.proofs.lemmas.List.Elements.{All-append}
-use Rattle.aide_db.specs.Keeping.{IsWithinLimit}
-use Rattle.aide_db.specs.TakeLine.{HasCome, HasNoNewline, HaveBegun, Begins}
+use Rattle.aide_db.specs.code.Keeping.{IsWithinLimit}
+use Rattle.aide_db.specs.code.TakeLine.{HasCome, HasNoNewline, HaveBegun, Begins}
 use Rattle.aide_db.specs.NextChunk.{Gives}
 use Rattle.aide_db.specs.declared.limits.Limits.{Limits}
-use Rattle.aide_db.specs.Piece.{IsPiece}
+use Rattle.aide_db.specs.code.Piece.{IsPiece}
 
 not_true : (b : Bool) → (b ≡ true → ⊥) → b ≡ false
 not_true true n = absurd (n refl)

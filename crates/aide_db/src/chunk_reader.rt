@@ -7,7 +7,7 @@ ghost use Rattle.aide_db.specs.NextChunk.{IsFilled, IsLeft, Gives, IsAhead, IsCh
 ghost use Rattle.aide_db.specs.NextChunk.{after_filled};
 ghost use Rattle.aide_db.specs.Count.{one_more};
 ghost use Rattle.aide_db.specs.Told.{told, tells};
-ghost use Rattle.aide_db.specs.ChunkReaderView.{ChunkReaderView, left_in};
+ghost use Rattle.aide_db.specs.code.ChunkReaderView.{ChunkReaderView, left_in};
 
 use crate::fault::DeviceFault;
 use crate::reel::Reel;
@@ -37,7 +37,7 @@ pub struct ChunkReader<R: Reel> {
 
 impl<R: Reel> Model for ChunkReader<R> {
     ghost use Rattle.std.specs.Prelude.{◌≤◌, ◌-◌, take, drop};
-    ghost use Rattle.aide_db.specs.ChunkReaderView.{ChunkReaderView};
+    ghost use Rattle.aide_db.specs.code.ChunkReaderView.{ChunkReaderView};
 
     ghost Value = { ChunkReaderView R };
 

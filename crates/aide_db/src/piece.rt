@@ -1,6 +1,6 @@
 //! Finds the first piece of a line among the bytes that have been read.
 ghost use Rattle.std.specs.Prelude.{◌≡◌, take};
-ghost use Rattle.aide_db.specs.Piece.{IsPiece};
+ghost use Rattle.aide_db.specs.code.Piece.{IsPiece};
 
 use memchr::memchr;
 

@@ -1,7 +1,7 @@
 -- What private calls keep of a cursor, its chunks and its desk.
 use Rattle.std.specs.Prelude.{ℕ, ◌≡◌, ◌≤◌, ◌<◌, ◌+◌, ◌^◌, true, false, List, length, Result, IfErr}
 use Rattle.aide_db.specs.Again.{StageAfter, StageAfterLine}
-use Rattle.aide_db.specs.ChunkReaderView.{ChunkReaderView}
+use Rattle.aide_db.specs.code.ChunkReaderView.{ChunkReaderView}
 use Rattle.aide_db.specs.CursorView.{CursorView}
 use Rattle.aide_db.specs.Desk.{columns_of_side, list_of}
 use Rattle.aide_db.specs.DeskView.{DeskView}
