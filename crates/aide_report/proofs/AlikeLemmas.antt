@@ -11,9 +11,9 @@ use Rattle.aide_db.specs.DeskView.{DeskView}
 use Rattle.aide_entry.specs.Path.{path_cmp}
 use Rattle.aide_db.specs.declared.side.Side.TheVariants.{Old, New}
 use Rattle.aide_entry.proofs.PathLaws.{path_cmp_total}
-use Rattle.aide_report.specs.ChangeView.{alike_of}
-use Rattle.aide_report.specs.NextEntry.{next_entry}
-use Rattle.aide_report.specs.Turn.{turn_of, turn_by, change_at}
+use Rattle.aide_report.specs.code.ChangeView.{alike_of}
+use Rattle.aide_report.specs.code.NextEntry.{next_entry}
+use Rattle.aide_report.specs.code.Turn.{turn_of, turn_by, change_at}
 use Rattle.aide_report.specs.declared.merge.NextEntry.{NextEntry}
 use Rattle.aide_report.specs.declared.merge.NextEntry.TheVariants.{Due, Here, Ended}
 use Rattle.aide_report.specs.declared.merge.Turn.TheVariants.{Both}

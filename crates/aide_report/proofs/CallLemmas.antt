@@ -9,8 +9,8 @@ use Rattle.aide_db.specs.declared.limits.Limits.{Limits}
 use Rattle.aide_db.specs.declared.reel.Reel.{Ghosts as Reels}
 use Rattle.aide_db.specs.declared.side.Side.{Side}
 use Rattle.aide_db.specs.declared.side.Side.TheVariants.{Old, New}
-use Rattle.aide_report.specs.MergeCalls.{IsAdvanced, KeepsCursor, IsCursorFault, KeepsMerge, IsMergeFault}
-use Rattle.aide_report.specs.Merging.{StandsAt, limits_at}
+use Rattle.aide_report.specs.code.MergeCalls.{IsAdvanced, KeepsCursor, IsCursorFault, KeepsMerge, IsMergeFault}
+use Rattle.aide_report.specs.code.Merging.{StandsAt, limits_at}
 use Rattle.aide_report.specs.Standing.{IsFaultOf}
 use Rattle.aide_report.specs.declared.merge.NextEntry.{NextEntry}
 use Rattle.aide_report.specs.declared.merge.Merge.{Merge}

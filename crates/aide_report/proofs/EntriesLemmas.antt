@@ -6,7 +6,7 @@ use Rattle.std.proofs.lemmas.List.{drop_more, drop_all}
 use Rattle.aide_attr.specs.declared.attr.Attr.{Attr}
 use Rattle.aide_conf.specs.declared.options.Options.{Options}
 use Rattle.aide_entry.specs.Attributes.{Entry}
-use Rattle.aide_report.specs.ChangeView.{alike_of}
+use Rattle.aide_report.specs.code.ChangeView.{alike_of}
 use Rattle.aide_report.specs.Changed.{differ_by}
 use Rattle.aide_report.specs.Entries.{PathChange, Pair, attribute_text, attributes_text, shown_text}
 use Rattle.aide_report.specs.Sections.{all_listed, is_in, lists, entry_text, one_text, entries_text}

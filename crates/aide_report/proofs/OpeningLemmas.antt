@@ -8,7 +8,7 @@ use Rattle.aide_entry.specs.Cause.{Cause, in_text, in_length, in_memory, in_devi
 use Rattle.aide_db.specs.declared.limits.Limits.{Limits}
 use Rattle.aide_db.specs.declared.side.Side.{Side}
 use Rattle.aide_db.specs.declared.side.Side.TheVariants.{Old, New}
-use Rattle.aide_report.specs.LaterFault.{later_by}
+use Rattle.aide_report.specs.code.LaterFault.{later_by}
 use Rattle.aide_report.specs.Openings.{OpensExactly, WasOpened, ComesOpened, IsRefusedIn, IsRefusedThere, IsNotGiven}
 use Rattle.aide_report.specs.RunFaults.{IsFirst, HasSentNothing}
 use Rattle.aide_report.specs.declared.run_fault.RunFault.{RunFault}

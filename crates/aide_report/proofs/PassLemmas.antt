@@ -13,14 +13,14 @@ use Rattle.aide_text.specs.Sheet.{Sheet, WritesSome, Wrote}
 use Rattle.aide_text.specs.declared.pen.Pen.{Pen}
 use Rattle.aide_text.proofs.Sheets.{part_after, part_as, some_more, wrote_as, wrote_more}
 use Rattle.aide_report.specs.Bound.{OpensWithin}
-use Rattle.aide_report.specs.LaterFault.{later_of}
-use Rattle.aide_report.specs.Merging.{limits_at, reels_failed}
+use Rattle.aide_report.specs.code.LaterFault.{later_of}
+use Rattle.aide_report.specs.code.Merging.{limits_at, reels_failed}
 use Rattle.aide_report.specs.Missing.{IsOfReliable}
 use Rattle.aide_report.specs.Openings.{OpensExactly}
-use Rattle.aide_report.specs.MergeCalls.{IsOpened, KeepsMerge, IsMergeFault, IsStopOf}
-use Rattle.aide_report.specs.PassFaults.{Writes, pass_fault_of}
-use Rattle.aide_report.specs.Passes.{KeepsDesk, KeepsPen, IsPassFault, Passes}
-use Rattle.aide_report.specs.Seen.{Seen, KeepsSources}
+use Rattle.aide_report.specs.code.MergeCalls.{IsOpened, KeepsMerge, IsMergeFault, IsStopOf}
+use Rattle.aide_report.specs.code.PassFaults.{Writes, pass_fault_of}
+use Rattle.aide_report.specs.code.Passes.{KeepsDesk, KeepsPen, IsPassFault, Passes}
+use Rattle.aide_report.specs.code.Seen.{Seen, KeepsSources}
 use Rattle.aide_report.specs.RunFaults.{HasPenWritten, IsCaused, IsLater}
 use Rattle.aide_report.specs.Standing.{IsFaultOf}
 use Rattle.aide_report.specs.declared.entries.PassFault.{PassFault}

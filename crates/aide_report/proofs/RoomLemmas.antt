@@ -6,7 +6,7 @@ use Rattle.aide_db.specs.declared.fault.DbFault.{DbFault}
 use Rattle.aide_db.specs.declared.limits.Limits.{Limits}
 use Rattle.aide_db.specs.declared.stage.Stage.{Stage}
 use Rattle.aide_db.specs.declared.stage.Stage.TheVariants.{Start, Begun, Entries, Ended, Failed}
-use Rattle.aide_report.specs.LaterFault.{later_by, later_of}
+use Rattle.aide_report.specs.code.LaterFault.{later_by, later_of}
 use Rattle.aide_report.specs.Standing.{IsUnfailed}
 use Rattle.aide_report.specs.Room.{IsNotMemory, IsNotOfMemory}
 

@@ -17,10 +17,10 @@ use Rattle.aide_db.proofs.MapLaws.{entries-database_of}
 use Rattle.aide_report.specs.Changed.{differ_by}
 use Rattle.aide_report.specs.Changes.{is_added, is_removed, is_changed, is_of_new}
 use Rattle.aide_report.specs.Compare.{changes, added, removed, changed}
-use Rattle.aide_report.specs.Counts.{Completes}
-use Rattle.aide_report.specs.Merged.{merged}
+use Rattle.aide_report.specs.code.Counts.{Completes}
+use Rattle.aide_report.specs.code.Merged.{merged}
 use Rattle.aide_report.specs.Entries.{is_shown_entry}
-use Rattle.aide_report.specs.Finding.{IsFinding, old_origin, new_origin, pass_of}
+use Rattle.aide_report.specs.code.Finding.{IsFinding, old_origin, new_origin, pass_of}
 use Rattle.aide_report.specs.Report.{text_of, counts_of, outcome_by, section_count}
 use Rattle.aide_report.specs.declared.finding.Finding.{Finding}
 use Rattle.aide_report.specs.Runs.{Report, report_over, sections_over, Runs, EndsWell, EndsEarly}

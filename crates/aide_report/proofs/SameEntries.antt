@@ -13,7 +13,7 @@ use Rattle.aide_entry.proofs.ValueLaws.{never_different}
 use Rattle.aide_conf.specs.declared.options.Options.{Options}
 use Rattle.aide_text.specs.declared.section.Contents.{Contents}
 use Rattle.aide_text.specs.declared.section.Contents.TheVariants.{Listed, Detailed}
-use Rattle.aide_report.specs.ChangeView.{alike_of}
+use Rattle.aide_report.specs.code.ChangeView.{alike_of}
 use Rattle.aide_report.specs.Changed.{differ_by}
 use Rattle.aide_report.specs.Entries.{shows_any, shows_at}
 use Rattle.aide_report.specs.Sections.{is_in}

@@ -2,8 +2,8 @@
 ghost use Rattle.std.specs.Prelude.{◌≡◌, Some};
 ghost use Rattle.aide_db.specs.Desk.{desk_entry};
 ghost use Rattle.aide_entry.specs.View.{entry_in};
-ghost use Rattle.aide_report.specs.ChangeView.{change_of, ShowsPath};
-ghost use Rattle.aide_report.specs.Turn.{change_at};
+ghost use Rattle.aide_report.specs.code.ChangeView.{change_of, ShowsPath};
+ghost use Rattle.aide_report.specs.code.Turn.{change_at};
 ghost use Rattle.aide_text.specs.DecodedRest.{decoded_rest};
 
 use crate::merge::Turn;

@@ -12,12 +12,12 @@ ghost use Rattle.aide_report.specs.Missing.{EndsOver, IsHindered, IsOfReliable};
 ghost use Rattle.aide_report.specs.Missing.{RunsOver, StopsFor, TellsSide};
 ghost use Rattle.aide_report.specs.Openings.{OpensExactly, OpensAtMost, OpensFirst, IsRefusedThere};
 ghost use Rattle.aide_report.specs.Openings.{IsNotGiven};
-ghost use Rattle.aide_report.specs.Readings.{ClearsDesk, IsFindingFault, IsFound};
+ghost use Rattle.aide_report.specs.code.Readings.{ClearsDesk, IsFindingFault, IsFound};
 ghost use Rattle.aide_report.specs.Room.{IsNotOfMemory};
 ghost use Rattle.aide_report.specs.RunFaults.{IsRight, HasSentNothing, CountsWrites};
 ghost use Rattle.aide_report.specs.RunFaults.{HasWrittenIfAny};
 ghost use Rattle.aide_report.specs.Runs.{Report, Runs, openings_over, HasCause};
-ghost use Rattle.aide_report.specs.Seen.{AreLimits, KeepsSources, seen};
+ghost use Rattle.aide_report.specs.code.Seen.{AreLimits, KeepsSources, seen};
 ghost use Rattle.aide_text.specs.Failures.{CountsFlush, Rose};
 
 use crate::digests::Digests;

@@ -1,13 +1,13 @@
 //! How many entries were added, removed and changed.
 ghost use Rattle.std.specs.Prelude.{◌≡◌, ◌+◌, ◌^◌, ◌<◌, [], ◌∷◌, ℕ, List, IfOk, IfErr, OnOk};
 ghost use Rattle.std.specs.Prelude.{count_by};
-ghost use Rattle.aide_report.specs.ChangeView.{change_of};
+ghost use Rattle.aide_report.specs.code.ChangeView.{change_of};
 ghost use Rattle.aide_report.specs.Changed.{differ_by};
 ghost use Rattle.aide_report.specs.Changes.{is_added, is_removed, is_changed, is_of_new};
-ghost use Rattle.aide_report.specs.Counts.{Completes, AreBelow};
+ghost use Rattle.aide_report.specs.code.Counts.{Completes, AreBelow};
 ghost use Rattle.aide_report.specs.Entries.{is_shown_entry};
-ghost use Rattle.aide_report.specs.MergeCalls.{IsMergeFault, KeepsMerge};
-ghost use Rattle.aide_report.specs.Merging.{remaining, IsReady, IsEnded, StandsAt, total_work};
+ghost use Rattle.aide_report.specs.code.MergeCalls.{IsMergeFault, KeepsMerge};
+ghost use Rattle.aide_report.specs.code.Merging.{remaining, IsReady, IsEnded, StandsAt, total_work};
 
 use crate::change::{AtPath, Change, at_turn};
 use crate::difference::counts_as;

@@ -1,5 +1,5 @@
 //! The databases' part of a report.
-ghost use Rattle.aide_report.specs.Finding.{old_origin, new_origin};
+ghost use Rattle.aide_report.specs.code.Finding.{old_origin, new_origin};
 ghost use Rattle.aide_report.specs.Report.{databases_of, origin_lines, databases_title};
 ghost use Rattle.aide_report.specs.Report.{databases_text};
 ghost use Rattle.aide_text.specs.PenSheet.{on_sheet};

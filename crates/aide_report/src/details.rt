@@ -4,7 +4,7 @@ ghost use Rattle.aide_attr.specs.Set.{has};
 ghost use Rattle.aide_attr.specs.declared.attr.Attr.{Attr as AnyAttr};
 ghost use Rattle.aide_entry.specs.Attributes.{link_in, digest_in, opaque_in};
 ghost use Rattle.aide_entry.specs.View.{entry_in};
-ghost use Rattle.aide_report.specs.ChangeView.{change_of};
+ghost use Rattle.aide_report.specs.code.ChangeView.{change_of};
 ghost use Rattle.aide_report.specs.Entries.{attribute_text, attributes_text, shown_text, title_of};
 ghost use Rattle.aide_report.specs.Entries.{title_word};
 ghost use Rattle.aide_report.specs.Sections.{one_text};

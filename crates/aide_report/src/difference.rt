@@ -6,7 +6,7 @@ ghost use Rattle.aide_attr.specs.Summary.{summary_letters};
 ghost use Rattle.aide_attr.specs.declared.attr.Attr.{Attr};
 ghost use Rattle.aide_entry.specs.Attributes.{sides_between};
 ghost use Rattle.aide_entry.specs.View.{entry_in};
-ghost use Rattle.aide_report.specs.ChangeView.{change_of};
+ghost use Rattle.aide_report.specs.code.ChangeView.{change_of};
 ghost use Rattle.aide_report.specs.Changed.{differ_by};
 ghost use Rattle.aide_report.specs.Changes.{is_changed};
 ghost use Rattle.aide_report.specs.Entries.{shows_at, shows_any, shows_alone, letters_of};

@@ -4,8 +4,8 @@ ghost use Rattle.sha2.specs.Sha256.{sha256};
 ghost use Rattle.aide_db.specs.Answer.{StandsFor};
 ghost use Rattle.aide_entry.specs.declared.column.Column.{Column};
 ghost use Rattle.aide_db.specs.declared.stage.Stage.TheVariants.{Ended as AtEnd};
-ghost use Rattle.aide_report.specs.Digests.{digest_on};
-ghost use Rattle.aide_report.specs.Merging.{IsEnded, cursor_at};
+ghost use Rattle.aide_report.specs.code.Digests.{digest_on};
+ghost use Rattle.aide_report.specs.code.Merging.{IsEnded, cursor_at};
 
 use crate::merge::Merge;
 use aide_db::{Cursor, Reel, Side};

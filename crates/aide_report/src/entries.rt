@@ -1,10 +1,10 @@
 //! The entries of a section, in one pass over both databases.
 ghost use Rattle.std.specs.Prelude.{◌≡◌, ℕ, List, IfErr, OnOk, false};
-ghost use Rattle.aide_report.specs.ChangeView.{change_of};
+ghost use Rattle.aide_report.specs.code.ChangeView.{change_of};
 ghost use Rattle.aide_report.specs.Entries.{list_line, label_of, letters_of, change_word};
-ghost use Rattle.aide_report.specs.MergeCalls.{IsStopOf, KeepsMerge};
-ghost use Rattle.aide_report.specs.Merging.{remaining, IsReady, IsEnded, StandsAt};
-ghost use Rattle.aide_report.specs.PassFaults.{Writes};
+ghost use Rattle.aide_report.specs.code.MergeCalls.{IsStopOf, KeepsMerge};
+ghost use Rattle.aide_report.specs.code.Merging.{remaining, IsReady, IsEnded, StandsAt};
+ghost use Rattle.aide_report.specs.code.PassFaults.{Writes};
 ghost use Rattle.aide_report.specs.Sections.{all_listed, lists, entries_text, one_text};
 ghost use Rattle.aide_text.specs.PenSheet.{on_sheet};
 ghost use Rattle.aide_text.specs.Sheet.{Wrote, WritesSome};

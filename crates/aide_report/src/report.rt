@@ -3,12 +3,13 @@ ghost use Rattle.std.specs.Prelude.{◌≡◌, ◌+◌, false, true, ℕ, List, 
 ghost use Rattle.aide_attr.specs.Level.{reaches};
 ghost use Rattle.aide_attr.specs.declared.level.Level.{Level as AnyLevel};
 ghost use Rattle.aide_report.specs.Agreement.{BeginsWith, beginning_by, goes_on_by};
-ghost use Rattle.aide_report.specs.Digests.{AreDigests};
-ghost use Rattle.aide_report.specs.Finding.{pass_of, old_origin, new_origin};
-ghost use Rattle.aide_report.specs.Passes.{FlushesOnce, KeepsPen, Passes, WritesOver, on_sheet};
+ghost use Rattle.aide_report.specs.code.Digests.{AreDigests};
+ghost use Rattle.aide_report.specs.code.Finding.{pass_of, old_origin, new_origin};
+ghost use Rattle.aide_report.specs.code.Passes.{FlushesOnce, KeepsPen, Passes, WritesOver};
+ghost use Rattle.aide_report.specs.code.Passes.{on_sheet};
 ghost use Rattle.aide_report.specs.Report.{is_silent, parts_of, text_of, section_count};
 ghost use Rattle.aide_report.specs.Sections.{sections_of};
-ghost use Rattle.aide_report.specs.Seen.{AreLimits, seen};
+ghost use Rattle.aide_report.specs.code.Seen.{AreLimits, seen};
 ghost use Rattle.aide_text.specs.Failures.{Rose};
 ghost use Rattle.aide_text.specs.Overview.{differs, overview_by};
 ghost use Rattle.aide_text.specs.Sent.{Sends};

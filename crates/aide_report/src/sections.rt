@@ -2,12 +2,12 @@
 ghost use Rattle.std.specs.Prelude.{◌≡◌, ◌+◌, [], false, true, length, OnOk};
 ghost use Rattle.aide_attr.specs.Level.{reaches};
 ghost use Rattle.aide_attr.specs.declared.level.Level.{Level as AnyLevel};
-ghost use Rattle.aide_report.specs.Digests.{AreDigests};
-ghost use Rattle.aide_report.specs.Finding.{pass_of};
-ghost use Rattle.aide_report.specs.Passes.{KeepsPen, Passes, WritesOver, on_sheet};
+ghost use Rattle.aide_report.specs.code.Digests.{AreDigests};
+ghost use Rattle.aide_report.specs.code.Finding.{pass_of};
+ghost use Rattle.aide_report.specs.code.Passes.{KeepsPen, Passes, WritesOver, on_sheet};
 ghost use Rattle.aide_report.specs.Report.{sections_text};
 ghost use Rattle.aide_report.specs.Sections.{has_entry, is_there, sections_of, section_text};
-ghost use Rattle.aide_report.specs.Seen.{AreLimits, seen};
+ghost use Rattle.aide_report.specs.code.Seen.{AreLimits, seen};
 ghost use Rattle.aide_text.specs.Sheet.{WritesFirst};
 
 use crate::pass::entries_pass;

@@ -8,7 +8,7 @@ use Rattle.aide_report.specs.RunFaults.{IsFirst, IsLater}
 use Rattle.aide_text.specs.Failures.{Rose}
 use Rattle.aide_report.proofs.FaultLemmas.{answer_later, answer_new, answer_old, first_later, opens_first}
 use Rattle.aide_report.proofs.FaultLemmas.{right_first, right_later, rose_later, rose_since}
-use Rattle.aide_report.specs.Digests.{digest_on}
+use Rattle.aide_report.specs.code.Digests.{digest_on}
 use Rattle.sha2.specs.Sha256.{sha256}
 use Rattle.aide_report.proofs.MissingLemmas.{both_there, first_over, later_over, second_over, stops_hindered}
 use Rattle.aide_report.proofs.OpeningLemmas.{refused_first, refused_later}

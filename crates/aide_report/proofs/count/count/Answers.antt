@@ -1,8 +1,8 @@
 use Rattle.std.proofs.Common.{◌^◌, refl, subst}
 use Rattle.aide_db.specs.declared.side.Side.TheVariants.{Old, New}
-use Rattle.aide_report.specs.ChangeView.{change_of}
-use Rattle.aide_report.specs.Counts.{Completes}
-use Rattle.aide_report.specs.Merging.{remaining, total_work}
+use Rattle.aide_report.specs.code.ChangeView.{change_of}
+use Rattle.aide_report.specs.code.Counts.{Completes}
+use Rattle.aide_report.specs.code.Merging.{remaining, total_work}
 use Rattle.aide_report.proofs.CountLemmas.{counts_alike, counts_more, counts_same, small_alike, small_more, small_same}
 use Rattle.aide_report.proofs.CallLemmas.{merge_fault, merge_then}
 use Rattle.aide_report.proofs.count.count.Goals as goal

@@ -2,7 +2,7 @@ use Rattle.std.proofs.Common.{◌∙◌, sym, ap}
 use Rattle.std.specs.Prelude.{not}
 use Rattle.aide_attr.specs.Attr.{all_attrs}
 use Rattle.aide_attr.specs.Set.{has}
-use Rattle.aide_report.specs.ChangeView.{change_of}
+use Rattle.aide_report.specs.code.ChangeView.{change_of}
 use Rattle.aide_report.specs.Entries.{entry_details, shows_at, shows_any}
 use Rattle.aide_text.specs.PenSheet.{on_sheet}
 use Rattle.aide_text.specs.Layout.{path_line}

@@ -1,4 +1,4 @@
-use Rattle.aide_report.specs.ChangeView.{change_of}
+use Rattle.aide_report.specs.code.ChangeView.{change_of}
 use Rattle.aide_report.specs.Entries.{shows_at, shows_any}
 use Rattle.aide_report.proofs.ShownLemmas.{any_in}
 use Rattle.aide_report.proofs.difference.counts_as.Goals as goal

@@ -1,5 +1,5 @@
 use Rattle.std.proofs.Common.{◌∙◌, ap, sym}
-use Rattle.aide_report.specs.ChangeView.{change_of}
+use Rattle.aide_report.specs.code.ChangeView.{change_of}
 use Rattle.aide_report.specs.Changed.{differ_by}
 use Rattle.aide_report.specs.Changes.{is_changed}
 use Rattle.aide_report.specs.Entries.{shows_at}

@@ -1,10 +1,10 @@
 use Rattle.std.proofs.Common.{subst}
 use Rattle.aide_db.specs.Desk.{desk_entry}
 use Rattle.aide_db.specs.declared.side.Side.TheVariants.{Old, New}
-use Rattle.aide_report.specs.ChangeView.{change_of}
-use Rattle.aide_report.specs.Turn.{change_at}
-use Rattle.aide_report.specs.Merging.{remaining}
-use Rattle.aide_report.specs.Passes.{on_sheet}
+use Rattle.aide_report.specs.code.ChangeView.{change_of}
+use Rattle.aide_report.specs.code.Turn.{change_at}
+use Rattle.aide_report.specs.code.Merging.{remaining}
+use Rattle.aide_report.specs.code.Passes.{on_sheet}
 use Rattle.aide_report.proofs.EntriesLemmas.{entries_alike, entries_step, entries_same, entries_end}
 use Rattle.aide_report.proofs.CallLemmas.{merge_fault, merge_none, merge_then}
 use Rattle.aide_text.proofs.Sheets.{writing_start, writing_more, writing_done, writing_so_far, some_nothing, some_more}

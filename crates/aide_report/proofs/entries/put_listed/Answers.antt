@@ -1,5 +1,5 @@
 use Rattle.std.proofs.Common.{sym}
-use Rattle.aide_report.specs.ChangeView.{change_of}
+use Rattle.aide_report.specs.code.ChangeView.{change_of}
 use Rattle.aide_text.specs.PenSheet.{on_sheet}
 use Rattle.aide_report.specs.Sections.{all_listed}
 use Rattle.aide_report.proofs.EntriesLemmas.{text_of_one, text_of_none}

@@ -2,8 +2,8 @@ use Rattle.std.proofs.Common.{[], subst}
 use Rattle.std.proofs.lemmas.Result.{err_from_is_err_and}
 use Rattle.aide_db.specs.Desk.{list_of, columns_of_side}
 use Rattle.aide_db.specs.declared.side.Side.TheVariants.{Old, New}
-use Rattle.aide_report.specs.Counts.{Completes}
-use Rattle.aide_report.specs.Merging.{cursor_at}
+use Rattle.aide_report.specs.code.Counts.{Completes}
+use Rattle.aide_report.specs.code.Merging.{cursor_at}
 use Rattle.aide_report.proofs.PassLemmas.{pass_changed, pass_done, pass_failed, passes_begun, passes_err}
 use Rattle.aide_report.proofs.pass.count_pass.Goals as goal
 

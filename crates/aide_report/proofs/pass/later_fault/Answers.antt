@@ -3,7 +3,7 @@ use Rattle.aide_db.specs.declared.fault.DbFault.{DbFault}
 use Rattle.aide_entry.specs.Cause.{cause_of}
 use Rattle.aide_entry.specs.declared.fault_kind.DbFaultKind.{DbFaultKind}
 use Rattle.aide_entry.specs.declared.fault_kind.DbFaultKind.TheVariants.{Memory, Read}
-use Rattle.aide_report.specs.LaterFault.{later_by}
+use Rattle.aide_report.specs.code.LaterFault.{later_by}
 use Rattle.aide_report.specs.declared.run_fault.RunFault.TheVariants.{Changed}
 use Rattle.aide_report.proofs.pass.later_fault.Goals as goal
 

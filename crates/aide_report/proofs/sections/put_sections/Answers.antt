@@ -1,10 +1,10 @@
 use Rattle.std.proofs.Common.{◌∙◌, ◌+◌, ap, sym, subst, arith, drop, get_or}
 use Rattle.std.specs.List.{flat_map, filter}
 use Rattle.aide_db.specs.declared.side.Side.TheVariants.{Old, New}
-use Rattle.aide_report.specs.Digests.{AreDigests}
-use Rattle.aide_report.specs.Finding.{pass_of}
-use Rattle.aide_report.specs.Passes.{on_sheet}
-use Rattle.aide_report.specs.Seen.{seen}
+use Rattle.aide_report.specs.code.Digests.{AreDigests}
+use Rattle.aide_report.specs.code.Finding.{pass_of}
+use Rattle.aide_report.specs.code.Passes.{on_sheet}
+use Rattle.aide_report.specs.code.Seen.{seen}
 use Rattle.aide_report.specs.Report.{sections_text}
 use Rattle.aide_report.specs.Sections.{is_there, section_text}
 use Rattle.aide_text.specs.Section.{all_sections}

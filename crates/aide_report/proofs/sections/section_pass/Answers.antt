@@ -1,7 +1,7 @@
 use Rattle.std.proofs.Common.{ℕ, ap, arith, refl, sym}
-use Rattle.aide_report.specs.Finding.{pass_of}
-use Rattle.aide_report.specs.Passes.{on_sheet}
-use Rattle.aide_report.specs.Seen.{seen}
+use Rattle.aide_report.specs.code.Finding.{pass_of}
+use Rattle.aide_report.specs.code.Passes.{on_sheet}
+use Rattle.aide_report.specs.code.Seen.{seen}
 use Rattle.aide_report.specs.Sections.{section_text, entries_text}
 use Rattle.aide_text.specs.Section.{contents_of}
 use Rattle.aide_report.proofs.PassLemmas.{passes_broken, passes_none, pen_then, writes_behind, writes_same}

@@ -16,13 +16,13 @@ use Rattle.aide_db.specs.declared.side.Side.TheVariants.{Old, New}
 use Rattle.aide_db.specs.declared.stage.Stage.TheVariants.{Ended as AtEnd}
 use Rattle.aide_text.specs.declared.pen.Pen.{Pen}
 use Rattle.aide_report.specs.Bound.{FitsAfter, FitsAfterBoth, OpensWithin, TakesWithin}
-use Rattle.aide_report.specs.NextEntry.{ahead, work}
-use Rattle.aide_report.specs.Merged.{merged}
-use Rattle.aide_report.specs.Merging.{IsEnded, IsReady, StandsAt, limits_at, reels_failed}
-use Rattle.aide_report.specs.Merging.{remaining, total_work}
+use Rattle.aide_report.specs.code.NextEntry.{ahead, work}
+use Rattle.aide_report.specs.code.Merged.{merged}
+use Rattle.aide_report.specs.code.Merging.{IsEnded, IsReady, StandsAt, limits_at, reels_failed}
+use Rattle.aide_report.specs.code.Merging.{remaining, total_work}
 use Rattle.aide_report.specs.Room.{IsNotMemory}
 use Rattle.aide_report.specs.Standing.{rest_of, left_of, IsUnfailed, IsFaultOf}
-use Rattle.aide_report.specs.Turn.{change_at}
+use Rattle.aide_report.specs.code.Turn.{change_at}
 use Rattle.aide_report.specs.declared.entries.PassFault.{PassFault}
 use Rattle.aide_report.specs.declared.entries.PassFault.TheVariants.{Database, Write}
 use Rattle.aide_report.specs.declared.merge.NextEntry.{NextEntry}

@@ -13,11 +13,11 @@ use Rattle.aide_report.specs.Bound.{Fits, OpensWithin}
 use Rattle.aide_report.specs.Missing.{IsOfReliable}
 use Rattle.aide_report.specs.Openings.{ComesOpened, OpensExactly, OpensAtMost, IsRefusedThere}
 use Rattle.aide_report.specs.Openings.{IsNotGiven}
-use Rattle.aide_report.specs.PassFaults.{Writes}
+use Rattle.aide_report.specs.code.PassFaults.{Writes}
 use Rattle.aide_report.specs.Room.{IsNotOfMemory}
 use Rattle.aide_report.specs.RunFaults.{CountsWrites, HasPenWritten, HasWrittenIfAny, IsCaused}
 use Rattle.aide_report.specs.RunFaults.{IsLater}
-use Rattle.aide_report.specs.Seen.{Seen, KeepsSources}
+use Rattle.aide_report.specs.code.Seen.{Seen, KeepsSources}
 use Rattle.aide_report.specs.declared.run_fault.RunFault.{RunFault}
 
 -- What a pass leaves of the desk.

@@ -1,6 +1,6 @@
 -- Why a pass ended.
 use Rattle.std.specs.Prelude.{ℕ, Result, Ok, Err, List}
-use Rattle.aide_report.specs.LaterFault.{later_of}
+use Rattle.aide_report.specs.code.LaterFault.{later_of}
 use Rattle.aide_text.specs.Sheet.{Sheet, Wrote, WritesPart}
 use Rattle.aide_report.specs.declared.entries.PassFault.{PassFault}
 use Rattle.aide_report.specs.declared.entries.PassFault.TheVariants.{Database, Write}

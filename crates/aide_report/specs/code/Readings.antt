@@ -18,14 +18,14 @@ use Rattle.aide_text.specs.Failures.{Rose}
 use Rattle.sha2.specs.Sha256.{sha256}
 use Rattle.aide_report.specs.Asked.{Asked}
 use Rattle.aide_report.specs.Bound.{Fits, OpensWithin, TakesWithin}
-use Rattle.aide_report.specs.Digests.{AreDigests}
-use Rattle.aide_report.specs.Finding.{IsFinding}
+use Rattle.aide_report.specs.code.Digests.{AreDigests}
+use Rattle.aide_report.specs.code.Finding.{IsFinding}
 use Rattle.aide_report.specs.Missing.{IsOfReliable}
 use Rattle.aide_report.specs.Openings.{OpensFirst, IsRefusedThere, IsNotGiven}
 use Rattle.aide_report.specs.Room.{IsNotOfMemory}
 use Rattle.aide_report.specs.RunFaults.{IsCaused, IsFirst, IsRight}
 use Rattle.aide_report.specs.Runs.{IsRunFault}
-use Rattle.aide_report.specs.Seen.{Seen}
+use Rattle.aide_report.specs.code.Seen.{Seen}
 use Rattle.aide_report.specs.Standing.{rest_of, IsUnfailed}
 use Rattle.aide_report.specs.declared.digests.WholeReading.{WholeReading}
 use Rattle.aide_report.specs.declared.finding.Finding.{Finding}

@@ -1,0 +1,15 @@
+-- Definitions for steps inside the code. No clause of a public call cites them.
+pub mod Merged
+pub mod NextEntry
+pub mod Turn
+pub mod Merging
+pub mod ChangeView
+pub mod Counts
+pub mod PassFaults
+pub mod Digests
+pub mod Finding
+pub mod LaterFault
+pub mod Seen
+pub mod Passes
+pub mod Readings
+pub mod MergeCalls
