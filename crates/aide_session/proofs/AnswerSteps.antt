@@ -9,7 +9,7 @@ use Rattle.aide_session.specs.Answer.{IsJobAnswer, IsWordsAnswer, IsReadAnswer, 
 use Rattle.aide_session.specs.Files.{Files, IsLarge, is_too_large}
 use Rattle.aide_words.specs.Job.{JobText, job_of}
 use Rattle.aide_session.specs.Lines.{usage_line, too_large_line, unread_line, conf_line}
-use Rattle.aide_session.specs.Premises.{HasRead, ReadsOnlyAs}
+use Rattle.aide_session.specs.code.Premises.{HasRead, ReadsOnlyAs}
 
 pub usage_is : (files : Files) (words : List (List ℕ)) (named : Named) (a : Answer) → job_of words ≡ None
     → IsAnswer files words named a → a ≡ refused usage_line 15

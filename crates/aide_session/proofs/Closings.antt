@@ -29,7 +29,7 @@ use Rattle.aide_session.specs.Ends.{Sinks}
 use Rattle.aide_session.specs.Files.{Files, IsLarge}
 use Rattle.aide_words.specs.Job.{JobText, job_of}
 use Rattle.aide_session.specs.Lines.{usage_line, memory_line, unread_line, too_large_line, conf_line}
-use Rattle.aide_session.specs.Premises.{HasRead, ReadsOnlyAs}
+use Rattle.aide_session.specs.code.Premises.{HasRead, ReadsOnlyAs}
 use Rattle.aide_session.specs.Put.{Put}
 use Rattle.aide_session.proofs.Endings.{rose_later, sinks}
 use Rattle.aide_session.proofs.PutLemmas.{appends_none, put_none, put_passed}

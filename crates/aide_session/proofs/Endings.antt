@@ -28,7 +28,7 @@ use Rattle.aide_session.specs.Answer.{Answer, Named, IsCompared, asked_by, limit
 use Rattle.aide_session.specs.Ends.{Sinks, Failure, failure_line, FailureCause, HasFailed, Ends, Whole, Starved}
 use Rattle.aide_session.specs.Ends.{config_unread, unopened, unread, unwritten}
 use Rattle.aide_session.specs.Lines.{memory_line, open_line, database_line, kind_line, outcome_lines, run_fault_line}
-use Rattle.aide_session.specs.Premises.{ComparesSides}
+use Rattle.aide_session.specs.code.Premises.{ComparesSides}
 use Rattle.aide_session.specs.Put.{HasNoFailure, Put}
 use Rattle.aide_session.proofs.PutLemmas.{appends_none, put_passed}
 

@@ -10,7 +10,7 @@ use Rattle.aide_conf.specs.declared.fault.ConfFaultKind.TheVariants.{Memory}
 use Rattle.aide_conf.specs.declared.task.Need.{Need}
 use Rattle.aide_session.specs.Answer.{need_of}
 use Rattle.aide_words.specs.Job.{JobText}
-use Rattle.aide_session.specs.Premises.{ReadsOnlyAs}
+use Rattle.aide_session.specs.code.Premises.{ReadsOnlyAs}
 
 -- a configuration reads as this for the same need and the same texts
 reads_same : (need job_need : Need) (before job_before text after job_after : List ℕ) (read : Result Configured ConfFault)

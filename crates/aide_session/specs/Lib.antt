@@ -3,12 +3,10 @@ pub mod Put
 pub mod Lines
 pub mod Files
 pub mod Sites
-pub mod Config
 pub mod Answer
 pub mod Ends
 pub mod Closing
 pub mod Held
 pub mod Existence
-pub mod Devices
-pub mod Premises
 pub mod Page
+pub mod code

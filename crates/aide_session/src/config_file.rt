@@ -1,7 +1,7 @@
 //! Reading the whole configuration file.
 ghost use Rattle.std.specs.Prelude.{◌≡◌, ℕ, List, Option, Some, None, IfOk, IsErrOf, true, false};
 ghost use Rattle.aide_report.specs.Failures.{Rose};
-ghost use Rattle.aide_session.specs.Config.{OpensOneFile};
+ghost use Rattle.aide_session.specs.code.Config.{OpensOneFile};
 ghost use Rattle.aide_session.specs.Files.{IsLarge, is_too_large};
 
 use crate::site::Site;

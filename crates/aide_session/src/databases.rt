@@ -5,11 +5,11 @@ ghost use Rattle.aide_db.specs.declared.side.Side.{Side};
 ghost use Rattle.aide_report.specs.Asked.{asked};
 ghost use Rattle.aide_session.specs.Answer.{Compares};
 ghost use Rattle.aide_session.specs.Closing.{AsksAndReads};
-ghost use Rattle.aide_session.specs.Devices.{ClosesFor, EndsWith, HoldsWith, KeepsPeak};
-ghost use Rattle.aide_session.specs.Devices.{devices_between};
+ghost use Rattle.aide_session.specs.code.Devices.{ClosesFor, EndsWith, HoldsWith, KeepsPeak};
+ghost use Rattle.aide_session.specs.code.Devices.{devices_between};
 ghost use Rattle.aide_session.specs.Held.{IsPeakOf};
 ghost use Rattle.aide_session.specs.Lines.{run_fault_line};
-ghost use Rattle.aide_session.specs.Premises.{AsksForSides, ComparesSides};
+ghost use Rattle.aide_session.specs.code.Premises.{AsksForSides, ComparesSides};
 ghost use Rattle.aide_session.specs.Put.{PutOn};
 
 use crate::lines::{

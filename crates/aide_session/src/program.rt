@@ -7,13 +7,13 @@ ghost use Rattle.aide_report.specs.Failures.{Rose};
 ghost use Rattle.aide_session.specs.Answer.{Answer, Named, IsAnswer, IsJobAnswer, IsTextAnswer};
 ghost use Rattle.aide_session.specs.Answer.{need_of};
 ghost use Rattle.aide_session.specs.Closing.{Closes, course_between};
-ghost use Rattle.aide_session.specs.Devices.{ClosesFor, EndsWith, HoldsWith, KeepsPeak};
-ghost use Rattle.aide_session.specs.Devices.{devices_between};
+ghost use Rattle.aide_session.specs.code.Devices.{ClosesFor, EndsWith, HoldsWith, KeepsPeak};
+ghost use Rattle.aide_session.specs.code.Devices.{devices_between};
 ghost use Rattle.aide_session.specs.Ends.{Ends, HasFailed, Whole, Starved, sinks_between};
 ghost use Rattle.aide_session.specs.Existence.{HasSessionAnswer, TellsNamed};
 ghost use Rattle.aide_session.specs.Held.{HoldsWithin, most_held};
 ghost use Rattle.aide_words.specs.Job.{job_of, text_of_job};
-ghost use Rattle.aide_session.specs.Premises.{HasRead, ReadsOnlyAs};
+ghost use Rattle.aide_session.specs.code.Premises.{HasRead, ReadsOnlyAs};
 ghost use Rattle.aide_session.specs.Put.{HasNoFailure};
 
 use crate::config_file::{ConfigFault, read_config};
