@@ -31,6 +31,7 @@ from tools.commands.trials.hosts_report import try_hosts_report
 from tools.commands.trials.faults import try_faults, try_signals
 from tools.commands.trials.lost_modules import try_lost_modules
 from tools.commands.trials.mail import try_mail
+from tools.commands.trials.reasons import try_reasons, try_reasons_lines, try_reasons_packages
 from tools.commands.trials.sandbox import Sandbox, shells
 from tools.commands.trials.run import try_run
 from tools.commands.trials.sorting import try_sorting
@@ -41,8 +42,8 @@ from tools.lib.tally import Tally, program_of, side_by_side
 BASE = [try_texts, try_files]
 # The longest come first, so that none of them is left at the end.
 TRIALS = [try_accept_attacks, try_accept_kills, try_sorting, try_readers, try_mail, try_run, try_attacks, try_fleet,
-          try_hosts_report, try_hosts_ends, try_cut_reports, try_faults, try_accept, try_without, try_explained,
-          try_explained_readers, try_age, try_signals, try_lost_modules]
+          try_hosts_report, try_hosts_ends, try_cut_reports, try_faults, try_accept, try_reasons, try_reasons_lines,
+          try_reasons_packages, try_without, try_explained, try_explained_readers, try_age, try_signals, try_lost_modules]
 
 
 def try_base(trial, tally):

@@ -43,7 +43,6 @@ PLANTED = (
         (GROWING, 'if differ <= {"ctime"}:', 'if differ <= {"ctime", "perm"}:'),
         (MOVES, 'self.by_inode.get((change.folder(), new.field("inode")))',
          'next((value for (_, inode), value in self.by_inode.items() if inode == new.field("inode")), None)'),
-        (MOVES, "new.bits & NEW_FILES and new.is_file() and not new.mode & 0o111", "new.bits & NEW_FILES and new.is_file()"),
         (MOVES, "new.bits & NEW_FILES and new.is_file() and", "new.is_file() and"),
         (MOVES, '        if not differences(old, new) <= GROWS | {"inode"}:\n            return None\n', ""))
     + seen_by(
@@ -61,8 +60,6 @@ PLANTED = (
         (ENTRIES, 'self.number("uid") == 0 and (', "("),
         (ENTRIES, "self.is_link() or not (has_more or has_list)", "self.is_link() or not has_more"),
         (ENTRIES, "self.is_link() or not (has_more or has_list)", "self.is_link() or not has_list"),
-        (ENTRIES, 'if field != ABSENT:\n                found[column] = digest_of(field)', 'if True:\n                found[column] = digest_of(field) or b"0"'),
-        (PACKAGES, "        if old and differ <= SAME_CONTENT and old.digests():", "        if old and differ <= SAME_CONTENT:"),
         (PACKAGES, "        count = new.number(\"lcount\") or 0\n", "        count = 0\n"),
         (PROTECTED, "    return gains_set_id(old, new) or (", "    return ("),
         (PROTECTED, " or (is_open(new) and not is_open(old))", ""))
@@ -70,12 +67,10 @@ PLANTED = (
         "reasons_packages.try_unchanged",
         (DPKG, "(before.version, before.state) != (after.version, after.state)]", "True]"),
         (DPKG, "(before.version, before.state) != (after.version, after.state)]", "before.version != after.version]"),
-        (MADE, "if info.group(1) in self.names else None", "if True else None"),
-        (MADE, "not self.names or ", ""))
+        (MADE, "if info.group(1) in self.names else None", "if True else None"))
     + seen_by(
         "reasons_packages.try_names",
         (DPKG, 'return self.merged[head] + path[len(head):] if head in self.merged else path', "return path"),
-        (DPKG, 'database.at(place).link() in (b"usr" + path, b"/usr" + path)', "True"),
         (DPKG, "self.diverted[self.usr(source)] = (self.usr(target), package)", "self.diverted[source] = (target, package)"),
         (DPKG, "        return path if by == package.name else target\n", "        return target\n"),
         (DPKG, "        return path if by == package.name else target\n", "        return path\n"),
@@ -83,7 +78,6 @@ PLANTED = (
         (DPKG, "        for path in self._read(package, \"list\").split(b\"\\n\"):", "        for path in self._read(package, \"list\").split():"))
     + seen_by(
         "reasons_packages.try_links",
-        (PACKAGES, 'differ <= SAME_TARGET | {"lname", "size"}', "True"),
         (PACKAGES, "        if any(owner in self.known.now[path] for owner in owners):\n", "        if True:\n"),
         (PACKAGES, "            if len(changes) < count:\n", "            if False:\n"))
     + seen_by(
@@ -130,10 +124,8 @@ PLANTED = (
     + seen_by(
         "reasons_places.try_severity",
         (SEVERITY, "return 0 if stat.S_ISDIR(mode) else mode & SET_ID", "return mode & SET_ID"),
-        (SEVERITY, "bool(set_id(new) & ~set_id(old)) if", "False if"),
         (SEVERITY, " and not stat.S_ISLNK(mode) and not (stat.S_ISDIR(mode) and mode & stat.S_ISVTX)", ""),
         (SEVERITY, "lambda row: all(test(old, new) for test in row.tests)", "lambda row: True"),
-        ("commands/share/severity.conf", "high    new-set-id              /**\n", ""),
         ("commands/share/severity.conf", "high    any     /etc/sudoers.d/**\n", ""),
         ("commands/share/severity.conf", "high    executable      /usr/bin/*\n", ""))
     + seen_by(
@@ -150,12 +142,10 @@ PLANTED = (
         (ARCHIVE, "if digest == wanted.sha256:", "if True:"),
         (INDEXES, 'if digest == digests.get(ending) or plain_digest == digests.get(""):', "if True:"),
         (INDEXES, "return done.stdout if is_good and done.returncode in (0, 2) else None", "return done.stdout"),
-        (INDEXES, "text = signed_text(copy, self.keyrings)", "text = signed_text(copy, self.keyrings) and os.pread(copy, MOST_RELEASE, 0)"),
         (INDEXES, "PIECE = os.O_RDONLY | os.O_NOFOLLOW | ", "PIECE = os.O_RDONLY | "))
     + seen_by(
         "reasons_archive.try_forms",
-        (DEB, "begin + size + size % 2", "begin + size"),
-        (PACKED, '            raise Refuted("cut short")\n        yield decoder', "            return\n        yield decoder"))
+        (DEB, "begin + size + size % 2", "begin + size"))
     + seen_by(
         "reasons_lines.try_same",
         (LINES, "end = line.rindex(b\"}\")", "line, end = ENCODE(json.loads(line)).encode() + b\"\\n\", -2"),
@@ -164,25 +154,20 @@ PLANTED = (
         "reasons_lines.try_damage",
         (LINES, "if any(name in fields for name in OURS):", "if False:"),
         (LINES, "if not good or not self.last < names:", "if not good:"),
-        (LINES, 'self.number - 1 != self.summary.get("lines") or ', ""),
-        (LINES, ' and not self.databases:', ":"),
         (EXPLAINER, "if present != PRESENT[fields[\"kind\"]] and (", "if False and ("),
         (LIB + "database.py", "if len(fields) != len(places):", "if False:"))
     + seen_by(
         "reasons_lines.try_refused",
         (TRUSTED, "found.st_uid not in (0, os.geteuid()) or ", ""),
-        (TRUSTED, " or found.st_mode & 0o022", ""),
-        (PACKED, "if not 0 <= size <= self.most:", "if size < 0:"))
+        (TRUSTED, " or found.st_mode & 0o022", ""))
     + seen_by(
         "reasons_lines.try_records",
         (RECORDS, " or found.st_mode & 0o022", ""),
         (RECORDS, "            if folder.others:\n", "            if False:\n"),
-        (RECORDS, "os.O_RDONLY | os.O_NOFOLLOW | os.O_NONBLOCK", "os.O_RDONLY | os.O_NONBLOCK"),
-        (RECORDS, "fileobj=target, mtime=0)", "fileobj=target, mtime=None)"))
+        (RECORDS, "os.O_RDONLY | os.O_NOFOLLOW | os.O_NONBLOCK", "os.O_RDONLY | os.O_NONBLOCK"))
     + seen_by("reasons_lines.try_interface", (EXPLAINER, "yield {**json.loads(line), **members_of(change)}", "yield members_of(change)"))
     + seen_by(
         "reasons_nights.try_nights",
         (LIB + "database.py", "return key_of(line[:line.find(b\" \")]", "return key_of(line[:line.find(b\" \")].replace(b\"%\", b\"%25\")"),
-        (DPKG, 'for name in (package.name + b":" + package.arch, package.name):', "for name in (package.name,):"),
-        (MADE, "path.startswith(b\"/etc/rc\") and self._is_listed(target)", "False"))
+        (DPKG, 'for name in (package.name + b":" + package.arch, package.name):', "for name in (package.name,):"))
 )
