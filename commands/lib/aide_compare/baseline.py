@@ -114,6 +114,14 @@ class Baseline:
         except OSError as error:
             raise Fault(Status.DEVICE, reason(error))
 
+    def has_beside(self, suffix):
+        """Whether there is a file beside the baseline whose name ends so."""
+        try:
+            os.stat(self.name + suffix, dir_fd=self.folder, follow_symlinks=False)
+            return True
+        except FileNotFoundError:
+            return False
+
     def remove_beside(self, suffix):
         """Removes the file beside the baseline whose name ends so, if it is there."""
         self._work(lambda: self._unlink(self.name + suffix), self.folder)

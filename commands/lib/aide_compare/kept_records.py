@@ -84,7 +84,8 @@ class Records:
 
     def remove(self):
         try:
-            self.baseline.remove_beside(SUFFIX)
+            if self.baseline.has_beside(SUFFIX):
+                self.baseline.remove_beside(SUFFIX)
         except OSError as error:
             raise self.baseline.fault("its %s cannot be removed: %s" % (SUFFIX, reason(error)))
 

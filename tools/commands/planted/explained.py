@@ -25,8 +25,6 @@ PLANTED = [
           seen_by=RUNS % "try_misuse"),
     Plant(file=RUN, old="for key, count in (reasons._asdict() if reasons else {}).items()", new="for key, count in ()",
           seen_by=RUNS % "try_places"),
-    Plant(file=COMPARISON, old="        finally:\n            outcome.status, outcome.errors = kept\n",
-          new="        finally:\n            outcome.errors = kept[1] + b\"x\"\n", seen_by=RUNS % "try_places"),
     Plant(file=COMPARISON, old="        if self.texts.config != self.given.config:", new="        if False:",
           seen_by="run.try_counts"),
     Plant(file=BRIEF, old="        if change.reason is None:", new="        if change.reason is None and change.severity != \"high\":",

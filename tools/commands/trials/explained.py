@@ -51,6 +51,11 @@ def run(sandbox, *words, **more):
     return sandbox.call(TOOL, *REASONS, *words, **more)
 
 
+def read(sandbox, name):
+    """The bytes of a file; nothing if there is none."""
+    return sandbox.read(name) if os.path.exists(sandbox.path(name)) else b""
+
+
 def try_places(sandbox):
     """The report is that of a run without reasons; standard error and the state have the counts, and --brief the text."""
     prepare(sandbox)
@@ -61,16 +66,18 @@ def try_places(sandbox):
     sandbox.check("nothing else is said", len(answer.errors) == len(plain.errors) + len("aide-compare-run: " + line), answer)
     state = sandbox.state()
     sandbox.check("the state has the counts", COUNTS.items() <= state.items() and state["status"] == "7", state)
-    sandbox.check("what people read first", sandbox.read("brief").decode() == BRIEF, sandbox.read("brief"))
-    sandbox.check("who may read it", os.stat(sandbox.path("brief")).st_mode & 0o777 == 0o600)
+    sandbox.check("what people read first", read(sandbox, "brief").decode() == BRIEF, read(sandbox, "brief"))
+    sandbox.check("who may read it", os.path.exists(sandbox.path("brief"))
+                  and os.stat(sandbox.path("brief")).st_mode & 0o777 == 0o600)
     sandbox.call(TOOL, "--state", "state", "o.db", "n.db")
     sandbox.check("a state without reasons", not COUNTS.keys() & sandbox.state().keys(), sandbox.state())
     answer = run(sandbox, "--state", "state", "--brief", "brief", "o.db", "o.db")
     sandbox.expect("no difference", answer, 0, b"NO differences", b"0 changes, all explained: unexplained=0")
-    sandbox.check("its state", sandbox.state()["explained"] == sandbox.state()["unexplained"] == "0", sandbox.state())
+    state = sandbox.state()
+    sandbox.check("its state", state.get("explained") == state.get("unexplained") == "0", state)
     answer = run(sandbox, "--brief", "brief", "o.db", "gone.db")
     sandbox.expect("all is explained", answer, 2, None, b"1 change, all explained: unexplained=0 not_verified=0 explained=1")
-    sandbox.check("what people read first then", sandbox.read("brief").startswith(b"1 change, all explained\n\nExplained:\n"))
+    sandbox.check("what people read first then", read(sandbox, "brief").startswith(b"1 change, all explained\n\nExplained:\n"))
 
 
 def try_levels(sandbox):
@@ -83,15 +90,15 @@ def try_levels(sandbox):
         answer = run(sandbox, "--brief", "brief", "--lines", "lines", "o.db", "n.db", "--", "-A", text)
         sandbox.expect("reasons at " + text, answer, 7, plain.output, WORDS.encode())
         sandbox.check("the report at " + text, answer.output == plain.output)
-        sandbox.check("the text at " + text, sandbox.read("brief").decode() == BRIEF, sandbox.read("brief"))
-        sandbox.check("the lines at " + text, len(entries(sandbox, "lines")) == 4, sandbox.read("lines"))
+        sandbox.check("the text at " + text, read(sandbox, "brief").decode() == BRIEF, read(sandbox, "brief"))
+        sandbox.check("the lines at " + text, len(entries(sandbox, "lines")) == 4, read(sandbox, "lines"))
     sandbox.write("conf", "report_url=stdout\nreport_level=minimal\n")
     answer = run(sandbox, "-c", "conf", "--brief", "brief", "o.db", "n.db")
     sandbox.expect("a fixed configuration", answer, 7, None, WORDS.encode())
 
 
 def entries(sandbox, name):
-    objects = [json.loads(line) for line in sandbox.read(name).decode().splitlines()]
+    objects = [json.loads(line) for line in read(sandbox, name).decode().splitlines()]
     return [fields for fields in objects if fields["record"] == "entry"]
 
 
@@ -115,7 +122,7 @@ def try_outputs(sandbox):
     for name in ("lines", "brief"):
         sandbox.write(name, "of an earlier run")
     done = run(sandbox, "--lines", "lines", "--brief", "brief", "o.db", "missing.db")
-    sandbox.check("nothing is left of an earlier run", done.status == 18 and sandbox.read("lines") == sandbox.read("brief") == b"")
+    sandbox.check("nothing is left of an earlier run", done.status == 18 and read(sandbox, "lines") == read(sandbox, "brief") == b"")
 
 
 def try_lines(sandbox):
@@ -125,18 +132,18 @@ def try_lines(sandbox):
     json_lines = sandbox.call("aide-compare-json", text=report).output
     reasons = sandbox.call("aide-compare-reasons", "--databases", "o.db", "n.db", "--severity", "table", text=json_lines).output
     run(sandbox, "--lines", "lines", "o.db", "n.db")
-    sandbox.check("the lines with reasons", sandbox.read("lines") == reasons, (sandbox.read("lines"), reasons))
+    sandbox.check("the lines with reasons", read(sandbox, "lines") == reasons, (read(sandbox, "lines"), reasons))
     answer = sandbox.call(TOOL, "--lines", "lines", "o.db", "n.db")
     sandbox.expect("the lines alone", answer, 7, report, b"SHA-256")
-    sandbox.check("they are those of aide-compare-json", sandbox.read("lines") == json_lines and b"unexplained" not in answer.errors)
+    sandbox.check("they are those of aide-compare-json", read(sandbox, "lines") == json_lines and b"unexplained" not in answer.errors)
     sandbox.call(TOOL, "--lines", "lines", "--without-path", "/etc/*", "o.db", "n.db")
-    summary = json.loads(sandbox.read("lines").split(b"\n")[0])
-    sandbox.check("what was left out", summary["left_out"] == {"old": 2, "new": 1} and len(entries(sandbox, "lines")) == 2, summary)
+    summary = json.loads(read(sandbox, "lines").split(b"\n")[0] or b"{}")
+    sandbox.check("what was left out", summary.get("left_out") == {"old": 2, "new": 1} and len(entries(sandbox, "lines")) == 2, summary)
     page = sandbox.call("aide-compare-html", "--plain", "lines")
     sandbox.check("a page of them", page.status == 0 and b">log<" in page.output, page.output[-2000:])
     sandbox.call(TOOL, "--lines", "lines", "o.db", "o.db")
-    summary = json.loads(sandbox.read("lines").split(b"\n")[0])
-    sandbox.check("the lines of no difference", summary["differences"] is False and "left_out" not in summary, summary)
+    summary = json.loads(read(sandbox, "lines").split(b"\n")[0] or b"{}")
+    sandbox.check("the lines of no difference", summary.get("differences") is False and "left_out" not in summary, summary)
 
 
 def try_many(sandbox):
@@ -145,7 +152,7 @@ def try_many(sandbox):
     new = b"".join(b"/m/%04d %d 100644 0 0 1\n" % (number, ALL) for number in range(3000))
     sandbox.write("many.db", NEW.replace(b"/srv", new + b"/srv"))
     run(sandbox, "--brief", "brief", "o.db", "many.db")
-    text = sandbox.read("brief").decode()
+    text = read(sandbox, "brief").decode()
     places = [text.find(part) for part in ("3002 unexplained, 1 not verified of 3004", "/usr/.x y", "/etc/plain", "/m/0000",
                                            "  low     and 2800 more\n", "Not verified:", "Explained:")]
     sandbox.check("many entries", -1 not in places and places == sorted(places) and text.count("/m/") == 200, (places, text[:500]))
@@ -162,7 +169,7 @@ def try_hostile(sandbox):
         sandbox.write("h.db", HEAD + name + b" %d 100644 0 0 1\n" % ALL + END)
         sandbox.write("none.db", HEAD + END)
         run(sandbox, "--brief", "brief", "none.db", "h.db")
-        text = sandbox.read("brief")
+        text = read(sandbox, "brief")
         good = text.count(b"\n") == 5 and not re.search(rb"[\x00-\x09\x0b-\x1f\x7f-\xff]", text)
         sandbox.check("the hostile name %r" % name, good and b"\\" in text, text)
 
@@ -212,11 +219,15 @@ def try_no_reasons(sandbox):
     text = sandbox.read(name)
     line = "        changes = [self._found(fields) for fields in objects]\n"
     for fault, said in (("raise KeyError('x')", b"a fault of this command: KeyError"), ("raise MemoryError", b"out of memory"),
-                        ("raise OSError(28, 'no room')", b"no room"), ("return []", b"no counts")):
+                        ("raise OSError(28, 'no room')", b"no room"),
+                        ("objects = list(objects)[:1]", b"the counts of the reasons")):
+        sandbox.write("state", "")
+        for each in ("brief", "lines"):
+            sandbox.write(each, "of an earlier run")
         sandbox.write(name, text.replace(line.encode(), ("        %s\n" % fault).encode() + line.encode()))
         answer = run(sandbox, "--state", "state", "--brief", "brief", "--lines", "lines", "o.db", "n.db")
         sandbox.expect("no reasons by " + fault, answer, 7, b"Added entries:", b"the changes are not explained: ")
-        good = not COUNTS.keys() & sandbox.state().keys() and sandbox.state()["status"] == "7"
-        sandbox.check("the state then", good and sandbox.read("brief") == sandbox.read("lines") == b"", sandbox.state())
-        sandbox.check("what is said by " + fault, said in answer.errors or said == b"no counts", answer)
+        good = not COUNTS.keys() & sandbox.state().keys() and sandbox.state().get("status") == "7"
+        sandbox.check("the state then", good and read(sandbox, "brief") == read(sandbox, "lines") == b"", sandbox.state())
+        sandbox.check("what is said by " + fault, said in answer.errors, answer)
     sandbox.write(name, text)

@@ -28,7 +28,7 @@ def call(sandbox, *words):
     answer = mail.call(sandbox, *words)
     message = mail.sent(sandbox)
     sandbox.check("nothing is printed by %s" % (words,), answer.output == answer.errors == b"", answer)
-    return answer.status, mail.subject(message), message and mail.body(message).decode()
+    return answer.status, mail.subject(message), None if message is None else mail.body(message).decode()
 
 
 def try_mails(sandbox):
@@ -56,13 +56,13 @@ def try_alarm(sandbox):
     found = call(sandbox, *REASONS, *QUIET, "--alarm-sent-is-success", "o.db", "gone.db")
     sandbox.check("quiet is success", found == (0, None, None), found)
     found = call(sandbox, *REASONS, *QUIET, "o.db", "missing.db")
-    sandbox.check("no comparison is an alarm", found[0] == 18 and "no comparison" in found[1], found)
+    sandbox.check("no comparison is an alarm", found[0] == 18 and "no comparison" in (found[1] or ""), found)
     answer = mail.call(sandbox, *QUIET, "o.db", "gone.db")
     sandbox.expect("it needs reasons", answer, 15, b"", b"--alarm unexplained needs --reasons")
     sandbox.write("lib/aide_compare/reasons/explainer.py", sandbox.read("lib/aide_compare/reasons/explainer.py").replace(
         b"        tally = Tally()\n", b"        raise KeyError\n"))
     found = call(sandbox, *REASONS, *QUIET, "o.db", "gone.db")
-    good = found[:2] == (2, mail.SUBJECT + "differences (1 removed)") and "the changes are not explained" in found[2]
+    good = found[:2] == (2, mail.SUBJECT + "differences (1 removed)") and "the changes are not explained" in (found[2] or "")
     sandbox.check("without reasons every change is an alarm", good, found)
 
 
@@ -164,6 +164,9 @@ def try_limits(sandbox):
                           (["--critical", "4"], 1), (["--critical=4", "--warning=4"], 0), (["--critical=high", "--warning=high"], 0),
                           (["--critical", "high", "--warning", "medium"], 1), (["--warning", "4"], 2)):
         check(sandbox, "the limits %s" % words, status, words=words)
+    write_state(sandbox, (3, 0, 1, 1, 0, 0))
+    for name in ("low", "medium", "high"):
+        check(sandbox, "a high change by the limit " + name, 2, words=["--critical", name])
     for text in ("0", "x", "-1", "", "High", "1" * 10):
         answer = sandbox.call("check_aide_compare", "--state", "state", "--warning", text)
         sandbox.check("the limit %r" % text, answer.status == 3 and b"UNKNOWN" in answer.output, answer)

@@ -164,6 +164,28 @@ def has_metrics(sandbox, done):
     sandbox.check(all("\n" + line in text for line in wanted), "the metrics", (text, done))
 
 
+def compare_with_reasons(sandbox):
+    sandbox.run("aide-compare-run --reasons --state %s" % STATE)
+
+
+def try_quiet_alarm(sandbox, text):
+    """Each metric of the rule is one that a comparison with reasons writes."""
+    compare_with_reasons(sandbox)
+    sandbox.run("aide-compare-metrics /var/lib/prometheus/node-exporter/aide.prom")
+    names = set(re.findall(r"\baide_compare_\w+", text))
+    sandbox.check(names and all("\n%s " % name in metrics(sandbox) for name in names), "the metrics of the rule", names)
+    sandbox.check(set(re.findall(r"^[ -]*(\w+):", text, re.M)) == {"alert", "expr"}, "the words of the rule")
+
+
+def has_brief(sandbox, done):
+    good = done[1].startswith(MINIMAL) and " unexplained of 4 changes" in done[1] and "\nUnexplained:\n" in done[1]
+    sandbox.check(good, "what people read first", done)
+
+
+def has_page_of_reasons(sandbox, done):
+    sandbox.check('"left_out"' in sandbox.read("/tmp/lines") and "</html>" in sandbox.read("/tmp/page.html"), "lines and page", done)
+
+
 def try_alarms(sandbox, text):
     """Each metric of the rules is one that is written, and the words of the rules are those of Prometheus."""
     compare(sandbox)

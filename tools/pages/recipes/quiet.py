@@ -207,6 +207,7 @@ def try_upgrade(trial, page):
     done = page.run("reasons")
     trial.check(done[0] == 4 and "1 unexplained of 3 changes" in done[2], "reasons", done)
     page.prints("reasons", done[1])
+    taken(trial, "owners")
 
 
 def try_lines(trial, page):
