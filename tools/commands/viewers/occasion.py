@@ -122,14 +122,14 @@ def try_types(kept, tally):
             tally.add('types %r' % more, [] if given == wanted else ['%r' % (given,)])
 
 
-def try_left_out(kept, folder, tally):
+def try_left_out(kept, tally, folder):
     path = kept.changed(folder, error='\nleft_out_old=3\nleft_out_new=5')
     status, objects, errors = lines(kept.report, '--state', path)
     good = status == 0 and objects[0]['left_out'] == {'old': 3, 'new': 5} and 'left_out' not in objects[1]
     tally.add('left out', [] if good else ['%d %r %r' % (status, errors, objects[:1])])
 
 
-def try_other_states(kept, folder, tally):
+def try_other_states(kept, tally, folder):
     """A state file that is of another comparison, or none, is refused, and nothing is written."""
     for label, values in (('digest', {'new_sha256': 64 * '0'}), ('no digest', {'old_sha256': ''}),
                           ('counts', {'added': '9'}), ('a failure', {'status': '18', 'added': '', 'removed': '', 'changed': ''}),
@@ -182,15 +182,19 @@ def try_schema(kept, tally):
     tally.add('unknown keyword', [] if any('minLength' in fault for fault in known.faults('x')) else ['it is passed over'])
 
 
+def attempt(trial, tally, kept, *more):
+    """Runs a trial; one that ends early has failed."""
+    try:
+        trial(kept, tally, *more)
+    except (LookupError, ValueError, TypeError, StopIteration) as error:
+        tally.add(trial.__name__, ['%s: %s' % (type(error).__name__, error)])
+
+
 def try_occasion(program, tally):
     with tempfile.TemporaryDirectory() as folder:
         kept = Kept(program, folder)
         kept.program = program
-        try_full(kept, tally)
-        try_names(kept, tally)
-        try_one_text(kept, tally)
-        try_types(kept, tally)
-        try_left_out(kept, folder, tally)
-        try_other_states(kept, folder, tally)
-        try_members(kept, tally)
-        try_schema(kept, tally)
+        for trial in (try_full, try_names, try_one_text, try_types, try_members, try_schema):
+            attempt(trial, tally, kept)
+        attempt(try_left_out, tally, kept, folder)
+        attempt(try_other_states, tally, kept, folder)
