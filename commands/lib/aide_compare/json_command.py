@@ -85,8 +85,8 @@ class _Lines(_Form):
         self.body.seek(0)
         if members:
             end = writer.more + b"}\n"
-            for line in self.body:
-                target.write(line[:-2] + end)
+            for lines in iter(lambda: self.body.readlines(BLOCK), []):  # A newline stands only at the end of a line.
+                target.write(b"".join(lines).replace(b"}\n", end))
         else:
             for block in iter(lambda: self.body.read(BLOCK), b""):
                 target.write(block)
