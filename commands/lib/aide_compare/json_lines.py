@@ -2,6 +2,7 @@
 import json
 import re
 from collections import namedtuple
+from functools import lru_cache
 
 from aide_compare.report_lines import Refused
 from aide_compare.report_values import FORMS
@@ -67,7 +68,9 @@ def value_of(fields, side, usual):
 def row_of(label, fields, usual):
     """The row of an attribute that is no digest."""
     place = PLACES[label]
-    row = [place, value_of(fields, "old", usual), value_of(fields, "new", usual)]
+    old, new = fields["old"], fields["new"]
+    row = [place, str(old) if type(old) is int else value_of(fields, "old", usual),
+           str(new) if type(new) is int else value_of(fields, "new", usual)]
     if place not in NOTED and "old_text" not in fields and "new_text" not in fields:
         return row
     if label == "Perm":
@@ -79,32 +82,32 @@ def row_of(label, fields, usual):
     return row + notes if any(notes) else row
 
 
-def strongest_first(digests, attributes):
-    strongest = next(DIGESTS[label] for label in STRENGTH if label in attributes)
-    for place, row in enumerate(digests):
-        if row[0] == strongest:
-            return [row] + digests[:place] + digests[place + 1:]
-    return digests
+@lru_cache(maxsize=256)
+def layout_of(labels):
+    """The labels that are no digests, and those of digests with their places, the strongest first."""
+    demand(all(label in PLACES for label in labels), "an attribute is unknown")
+    first = [label for label in STRENGTH if label in labels][:1]
+    digests = first + [label for label in LABELS if label in DIGESTS and label in labels and label not in first]
+    return [label for label in labels if label not in DIGESTS], [(label, PLACES[label]) for label in digests]
 
 
 def rows_of(attributes, usual):
     """The rows of attributes: those of digests apart, the strongest one first."""
-    rows, digests = [], []
-    for label, fields in attributes.items():
-        place = DIGESTS.get(label)
-        if place is None:
-            rows.append(row_of(label, fields, usual))
-            continue
+    labels, named_digests = layout_of(tuple(attributes))
+    digests = []
+    for label, place in named_digests:
+        fields = attributes[label]
         old, new = fields["old"], fields["new"]
         if not usual or type(old) not in TEXTS or type(new) not in TEXTS:
             old, new = value_of(fields, "old", False), value_of(fields, "new", False)
         digests.append([place, old, new])
-    return rows, strongest_first(digests, attributes) if len(digests) > 1 else digests
+    return [row_of(label, attributes[label], usual) for label in labels], digests
 
 
-def reason_of(fields):
-    demand(type(fields["verified"]) is bool and fields["grade"] in GRADES, "a reason has another form")
-    return Reason(shown_note(fields["text"]), fields["verified"], fields["grade"])
+@lru_cache(maxsize=1024, typed=True)
+def reason_of(text, verified, grade):
+    demand(type(verified) is bool and grade in GRADES, "a reason has another form")
+    return Reason(shown_note(text), verified, grade)
 
 
 def entry_of(fields, line):
@@ -116,8 +119,8 @@ def entry_of(fields, line):
     severity, reason = fields.get("severity"), fields.get("reason")
     name = fields["path"] if usual and b" " not in path else shown_path(path)
     return Entry(KINDS.index(fields["kind"]), "uncertain" in fields, path, path.split(b"/"), name, letters, rows, digests,
-                 None if severity is None else SEVERITIES.index(severity), None if reason is None else reason_of(reason),
-                 len(line))
+                 None if severity is None else SEVERITIES.index(severity),
+                 None if reason is None else reason_of(reason["text"], reason["verified"], reason["grade"]), len(line))
 
 
 def judge_summary(fields):
