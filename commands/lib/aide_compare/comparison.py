@@ -47,7 +47,14 @@ class Outcome:
     def __init__(self):
         self.status, self.report, self.errors, self.hints, self.notes = None, None, b"", [], []
         self.counts, self.copies, self.old, self.new = None, {}, None, None
-        self.left_out, self.compared = {}, {}
+        self.left_out, self.compared, self._time = {}, {}, None
+
+    @property
+    def time(self):
+        """When it ended: the time of the first question, so that the state file and the lines agree."""
+        if self._time is None:
+            self._time = int(time.time())
+        return self._time
 
     @property
     def error(self):

@@ -7,13 +7,17 @@ from aide_compare.brief import brief
 from aide_compare.ending import Fault, Status, reason, say, write_all
 from aide_compare.escapes import shown
 from aide_compare.files import nameless
+from aide_compare.json_members import Occasion
 from aide_compare.kept_records import SUFFIX, misfit
+from aide_compare.outcome_state import state_of
 from aide_compare.outputs import Output
 from aide_compare.reason_counts import ReasonCounts
 from aide_compare.reasons import Explainer, evidence_of
 from aide_compare.reasons.explainer import members_of
+from aide_compare.report_json import LineWriter
 from aide_compare.report_lines import Lines, Refused
 from aide_compare.report_parts import read_report
+from aide_compare.report_written import Values
 
 BLOCK = 1 << 18
 ENCODE = json.JSONEncoder(separators=(",", ":")).encode
@@ -72,27 +76,34 @@ class Entries:
     """The objects of a report: its entries one by one, which are kept as lines in a private file; and when they are read, the
     `summary` and the `others`."""
 
-    def __init__(self, descriptor):
+    def __init__(self, descriptor, outcome):
         self.file, self.kept = open(os.dup(descriptor), "rb", BLOCK), open(nameless(), "w+b", BLOCK)
         self.others, self.summary, self.count = [], None, 0
+        self.occasion = Occasion(None, outcome.old, outcome.new)
+        self.occasion.state = state_of(outcome, outcome.status, "")
+        self.full = self.occasion.members(None, ())
 
     def __iter__(self):
         self.file.seek(0)
+        writer = LineWriter(self.full)
         with self.file:
-            for self.count, fields in enumerate(read_report(Lines(self.file)), 1):
+            for self.count, fields in enumerate(read_report(Lines(self.file), Values(), by_shapes=True), 1):
                 if fields["record"] == "entry":
-                    self.kept.write(ENCODE(fields).encode() + b"\n")
+                    self.kept.write(writer.line(fields))
                     yield fields
                 elif fields["record"] == "summary":
                     self.summary = fields
                 else:
-                    self.others.append(fields)
+                    self.occasion.name(fields)
+                    self.others.append({**fields, **self.full})
 
-    def lines(self, more, members):
-        """A descriptor of all lines. The summary also has the members `more`, and each entry those of `members`, if any."""
+    def lines(self, left_out, reasons, members):
+        """A descriptor of all lines, as aide-compare-json --full and aide-compare-reasons write them. The summary says what was
+        left out, and has the counts of the reasons, if any; each entry has its `members`, if any."""
         target = nameless()
         with os.fdopen(os.dup(target), "wb", BLOCK) as file:
-            file.write(ENCODE({**self.summary, "lines": self.count, **more}).encode() + b"\n")
+            summary = {**self.summary, "lines": self.count, **({"left_out": left_out} if left_out else {}), **self.full}
+            file.write(ENCODE({**summary, **({"reasons": reasons} if reasons else {})}).encode() + b"\n")
             self.kept.seek(0)
             for line in self.kept:
                 file.write(line if members is None else line[:-2] + b"," + ENCODE(next(members)).encode()[1:] + b"\n")
@@ -117,10 +128,9 @@ class Explained:
             raise Fault(Status.DEVICE, "the counts of the reasons are not those of the report")
 
     def lines(self, left_out):
-        more = {"left_out": left_out} if left_out else {}
         if self.counts is None:
-            return self.entries.lines(more, None)
-        return self.entries.lines({**more, "reasons": self.counts._asdict()}, map(members_of, self.changes))
+            return self.entries.lines(left_out, None, None)
+        return self.entries.lines(left_out, self.counts._asdict(), map(members_of, self.changes))
 
     def brief(self):
         text = nameless()
@@ -160,7 +170,7 @@ def explain(comparison, wanted, left_out):
     """Explains a comparison and writes what is wanted. Returns the ReasonCounts, None if there are none."""
     if not wanted:
         return None
-    explained = _tried(lambda: Explained(Entries(_listed(comparison, wanted.lines is not None)), comparison.outcome,
+    explained = _tried(lambda: Explained(Entries(_listed(comparison, wanted.lines is not None), comparison.outcome), comparison.outcome,
                                          wanted.sources))
     if explained is None:
         wanted.write_nothing()

@@ -18,7 +18,7 @@ MOST_MEMBERS, LONGEST = 64, 4096
 TAKEN = frozenset("record kind path path_hex summary type attributes uncertain severity reason reasons side sha256 format "
                   "differences total added removed changed levels grouped summarized base16 lines left_out".split())
 DIGITS = 16
-COUNTS = ("added", "removed", "changed")
+COUNTS, SIDES = ("added", "removed", "changed"), ("old", "new")
 
 
 def member(text):
@@ -39,6 +39,12 @@ def members(pairs):
         raise Fault(Status.USAGE, "more than %d members, or one given twice by --with" % MOST_MEMBERS,
                     "try: aide-compare-json --help")
     return found
+
+
+def _status_of(summary):
+    """The status that the counts of a report mean, None if it has no counts."""
+    counts = tuple(summary[kind] for kind in COUNTS)
+    return None if None in counts else status_of(counts)
 
 
 def time_member(seconds):
@@ -63,7 +69,8 @@ class Occasion:
             return
         counts = tuple(summary[kind] for kind in COUNTS)
         digests = {fields["side"]: fields["sha256"] for fields in databases}
-        others = [side for side in digests if getattr(state, side + "_sha256") != digests[side]]
+        cut = self.left_out()  # Of a database from which entries were left out, the report has another digest.
+        others = [side for side in digests if not cut.get(side) and getattr(state, side + "_sha256") != digests[side]]
         if state.status > 7 or None not in counts and state.counts != counts or others \
                 or summary["differences"] != (state.status > 0):
             raise Fault(REFUSED, "the state file %s is of another comparison than the report" % shown(self.path))
@@ -78,16 +85,18 @@ class Occasion:
     def left_out(self):
         """How many entries of each database were left out, if the state file says it."""
         more = self.state.more if self.state else {}
-        found = {side: more.get("left_out_" + side, "") for side in ("old", "new")}
+        found = {side: more.get("left_out_" + side, "") for side in SIDES}
         return {side: int(count) for side, count in found.items() if count.isascii() and count.isdigit() and len(count) < 19}
 
     def members(self, summary, databases):
         """What --full adds to each line."""
-        state, counts = self.state, tuple(summary[kind] for kind in COUNTS)
+        state = self.state
         found = {"host": os.uname().nodename, "@timestamp": date_of(state.time if state else int(time.time()))}
-        found["status"] = state.status if state else None if None in counts else status_of(counts)
-        for side in ("old", "new"):
+        found["status"] = state.status if state else _status_of(summary)
+        for side in SIDES:
             found[side + "_time"] = time_member(getattr(state, side + "_written")) if state else None
-        for fields in databases:
-            found[fields["side"] + "_digest"] = fields["sha256"][:DIGITS]
+        digests = {fields["side"]: fields["sha256"] for fields in databases}
+        if state:
+            digests = {side: getattr(state, side + "_sha256") for side in SIDES}
+        found.update((side + "_digest", digest[:DIGITS]) for side, digest in digests.items() if digest)
         return found

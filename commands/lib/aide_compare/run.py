@@ -1,7 +1,6 @@
 """aide-compare-run: compares two databases, explains errors, and keeps the result in a state file."""
 import os
 import sys
-import time
 
 from aide_compare.comparison import MOST, MOST_REPORT, Comparison, Outcome, Request
 from aide_compare.ending import Fault, Status, reason, say, write_all
@@ -9,9 +8,9 @@ from aide_compare.escapes import shown, shown_lines
 from aide_compare.explaining import Sources, Wanted, explain
 from aide_compare.files import Replacement, copy_file
 from aide_compare.options import Parser, duration, size, some_text
+from aide_compare.outcome_state import left_out_of, state_of
 from aide_compare.reasons import add_evidence_options
 from aide_compare.rights import give_up
-from aide_compare.state import State
 from aide_compare.times import date_of
 from aide_compare.without import Rules, read_rules
 
@@ -94,27 +93,6 @@ def request_of(given, words, beside):
     old, new = given.databases or (None, None)
     return Request(beside, old, new, given.config, before, after, given.most, given.age, given.most_report,
                    counts=given.state is not None or given.reasons, without=rules_of(given))
-
-
-def left_out_of(outcome):
-    """How many entries were left out, by side; nothing without --without."""
-    return {side: sum(counts.values()) for side, counts in outcome.left_out.items()}
-
-
-def state_of(outcome, status, error, reasons=None):
-    """The State of a run that ends with this status."""
-    values = {}
-    for side in ("old", "new"):
-        name, copy = getattr(outcome, side), outcome.copies.get(side)
-        values[side] = "" if name is None else shown(name, 4000)
-        if copy:
-            values[side + "_sha256"] = copy.sha256
-            values[side + "_written"] = None if copy.written is None else int(copy.written)
-    if status <= 7 and outcome.counts:
-        values.update(zip(("added", "removed", "changed"), outcome.counts))
-    more = {"left_out_" + side: str(count) for side, count in left_out_of(outcome).items()}
-    more.update((key, str(count)) for key, count in (reasons._asdict() if reasons else {}).items())
-    return State(status, int(time.time()), error=error[:5000], more=more, **values)
 
 
 def introduce(outcome):

@@ -128,16 +128,20 @@ def try_outputs(sandbox):
 def try_lines(sandbox):
     """The lines are those of aide-compare-json and aide-compare-reasons, and the summary also says what was left out."""
     prepare(sandbox)
-    report = sandbox.call(TOOL, "o.db", "n.db").output
-    json_lines = sandbox.call("aide-compare-json", text=report).output
+    report = run(sandbox, "--state", "state", "--lines", "lines", "o.db", "n.db").output
+    json_lines = sandbox.call("aide-compare-json", "--full", "--state", "state", text=report).output
     reasons = sandbox.call("aide-compare-reasons", "--databases", "o.db", "n.db", "--severity", "table", text=json_lines).output
-    run(sandbox, "--lines", "lines", "o.db", "n.db")
-    sandbox.check("the lines with reasons", read(sandbox, "lines") == reasons, (read(sandbox, "lines"), reasons))
-    answer = sandbox.call(TOOL, "--lines", "lines", "o.db", "n.db")
+    sandbox.check("the lines with reasons", reasons and read(sandbox, "lines") == reasons, (read(sandbox, "lines"), reasons))
+    answer = sandbox.call(TOOL, "--state", "state", "--lines", "lines", "o.db", "n.db")
+    json_lines = sandbox.call("aide-compare-json", "--full", "--state", "state", text=report).output
     sandbox.expect("the lines alone", answer, 7, report, b"SHA-256")
     sandbox.check("they are those of aide-compare-json", read(sandbox, "lines") == json_lines and b"unexplained" not in answer.errors)
-    sandbox.call(TOOL, "--lines", "lines", "--without-path", "/etc/*", "o.db", "n.db")
+    answer = sandbox.call(TOOL, "--state", "state", "--lines", "lines", "--without-path", "/etc/*", "o.db", "n.db")
+    json_lines = sandbox.call("aide-compare-json", "--full", "--state", "state", text=answer.output).output
+    sandbox.check("they are so if entries are left out", json_lines and read(sandbox, "lines") == json_lines, json_lines)
     summary = json.loads(read(sandbox, "lines").split(b"\n")[0] or b"{}")
+    sandbox.check("they say where and when", summary.get("host") and summary.get("status") == answer.status and summary.get("@timestamp"),
+                  summary)
     sandbox.check("what was left out", summary.get("left_out") == {"old": 2, "new": 1} and len(entries(sandbox, "lines")) == 2, summary)
     page = sandbox.call("aide-compare-html", "--plain", "lines")
     sandbox.check("a page of them", page.status == 0 and b">log<" in page.output, page.output[-2000:])
