@@ -97,7 +97,7 @@ def try_units(trial):
         service = file.read()
     start = re.findall(r"^ExecStart=(.*)$", service, re.M)
     trial.check(start == ["/usr/local/bin/aide-compare-mail --alarm-sent-is-success --queue /var/lib/aide-compare/daily/mail --age 50h "
-                          "--state /var/lib/aide-compare/daily/state"], "ExecStart", start)
+                          "--state /var/lib/aide-compare/daily/state --reasons"], "ExecStart", start)
     trial.check("SuccessExitStatus" not in service, "no status of differences is a success")
     if not shutil.which("systemd-analyze"):
         trial.skip("the units: systemd-analyze is not installed")
