@@ -52,19 +52,23 @@ class Tally:
         for fault in faults:
             print('%s: %s' % (label, fault), flush=True)
 
-    def check(self, label, given, want):
-        self.add(label, difference(given, want))
+    def check(self, label, got, want):
+        """Counts an answer of a program, which has to be the wanted one."""
+        self.add(label, difference(got, want))
 
     def holds(self, label, good, got=''):
         """Counts a condition; `got` is what is printed if it does not hold."""
-        self.add(label, [] if good else ['does not hold %s' % (got,)])
+        self.add(label, [] if good else ['does not hold%s' % (' ' + (got if isinstance(got, str) else repr(got)))[:2000].rstrip()])
 
-    def end(self):
-        """Prints the last line and ends the process. A run in which nothing was tried has failed."""
+    def status(self):
+        """Prints the last line, and returns the status of the process. A run in which nothing was tried has failed."""
         if not self.passed + self.failed:
             self.add('all', ['nothing was tried'])
         print('%d passed, %d failed' % (self.passed, self.failed), flush=True)
-        sys.exit(1 if self.failed else 0)
+        return 1 if self.failed else 0
+
+    def end(self):
+        sys.exit(self.status())
 
 
 def side_by_side(jobs, work, items):

@@ -38,10 +38,7 @@ def main(words):
                 print("skipped: nothing was tried by", part.__name__)
     finally:
         shutil.rmtree(trial.root, ignore_errors=True)
-    if not trial.passed:
-        trial.failed += 1
-    print("%d passed, %d failed" % (trial.passed, trial.failed))
-    return 1 if trial.failed else 0
+    return trial.status()
 
 
 if __name__ == "__main__":

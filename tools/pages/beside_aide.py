@@ -16,6 +16,8 @@ import sys
 import tempfile
 from urllib.parse import unquote_to_bytes
 
+from tools.lib.tally import Tally
+
 AIDE = shutil.which("aide")
 BITS = {"l": 1, "p": 2, "u": 3, "g": 4, "s": 5, "a": 6, "c": 7, "m": 8, "i": 9, "b": 10, "n": 11}
 TYPE, XATTRS, SHA256, I_BIT, ANF, ARF, GROWING, FLAGS = 35, 33, 30, 27, 28, 29, 40, 36
@@ -435,25 +437,18 @@ WORDS = [
 ]
 
 
-class Trial:
+class Trial(Tally):
     """A folder of its own, and the counts."""
 
     def __init__(self, program):
+        super().__init__()
         self.program, self.folder = os.path.abspath(program), tempfile.mkdtemp(prefix="beside-aide-")
-        self.passed = self.failed = 0
 
     def write(self, name, text):
         path = os.path.join(self.folder, name)
         with open(path, "wb") as file:
             file.write(text if isinstance(text, bytes) else text.encode())
         return path
-
-    def check(self, good, name, got=""):
-        if good:
-            self.passed += 1
-        else:
-            self.failed += 1
-            print("FAILED:", name, got)
 
     def run(self, program, words, **more):
         done = subprocess.run(
@@ -480,9 +475,9 @@ class Trial:
             ("the program", self.program, case.ours, case.our_text),
         ):
             got = self.run(program, words)
-            self.check(
-                got[0] == status and (text is None or re.search(text, got[1])),
+            self.holds(
                 "%s: %s, wanted %d" % (case.name, who, status),
+                got[0] == status and (text is None or re.search(text, got[1])),
                 got,
             )
 
@@ -491,7 +486,7 @@ def scan(trial, rule, out):
     """Has AIDE write a database of the folder `tree`."""
     conf = trial.write("init.conf", "database_out=file:%s/%s\n%s/tree %s\n" % (trial.folder, out, trial.folder, rule))
     status, _, errors = trial.run(AIDE, ["--init", "-c", conf])
-    trial.check(status == 0, "aide --init", errors)
+    trial.holds("aide --init", status == 0, errors)
     with open(os.path.join(trial.folder, out), "rb") as file:
         return [line for line in file.read().split(b"\n") if line.startswith(b"/")]
 
@@ -523,11 +518,11 @@ def try_order(trial):
         paths = [
             unquote_to_bytes(line.split(b" ")[0]) for line in scan(trial, "R\nnum_workers=%d" % workers, "order.db")
         ]
-        trial.check(
-            len(paths) > 300 and paths == sorted(paths, key=lambda path: path.split(b"/")),
+        trial.holds(
             "AIDE writes path order, %d workers" % workers,
+            len(paths) > 300 and paths == sorted(paths, key=lambda path: path.split(b"/")),
         )
-    trial.check(paths != sorted(paths), "path order is not the order of bytes")
+    trial.holds("path order is not the order of bytes", paths != sorted(paths))
 
 
 def try_bits(trial):
@@ -540,7 +535,7 @@ def try_bits(trial):
             columns = re.search(rb"^@@db_spec (.*)$", file.read(), re.M).group(1).split()
         link = [line for line in entries if line.split(b" ")[0].endswith(b"/link")][0].split()
         attr = int(link[columns.index(b"attr")])
-        trial.check(sorted(k for k in BITS.values() if attr >> k & 1) == [bit], "bit of " + name, attr)
+        trial.holds("bit of " + name, sorted(k for k in BITS.values() if attr >> k & 1) == [bit], attr)
 
 
 def try_fields(trial):
@@ -573,10 +568,10 @@ def try_fields(trial):
         for name in numbers
         if row.get(name, "0") != "0" and not int(row["attr"]) >> numbers[name] & 1
     ]
-    trial.check(rows and not alone, "a field without its bit", alone)
+    trial.holds("a field without its bit", rows and not alone, alone)
     entries = scan(trial, "s", "fields.db")
-    trial.check(
-        not any(int(entry.split()[-1]) >> TYPE & 1 for entry in entries), "the type without a rule for it", entries[:2]
+    trial.holds(
+        "the type without a rule for it", not any(int(entry.split()[-1]) >> TYPE & 1 for entry in entries), entries[:2]
     )
 
 
@@ -597,9 +592,9 @@ def try_real_pair(trial):
     )
     answers = [trial.run(program, ["-E", "-c", conf]) for program in (AIDE, trial.program)]
     listed = [[line[20:] for line in output.split("\n") if line[18:20] == ": "] for _, output, _ in answers]
-    trial.check([answer[0] for answer in answers] == [7, 7], "status of a real pair", answers)
-    trial.check(sorted(listed[0]) == sorted(listed[1]) and len(listed[0]) >= 4, "entries of a real pair", listed)
-    trial.check(answers[1][2] == "", "no column of AIDE's is skipped", answers[1][2])
+    trial.holds("status of a real pair", [answer[0] for answer in answers] == [7, 7], answers)
+    trial.holds("entries of a real pair", sorted(listed[0]) == sorted(listed[1]) and len(listed[0]) >= 4, listed)
+    trial.holds("no column of AIDE's is skipped", answers[1][2] == "", answers[1][2])
 
 
 def try_devices(trial):
@@ -609,17 +604,17 @@ def try_devices(trial):
         for program, status in ((AIDE, 4), (trial.program, 18)):
             with open("/dev/full", "wb") as full:
                 got = trial.run(program, words, stdout=full)
-            trial.check(got[0] == status, "a full device: " + program, got)
+            trial.holds("a full device: " + program, got[0] == status, got)
     for program, status in ((AIDE, -13), (trial.program, 18)):
         reader, writer = os.pipe()
         os.close(reader)
         got = trial.run(program, words, stdout=writer)
         os.close(writer)
-        trial.check(got[0] == status, "a reader that has gone: " + program, got)
+        trial.holds("a reader that has gone: " + program, got[0] == status, got)
     trial.write("conf", (PAIR + RULES).replace("OLD", "/dev/stdin").replace("NEW", trial.folder + "/new"))
     for program, status in ((AIDE, 4), (trial.program, 18)):
         done = subprocess.run([program, *words], input=A.encode(), capture_output=True)
-        trial.check(done.returncode == status, "a pipe as database: " + program, done)
+        trial.holds("a pipe as database: " + program, done.returncode == status, done)
     fifo = os.path.join(trial.folder, "fifo")
     os.mkfifo(fifo)
     trial.write("conf", (PAIR + RULES).replace("OLD", fifo).replace("NEW", trial.folder + "/new"))
@@ -630,16 +625,16 @@ def try_devices(trial):
         except subprocess.TimeoutExpired:
             status = None
         writer.wait()
-        trial.check(status == (None if waits else 4), "a FIFO as database: " + program, status)
+        trial.holds("a FIFO as database: " + program, status == (None if waits else 4), status)
 
 
 def try_version(trial):
     """AIDE's own answers that a page names."""
     output = trial.run(AIDE, ["--version"])[1]
     groups = dict(re.findall(r"^(\S): (.*)$", output, re.M))
-    trial.check({"s", "growing"} <= set(groups.get(">", "").split("+")), "AIDE's group > has s and growing", groups)
-    trial.check(set(groups.get("R", "").split("+")) >= set("lpugscmin") | {"md5", "ftype"}, "AIDE's group R", groups)
-    trial.check(trial.run(AIDE, ["-E"])[0] == 17 and trial.run(trial.program, ["-E"])[0] == 15, "no configuration")
+    trial.holds("AIDE's group > has s and growing", {"s", "growing"} <= set(groups.get(">", "").split("+")), groups)
+    trial.holds("AIDE's group R", set(groups.get("R", "").split("+")) >= set("lpugscmin") | {"md5", "ftype"}, groups)
+    trial.holds("no configuration", trial.run(AIDE, ["-E"])[0] == 17 and trial.run(trial.program, ["-E"])[0] == 15)
     case = Case(
         "HOSTNAME",
         RULES + "database_in=file:DIR/@@{HOSTNAME}\ndatabase_new=file:NEW\n",
@@ -648,7 +643,7 @@ def try_version(trial):
         files={socket.gethostname().split(".")[0]: A},
     )
     trial.case(case)
-    trial.check(trial.run(AIDE, ["--help"])[0] == 0 and trial.run(trial.program, ["--help"])[0] == 15, "--help")
+    trial.holds("--help", trial.run(AIDE, ["--help"])[0] == 0 and trial.run(trial.program, ["--help"])[0] == 15)
 
 
 def main():
@@ -669,8 +664,7 @@ def main():
         try_real_pair(trial)
     finally:
         shutil.rmtree(trial.folder)
-    print("%d passed, %d failed" % (trial.passed, trial.failed))
-    return 1 if trial.failed else 0
+    return trial.status()
 
 
 if __name__ == "__main__":

@@ -18,6 +18,8 @@ import subprocess
 import sys
 import tempfile
 
+from tools.lib.tally import Tally
+
 SLOTS = "YlZbpugamcinHAXSEC"
 GROUPS = ["p+ftype+u+g+s+m+sha256+xattrs+acl", "p+u+s+i+n+md5", "ftype+p+l+s+b+m+c+sha256+sha512+xattrs+e2fsattrs"]
 NAMES = ["p", "ftype", "u", "g", "s", "b", "m", "c", "i", "n", "l", "md5", "sha256", "sha512", "acl", "xattrs", "e2fsattrs"]
@@ -101,19 +103,22 @@ def entries(report):
     return listed, details
 
 
-class Tally:
+class Agreement(Tally):
     """What agreed, and which told difference the rest is."""
 
     def __init__(self):
-        self.passed, self.failed, self.told = 0, 0, {}
+        super().__init__()
+        self.told = {}
+
+    def agree(self, label):
+        self.holds(label, True)
 
     def tell(self, kind):
         self.told[kind] = self.told.get(kind, 0) + 1
-        self.passed += 1
+        self.holds(kind, True)
 
-    def fail(self, *what):
-        self.failed += 1
-        print("NOT LISTED:", *what)
+    def fail(self, label, *what):
+        self.add(label, ["not listed: " + " ".join(map(str, what))])
 
 
 def letter_is_told(slot, theirs, ours, ignored, removed, kind):
@@ -141,7 +146,7 @@ def compare_entry(path, theirs, ours, chosen, partial, tally, label):
     removed = chosen.get("report_ignore_removed_attrs", "").split("+")
     kind = "one side only" if path in partial else ""
     if theirs == ours:
-        tally.passed += 1
+        tally.agree(label)
         return
     if theirs is None and kind:
         return tally.tell("an attribute that only one of two entries has")
@@ -163,7 +168,7 @@ def compare_details(path, theirs, ours, listed, chosen, partial, tally, label):
     """Compares the sets of names: AIDE's `File type` is `Type` here, and its `Uid` is `UID`."""
     names, our_names = {name.lower().replace("file type", "type") for name in theirs}, {name.lower() for name in ours}
     if names == our_names:
-        tally.passed += 1
+        tally.agree(label)
     elif path in partial or "report_force_attrs" in chosen:
         tally.tell("details of attributes that one side has, or that are forced")
     elif listed and ("+++" in listed or "---" in listed):
@@ -204,7 +209,7 @@ def main():
     if not shutil.which("aide"):
         sys.exit("random_beside_aide.py: AIDE is not installed")
     print("seed %d" % given.seed, flush=True)
-    program, tally = os.path.abspath(given.program), Tally()
+    program, tally = os.path.abspath(given.program), Agreement()
     for number in range(given.pairs):
         chance = random.Random("%d %d" % (given.seed, number))
         folder = tempfile.mkdtemp(prefix="random-beside-aide-")
@@ -224,8 +229,7 @@ def main():
             shutil.rmtree(folder)
     for kind, count in sorted(tally.told.items()):
         print("%6d listed: %s" % (count, kind))
-    print("%d passed, %d failed" % (tally.passed, tally.failed))
-    return 1 if tally.failed or not tally.passed else 0
+    return tally.status()
 
 
 if __name__ == "__main__":

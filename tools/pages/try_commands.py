@@ -41,7 +41,7 @@ def try_one(sandbox, display, row):
     try:
         row.work(sandbox, display)
     except OSError as fault:
-        sandbox.check(False, "cannot be looked at:", str(fault))
+        sandbox.holds("cannot be looked at:", False, str(fault))
     sandbox.now = ""
 
 
@@ -64,8 +64,7 @@ def main():
         try_messages(sandbox.check)
     finally:
         sandbox.trial.close()
-    print("%d passed, %d failed" % (sandbox.trial.passed, sandbox.trial.failed))
-    return 1 if sandbox.trial.failed else 0
+    return sandbox.trial.status()
 
 
 if __name__ == "__main__":

@@ -16,6 +16,7 @@ import subprocess
 import sys
 import tempfile
 
+from tools.lib.tally import Tally
 from tools.oracle.configuration import LEVELS
 
 HERE = os.path.dirname(os.path.dirname(os.path.dirname(os.path.abspath(__file__))))
@@ -30,14 +31,13 @@ OTHER_PAGES = [
 ]
 
 
-class Trial:
+class Trial(Tally):
     """The program, a folder of its own, and the counts."""
 
     def __init__(self, program):
+        super().__init__()
         self.program = os.path.abspath(program)
         self.folder = tempfile.mkdtemp(prefix="try-manual-")
-        self.passed = 0
-        self.failed = 0
 
     def path(self, name):
         return os.path.join(self.folder, name)
@@ -47,13 +47,6 @@ class Trial:
         with open(self.path(name), "wb") as file:
             file.write(data)
         return self.path(name)
-
-    def check(self, good, name, got=""):
-        if good:
-            self.passed += 1
-        else:
-            self.failed += 1
-            print("FAILED:", name, got)
 
     def run(self, *words, stdout=subprocess.PIPE):
         done = subprocess.run([self.program, *words], stdin=subprocess.DEVNULL, stdout=stdout, stderr=subprocess.PIPE)
@@ -67,11 +60,11 @@ class Trial:
 
     def good(self, text, name):
         status, errors = self.read(text)
-        self.check((status, errors) == (0, ""), name, (status, errors))
+        self.holds(name, (status, errors) == (0, ""), (status, errors))
 
     def bad(self, text, words, name):
         status, errors = self.read(text)
-        self.check(status == 17 and errors.rstrip("\n").endswith(": " + words), name, (status, errors))
+        self.holds(name, status == 17 and errors.rstrip("\n").endswith(": " + words), (status, errors))
 
     def compare(self, old, new, options=""):
         text = "database_in=file:%s\ndatabase_new=file:%s\n%s" % (
@@ -108,7 +101,7 @@ def try_pages(trial):
             done = subprocess.run(
                 ["man", "--warnings", "-E", "UTF-8", "-l", "-Tutf8", "-Z", page], capture_output=True, text=True
             )
-            trial.check(done.returncode == 0 and done.stderr == "", "man --warnings " + page, done.stderr)
+            trial.holds("man --warnings " + page, done.returncode == 0 and done.stderr == "", done.stderr)
     else:
         print("skipped: man is not installed")
     if shutil.which("mandoc"):
@@ -123,7 +116,7 @@ def try_pages(trial):
         done = subprocess.run(
             ["mandoc", "-T", "lint", "-W", "style", *pages], capture_output=True, text=True, env=surroundings
         )
-        trial.check(done.stdout == "", "mandoc -T lint", done.stdout)
+        trial.holds("mandoc -T lint", done.stdout == "", done.stdout)
     else:
         print("skipped: mandoc is not installed")
 
@@ -145,7 +138,7 @@ def try_options(trial, page):
         "text": [],
     }
     options = re.findall(r"^\.It Ic (\w+) Ns = Ns (Ar|Cm) (\w+)$", section(page, "OPTIONS"), re.M)
-    trial.check(len(options) == 14, "options of the page", len(options))
+    trial.holds("options of the page", len(options) == 14, len(options))
     for name, macro, kind in options:
         for value in values[kind] if macro == "Ar" else [kind]:
             trial.good("%s=%s\n" % (name, value), "%s=%s" % (name, value))
@@ -157,7 +150,7 @@ def try_options(trial, page):
 def try_other_names(trial, page):
     """Options without effect are accepted, and what is refused by name is refused so."""
     without = re.findall(r"^\.Ic (\w+)", between(page, "without effect", "without effect"), re.M)
-    trial.check(len(without) == 17, "options without effect", len(without))
+    trial.holds("options without effect", len(without) == 17, len(without))
     for name in without:
         trial.good(name + "=any text\n", name)
         trial.bad(name + "=\n", "bad value", name + "=")
@@ -165,13 +158,13 @@ def try_other_names(trial, page):
     for name in re.findall(r"^\.Ic (@@\w+)", refused, re.M):
         trial.bad(name + " x\n", "left out of this profile", name)
     older = re.findall(r"^\.Ic ([a-z_]+)(?: [,;])?$", refused, re.M)
-    trial.check(len(older) == 4, "older names", older)
+    trial.holds("older names", len(older) == 4, older)
     for name in older:
         trial.bad(name + "=no\n", "left out of this profile", name)
     for name, value in re.findall(r"^\.Ic (\w+) Ns = Ns Cm (\w+)", refused, re.M):
         trial.bad("%s=%s\n" % (name, value), "left out of this profile", value)
     urls = [url.split()[0] for url in re.findall(r"^\.Cm (\S+)", refused, re.M)]
-    trial.check(urls == ["stdin", "fd:", "http:", "https:", "ftp:"], "refused URLs", urls)
+    trial.holds("refused URLs", urls == ["stdin", "fd:", "http:", "https:", "ftp:"], urls)
     for url in urls:
         trial.bad("database_in=%s\n" % (url if url == "stdin" else url + "//x"), "left out of this profile", url)
 
@@ -190,7 +183,7 @@ def try_directives(trial, page):
         "@@{ Ns Ar name Ns Ic }": "@@{NOPE}report_level=minimal\n@@define A s\nreport_force_attrs=p+@@{A}\n",
     }
     named = re.findall(r"^\.It Ic (@@.*)$", section(page, "DIRECTIVES"), re.M)
-    trial.check(sorted(named) == sorted(texts), "directives of the page", named)
+    trial.holds("directives of the page", sorted(named) == sorted(texts), named)
     for name, text in texts.items():
         trial.good(text, name)
     trial.good("@@ifdef A\nhello\n@@include /x\n@@endif\n", "an unused part")
@@ -248,27 +241,27 @@ def try_attribute(trial, row):
     shown = [line for line in output.split("\n") if line.endswith(": /f") and len(line) == 22]
     wanted = {"Y": "!", "Z": ">"}.get(letter, letter)
     slot = SLOTS.index(letter)
-    trial.check(
-        status == 4 and errors == "" and len(shown) == 1 and shown[0][slot] == wanted,
+    trial.holds(
         "letter of " + name,
+        status == 4 and errors == "" and len(shown) == 1 and shown[0][slot] == wanted,
         (status, output),
     )
     others = [shown[0][i] for i in range(1, 18) if i != slot] if shown else []
-    trial.check(set(others) <= {" "}, "the other letters beside " + name, shown)
-    trial.check("\n  %-10s: " % detail in output, "detail name of " + name, output)
+    trial.holds("the other letters beside " + name, set(others) <= {" "}, shown)
+    trial.holds("detail name of " + name, "\n  %-10s: " % detail in output, output)
     status, output, errors = trial.compare(*databases, options="report_ignore_changed_attrs=%s\n" % name)
-    trial.check(status == 0, "ignored " + name, status)
+    trial.holds("ignored " + name, status == 0, status)
     if bit is not None:
         others = 2**64 - 1 - 2**bit
         databases = [database("name attr " + column, "/f %d %s" % (others, field)) for field in fields]
-        trial.check(trial.compare(*databases)[0] == 0, "without the bit of " + name)
+        trial.holds("without the bit of " + name, trial.compare(*databases)[0] == 0)
         databases = [database("name " + column, "/f " + field) for field in fields]
-        trial.check(trial.compare(*databases)[0] == 4, "without the column attr, " + name)
+        trial.holds("without the column attr, " + name, trial.compare(*databases)[0] == 4)
 
 
 def try_attributes(trial, page):
     rows = attributes_of(page)
-    trial.check(len(rows) == 33 and {row[3] for row in rows} == set(SLOTS), "attributes of the page", len(rows))
+    trial.holds("attributes of the page", len(rows) == 33 and {row[3] for row in rows} == set(SLOTS), len(rows))
     for row in rows:
         try_attribute(trial, row)
     columns = sorted({row[1] for row in rows})
@@ -284,7 +277,7 @@ def try_attributes(trial, page):
     order = re.findall(
         r"^  (\S+) *: .* \| ", details.split("Detailed information")[1].split("The attributes of")[0], re.M
     )
-    trial.check(order == [row[4] for row in rows], "order of the details", order)
+    trial.holds("order of the details", order == [row[4] for row in rows], order)
 
 
 def meaning(text, sets):
@@ -301,7 +294,7 @@ def try_groups(trial, page):
     digests = {row[0] for row in rows if row[3] == "H"}
     sets = {row[0]: {row[0]} for row in rows}
     groups = re.findall(r"^\.It Li (\S+) Ta (.*)$", between(page, "groups", "groups"), re.M)
-    trial.check([name for name, _ in groups] == ["E", "X", "L", "R", ">", "H"], "groups of the page", groups)
+    trial.holds("groups of the page", [name for name, _ in groups] == ["E", "X", "L", "R", ">", "H"], groups)
     for name, text in groups:
         sets[name] = set() if text == "the empty set" else digests if text == "all digests" else meaning(text, sets)
     for group, _ in groups:
@@ -310,7 +303,7 @@ def try_groups(trial, page):
             bits = 0 if bit is None else 2**bit
             databases = [database("name attr " + column, "/f %d %s" % (bits, field)) for field in fields]
             status = trial.compare(*databases, options="report_ignore_changed_attrs=%s\n" % group)[0]
-            trial.check(status == (0 if name in sets[group] else 4), "%s in %s" % (name, group), status)
+            trial.holds("%s in %s" % (name, group), status == (0 if name in sets[group] else 4), status)
         trial.good("%s=s\n" % group, "a new " + group)
     for name in re.findall(r"^\.Li (\w+)", between(page, "empty names", "empty names"), re.M):
         trial.good("report_force_attrs=p+%s\n" % name, name)
@@ -329,7 +322,7 @@ PAIR = (
 def try_reports(trial, page):
     """The reports in the page are those that the program writes, level for level."""
     parts = dict(re.findall(r'^\.\\" try: (\w+)\n\.Bd -literal\n(.*?)\.Ed$', page, re.M | re.S))
-    trial.check(list(parts) == LEVELS, "levels of the page", list(parts))
+    trial.holds("levels of the page", list(parts) == LEVELS, list(parts))
     order = ["minimal", "summary", "list_entries", "details", "database_attributes"]
     shown = {}
     for level in LEVELS:
@@ -338,22 +331,22 @@ def try_reports(trial, page):
         wanted = "".join(shown.get(part, "") for part in order)
         status, output, errors = trial.compare(*PAIR, options="report_level=%s\n" % level)
         got = "".join(line.rstrip() + "\n" for line in output.replace(trial.folder, "/var/lib/aide").splitlines())
-        trial.check((status, got, errors) == (7, wanted, ""), "report at " + level, "\n" + got)
+        trial.holds("report at " + level, (status, got, errors) == (7, wanted, ""), "\n" + got)
     status, output, errors = trial.compare(PAIR[0], PAIR[0], options="report_level=minimal\n")
-    trial.check(
-        (status, output) == (0, "AIDE found NO differences between the two databases.\n"), "no differences", output
+    trial.holds(
+        "no differences", (status, output) == (0, "AIDE found NO differences between the two databases.\n"), output
     )
-    trial.check(trial.compare(PAIR[0], PAIR[0], options="report_quiet=yes\n") == (0, "", ""), "report_quiet")
+    trial.holds("report_quiet", trial.compare(PAIR[0], PAIR[0], options="report_quiet=yes\n") == (0, "", ""))
     output = trial.compare(*PAIR, options="report_grouped=no\nreport_summarize_changes=no\n")[1]
-    trial.check(
-        "Added, removed and changed entries:" in output and "\nadded: /a\nremoved: /b\nchanged: /c\n" in output,
+    trial.holds(
         "one list",
+        "Added, removed and changed entries:" in output and "\nadded: /a\nremoved: /b\nchanged: /c\n" in output,
         output,
     )
     output = trial.compare(*PAIR, options="report_base16=yes\nreport_level=added_removed_attributes\n")[1]
-    trial.check("e3b0c44298fc1c149afbf4c8996fb924" in output, "base 16", output)
+    trial.holds("base 16", "e3b0c44298fc1c149afbf4c8996fb924" in output, output)
     output = trial.compare(database("name size"), database("name size", "/x%0Ay%5C 1"))[1]
-    trial.check(": /x\\012y\\134\n" in output, "escapes", output)
+    trial.holds("escapes", ": /x\\012y\\134\n" in output, output)
 
 
 def faults_of_configuration(words):
@@ -408,20 +401,20 @@ def try_faults(trial, page):
             r"^\.It Li (.*)$", section(page, "Faults of the configuration", "Ss").split(".Ss")[0], re.M
         )
     ]
-    trial.check(len(named) == 17, "faults of the configuration", len(named))
+    trial.holds("faults of the configuration", len(named) == 17, len(named))
     for words in named:
         text = faults_of_configuration(words)
         status, errors = trial.read(text, "-E" if words.startswith("no ") else "-D")
-        trial.check(
-            status == 17 and re.fullmatch(r"aide: (config|after):\d+: " + re.escape(words) + "\n", errors),
+        trial.holds(
             words,
+            status == 17 and re.fullmatch(r"aide: (config|after):\d+: " + re.escape(words) + "\n", errors),
             (status, errors),
         )
     named = [
         unescaped(words).strip('"')
         for words in re.findall(r"^\.It Li (.*)$", section(page, "Faults of a database", "Ss"), re.M)
     ]
-    trial.check(len(named) == 14, "faults of a database", len(named))
+    trial.holds("faults of a database", len(named) == 14, len(named))
     for words in named:
         text = faults_of_database(words)
         if text is None:
@@ -432,11 +425,11 @@ def try_faults(trial, page):
                 side,
                 re.escape(words).replace("N", r"\d+") if "column" in words else re.escape(words),
             )
-            trial.check((status, output) == (24, "") and re.fullmatch(wanted, errors), words, (status, output, errors))
+            trial.holds(words, (status, output) == (24, "") and re.fullmatch(wanted, errors), (status, output, errors))
     os.mkdir(trial.path("folder"))
     words = "database_in=file:%s\ndatabase_new=file:%s\n" % (trial.path("folder"), trial.write("new.db", PAIR[1]))
     status, errors = trial.read(words, "-E")
-    trial.check(status == 18 and errors == "aide: old database:1: read failed\n", "read failed", (status, errors))
+    trial.holds("read failed", status == 18 and errors == "aide: old database:1: read failed\n", (status, errors))
     print("skipped: too many bytes (a file of 2^40 bytes)")
 
 
@@ -459,7 +452,7 @@ def try_lines(trial, page):
         ["-D", "-c", conf, "-B", "-x"],
         ["-E", "-E", "-c", conf],
     ):
-        trial.check(trial.run(*words) == usage, "usage " + " ".join(words), trial.run(*words))
+        trial.holds("usage " + " ".join(words), trial.run(*words) == usage, trial.run(*words))
     for words in (
         ["-D", "-c", conf],
         ["--config-check", "--config", conf],
@@ -467,22 +460,22 @@ def try_lines(trial, page):
         ["-D", "-c", conf, "-A-x"],
         ["-D", "-c", conf, "--after=-x"],
     ):
-        trial.check(trial.run(*words) == (0, "", ""), "words " + " ".join(words), trial.run(*words))
+        trial.holds("words " + " ".join(words), trial.run(*words) == (0, "", ""), trial.run(*words))
     done = subprocess.run([trial.program, "-D", "-c", b"\xff"], capture_output=True)
-    trial.check(
-        (done.returncode, done.stdout, done.stderr) == (22, b"", b"aide: out of memory\n"),
+    trial.holds(
         "a word that is not UTF-8",
+        (done.returncode, done.stdout, done.stderr) == (22, b"", b"aide: out of memory\n"),
         done,
     )
-    trial.check(
-        trial.run("-D", "-c", "/nope") == (18, "", "aide: cannot read the configuration /nope\n"), "no configuration"
+    trial.holds(
+        "no configuration", trial.run("-D", "-c", "/nope") == (18, "", "aide: cannot read the configuration /nope\n")
     )
     got = trial.run("-D", "-c", trial.folder)
-    trial.check(got == (18, "", "aide: cannot read the configuration %s\n" % trial.folder), "a folder", got)
-    trial.check(trial.run("-D", "-c", "-") == (18, "", "aide: cannot read the configuration -\n"), "the file -")
-    trial.check(
-        trial.read("\n" * 4194305) == (17, "aide: the configuration is longer than 4194304 bytes\n"),
+    trial.holds("a folder", got == (18, "", "aide: cannot read the configuration %s\n" % trial.folder), got)
+    trial.holds("the file -", trial.run("-D", "-c", "-") == (18, "", "aide: cannot read the configuration -\n"))
+    trial.holds(
         "a long configuration",
+        trial.read("\n" * 4194305) == (17, "aide: the configuration is longer than 4194304 bytes\n"),
     )
     trial.write("new.db", PAIR[1])
     for text, side in (
@@ -490,20 +483,20 @@ def try_lines(trial, page):
         ("database_in=file:%s\ndatabase_new=file:/nope\n", "new"),
     ):
         status, errors = trial.read(text % trial.path("new.db"), "-E")
-        trial.check(
-            (status, errors) == (18, "aide: cannot open the %s database /nope\n" % side),
+        trial.holds(
             "no %s database" % side,
+            (status, errors) == (18, "aide: cannot open the %s database /nope\n" % side),
             errors,
         )
     if os.path.exists("/dev/full"):
         trial.compare(*PAIR)
         with open("/dev/full", "wb") as full:
             status, _, errors = trial.run("-E", "-c", conf, stdout=full)
-        trial.check((status, errors) == (18, "aide: cannot write the report\n"), "a full device", (status, errors))
+        trial.holds("a full device", (status, errors) == (18, "aide: cannot write the report\n"), (status, errors))
     status, output, errors = trial.compare(database("name foo size", "/a 1 1"), database("size name bar", "1 /a 1"))
-    trial.check(
-        (status, errors) == (0, "aide: old database: column 2 skipped\naide: new database: column 3 skipped\n"),
+    trial.holds(
         "skipped",
+        (status, errors) == (0, "aide: old database: column 2 skipped\naide: new database: column 3 skipped\n"),
         errors,
     )
     reader, writer = os.pipe()
@@ -514,16 +507,16 @@ def try_lines(trial, page):
         [trial.program, "-E", "-c", trial.write("conf", text)], stdin=reader, capture_output=True, text=True
     )
     os.close(reader)
-    trial.check(
-        (done.returncode, done.stdout, done.stderr) == (18, "", "aide: the old database changed while it was read\n"),
+    trial.holds(
         "a pipe",
+        (done.returncode, done.stdout, done.stderr) == (18, "", "aide: the old database changed while it was read\n"),
         done,
     )
     named = [
         unescaped(words).strip('"')
         for words in re.findall(r"^\.It Li (.*)$", section(page, "Lines of the program", "Ss").split(".Ss")[0], re.M)
     ]
-    trial.check(len(named) == 8, "lines of the program", named)
+    trial.holds("lines of the program", len(named) == 8, named)
 
 
 def try_texts(trial, page):
@@ -534,58 +527,58 @@ def try_texts(trial, page):
         % (trial.write("old.db", PAIR[0]), trial.write("new.db", PAIR[1])),
     )
     lines = lambda *words: len(trial.run("-E", "-c", conf, *words)[1].splitlines())
-    trial.check(lines() == 7, "the file")
-    trial.check(lines("-A", "report_level=minimal") == 1, "-A wins over the file")
-    trial.check(lines("-B", "report_level=minimal") == 7, "the file wins over -B")
-    trial.check(lines("-B", "report_level=minimal\nreport_url=stdout") == 1, "report_url=stdout")
-    trial.check(lines("-A", "report_url=stdout\nreport_level=minimal") == 7, "behind report_url=stdout")
-    trial.check(
-        trial.run("-E", "-c", conf, "-A", "database_in=file:" + trial.path("new.db"))[0] == 0, "the last database_in"
+    trial.holds("the file", lines() == 7)
+    trial.holds("-A wins over the file", lines("-A", "report_level=minimal") == 1)
+    trial.holds("the file wins over -B", lines("-B", "report_level=minimal") == 7)
+    trial.holds("report_url=stdout", lines("-B", "report_level=minimal\nreport_url=stdout") == 1)
+    trial.holds("behind report_url=stdout", lines("-A", "report_url=stdout\nreport_level=minimal") == 7)
+    trial.holds(
+        "the last database_in", trial.run("-E", "-c", conf, "-A", "database_in=file:" + trial.path("new.db"))[0] == 0
     )
-    trial.check(
-        trial.run("-E", "-c", conf, "-B", "database_in=file:" + trial.path("new.db"))[0] == 7, "the first database_in"
+    trial.holds(
+        "the first database_in", trial.run("-E", "-c", conf, "-B", "database_in=file:" + trial.path("new.db"))[0] == 7
     )
     status, output, errors = trial.run("-D", "-c", conf, "-B", "@@ifdef A", "-A", "@@endif")
-    trial.check((status, errors) == (17, "aide: before:2: missing @@endif\n"), "a block over two texts", errors)
+    trial.holds("a block over two texts", (status, errors) == (17, "aide: before:2: missing @@endif\n"), errors)
 
 
 def try_limits(trial, page):
     """What is at a limit is accepted, and one more is refused."""
     named = re.findall(r"^\.It (.*) Ta ([\d,]+)$", section(page, "LIMITS"), re.M)
     limits = {name: int(number.replace(",", "")) for name, number in named}
-    trial.check(len(limits) == 10, "limits of the page", limits)
+    trial.holds("limits of the page", len(limits) == 10, limits)
     line = limits["database, bytes of a line"]
     columns = limits["database, columns"]
     for more, status in ((0, 0), (1, 24)):
         entry = "/" + "x" * (line + more - 3) + " 1"
         text = database("name size", entry)
-        trial.check(trial.compare(text, text)[0] == status, "a line of the limit and %d" % more)
+        trial.holds("a line of the limit and %d" % more, trial.compare(text, text)[0] == status)
         text = database(" ".join(["name"] + ["x"] * (columns - 1 + more)))
-        trial.check(trial.compare(text, text)[0] == status, "columns of the limit and %d" % more)
+        trial.holds("columns of the limit and %d" % more, trial.compare(text, text)[0] == status)
     for more, status in ((0, 0), (1, 17)):
         size = limits["configuration, bytes of a used line"] + more
-        trial.check(trial.read("/" + "x" * (size - 1) + "\n")[0] == status, "a line of configuration and %d" % more)
+        trial.holds("a line of configuration and %d" % more, trial.read("/" + "x" * (size - 1) + "\n")[0] == status)
         size = limits["configuration, blocks in one another"] + more
-        trial.check(trial.read("@@ifdef A\n" * size + "@@endif\n" * size)[0] == status, "blocks and %d" % more)
+        trial.holds("blocks and %d" % more, trial.read("@@ifdef A\n" * size + "@@endif\n" * size)[0] == status)
         for part, form in (("variables", "@@define A%d\n"), ("groups", "A%d=s\n")):
             text = "".join(form % number for number in range(limits["configuration, " + part] + more))
-            trial.check(trial.read(text)[0] == status, "%s and %d" % (part, more))
+            trial.holds("%s and %d" % (part, more), trial.read(text)[0] == status)
         size = limits["variable or database path, bytes"] + more
-        trial.check(trial.read("@@define A " + "x" * size + "\n")[0] == status, "a value and %d" % more)
-        trial.check(trial.read("database_in=file:/" + "x" * (size - 1) + "\n")[0] == status, "a path and %d" % more)
+        trial.holds("a value and %d" % more, trial.read("@@define A " + "x" * size + "\n")[0] == status)
+        trial.holds("a path and %d" % more, trial.read("database_in=file:/" + "x" * (size - 1) + "\n")[0] == status)
         name = "A" * (limits["name of a variable or group, bytes"] + more)
-        trial.check(trial.read("@@define %s\n" % name)[0] == status, "a variable's name and %d" % more)
-        trial.check(trial.read("%s=s\n" % name)[0] == status, "a group's name and %d" % more)
-        trial.check(
-            trial.read("\n" * (limits["configuration file, bytes"] + more))[0] == status,
+        trial.holds("a variable's name and %d" % more, trial.read("@@define %s\n" % name)[0] == status)
+        trial.holds("a group's name and %d" % more, trial.read("%s=s\n" % name)[0] == status)
+        trial.holds(
             "a configuration and %d" % more,
+            trial.read("\n" * (limits["configuration file, bytes"] + more))[0] == status,
         )
 
 
 def try_examples(trial, page):
     """The configurations of the page have no fault."""
     examples = re.findall(r"^\.Bd -literal -offset indent\n(database_in=.*?)^\.Ed$", page, re.M | re.S)
-    trial.check(len(examples) == 3, "examples of the page", len(examples))
+    trial.holds("examples of the page", len(examples) == 3, len(examples))
     for text in examples:
         trial.good(text, "an example")
 
@@ -593,7 +586,7 @@ def try_examples(trial, page):
 def try_databases(trial, page):
     """The example of the page, the forms of fields and the order of paths."""
     example = re.search(r"^@@begin_db\n.*?^@@end_db\n", page, re.M | re.S).group(0)
-    trial.check(example == PAIR[0], "the database of the page", example)
+    trial.holds("the database of the page", example == PAIR[0], example)
     plain = database("name size", "/a 1", "/a/b 1", "/a-b 1")
     for name, other in (
         ("no last newline", plain[:-1]),
@@ -602,9 +595,9 @@ def try_databases(trial, page):
         ("blanks", plain.replace("/a 1", " /a \t 1 ")),
         ("base 16 of a byte", plain.replace("/a/b", "/%61/%62")),
     ):
-        trial.check(trial.compare(plain, other)[0] == 0, name, trial.compare(plain, other))
+        trial.holds(name, trial.compare(plain, other)[0] == 0, trial.compare(plain, other))
     twice = database("name size", "/a 1", "/a 1")
-    trial.check(trial.compare(twice, plain)[2] == "aide: old database:4: entry out of path order\n", "a path twice")
+    trial.holds("a path twice", trial.compare(twice, plain)[2] == "aide: old database:4: entry out of path order\n")
     for column, good, bad in (
         (
             "size",
@@ -620,7 +613,7 @@ def try_databases(trial, page):
         for fields, status in ((good, 0), (bad, 24)):
             for field in fields:
                 text = database("name " + column, "/a " + field)
-                trial.check(trial.compare(text, text)[0] == status, "%s %s" % (column, field))
+                trial.holds("%s %s" % (column, field), trial.compare(text, text)[0] == status)
 
 
 def main():
@@ -645,8 +638,7 @@ def main():
         try_limits(trial, page)
     finally:
         shutil.rmtree(trial.folder)
-    print("%d passed, %d failed" % (trial.passed, trial.failed))
-    return 1 if trial.failed else 0
+    return trial.status()
 
 
 if __name__ == "__main__":

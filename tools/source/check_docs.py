@@ -20,6 +20,7 @@ import re
 import subprocess
 import sys
 
+from tools.lib.tally import Tally
 from tools.source import public_specs
 
 TOP = public_specs.TOP
@@ -28,26 +29,22 @@ NAMED = re.compile(r"`((?:[\w.-]+/)*[\w.-]+\.%s)`" % ENDINGS)
 BELOW = re.compile(r"`((?:tools|packaging|commands|docs|crates|examples|contrib|man|bench)/[\w./-]*)`")
 
 
-class Tally:
-    """What was checked, and what was not so."""
+class Kinds(Tally):
+    """What was checked, by kind: a kind of which nothing is found has failed."""
 
     def __init__(self):
-        self.passed, self.failed, self.kinds = 0, 0, {}
+        super().__init__()
+        self.kinds = {}
 
-    def check(self, kind, good, name):
+    def is_so(self, kind, name, good):
         self.kinds[kind] = self.kinds.get(kind, 0) + 1
-        if good:
-            self.passed += 1
-        else:
-            self.failed += 1
-            print("FAILED: %s: %s" % (kind, name))
+        self.holds("%s: %s" % (kind, name), good)
 
-    def end(self, kinds):
+    def status_of(self, kinds):
         for kind in kinds:
             if not self.kinds.get(kind):
-                self.check(kind, False, "nothing was found to check")
-        print("%d passed, %d failed" % (self.passed, self.failed))
-        return 1 if self.failed else 0
+                self.is_so(kind, "nothing was found to check", False)
+        return self.status()
 
 
 def read(name):
@@ -76,17 +73,17 @@ def is_there(name, page):
 def check_names(page, text, tally):
     for target in re.findall(r"\]\(([^)#]+?)(?:#[^)]*)?\)", text):
         if "://" not in target:
-            tally.check("link", os.path.exists(os.path.join(TOP, os.path.dirname(page), target)), page + ": " + target)
+            tally.is_so("link", page + ": " + target, os.path.exists(os.path.join(TOP, os.path.dirname(page), target)))
     plain = re.sub(r"```.*?```", "", text, flags=re.S)
     for name in sorted(set(NAMED.findall(plain)) | set(BELOW.findall(plain))):
         if "NAME" in name or "/out/" in name:
             continue
-        tally.check("file", is_there(name.rstrip("/"), page), page + ": " + name)
+        tally.is_so("file", page + ": " + name, is_there(name.rstrip("/"), page))
 
 
 def check_copies(page, text, tally):
     for name, block in re.findall(r"<!-- from: (\S+) -->\n```\w*\n(.*?)```\n", text, re.S):
-        tally.check("copied code", block == read(name), page + ": " + name)
+        tally.is_so("copied code", page + ": " + name, block == read(name))
 
 
 def check_promised(tally):
@@ -95,8 +92,8 @@ def check_promised(tally):
     table = page[page.index("| Crate | Files of `specs/`"):].split("\n\n")[0]
     for crate, files in re.findall(r"^\| `(\w+)` \| (.*) \|$", table, re.M):
         named = sorted(re.findall(r"`([\w.]+)`", files))
-        tally.check("file that says what is promised", named == found.get(crate),
-                    "%s: %s" % (crate, " ".join(sorted(set(named) ^ set(found.get(crate, []))))))
+        differing = " ".join(sorted(set(named) ^ set(found.get(crate, []))))
+        tally.is_so("file that says what is promised", "%s: %s" % (crate, differing), named == found.get(crate))
 
 
 def check_changes(tally):
@@ -110,8 +107,8 @@ def check_changes(tally):
         having = [name for name, text in texts.items() if literal in text]
         missed = [name for name in having if not any(fnmatch.fnmatch(name, pattern) for pattern in patterns)]
         idle = [pattern for pattern in patterns if not any(fnmatch.fnmatch(name, pattern) for name in having)]
-        tally.check("kind of change", having and not missed, "`%s` is also in %s" % (literal, " ".join(missed)))
-        tally.check("kind of change", not idle, "`%s` is not in %s" % (literal, " ".join(idle)))
+        tally.is_so("kind of change", "`%s` is also in %s" % (literal, " ".join(missed)), having and not missed)
+        tally.is_so("kind of change", "`%s` is not in %s" % (literal, " ".join(idle)), not idle)
 
 
 def read_text(name):
@@ -130,14 +127,14 @@ def check_clauses(tally):
         contract = source[source.index("pub fn %s<" % call):].split("\n{\n")[0]
         for row in re.findall(r"^\| .* \| ((?:`\w+`(?:, )?)+) \|$", part, re.M):
             for clause in re.findall(r"`(\w+)`", row):
-                tally.check("clause", re.search(r"ensures %s \{" % clause, contract), "%s of %s" % (clause, call))
+                tally.is_so("clause", "%s of %s" % (clause, call), re.search(r"ensures %s \{" % clause, contract))
 
 
 def main():
     if len(sys.argv) > 1:
         print(__doc__)
         return 0 if sys.argv[1] in ("-h", "--help") else 2
-    tally = Tally()
+    tally = Kinds()
     for page in tracked():
         if page.endswith(".md"):
             text = read(page)
@@ -146,7 +143,7 @@ def main():
     check_promised(tally)
     check_clauses(tally)
     check_changes(tally)
-    return tally.end(["link", "file", "copied code", "file that says what is promised", "clause", "kind of change"])
+    return tally.status_of(["link", "file", "copied code", "file that says what is promised", "clause", "kind of change"])
 
 
 if __name__ == "__main__":

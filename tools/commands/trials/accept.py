@@ -29,21 +29,21 @@ def try_digests(sandbox):
         fresh(sandbox)
         done = accept(sandbox, given)
         sandbox.expect("accepted by %r" % given, done, 0, b"base/aide.db.new is the baseline now: base/aide.db\n", b"")
-        sandbox.check("what is kept by %r" % given, contents(sandbox) == (NEW, OLD, NEW, 3), contents(sandbox))
+        sandbox.holds("what is kept by %r" % given, contents(sandbox) == (NEW, OLD, NEW, 3), contents(sandbox))
     sandbox.expect("accepted again", accept(sandbox, whole), 0, b"the baseline already", b"")
-    sandbox.check("the former one after the second time", contents(sandbox) == (NEW, OLD, NEW, 3), contents(sandbox))
+    sandbox.holds("the former one after the second time", contents(sandbox) == (NEW, OLD, NEW, 3), contents(sandbox))
     fresh(sandbox)
     sandbox.write("base/aide.db.new", NEW)
     sandbox.expect("a plain file", accept(sandbox, whole), 0, b"the baseline now", b"")
     done = sandbox.call(TOOL, "--sha256", sha256(OLD), "base/aide.db.previous", "base/aide.db")
     sandbox.expect("back to the former baseline", done, 0, b"the baseline now", b"")
-    sandbox.check("what is there then", contents(sandbox)[:2] == (OLD, NEW), contents(sandbox))
+    sandbox.holds("what is there then", contents(sandbox)[:2] == (OLD, NEW), contents(sandbox))
     fresh(sandbox)
     for name in ("aide.db", "aide.db.previous"):
         os.remove(sandbox.path("base/" + name))
     sandbox.expect("the first baseline", accept(sandbox, whole), 0, b"this is the first baseline", b"")
-    sandbox.check("what is there with the first one", contents(sandbox) == (NEW, None, NEW, 2), contents(sandbox))
-    sandbox.check("its mode", stat.S_IMODE(os.stat(sandbox.path("base/aide.db")).st_mode) == 0o600)
+    sandbox.holds("what is there with the first one", contents(sandbox) == (NEW, None, NEW, 2), contents(sandbox))
+    sandbox.holds("its mode", stat.S_IMODE(os.stat(sandbox.path("base/aide.db")).st_mode) == 0o600)
 
 
 def try_told(sandbox):
@@ -87,7 +87,7 @@ def try_refusals(sandbox):
     sandbox.write("base/aide.db.new", packed[:-4], 0o600)
     sandbox.expect("a database cut short", accept(sandbox, whole), 18, b"", b"cut short or damaged")
     sandbox.write("base/aide.db.new", packed, 0o600)
-    sandbox.check("what is there after all refusals", contents(sandbox) == (OLD, OLDER, NEW, 3), contents(sandbox))
+    sandbox.holds("what is there after all refusals", contents(sandbox) == (OLD, OLDER, NEW, 3), contents(sandbox))
     fresh(sandbox)
     with open("/dev/full", "wb") as full:
         answer = sandbox.call(TOOL, "--sha256", whole, "base/aide.db.new", "base/aide.db", stdout=full)
@@ -102,7 +102,7 @@ def try_places(sandbox):
         os.remove(sandbox.path("base/aide.db"))
         make(sandbox.path("base/aide.db"))
         sandbox.expect("the baseline is " + name, accept(sandbox, sha256(NEW)), 18, b"", [b"it is " + name.encode()])
-        sandbox.check(name + " stays", sandbox.read("base/aide.db.new") == gzip.compress(NEW, mtime=0))
+        sandbox.holds(name + " stays", sandbox.read("base/aide.db.new") == gzip.compress(NEW, mtime=0))
     for mode in (0o775, 0o777, 0o1777):
         fresh(sandbox)
         os.chmod(sandbox.path("base"), mode)
@@ -120,9 +120,9 @@ def try_modes(sandbox):
         accept(sandbox, sha256(NEW), before=UMASK % 0)
         for name, wanted in (("aide.db", mode & 0o666), ("aide.db.previous", mode)):
             found = os.stat(sandbox.path("base/" + name))
-            sandbox.check("the mode of %s, %o" % (name, mode), stat.S_IMODE(found.st_mode) == wanted, found)
+            sandbox.holds("the mode of %s, %o" % (name, mode), stat.S_IMODE(found.st_mode) == wanted, found)
             kept = os.getuid() != 0 or (found.st_uid, found.st_gid) == (12345, 12346)
-            sandbox.check("the owner of %s" % name, kept, found)
+            sandbox.holds("the owner of %s" % name, kept, found)
 
 
 def try_owner(sandbox):
@@ -132,10 +132,10 @@ def try_owner(sandbox):
     fresh(sandbox, NOBODY)
     done = accept(sandbox, sha256(NEW))
     sandbox.expect("in another user's folder", done, 0, b"the former one belongs to root:root\n", b"")
-    sandbox.check("what is there", contents(sandbox) == (NEW, OLD, NEW, 3), contents(sandbox))
+    sandbox.holds("what is there", contents(sandbox) == (NEW, OLD, NEW, 3), contents(sandbox))
     new, former = (os.stat(sandbox.path(BASE + name)) for name in ("aide.db", "aide.db.previous"))
-    sandbox.check("the new one is the owner's", (new.st_uid, stat.S_IMODE(new.st_mode)) == (NOBODY, 0o600), new)
-    sandbox.check("the former one stays root's", (former.st_uid, stat.S_IMODE(former.st_mode)) == (0, 0o600), former)
+    sandbox.holds("the new one is the owner's", (new.st_uid, stat.S_IMODE(new.st_mode)) == (NOBODY, 0o600), new)
+    sandbox.holds("the former one stays root's", (former.st_uid, stat.S_IMODE(former.st_mode)) == (0, 0o600), former)
     fresh(sandbox, 12345)
     sandbox.write("readable", NEW)
     done = sandbox.call(TOOL, "--sha256", sha256(NEW), "readable", "base/aide.db", before=AS_NOBODY)
@@ -150,13 +150,13 @@ def try_at_once(sandbox):
     fcntl.flock(folder, fcntl.LOCK_EX)
     run = sandbox.start(TOOL, *words)
     time.sleep(1)
-    sandbox.check("a locked folder is waited for", run.poll() is None and contents(sandbox)[0] == OLD, run.poll())
+    sandbox.holds("a locked folder is waited for", run.poll() is None and contents(sandbox)[0] == OLD, run.poll())
     os.close(folder)
     run.communicate()
-    sandbox.check("and then it is accepted", run.returncode == 0 and contents(sandbox)[0] == NEW, run.returncode)
+    sandbox.holds("and then it is accepted", run.returncode == 0 and contents(sandbox)[0] == NEW, run.returncode)
     fresh(sandbox)
     runs = [sandbox.start(TOOL, *words) for _ in range(5)]
     for run in runs:
         run.communicate()
-    sandbox.check("accepted at once", {run.returncode for run in runs} == {0}, [run.returncode for run in runs])
-    sandbox.check("what is there then", contents(sandbox) == (NEW, OLD, NEW, 3), contents(sandbox))
+    sandbox.holds("accepted at once", {run.returncode for run in runs} == {0}, [run.returncode for run in runs])
+    sandbox.holds("what is there then", contents(sandbox) == (NEW, OLD, NEW, 3), contents(sandbox))

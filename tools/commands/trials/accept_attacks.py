@@ -48,22 +48,22 @@ def at_all_calls(sandbox, kind, child, ways=(FOR_THE_CALL, FOR_GOOD), allowed=(0
             if found or done.status not in (allowed if swapped else (0,)):
                 harmed.append((number, way, done, found))
     name = "the %s swapped before each call of %s" % (kind, "the child" if child else "the command")
-    sandbox.check(name + ", and root's files stay", not harmed, harmed[:2])
+    sandbox.holds(name + ", and root's files stay", not harmed, harmed[:2])
     is_whole = len(statuses) > 12 * len(ways) and number < MOST_CALLS
-    sandbox.check(name + ", at %d moments" % len(statuses), is_whole, number)
+    sandbox.holds(name + ", at %d moments" % len(statuses), is_whole, number)
     return set(statuses)
 
 
 def try_baseline_at_calls(sandbox):
     for child in (0, 1):
         statuses = at_all_calls(sandbox, "baseline", child)
-        sandbox.check("some swaps of the baseline are refused, child %d" % child, statuses == {0, 18}, statuses)
+        sandbox.holds("some swaps of the baseline are refused, child %d" % child, statuses == {0, 18}, statuses)
 
 
 def try_folder_at_calls(sandbox):
     for child in (0, 1):
         statuses = at_all_calls(sandbox, "folder", child)
-        sandbox.check("some swaps of the folder are refused, child %d" % child, statuses == {0, 18}, statuses)
+        sandbox.holds("some swaps of the folder are refused, child %d" % child, statuses == {0, 18}, statuses)
 
 
 def try_moved_folder(sandbox):
@@ -88,13 +88,13 @@ def in_a_loop(sandbox, kind):
                 harmed.append((len(statuses), done, found))
         count, user = swapping.count(), swapping.user()
     name = "the %s swapped by another user" % kind
-    sandbox.check("%s, %d rounds" % (name, ROUNDS), not harmed, harmed)
+    sandbox.holds("%s, %d rounds" % (name, ROUNDS), not harmed, harmed)
     told = "%d swaps by the user %s, some in %d of %d rounds, done %d, refused %d, %.0f seconds" % (
         count, user, busy, len(statuses), statuses.count(0), statuses.count(18), time.time() - begun)
     print("%s: %s" % (name, told), flush=True)
     is_busy = count > 20 * len(statuses) and busy > 0.9 * len(statuses)
-    sandbox.check(name + ", again and again", user == NOBODY and is_busy, told)
-    sandbox.check(name + ", and some are refused", harmed or 18 in statuses, told)
+    sandbox.holds(name + ", again and again", user == NOBODY and is_busy, told)
+    sandbox.holds(name + ", and some are refused", harmed or 18 in statuses, told)
 
 
 def try_baseline_in_a_loop(sandbox):
@@ -117,7 +117,7 @@ def try_names_taken(sandbox):
             before = roots(sandbox)
             done = call(sandbox)
             good = roots(sandbox) == before and sandbox.read("root/secret") == SECRET and done.status in (0, 18)
-            sandbox.check("%s to a file of root at %s" % (make.__name__, name), good, done)
+            sandbox.holds("%s to a file of root at %s" % (make.__name__, name), good, done)
 
 
 def try_swapped_database(sandbox):
@@ -129,7 +129,7 @@ def try_swapped_database(sandbox):
         done = accept_at(sandbox, settings, AT_NUMBER=number, AT_WAY=FOR_GOOD, AT_ONE=name, AT_OTHER=other)
         ends.add(done.status)
         good = contents(sandbox)[0] == (NEW if done.status == 0 else OLD) and done.status in (0, 24)
-        sandbox.check("the database is swapped before call %d" % number, good, (done, contents(sandbox)))
-    sandbox.check("the swapped database is accepted or refused", ends == {0, 24}, ends)
+        sandbox.holds("the database is swapped before call %d" % number, good, (done, contents(sandbox)))
+    sandbox.holds("the swapped database is accepted or refused", ends == {0, 24}, ends)
     fresh(sandbox)
     sandbox.expect("the digest of another database", accept(sandbox, sha256(OLD + b"more\n")), 24, b"")

@@ -25,14 +25,14 @@ def try_order(sandbox):
         done = accept_at(sandbox, settings, AT_NOTES=1, AT_OLD=old)
         calls = done.output.decode().split()
         if "fsync" not in calls:
-            sandbox.check("the new file is written to the disk, old %d" % old, False, calls)
+            sandbox.holds("the new file is written to the disk, old %d" % old, False, calls)
             continue
         first, last = calls.index("fsync"), len(calls) - 1 - calls[::-1].index("fsync")
         names = [place for place, call in enumerate(calls) if call in ("linkat", "renameat", "renameat2")]
         in_order = names and first < min(names) and max(names) < last
-        sandbox.check("the order of fsync and names, old %d" % old, in_order, calls)
+        sandbox.holds("the order of fsync and names, old %d" % old, in_order, calls)
         found = contents(sandbox)
-        sandbox.check("accepted, old %d" % old, done.status == 0 and found == (NEW, OLD, NEW, 3), (done, found))
+        sandbox.holds("accepted, old %d" % old, done.status == 0 and found == (NEW, OLD, NEW, 3), (done, found))
 
 
 def wait_for_child(sandbox):
@@ -63,7 +63,7 @@ def kill_everywhere(sandbox, forms):
         number = 1
         while number < MOST_CALLS and kill_at(sandbox, settings, number, form, owner, child, old):
             number += 1
-        sandbox.check("killed at every call " + form, 12 < number < MOST_CALLS, number)
+        sandbox.holds("killed at every call " + form, 12 < number < MOST_CALLS, number)
 
 
 def kill_at(sandbox, settings, number, form, owner, child, old):
@@ -81,11 +81,11 @@ def kill_at(sandbox, settings, number, form, owner, child, old):
     path = sandbox.path(BASE + "aide.db")
     whole = baseline in (OLD, NEW) and kept and new == NEW and os.stat(path).st_mode & 0o777 == 0o600
     ended, records = done.status == (18 if child else -9), records_of(sandbox)
-    sandbox.check("killed %s before call %d" % (form, number), ended and whole, (done, baseline, former))
-    sandbox.check("the records, killed %s before call %d" % (form, number), records in (None, sha256(baseline)), records)
+    sandbox.holds("killed %s before call %d" % (form, number), ended and whole, (done, baseline, former))
+    sandbox.holds("the records, killed %s before call %d" % (form, number), records in (None, sha256(baseline)), records)
     again = accept_at(sandbox, settings, AT_NUMBER=0)
     wanted = sha256(NEW) if os.path.isdir(sandbox.path("dpkg")) else None
     good = contents(sandbox) == (NEW, OLD, NEW, 3) and records_of(sandbox) == wanted
-    sandbox.check("the next run, killed %s before call %d" % (form, number), again.status == 0 and good,
+    sandbox.holds("the next run, killed %s before call %d" % (form, number), again.status == 0 and good,
                   (again, contents(sandbox), records_of(sandbox)))
     return ended and whole

@@ -72,7 +72,7 @@ def accept(sandbox, digest, *words, **more):
 def library(sandbox):
     """The settings that load the library, or None if it cannot be built, which is a failure."""
     path, faults = preload.built("at_call.c", os.fsencode(sandbox.path("stubs")))
-    sandbox.check("the library that acts at a call is built", path, faults)
+    sandbox.holds("the library that acts at a call is built", path, faults)
     return {"LD_PRELOAD": os.fsdecode(path)} if path else None
 
 

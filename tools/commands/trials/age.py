@@ -28,9 +28,9 @@ def refused(sandbox, label, answer, name='late.db', age='3 hours'):
     """Nothing is compared, and the one line says why, in the state too."""
     line = REFUSAL % (name, age)
     sandbox.expect(label, answer, 18, b'', line.encode())
-    sandbox.check('one line, ' + label, answer.errors == line.encode(), answer)
+    sandbox.holds('one line, ' + label, answer.errors == line.encode(), answer)
     state = sandbox.state()
-    sandbox.check(
+    sandbox.holds(
         'the state, ' + label,
         list(state) == KEYS
         and (state['status'], state['error'] + '\n') == ('18', line)
@@ -70,7 +70,7 @@ def try_old_files(sandbox):
     write_aged(sandbox, 'minute.db', NEW, 100)
     answer = sandbox.call(TOOL, '--age', '60', 'old.db', 'minute.db')
     line = re.escape(REFUSAL) % ('minute\\.db', r'1\d\d seconds')
-    sandbox.check('an age of seconds', answer.status == 18 and re.fullmatch(line, answer.errors.decode()), answer)
+    sandbox.holds('an age of seconds', answer.status == 18 and re.fullmatch(line, answer.errors.decode()), answer)
     sandbox.expect(
         'a missing database with --age', sandbox.call(TOOL, '--age', '60', 'old.db', 'missing'), 18, b'', b'cannot open the new'
     )
@@ -95,7 +95,7 @@ def try_accepted(sandbox):
     ):
         answer = sandbox.call(TOOL, '--state', 'state', *words)
         sandbox.expect(label, answer, 7, b'Changed entries:         2', DIFFER)
-        sandbox.check('the state, ' + label, (sandbox.state()['status'], sandbox.state()['error']) == ('7', ''),
+        sandbox.holds('the state, ' + label, (sandbox.state()['status'], sandbox.state()['error']) == ('7', ''),
                       sandbox.state())
 
 
@@ -118,7 +118,7 @@ def try_pipes(sandbox):
         answer = sandbox.call(TOOL, '--state', 'state', '--age', '7200', 'old.db', name, **more)
         line = 'aide-compare-run: the new database %s is no regular file, so --age cannot tell its age' % name
         sandbox.expect('a pipe with --age, ' + name, answer, 18, b'', line.encode())
-        sandbox.check('the state of a pipe with --age, ' + name, sandbox.state()['error'] == line, sandbox.state())
+        sandbox.holds('the state of a pipe with --age, ' + name, sandbox.state()['error'] == line, sandbox.state())
     sandbox.expect('a pipe with --age 0', sandbox.call(TOOL, '--age', '0', 'old.db', '/dev/stdin', text=NEW), 7, b'Changed',
                    DIFFER)
     sandbox.expect('an old pipe', sandbox.call(TOOL, '--age', '7200', '/dev/stdin', 'new.db', text=OLD), 7, b'Changed', DIFFER)
@@ -136,7 +136,7 @@ def try_values(sandbox):
                   ['--age', '31d'], ['--age', '9' * 9]):
         answer = sandbox.call(TOOL, '--state', 'state', 'old.db', 'new.db', *words)
         sandbox.expect('the arguments %r' % words, answer, 15, b'', b'--age')
-        sandbox.check('the state with %r' % words, sandbox.read('state') == b'as before\n')
+        sandbox.holds('the state with %r' % words, sandbox.read('state') == b'as before\n')
 
 
 def try_readers(sandbox):
@@ -156,4 +156,4 @@ def try_readers(sandbox):
     answer = sandbox.call('aide-compare-metrics', '--state', 'state', 'metrics.prom')
     text = sandbox.read('metrics.prom')
     good = answer.status == 0 and re.search(rb'_status 18$', text, re.M) and b'_entries' not in text
-    sandbox.check('the metrics of an old database', good, (answer, text))
+    sandbox.holds('the metrics of an old database', good, (answer, text))

@@ -35,7 +35,7 @@ def try_names_that_clash(sandbox):
                 with open(name, 'xb') as file:
                     file.write(text)
         try:
-            sandbox.check('the names %s and %s' % (old, new), compared(sandbox.call(TOOL, old, new)))
+            sandbox.holds('the names %s and %s' % (old, new), compared(sandbox.call(TOOL, old, new)))
         finally:
             for name in {old, new} & {'/new.db', '/old.db'}:
                 os.remove(name)
@@ -46,22 +46,22 @@ def try_few_descriptors(sandbox):
         sandbox.write('state', b'as before\n')
         answer = sandbox.call(TOOL, 'old.db', 'new.db', '--state', 'state', before=LIMITED % ('NOFILE', count, count))
         good = compared(answer) if count > 20 else answer.status in NO_COMPARISON or compared(answer)
-        sandbox.check('%d descriptors' % count, good and not sandbox.leftovers(), answer)
-        sandbox.check('the state with %d descriptors' % count,
+        sandbox.holds('%d descriptors' % count, good and not sandbox.leftovers(), answer)
+        sandbox.holds('the state with %d descriptors' % count,
                       sandbox.read('state') == b'as before\n' or sandbox.state()['status'] == str(answer.status))
     for closed in ('0', '1', '2', '0, 1, 2'):
         before = '; '.join('os.close(%s)' % number for number in closed.split(', '))
         sandbox.write('state', b'as before\n')
         answer = sandbox.call(TOOL, 'old.db', 'new.db.gz', '--state', 'state', before=before)
         want = 18 if '1' in closed else 7
-        sandbox.check('%s closed' % closed, answer.status == want and sandbox.state().get('status') == str(want), answer)
+        sandbox.holds('%s closed' % closed, answer.status == want and sandbox.state().get('status') == str(want), answer)
 
 
 def try_little_memory(sandbox):
     """From 16 MB on the interpreter itself starts."""
     for size in range(18, 60, 3):
         answer = sandbox.call(TOOL, 'old.db', 'new.db', before=LIMITED % ('AS', size << 20, size << 20))
-        sandbox.check('%d MB of memory' % size, compared(answer) or answer.status in NO_COMPARISON, answer)
+        sandbox.holds('%d MB of memory' % size, compared(answer) or answer.status in NO_COMPARISON, answer)
 
 
 def try_no_process(sandbox):
@@ -84,7 +84,7 @@ def try_each_moment(sandbox):
         whole = sandbox.read('state') == b'as before\n' or sandbox.state().get('status') == '7'
         if process.returncode not in (7, -signal.SIGTERM, -signal.SIGKILL) or not whole or sandbox.leftovers():
             wrong.append((turn, process.returncode))
-    sandbox.check('a signal at each moment', not wrong, wrong)
+    sandbox.holds('a signal at each moment', not wrong, wrong)
 
 
 def try_waiting(sandbox):
@@ -95,10 +95,10 @@ def try_waiting(sandbox):
             begun = time.time()
             answer = sandbox.call(TOOL, *words)
             sandbox.expect('the databases %s and %s' % words, answer, 18, b'', b'no regular file')
-            sandbox.check('%s and %s at once' % words, time.time() - begun < 5)
+            sandbox.holds('%s and %s at once' % words, time.time() - begun < 5)
     sandbox.expect('a FIFO as the configuration', sandbox.call(TOOL, '-c', 'fifo'), 18, b'', b'it is a FIFO')
     for name in ('/dev/stdin', '/dev/fd/0', '/proc/self/fd/0'):
-        sandbox.check('a pipe that the caller has opened, ' + name,
+        sandbox.holds('a pipe that the caller has opened, ' + name,
                       compared(sandbox.call(TOOL, name, 'new.db', text=gzip.compress(OLD))))
     sandbox.expect('a descriptor that nobody opened', sandbox.call(TOOL, '/dev/fd/4', 'new.db'), 18, b'', b'cannot open the old')
 
@@ -118,7 +118,7 @@ def try_links(sandbox):
         sandbox.expect('the link ' + name, sandbox.call(TOOL, 'old.db', name), 18, b'', b'is not followed')
     sandbox.expect('a link to itself', sandbox.call(TOOL, 'old.db', 'loop'), 18, b'', b'Too many levels')
     for name in ('his/new.db', 'mine/new.db'):
-        sandbox.check('the database ' + name, compared(sandbox.call(TOOL, 'old.db', name)))
+        sandbox.holds('the database ' + name, compared(sandbox.call(TOOL, 'old.db', name)))
 
 
 def try_state_of_others(sandbox):
@@ -128,20 +128,20 @@ def try_state_of_others(sandbox):
     sandbox.write('target', b'of root\n', 0o600)
     os.makedirs(sandbox.path('his2'))
     os.chown(sandbox.path('his2'), NOBODY, NOBODY)
-    sandbox.check('a state in his folder', compared(sandbox.call(TOOL, 'old.db', 'new.db', '--state', 'his2/state')))
+    sandbox.holds('a state in his folder', compared(sandbox.call(TOOL, 'old.db', 'new.db', '--state', 'his2/state')))
     found = os.stat(sandbox.path('his2/state'))
-    sandbox.check('whose it is', (found.st_uid, found.st_mode & 0o7777) == (NOBODY, 0o644), found)
+    sandbox.holds('whose it is', (found.st_uid, found.st_mode & 0o7777) == (NOBODY, 0o644), found)
     for name in ('his2/link', 'link'):
         os.symlink(sandbox.path('target'), sandbox.path(name))
         sandbox.expect('a state that is a link', sandbox.call(TOOL, 'old.db', 'new.db', '--state', name), 18, b'', b'is a link')
     os.symlink(sandbox.path('target'), sandbox.path('his2/.state.part'))
-    sandbox.check('a link at the second name', compared(sandbox.call(TOOL, 'old.db', 'new.db', '--state', 'his2/state')))
+    sandbox.holds('a link at the second name', compared(sandbox.call(TOOL, 'old.db', 'new.db', '--state', 'his2/state')))
     os.makedirs(sandbox.path('shared'))
     os.chmod(sandbox.path('shared'), 0o777)
     sandbox.expect('a folder of everybody', sandbox.call(TOOL, 'old.db', 'new.db', '--state', 'shared/state'), 18, b'',
                    b'other users can write')
     good = sandbox.read('target') == b'of root\n' and os.stat(sandbox.path('target')).st_mode & 0o7777 == 0o600
-    sandbox.check('the file of root', good)
+    sandbox.holds('the file of root', good)
 
 
 def try_devices(sandbox):
@@ -166,7 +166,7 @@ def try_devices(sandbox):
         sandbox.expect('%s that is a device' % label, sandbox.call(*words), 18, b'')
         found = os.lstat(place + '/null')
         good = stat.S_ISCHR(found.st_mode) and found.st_rdev == number and os.listdir(place) == ['null']
-        sandbox.check('the device stays, given as %s' % label, good, (found, os.listdir(place)))
+        sandbox.holds('the device stays, given as %s' % label, good, (found, os.listdir(place)))
         if not good:
             shutil.rmtree(place)
             os.makedirs(place)
@@ -179,7 +179,7 @@ def try_user(sandbox):
         return print('skipped: --user (it needs root)')
     sandbox.write('secret.db', OLD, 0o600)
     sandbox.expect('--user', sandbox.call(TOOL, '--user', 'nobody', 'secret.db', 'new.db'), 18, b'', b'ermission denied')
-    sandbox.check('--user that may read', compared(sandbox.call(TOOL, '--user', 'nobody', 'old.db', 'new.db.gz')))
+    sandbox.holds('--user that may read', compared(sandbox.call(TOOL, '--user', 'nobody', 'old.db', 'new.db.gz')))
     sandbox.expect('an unknown user', sandbox.call(TOOL, '--user', 'nobody-else', 'old.db', 'new.db'), 15, b'', b'no user')
     answer = sandbox.call(TOOL, '--user', 'root', 'old.db', 'new.db', before=AS_NOBODY)
     sandbox.expect('--user without the right', answer, 15, b'', b'only root can become root')
@@ -192,7 +192,7 @@ def try_user(sandbox):
 def try_bounds(sandbox):
     for most, status in (('100', 18), ('10k', 7)):
         answer = sandbox.call(TOOL, '--most-report', most, 'old.db', 'new.db', '--state', 'state')
-        sandbox.check('--most-report ' + most, answer.status == status and sandbox.state()['status'] == str(status), answer)
+        sandbox.holds('--most-report ' + most, answer.status == status and sandbox.state()['status'] == str(status), answer)
     sandbox.expect('a report that is too long', sandbox.call(TOOL, '--most-report=100', 'old.db', 'new.db'), 18, b'',
                    b'the report has more than 100 bytes; --most-report allows more')
     sandbox.expect('the version', sandbox.call(TOOL, '--version'), 0, b'aide-compare-run ', b'')
@@ -201,7 +201,7 @@ def try_bounds(sandbox):
     process = sandbox.start(TOOL, 'old.db', 'new.db', '--state', 'state', stdout=writing)
     os.close(writing)
     errors = process.communicate()[1]
-    sandbox.check('a report that nobody reads', process.returncode == 18 and sandbox.state()['status'] == '18', errors)
+    sandbox.holds('a report that nobody reads', process.returncode == 18 and sandbox.state()['status'] == '18', errors)
 
 
 def try_fixed_reports(sandbox):
@@ -210,13 +210,13 @@ def try_fixed_reports(sandbox):
     sandbox.write('fixed', text)
     minimal = b'AIDE found differences between the two databases.\n'
     answer = sandbox.call(TOOL, '-c', 'fixed', 'old.db', 'new.db')
-    sandbox.check('a fixed level', answer.output == minimal, answer)
+    sandbox.holds('a fixed level', answer.output == minimal, answer)
     answer = sandbox.call(TOOL, '-c', 'fixed', 'old.db', 'new.db', '--', '-A', 'report_base16=yes')
-    sandbox.check('a fixed level with -A', answer.output == minimal, answer)
+    sandbox.holds('a fixed level with -A', answer.output == minimal, answer)
     answer = sandbox.call(TOOL, '-c', 'fixed', 'old.db', 'old.db', '--', '-A', 'report_base16=yes')
-    sandbox.check('later options of the file', b'NO differences' in answer.output, answer)
+    sandbox.holds('later options of the file', b'NO differences' in answer.output, answer)
     answer = sandbox.call(TOOL, '-c', 'fixed', 'old.db', 'new.db', '--', '-A', 'report_level=summary')
-    sandbox.check('a level of -A', answer.output.startswith(minimal + b'\nSummary:\n') and answer.output.count(b'\n') == 7, answer)
+    sandbox.holds('a level of -A', answer.output.startswith(minimal + b'\nSummary:\n') and answer.output.count(b'\n') == 7, answer)
 
 
 def try_places(sandbox):
@@ -226,9 +226,9 @@ def try_places(sandbox):
     sandbox.write('conf', '@@include /etc/aide.d/x\n@@x_include /y\ndatabase_in=file:%s\ndatabase_out=file:%s/@@{HOSTNAME}.db\n'
                   % (sandbox.path('old.db'), sandbox.root))
     answer = sandbox.call(TOOL, '-c', 'conf')
-    sandbox.check('HOSTNAME', compared(answer) and b'conf: 2 lines that include' in answer.errors
+    sandbox.holds('HOSTNAME', compared(answer) and b'conf: 2 lines that include' in answer.errors
                   and b'@@include /etc/aide.d/x' in answer.errors, answer)
     answer = sandbox.call(TOOL, '-c', 'conf', '--', '-B', '# @@{HOSTNAME}\nreport_level=x')
     sandbox.expect('the line of -B', answer, 17, b'', [b'aide: before:2: bad value\n', b'line 2: report_level=x\n'])
     answer = sandbox.call(TOOL, '-c', 'conf', 'old.db', 'new.db', before=UMASK % 0o77)
-    sandbox.check('a configuration beside OLD and NEW', compared(answer), answer)
+    sandbox.holds('a configuration beside OLD and NEW', compared(answer), answer)

@@ -50,7 +50,7 @@ def try_every_cut(sandbox):
         done = sandbox.call("aide-compare-json", text=text)
         whole = [each for each in map(json.loads, done.output.splitlines()) if each["record"] == "entry"]
         got = cuts(text, (1, 1, 2), whole, step) if len(whole) == 4 else done
-        sandbox.check("a report cut at each byte, %r" % option, got == "", got)
+        sandbox.holds("a report cut at each byte, %r" % option, got == "", got)
     del hosts
 
 
@@ -68,16 +68,16 @@ def try_cut_stream(sandbox):
     summary, found, changes = hosts.objects()
     got = {name: (each["report"], each["listed"]) for name, each in found.items() if name != "damaged"}
     wanted = {"long": ("cut", 201), "short": ("whole", 1), "listless": ("no list", 0)}
-    sandbox.check("what the reports are", got == wanted and summary["cut"] == 2 and summary["not_listed"] == 1, found)
-    sandbox.check("all of its lists", sum("long" in each["names"] for each in changes) == 201, len(changes))
+    sandbox.holds("what the reports are", got == wanted and summary["cut"] == 2 and summary["not_listed"] == 1, found)
+    sandbox.holds("all of its lists", sum("long" in each["names"] for each in changes) == 201, len(changes))
     valued = sum("attributes" in each for each in changes if "long" in each["names"])
-    sandbox.check("and the first of its values", 5 < valued < 200, valued)
+    sandbox.holds("and the first of its values", 5 < valued < 200, valued)
     status, output, _ = hosts.report()
     parts = ("long: its report was cut (--most-report of compare-hosts); 201 of 201 changes are listed below, not all with ",
              "listless: its report has no list of them; 0 of 201 changes are listed below")
-    sandbox.check("the text says so", status == 4 and all(part in output for part in parts), output[:800])
+    sandbox.holds("the text says so", status == 4 and all(part in output for part in parts), output[:800])
     sandbox.write("store/hosts/listless/report", sandbox.read("store/hosts/short/report"), 0o600)
     sandbox.write("store/hosts/short/report", sandbox.read("store/hosts/short/report")[:-90], 0o600)
     found = hosts.objects()[1]
     got = [found[name]["report"] for name in ("short", "listless")]
-    sandbox.check("a damaged report, and that of another run", got == ["unreadable"] * 2, got)
+    sandbox.holds("a damaged report, and that of another run", got == ["unreadable"] * 2, got)

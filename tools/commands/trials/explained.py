@@ -63,21 +63,21 @@ def try_places(sandbox):
     answer = run(sandbox, "--state", "state", "--brief", "brief", "o.db", "n.db")
     line = "%s: unexplained=2 not_verified=1 explained=1 high=1 medium=1 low=1\n" % WORDS
     sandbox.expect("with reasons", answer, 7, plain.output, plain.errors + b"aide-compare-run: " + line.encode())
-    sandbox.check("nothing else is said", len(answer.errors) == len(plain.errors) + len("aide-compare-run: " + line), answer)
+    sandbox.holds("nothing else is said", len(answer.errors) == len(plain.errors) + len("aide-compare-run: " + line), answer)
     state = sandbox.state()
-    sandbox.check("the state has the counts", COUNTS.items() <= state.items() and state["status"] == "7", state)
-    sandbox.check("what people read first", read(sandbox, "brief").decode() == BRIEF, read(sandbox, "brief"))
-    sandbox.check("who may read it", os.path.exists(sandbox.path("brief"))
+    sandbox.holds("the state has the counts", COUNTS.items() <= state.items() and state["status"] == "7", state)
+    sandbox.holds("what people read first", read(sandbox, "brief").decode() == BRIEF, read(sandbox, "brief"))
+    sandbox.holds("who may read it", os.path.exists(sandbox.path("brief"))
                   and os.stat(sandbox.path("brief")).st_mode & 0o777 == 0o600)
     sandbox.call(TOOL, "--state", "state", "o.db", "n.db")
-    sandbox.check("a state without reasons", not COUNTS.keys() & sandbox.state().keys(), sandbox.state())
+    sandbox.holds("a state without reasons", not COUNTS.keys() & sandbox.state().keys(), sandbox.state())
     answer = run(sandbox, "--state", "state", "--brief", "brief", "o.db", "o.db")
     sandbox.expect("no difference", answer, 0, b"NO differences", b"0 changes, all explained: unexplained=0")
     state = sandbox.state()
-    sandbox.check("its state", state.get("explained") == state.get("unexplained") == "0", state)
+    sandbox.holds("its state", state.get("explained") == state.get("unexplained") == "0", state)
     answer = run(sandbox, "--brief", "brief", "o.db", "gone.db")
     sandbox.expect("all is explained", answer, 2, None, b"1 change, all explained: unexplained=0 not_verified=0 explained=1")
-    sandbox.check("what people read first then", read(sandbox, "brief").startswith(b"1 change, all explained\n\nExplained:\n"))
+    sandbox.holds("what people read first then", read(sandbox, "brief").startswith(b"1 change, all explained\n\nExplained:\n"))
 
 
 def try_levels(sandbox):
@@ -89,9 +89,9 @@ def try_levels(sandbox):
         plain = sandbox.call(TOOL, "o.db", "n.db", "--", "-A", text)
         answer = run(sandbox, "--brief", "brief", "--lines", "lines", "o.db", "n.db", "--", "-A", text)
         sandbox.expect("reasons at " + text, answer, 7, plain.output, WORDS.encode())
-        sandbox.check("the report at " + text, answer.output == plain.output)
-        sandbox.check("the text at " + text, read(sandbox, "brief").decode() == BRIEF, read(sandbox, "brief"))
-        sandbox.check("the lines at " + text, len(entries(sandbox, "lines")) == 4, read(sandbox, "lines"))
+        sandbox.holds("the report at " + text, answer.output == plain.output)
+        sandbox.holds("the text at " + text, read(sandbox, "brief").decode() == BRIEF, read(sandbox, "brief"))
+        sandbox.holds("the lines at " + text, len(entries(sandbox, "lines")) == 4, read(sandbox, "lines"))
     sandbox.write("conf", "report_url=stdout\nreport_level=minimal\n")
     answer = run(sandbox, "-c", "conf", "--brief", "brief", "o.db", "n.db")
     sandbox.expect("a fixed configuration", answer, 7, None, WORDS.encode())
@@ -109,7 +109,7 @@ def try_outputs(sandbox):
     sandbox.expect("to standard error", answer, 7, b"Added entries:", BRIEF.encode())
     with open(sandbox.path("there"), "wb") as file:
         done = run(sandbox, "--brief", "/dev/fd/%d" % file.fileno(), "o.db", "n.db", pass_fds=[file.fileno()])
-    sandbox.check("to a descriptor", done.status == 7 and sandbox.read("there").decode() == BRIEF, done)
+    sandbox.holds("to a descriptor", done.status == 7 and sandbox.read("there").decode() == BRIEF, done)
     with open(sandbox.path("there"), "rb") as file:
         done = run(sandbox, "--lines", "/dev/fd/%d" % file.fileno(), "o.db", "n.db", pass_fds=[file.fileno()])
     sandbox.expect("to one that is only read", done, 18, b"", b"has not opened it for writing")
@@ -118,11 +118,11 @@ def try_outputs(sandbox):
         sandbox.expect("to " + name, run(sandbox, "--lines", name, "o.db", "n.db"), status, b"", b"cannot write" if status == 18 else None)
     with open("/dev/full", "wb") as full:
         done = run(sandbox, "--brief", "/dev/stderr", "o.db", "n.db", stderr=full)
-    sandbox.check("to a full device", done.status == 18 and b"Added entries:" in done.output, done)
+    sandbox.holds("to a full device", done.status == 18 and b"Added entries:" in done.output, done)
     for name in ("lines", "brief"):
         sandbox.write(name, "of an earlier run")
     done = run(sandbox, "--lines", "lines", "--brief", "brief", "o.db", "missing.db")
-    sandbox.check("nothing is left of an earlier run", done.status == 18 and read(sandbox, "lines") == read(sandbox, "brief") == b"")
+    sandbox.holds("nothing is left of an earlier run", done.status == 18 and read(sandbox, "lines") == read(sandbox, "brief") == b"")
 
 
 def try_lines(sandbox):
@@ -131,23 +131,23 @@ def try_lines(sandbox):
     report = run(sandbox, "--state", "state", "--lines", "lines", "o.db", "n.db").output
     json_lines = sandbox.call("aide-compare-json", "--full", "--state", "state", text=report).output
     reasons = sandbox.call("aide-compare-reasons", "--databases", "o.db", "n.db", "--severity", "table", text=json_lines).output
-    sandbox.check("the lines with reasons", reasons and read(sandbox, "lines") == reasons, (read(sandbox, "lines"), reasons))
+    sandbox.holds("the lines with reasons", reasons and read(sandbox, "lines") == reasons, (read(sandbox, "lines"), reasons))
     answer = sandbox.call(TOOL, "--state", "state", "--lines", "lines", "o.db", "n.db")
     json_lines = sandbox.call("aide-compare-json", "--full", "--state", "state", text=report).output
     sandbox.expect("the lines alone", answer, 7, report, b"SHA-256")
-    sandbox.check("they are those of aide-compare-json", read(sandbox, "lines") == json_lines and b"unexplained" not in answer.errors)
+    sandbox.holds("they are those of aide-compare-json", read(sandbox, "lines") == json_lines and b"unexplained" not in answer.errors)
     answer = sandbox.call(TOOL, "--state", "state", "--lines", "lines", "--without-path", "/etc/*", "o.db", "n.db")
     json_lines = sandbox.call("aide-compare-json", "--full", "--state", "state", text=answer.output).output
-    sandbox.check("they are so if entries are left out", json_lines and read(sandbox, "lines") == json_lines, json_lines)
+    sandbox.holds("they are so if entries are left out", json_lines and read(sandbox, "lines") == json_lines, json_lines)
     summary = json.loads(read(sandbox, "lines").split(b"\n")[0] or b"{}")
-    sandbox.check("they say where and when", summary.get("host") and summary.get("status") == answer.status and summary.get("@timestamp"),
+    sandbox.holds("they say where and when", summary.get("host") and summary.get("status") == answer.status and summary.get("@timestamp"),
                   summary)
-    sandbox.check("what was left out", summary.get("left_out") == {"old": 2, "new": 1} and len(entries(sandbox, "lines")) == 2, summary)
+    sandbox.holds("what was left out", summary.get("left_out") == {"old": 2, "new": 1} and len(entries(sandbox, "lines")) == 2, summary)
     page = sandbox.call("aide-compare-html", "--plain", "lines")
-    sandbox.check("a page of them", page.status == 0 and b">log<" in page.output, page.output[-2000:])
+    sandbox.holds("a page of them", page.status == 0 and b">log<" in page.output, page.output[-2000:])
     sandbox.call(TOOL, "--lines", "lines", "o.db", "o.db")
     summary = json.loads(read(sandbox, "lines").split(b"\n")[0] or b"{}")
-    sandbox.check("the lines of no difference", summary.get("differences") is False and "left_out" not in summary, summary)
+    sandbox.holds("the lines of no difference", summary.get("differences") is False and "left_out" not in summary, summary)
 
 
 def try_many(sandbox):
@@ -159,7 +159,7 @@ def try_many(sandbox):
     text = read(sandbox, "brief").decode()
     places = [text.find(part) for part in ("3002 unexplained, 1 not verified of 3004", "/usr/.x y", "/etc/plain", "/m/0000",
                                            "  low     and 2800 more\n", "Not verified:", "Explained:")]
-    sandbox.check("many entries", -1 not in places and places == sorted(places) and text.count("/m/") == 200, (places, text[:500]))
+    sandbox.holds("many entries", -1 not in places and places == sorted(places) and text.count("/m/") == 200, (places, text[:500]))
     sandbox.write("large.db", HEAD + b"".join(b"/g/%05d %d 100644 0 0 1\n" % (number, ALL | GOES) for number in range(30000)) + END)
     sandbox.write("none.db", HEAD + END)
     answer = run(sandbox, "--brief", "brief", "large.db", "none.db", "--", "-A", "report_level=summary")
@@ -175,7 +175,7 @@ def try_hostile(sandbox):
         run(sandbox, "--brief", "brief", "none.db", "h.db")
         text = read(sandbox, "brief")
         good = text.count(b"\n") == 5 and not re.search(rb"[\x00-\x09\x0b-\x1f\x7f-\xff]", text)
-        sandbox.check("the hostile name %r" % name, good and b"\\" in text, text)
+        sandbox.holds("the hostile name %r" % name, good and b"\\" in text, text)
 
 
 def try_records(sandbox):
@@ -188,10 +188,10 @@ def try_records(sandbox):
     again = sandbox.call("aide-compare-accept", "--only-packages", "o.db")
     sandbox.expect("they are kept once", again, 0, b"packages: they are kept already\n", b"")
     answer = run(sandbox, "o.db", "n.db")
-    sandbox.check("the records are taken", b"no package explains" not in answer.errors and WORDS.encode() in answer.errors, answer)
+    sandbox.holds("the records are taken", b"no package explains" not in answer.errors and WORDS.encode() in answer.errors, answer)
     kept = sandbox.read("o.db.packages")
     end = kept[kept.rindex(b"\x1f\x8b"):]
-    sandbox.check("the records end with the digest", gzip.decompress(end) == gzip.decompress(marked(OLD)), end)
+    sandbox.holds("the records end with the digest", gzip.decompress(end) == gzip.decompress(marked(OLD)), end)
     for label, text, said in (("of another baseline", kept[:-len(end)] + marked(NEW), b"they belong to another baseline"),
                               ("that are damaged", b"x" * 50, b"no package explains a change: o.db.packages: "),
                               ("that others can write", kept, b"other users can write")):
@@ -232,6 +232,6 @@ def try_no_reasons(sandbox):
         answer = run(sandbox, "--state", "state", "--brief", "brief", "--lines", "lines", "o.db", "n.db")
         sandbox.expect("no reasons by " + fault, answer, 7, b"Added entries:", b"the changes are not explained: ")
         good = not COUNTS.keys() & sandbox.state().keys() and sandbox.state().get("status") == "7"
-        sandbox.check("the state then", good and read(sandbox, "brief") == read(sandbox, "lines") == b"", sandbox.state())
-        sandbox.check("what is said by " + fault, said in answer.errors, answer)
+        sandbox.holds("the state then", good and read(sandbox, "brief") == read(sandbox, "lines") == b"", sandbox.state())
+        sandbox.holds("what is said by " + fault, said in answer.errors, answer)
     sandbox.write(name, text)

@@ -27,7 +27,7 @@ def call(sandbox, *words):
     """The status of a run of aide-compare-mail, its subject and its text, None without a mail."""
     answer = mail.call(sandbox, *words)
     message = mail.sent(sandbox)
-    sandbox.check("nothing is printed by %s" % (words,), answer.output == answer.errors == b"", answer)
+    sandbox.holds("nothing is printed by %s" % (words,), answer.output == answer.errors == b"", answer)
     return answer.status, mail.subject(message), None if message is None else mail.body(message).decode()
 
 
@@ -36,13 +36,13 @@ def try_mails(sandbox):
     prepare(sandbox)
     report = sandbox.call("aide-compare-run", "o.db", "n.db").output.decode()
     status, subject, text = call(sandbox, *REASONS, "o.db", "n.db")
-    sandbox.check("the subject", (status, subject) == (7, mail.SUBJECT + WORDS), (status, subject))
+    sandbox.holds("the subject", (status, subject) == (7, mail.SUBJECT + WORDS), (status, subject))
     accept = "aide-compare-accept --sha256 %s" % sha256(explained.NEW)
     places = [text.find(part) for part in (BRIEF, "New database: n.db", accept, report)]
-    sandbox.check("the order of a mail", places[0] == 0 and -1 not in places and places == sorted(places), text)
-    sandbox.check("the counts are told once", text.count("unexplained") == 1, text)
+    sandbox.holds("the order of a mail", places[0] == 0 and -1 not in places and places == sorted(places), text)
+    sandbox.holds("the counts are told once", text.count("unexplained") == 1, text)
     status, subject, text = call(sandbox, "o.db", "n.db")
-    sandbox.check("without reasons all is as before", subject == mail.SUBJECT + "differences (1 added, 1 removed, 2 changed)", subject)
+    sandbox.holds("without reasons all is as before", subject == mail.SUBJECT + "differences (1 added, 1 removed, 2 changed)", subject)
 
 
 def try_alarm(sandbox):
@@ -50,20 +50,20 @@ def try_alarm(sandbox):
     prepare(sandbox)
     for new, status, is_sent in (("gone.db", 2, False), ("grew.db", 4, True), ("n.db", 7, True)):
         found = call(sandbox, *REASONS, *QUIET, "o.db", new)
-        sandbox.check("the alarm of " + new, found[0] == status and (found[1] is not None) == is_sent, found)
+        sandbox.holds("the alarm of " + new, found[0] == status and (found[1] is not None) == is_sent, found)
         found = call(sandbox, *REASONS, "o.db", new)
-        sandbox.check("without the option %s is mailed" % new, found[0] == status and found[1] is not None, found)
+        sandbox.holds("without the option %s is mailed" % new, found[0] == status and found[1] is not None, found)
     found = call(sandbox, *REASONS, *QUIET, "--alarm-sent-is-success", "o.db", "gone.db")
-    sandbox.check("quiet is success", found == (0, None, None), found)
+    sandbox.holds("quiet is success", found == (0, None, None), found)
     found = call(sandbox, *REASONS, *QUIET, "o.db", "missing.db")
-    sandbox.check("no comparison is an alarm", found[0] == 18 and "no comparison" in (found[1] or ""), found)
+    sandbox.holds("no comparison is an alarm", found[0] == 18 and "no comparison" in (found[1] or ""), found)
     answer = mail.call(sandbox, *QUIET, "o.db", "gone.db")
     sandbox.expect("it needs reasons", answer, 15, b"", b"--alarm unexplained needs --reasons")
     sandbox.write("lib/aide_compare/reasons/explainer.py", sandbox.read("lib/aide_compare/reasons/explainer.py").replace(
         b"        tally = Tally()\n", b"        raise KeyError\n"))
     found = call(sandbox, *REASONS, *QUIET, "o.db", "gone.db")
     good = found[:2] == (2, mail.SUBJECT + "differences (1 removed)") and "the changes are not explained" in (found[2] or "")
-    sandbox.check("without reasons every change is an alarm", good, found)
+    sandbox.holds("without reasons every change is an alarm", good, found)
 
 
 def try_sign_of_life(sandbox):
@@ -73,12 +73,12 @@ def try_sign_of_life(sandbox):
     sandbox.write("quiet.state.quiet", "4 0\n")
     for new in ("gone.db", "o.db", "gone.db"):
         found = call(sandbox, *words, other, "o.db", new)
-        sandbox.check("another day is quiet", found[1] is None, found)
-    sandbox.check("the numbers that are kept", sandbox.read("quiet.state.quiet") == b"7 0 2\n", sandbox.read("quiet.state.quiet"))
+        sandbox.holds("another day is quiet", found[1] is None, found)
+    sandbox.holds("the numbers that are kept", sandbox.read("quiet.state.quiet") == b"7 0 2\n", sandbox.read("quiet.state.quiet"))
     found = call(sandbox, *words, day, "o.db", "gone.db")
-    sandbox.check("the sign of life", found[:2] == (2, mail.SUBJECT + "8 quiet runs, 3 changes explained"), found)
+    sandbox.holds("the sign of life", found[:2] == (2, mail.SUBJECT + "8 quiet runs, 3 changes explained"), found)
     found = call(sandbox, *words, other, "o.db", "gone.db")
-    sandbox.check("it begins anew", sandbox.read("quiet.state.quiet").split()[::2] == [b"1", b"1"], sandbox.read("quiet.state.quiet"))
+    sandbox.holds("it begins anew", sandbox.read("quiet.state.quiet").split()[::2] == [b"1", b"1"], sandbox.read("quiet.state.quiet"))
 
 
 def try_cut(sandbox):
@@ -91,9 +91,9 @@ def try_cut(sandbox):
         status, subject, text = call(sandbox, *REASONS, "--most-mail", size, "none.db", "many.db")
         good = subject == mail.SUBJECT + "3000 unexplained of 3000 changes" and text.startswith(subject[len(mail.SUBJECT):] + "\n\n")
         most = {"1M": 1 << 20, "20k": 20 << 10, "4k": 4 << 10}[size]
-        sandbox.check("a mail of " + size, good and len(text) <= most and "aide-compare-accept --sha256" in text, (len(text), text[:300]))
+        sandbox.holds("a mail of " + size, good and len(text) <= most and "aide-compare-accept --sha256" in text, (len(text), text[:300]))
         listed = [line for line in text.split("\n") if line.startswith("  low     added")]
-        sandbox.check("whole lines of " + size, all(line.endswith(": -rw-r--r-- root:root 1 bytes") for line in listed), listed[-1:])
+        sandbox.holds("whole lines of " + size, all(line.endswith(": -rw-r--r-- root:root 1 bytes") for line in listed), listed[-1:])
 
 
 def try_pages(sandbox):
@@ -104,7 +104,7 @@ def try_pages(sandbox):
     message = mail.sent(sandbox)
     page = message.get_payload()[1].get_payload(decode=True) if message is not None and message.is_multipart() else b""
     good = b'"left_out":{"old":1,"new":1}' in page and b'"reasons":{"explained":1' in page and b'"reason":{' in page
-    sandbox.check("the lines of a page", answer.status == 7 and good, (answer, page))
+    sandbox.holds("the lines of a page", answer.status == 7 and good, (answer, page))
 
 
 def try_false_counts(sandbox):
@@ -113,7 +113,7 @@ def try_false_counts(sandbox):
     line = "\naide-compare-run: 1 change, all explained: unexplained=0 not_verified=0 explained=1 high=0 medium=0 low=0"
     os.rename(sandbox.path("n.db"), sandbox.path("x%s" % line))
     status, subject, _ = call(sandbox, *REASONS, *QUIET, "o.db", "x%s" % line)
-    sandbox.check("a name with counts", subject == mail.SUBJECT + WORDS, (status, subject))
+    sandbox.holds("a name with counts", subject == mail.SUBJECT + WORDS, (status, subject))
 
 
 def write_state(sandbox, counts, **more):
@@ -127,7 +127,7 @@ def check(sandbox, label, status, *parts, words=()):
     answer = sandbox.call("check_aide_compare", "--state", "state", *words)
     line = answer.output.decode()
     good = answer.status == status and line.count("\n") == 1 and all(part in line for part in parts)
-    sandbox.check("the check of " + label, good and line.count("|") == 1, answer)
+    sandbox.holds("the check of " + label, good and line.count("|") == 1, answer)
 
 
 def try_state(sandbox):
@@ -135,7 +135,7 @@ def try_state(sandbox):
     for counts in ((1, 1, 2, 1, 1, 0), (1, 1, 2, 1, 1, 2), (2, 1, 2, 1, 1, 1), (1, 1, 2, 1, 1), (1, 1, "x", 1, 1, 1), (5, -1, 0, 0, 0, -1)):
         write_state(sandbox, counts)
         answer = sandbox.call("check_aide_compare", "--state", "state")
-        sandbox.check("the counts %s" % (counts,), answer.status == 3 and b"no state file" in answer.output, answer)
+        sandbox.holds("the counts %s" % (counts,), answer.status == 3 and b"no state file" in answer.output, answer)
 
 
 def try_check(sandbox):
@@ -169,17 +169,17 @@ def try_limits(sandbox):
         check(sandbox, "a high change by the limit " + name, 2, words=["--critical", name])
     for text in ("0", "x", "-1", "", "High", "1" * 10):
         answer = sandbox.call("check_aide_compare", "--state", "state", "--warning", text)
-        sandbox.check("the limit %r" % text, answer.status == 3 and b"UNKNOWN" in answer.output, answer)
+        sandbox.holds("the limit %r" % text, answer.status == 3 and b"UNKNOWN" in answer.output, answer)
 
 
 def try_metrics_and_log(sandbox):
     write_state(sandbox, (1, 1, 2, 0, 1, 2))
     lines = sandbox.call("aide-compare-metrics", "--state", "state").output.decode().splitlines()
     for name, value in zip(KEYS, (1, 1, 2, 0, 1, 2)):
-        sandbox.check("the metric " + name, "aide_compare_%s_changes %d" % (name, value) in lines, lines)
+        sandbox.holds("the metric " + name, "aide_compare_%s_changes %d" % (name, value) in lines, lines)
     line = sandbox.call("aide-compare-log", "--state", "state").output.decode()
     want = "differences: unexplained=2 not_verified=1 explained=1 high=0 medium=1 low=2 status=7 added=1 removed=1 changed=2 new_sha256="
-    sandbox.check("the line for the log", line.startswith(want), line)
+    sandbox.holds("the line for the log", line.startswith(want), line)
     write_state(sandbox, None)
     lines = sandbox.call("aide-compare-metrics", "--state", "state").output
-    sandbox.check("no metrics of reasons", b"explained" not in lines, lines)
+    sandbox.holds("no metrics of reasons", b"explained" not in lines, lines)

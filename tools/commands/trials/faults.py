@@ -39,7 +39,7 @@ def try_limits(sandbox):
         b'the new database /dev/stdin has more than 1000000 bytes unpacked',
     )
     writer.stdout.close()
-    sandbox.check('an endless stream is ended', writer.wait() != 0)
+    sandbox.holds('an endless stream is ended', writer.wait() != 0)
     sandbox.write('bomb.gz', gzip.compress(b'\0' * 50000000))
     answer = sandbox.call(TOOL, '--most', '1000000', 'bomb.gz', 'new.db', before=SMALL_FILES % (1500000, 1500000))
     sandbox.expect('an endless archive', answer, 18, b'', b'more than 1000000 bytes')
@@ -56,7 +56,7 @@ def try_damage(sandbox):
             b'',
             b'the new database cut.gz is compressed by gzip and is cut short or damaged',
         )
-        sandbox.check(
+        sandbox.holds(
             'the state after gzip cut to %d bytes' % size,
             sandbox.state().get('status') == '18' and 'cut.gz' in sandbox.state()['error'],
         )
@@ -113,7 +113,7 @@ def try_rooms(sandbox):
         b'Changed',
         DIFFER,
     )
-    sandbox.check('nothing is left in a room with an odd name', not os.listdir(sandbox.path('a room\n')))
+    sandbox.holds('nothing is left in a room with an odd name', not os.listdir(sandbox.path('a room\n')))
     sandbox.write('large.db', NEW + b'#' * 50000)
     sandbox.write('large.db.gz', gzip.compress(NEW + b'#' * 50000))
     for new in ('large.db', 'large.db.gz'):
@@ -145,8 +145,8 @@ def try_full_disk(sandbox):
                 b'',
                 [b'the new database ' + new.encode() + b' to ' + small.encode() + b': No space left on device'],
             )
-            sandbox.check('nothing is left on a full disk', not os.listdir(small))
-            sandbox.check('the state of a full disk', 'No space left' in sandbox.state()['error'])
+            sandbox.holds('nothing is left on a full disk', not os.listdir(small))
+            sandbox.holds('the state of a full disk', 'No space left' in sandbox.state()['error'])
         before = sandbox.read('state')
         shutil.copy(sandbox.path('state'), small)
         with open(os.path.join(small, 'filler'), 'wb') as filler:
@@ -156,8 +156,8 @@ def try_full_disk(sandbox):
             except OSError:
                 pass
         answer = sandbox.call(TOOL, 'old.db', 'new.db', '--state', 'small/state')
-        sandbox.check('a full disk of the state', answer.status == 18 and sandbox.read('small/state') == before, answer)
-        sandbox.check('nothing is left beside the state', sorted(os.listdir(small)) == ['filler', 'state'], os.listdir(small))
+        sandbox.holds('a full disk of the state', answer.status == 18 and sandbox.read('small/state') == before, answer)
+        sandbox.holds('nothing is left beside the state', sorted(os.listdir(small)) == ['filler', 'state'], os.listdir(small))
     finally:
         subprocess.call(['umount', small])
 
@@ -185,16 +185,16 @@ def try_programs(sandbox):
     sandbox.expect(
         'a program that does not start', sandbox.call(TOOL, 'old.db', 'new.db', '--state', 'state'), 18, b'', b'GLIBC_2.34'
     )
-    sandbox.check('the state of a program that does not start', sandbox.state()['status'] == '18', sandbox.state())
+    sandbox.holds('the state of a program that does not start', sandbox.state()['status'] == '18', sandbox.state())
     sandbox.stub('aide-compare', '[ "$1" = -D ] || kill -9 $$')
     sandbox.expect(
         'a program that is killed', sandbox.call(TOOL, 'old.db', 'new.db', '--state', 'state'), 18, b'', b'ended by signal 9'
     )
-    sandbox.check('the state of a program that is killed', sandbox.state()['status'] == '18', sandbox.state())
+    sandbox.holds('the state of a program that is killed', sandbox.state()['status'] == '18', sandbox.state())
     sandbox.stub('aide-compare', '[ "$1" = -D ] || { printf "aide: a\\001b\\naide: c\\n" >&2; exit 18; }')
     sandbox.expect('an odd error line', sandbox.call(TOOL, 'old.db', 'new.db', '--state', 'state'), 18, b'',
                    b'aide: a\\001b\naide: c\n')
-    sandbox.check('the state of an odd error line', sandbox.state()['error'] == 'aide: a\\001b' and len(sandbox.state()) == 14,
+    sandbox.holds('the state of an odd error line', sandbox.state()['error'] == 'aide: a\\001b' and len(sandbox.state()) == 14,
                   sandbox.state())
     for label, body in (
         ('a loader that ends with 1', 'exit 1'),
@@ -207,7 +207,7 @@ def try_programs(sandbox):
         sandbox.stub('aide-compare', '[ "$1" = -D ] && exit 0; ' + body)
         answer = sandbox.call(TOOL, 'old.db', 'new.db', '--state', 'state')
         sandbox.expect(label, answer, 18, b'', b'aide-compare-run: ')
-        sandbox.check('the state of ' + label, sandbox.state()['status'] == '18', sandbox.state())
+        sandbox.holds('the state of ' + label, sandbox.state()['status'] == '18', sandbox.state())
     sandbox.stub('aide-compare', 'exec "%s.away" "$@"' % program)
     sandbox.expect('the program in PATH', sandbox.call(TOOL, 'old.db', 'new.db'), 7, b'Changed', DIFFER)
     os.remove(sandbox.path('stubs/aide-compare'))
@@ -223,7 +223,7 @@ def try_closed_errors(sandbox):
         process = sandbox.start(TOOL, 'old.db', new, '--state', 'state', stderr=writing)
         os.close(writing)
         process.communicate()
-        sandbox.check(
+        sandbox.holds(
             'errors that nobody reads, ' + new,
             process.returncode == status and sandbox.state()['status'] == str(status),
             (process.returncode, sandbox.state()),
@@ -281,12 +281,12 @@ def try_signals(sandbox):
             process.communicate()
             label = 'SIG%s during %s' % (name, stage)
             ended = process.returncode == -number and time.time() - begun < 10
-            sandbox.check(label, started and ended, (started, process.returncode))
-            sandbox.check('nothing is left after ' + label, not sandbox.leftovers(), sandbox.leftovers())
-            sandbox.check('no child after ' + label, until(lambda: not running(nap.encode())))
+            sandbox.holds(label, started and ended, (started, process.returncode))
+            sandbox.holds('nothing is left after ' + label, not sandbox.leftovers(), sandbox.leftovers())
+            sandbox.holds('no child after ' + label, until(lambda: not running(nap.encode())))
             for child in running(nap.encode()):
                 os.kill(child, signal.SIGKILL)
-            sandbox.check(
+            sandbox.holds(
                 'the state after ' + label,
                 sandbox.read('state') == b'as before\n' and not [found for found in os.listdir(sandbox.root) if '.part' in found],
             )
@@ -320,6 +320,6 @@ def try_secrecy(sandbox):
         lines = sandbox.read('modes').decode().splitlines()
         deleted = [line for line in lines if line.startswith(sandbox.room + '/#') and line.endswith(' (deleted)')]
         good = answer.status == 7 and lines[1:5] == ['600-0'] * 4 and len(set(deleted)) == 4
-        sandbox.check('private files under the umask %o' % mask, good, lines)
+        sandbox.holds('private files under the umask %o' % mask, good, lines)
     os.remove(program)
     os.rename(program + '.away', program)

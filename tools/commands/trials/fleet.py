@@ -96,17 +96,17 @@ def try_hostile(sandbox):
                                         sandbox.path('hosts'))
     lines = fleet.lines(output)
     good = all(lines.get(host) == '7 added 1, removed 1, changed 2' for host in PAIR)
-    sandbox.check('one hostile host and six others', good and status == 7, (output, errors))
-    sandbox.check('the hostile host is compared', lines.get('evil') == '4 added 0, removed 0, changed 60', lines)
+    sandbox.holds('one hostile host and six others', good and status == 7, (output, errors))
+    sandbox.holds('the hostile host is compared', lines.get('evil') == '4 added 0, removed 0, changed 60', lines)
     report = sandbox.path('store/hosts/evil/report')
     tail = open(report, 'rb').read()[-200:]
-    sandbox.check('what it takes of the store', fleet.size('evil') < 3 << 20, fleet.size('evil'))
-    sandbox.check('its report says that it was cut', b'compare-host: cut here: the report has' in tail, tail)
+    sandbox.holds('what it takes of the store', fleet.size('evil') < 3 << 20, fleet.size('evil'))
+    sandbox.holds('its report says that it was cut', b'compare-host: cut here: the report has' in tail, tail)
     state = fleet.state('evil')
-    sandbox.check('its state has the counts', '\nchanged=60\n' in state, state)
+    sandbox.holds('its state has the counts', '\nchanged=60\n' in state, state)
     fleet.put('bomb', gzip.compress(bytes(80 << 20)))
     status, output, errors = fleet.call('compare-hosts', '--one', 'bomb')
-    sandbox.check('more than 64 MB unpacked, without --most-unpacked', status == 18 and 'has more than 67108864 bytes' in output, output)
+    sandbox.holds('more than 64 MB unpacked, without --most-unpacked', status == 18 and 'has more than 67108864 bytes' in output, output)
 
 
 SMALL = """most=1G
@@ -127,7 +127,7 @@ def try_small_store(sandbox):
               '--time', '60s', sandbox.path('hosts')]
     output = fleet.start(words).communicate(timeout=200)[0].decode()
     good = all('%s 7 added 1, removed 1, changed 2\n' % host in output for host in PAIR)
-    sandbox.check('a store of 40 MB', good and 'endless 18 endless: sent more than' in output, output)
+    sandbox.holds('a store of 40 MB', good and 'endless 18 endless: sent more than' in output, output)
 
 
 def try_endless(sandbox):
@@ -137,9 +137,9 @@ def try_endless(sandbox):
     # No file can get more than 4 MB here: that it is said is not enough, it has to be kept.
     limited = ['sh', '-c', 'ulimit -f 8192; exec "$@"', 'sh']
     status, output, errors = fleet.call('compare-hosts', '--most', '3M', '--one', 'endless', before=limited)
-    sandbox.check('a host that sends without end', status == 18 and 'sent more than 3145728 bytes' in output, (output, errors))
+    sandbox.holds('a host that sends without end', status == 18 and 'sent more than 3145728 bytes' in output, (output, errors))
     left = [name for name in os.listdir(sandbox.path('store/hosts/endless')) if name not in ('aide.db', 'lock')]
-    sandbox.check('nothing is left of what it sent', not left, left)
+    sandbox.holds('nothing is left of what it sent', not left, left)
     # The share of the room is asked of the module itself, so that no file system has to be mounted here.
     program = ('import sys, os\nsys.path.insert(0, %r)\nfrom aide_compare import fleet_store as f\n'
                'real = os.fstatvfs\n'
@@ -147,7 +147,7 @@ def try_endless(sandbox):
                'os.fstatvfs = lambda fd: S\n'
                'print(f.Place(%r, "endless").room(8))' % (sandbox.path('lib'), sandbox.path('store')))
     got = subprocess.run([sys.executable, '-c', program], stdout=subprocess.PIPE).stdout
-    sandbox.check('a host never takes the room of the others', 0 < int(got or 0) * 9 <= ROOM, got)
+    sandbox.holds('a host never takes the room of the others', 0 < int(got or 0) * 9 <= ROOM, got)
 
 
 def try_slow(sandbox):
@@ -157,7 +157,7 @@ def try_slow(sandbox):
         begun = time.time()
         status, output, _ = fleet.call('compare-hosts', '--time', '1s', '--one', host)
         good = status == 18 and 'after 1 seconds' in output and time.time() - begun < 8
-        sandbox.check('a host that is ' + host, good and 'error=%s: had not sent' % host in fleet.state(host), output)
+        sandbox.holds('a host that is ' + host, good and 'error=%s: had not sent' % host in fleet.state(host), output)
 
 
 def try_ended(sandbox):
@@ -177,7 +177,7 @@ def try_ended(sandbox):
             ssh = int(sandbox.read('ssh.pid'))
             gone = wait_for(lambda: not is_alive(ssh))
             good = run.returncode == -number and time.time() - begun < 5 and gone
-            sandbox.check('%s ended by signal %d' % (command, number), good, (run.returncode, gone, time.time() - begun))
+            sandbox.holds('%s ended by signal %d' % (command, number), good, (run.returncode, gone, time.time() - begun))
 
 
 def wait_for(condition):
@@ -202,23 +202,23 @@ def try_told(sandbox):
                        ('coloured', r'a\033[31mb\302\233c (ssh ended with 1)')):
         fleet.put(host, OLD)
         status, output, _ = fleet.call('compare-hosts', '--one', host)
-        sandbox.check('what %s says' % host, status == 18 and output.split('\n')[0].endswith(want), output)
-        sandbox.check('its state', '\nstatus=18\n' in fleet.state(host) and want in fleet.state(host), fleet.state(host))
+        sandbox.holds('what %s says' % host, status == 18 and output.split('\n')[0].endswith(want), output)
+        sandbox.holds('its state', '\nstatus=18\n' in fleet.state(host) and want in fleet.state(host), fleet.state(host))
     fleet.put('killer', OLD)
     sandbox.write('lost', 'good1\nkiller\ngood2\n')
     status, output, _ = fleet.call('compare-hosts', sandbox.path('lost'))
     good = status == 18 and len(output.splitlines()) == 4 and 'killer 18 ended without an answer' in output
-    sandbox.check('a host whose process is killed has a line', good and '\nstatus=18\n' in fleet.state('killer'), output)
+    sandbox.holds('a host whose process is killed has a line', good and '\nstatus=18\n' in fleet.state('killer'), output)
 
 
 def try_wrong(sandbox):
     fleet = Fleet(sandbox)
     for words in (['--same-for', '08x'], ['--same-for', '31d'], ['--time', '-1'], ['--most', '1T']):
         status, output, errors = fleet.call('compare-hosts', *words, sandbox.path('hosts'))
-        sandbox.check('the option %r' % words, status == 15 and not output and errors, (status, errors))
+        sandbox.holds('the option %r' % words, status == 15 and not output and errors, (status, errors))
     for name in ('..', 'a..b', '-x', 'a/b', 'a b', 'x\ny', 'é', 'a' * 201, 'a\n'):
         status = fleet.call('fetch-host', '--', name)[0]
-        sandbox.check('the name %r' % name[:9], status == 15 and name not in os.listdir(sandbox.path('store/hosts')), status)
+        sandbox.holds('the name %r' % name[:9], status == 15 and name not in os.listdir(sandbox.path('store/hosts')), status)
 
 
 def try_same_for(sandbox):
@@ -231,24 +231,24 @@ def try_same_for(sandbox):
         os.utime(kept, (time.time() - 9 * 3600,) * 2)
         for words, want in ((['--same-for', '08h'], 18), (['--same-for', '10h'], 7 if counts else 0), (['--same-for', '0'], 7 if counts else 0)):
             status, output, _ = fleet.call('compare-hosts', *words, '--one', host)
-            sandbox.check('%s with %r' % (host, words), status == want, output)
+            sandbox.holds('%s with %r' % (host, words), status == want, output)
             if want == 18:
                 good = 'for more than 8 hours' in output and counts in output and 'error=%s: has sent' % host in fleet.state(host)
-                sandbox.check('%s says so' % host, good, (output, fleet.state(host)))
+                sandbox.holds('%s says so' % host, good, (output, fleet.state(host)))
         os.utime(kept, (time.time() + 7200,) * 2)
         status, output, _ = fleet.call('compare-hosts', '--one', host)
-        sandbox.check('%s from the future' % host, status == 18 and 'in the future' in output, output)
+        sandbox.holds('%s from the future' % host, status == 18 and 'in the future' in output, output)
 
 
 def try_accepting(sandbox):
     fleet = Fleet(sandbox)
     fleet.put('fresh', OLD, None)
     fleet.call('fetch-host', 'fresh')
-    sandbox.check('no digest', fleet.call('accept-host', 'fresh')[0] == 15)
+    sandbox.holds('no digest', fleet.call('accept-host', 'fresh')[0] == 15)
     status, output, _ = fleet.call('accept-host', '--first', 'fresh')
-    sandbox.check('the first baseline', status == 0 and re.search('SHA-256 [0-9a-f]{64}\n', output), output)
-    sandbox.check('its mode', os.stat(sandbox.path('store/hosts/fresh/aide.db')).st_mode & 0o777 == 0o600)
-    sandbox.check('a second first one', fleet.call('accept-host', '--first', 'fresh')[0] == 24)
+    sandbox.holds('the first baseline', status == 0 and re.search('SHA-256 [0-9a-f]{64}\n', output), output)
+    sandbox.holds('its mode', os.stat(sandbox.path('store/hosts/fresh/aide.db')).st_mode & 0o777 == 0o600)
+    sandbox.holds('a second first one', fleet.call('accept-host', '--first', 'fresh')[0] == 24)
 
 
 def try_shared(sandbox):
@@ -259,5 +259,5 @@ def try_shared(sandbox):
         return
     os.chown(sandbox.path('store/hosts/good1'), 65534, 65534)
     status, output, _ = fleet.call('compare-hosts', '--one', 'good1')
-    sandbox.check('the folder of another user', status == 18 and 'another user can write' in output, output)
+    sandbox.holds('the folder of another user', status == 18 and 'another user can write' in output, output)
     os.chown(sandbox.path('store/hosts/good1'), 0, 0)

@@ -47,7 +47,7 @@ def try_database_hints(sandbox):
         answer = sandbox.call(TOOL, 'old.db', name)
         sandbox.expect('a hint on %s' % label, answer, 24, b'', errors)
         lines = answer.errors.split(b'\n')
-        sandbox.check(
+        sandbox.holds(
             'lines of %s' % label,
             lines[0].startswith(b'aide: ')
             and lines[-1] == b''
@@ -77,7 +77,7 @@ def try_configuration_hints(sandbox):
         answer = sandbox.call(TOOL, '-c', 'odd conf', 'old.db', 'new.db')
         sandbox.expect('a hint on %r' % text, answer, 17, b'', errors)
         if 'lvel' not in text:
-            sandbox.check(
+            sandbox.holds(
                 'no more than a hint on %r' % text,
                 b'lvel is no option' not in answer.errors and b'attrs is no option' not in answer.errors,
                 answer,

@@ -49,8 +49,8 @@ def try_many_hosts(sandbox):
         sizes.append(int(errors.split()[-1]))
         lines = output.splitlines()
         good = run.returncode == 1 and len(lines) == 1 + count + 200 and json.loads(lines[-1])["hosts"] == count
-        sandbox.check("%d hosts" % count, good, (run.returncode, errors, output[:300]))
-    sandbox.check("their memory", sizes[1] < sizes[0] + 8000 and sizes[1] < 60000, sizes)
+        sandbox.holds("%d hosts" % count, good, (run.returncode, errors, output[:300]))
+    sandbox.holds("their memory", sizes[1] < sizes[0] + 8000 and sizes[1] < 60000, sizes)
 
 
 def try_ends(sandbox):
@@ -66,20 +66,20 @@ def try_ends(sandbox):
         os.killpg(lock.pid, signal.SIGKILL)
         lock.wait()
         got = run.returncode, sandbox.leftovers()
-        sandbox.check("signal %d" % number, got == (-number, []), got)
+        sandbox.holds("signal %d" % number, got == (-number, []), got)
     status, output, errors = hosts.report(before=["sh", "-c", "ulimit -f 0; exec \"$@\"", "sh"])
-    sandbox.check("no room", status == 18 and not output and errors and not sandbox.leftovers(), (status, output, errors))
+    sandbox.holds("no room", status == 18 and not output and errors and not sandbox.leftovers(), (status, output, errors))
     run = hosts.start(hosts.words("report-hosts", sandbox.path("hosts")), preexec_fn=None)
     run.stdout.close()
     run.wait()
-    sandbox.check("nobody reads", run.returncode > 7 or run.returncode < 0, run.returncode)
+    sandbox.holds("nobody reads", run.returncode > 7 or run.returncode < 0, run.returncode)
     os.chmod(sandbox.path("store"), 0o777)
     status, output, _ = hosts.report()
     os.chmod(sandbox.path("store"), 0o755)
-    sandbox.check("a store that everybody can write", status == 18 and "4 differ" not in output, output)
+    sandbox.holds("a store that everybody can write", status == 18 and "4 differ" not in output, output)
     shutil.rmtree(sandbox.path("store"))
     status, output, errors = hosts.report()
-    sandbox.check("no store", status == 18 and errors and not output, (status, output, errors))
+    sandbox.holds("no store", status == 18 and errors and not output, (status, output, errors))
 
 
 def try_dropped(sandbox):
@@ -87,4 +87,4 @@ def try_dropped(sandbox):
     begun = time.time()
     done = subprocess.run(words, stdout=subprocess.PIPE, stderr=subprocess.PIPE, timeout=100)
     good = b"Exception ignored" in done.stderr and done.returncode == -signal.SIGTERM and time.time() - begun < 40
-    sandbox.check("a signal that Python drops", good, done)
+    sandbox.holds("a signal that Python drops", good, done)

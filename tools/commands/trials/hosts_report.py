@@ -58,7 +58,7 @@ class Hosts(Fleet):
         found = [json.loads(each) for each in output.splitlines()]
         good = bool(found) and found[0]["lines"] == len(found) and [each["record"] for each in found] == (
             ["summary"] + ["host"] * found[0]["hosts"] + ["change"] * found[0]["changes"])
-        self.sandbox.check("JSON of %s" % (words,), good and output.isascii(), (status, output[-300:], errors))
+        self.sandbox.holds("JSON of %s" % (words,), good and output.isascii(), (status, output[-300:], errors))
         hosts = {each["host"]: each for each in found if each["record"] == "host"}
         return found[0] if found else {}, hosts, [each for each in found if each["record"] == "change"]
 
@@ -83,7 +83,7 @@ def four_hosts(sandbox):
     texts["www4"] = (database(line(b"/etc/p", b"0"), *old[1:]), new(b"other", 4))
     texts["calm"] = (database(*old), database(*old))
     status, output, errors = hosts.compared(texts)
-    sandbox.check("five hosts", status == 7 and "5 hosts: 1 without differences, 4 with" in output, (output, errors))
+    sandbox.holds("five hosts", status == 7 and "5 hosts: 1 without differences, 4 with" in output, (output, errors))
     return hosts
 
 
@@ -92,25 +92,25 @@ def try_same(sandbox):
     hosts = four_hosts(sandbox)
     summary, found, changes = hosts.objects()
     wanted = {"hosts": 5, "unchanged": 1, "differ": 4, "not_compared": 0, "cut": 0, "not_listed": 0, "changes": 5}
-    sandbox.check("the summary", all(summary[key] == value for key, value in wanted.items()), summary)
-    sandbox.check("a host", found["www1"]["listed"] == 4 and found["www1"]["report"] == "whole", found)
+    sandbox.holds("the summary", all(summary[key] == value for key, value in wanted.items()), summary)
+    sandbox.holds("a host", found["www1"]["listed"] == 4 and found["www1"]["report"] == "whole", found)
     got = [(each["kind"], each["path"], each["hosts"], each["names"]) for each in changes]
     most, all_of_them = ["www1", "www2", "www3"], ["www1", "www2", "www3", "www4"]
-    sandbox.check("the changes", got[:2] == [("changed", "/d", 4, all_of_them), ("changed", "/etc/p", 4, all_of_them)]
+    sandbox.holds("the changes", got[:2] == [("changed", "/d", 4, all_of_them), ("changed", "/etc/p", 4, all_of_them)]
                   and got[2] == ("removed", "/gone", 4, all_of_them)
                   and sorted(got[3:]) == [("added", "/usr/.x", 1, ["www4"]), ("added", "/usr/.x", 3, most)], got)
     found = {(each["path"], each["hosts"]): {"attributes": {}, "per_host": [], **each} for each in changes}
     folder, file, same, other = (found.get(key, {"attributes": {}, "per_host": []})
                                  for key in (("/d", 4), ("/etc/p", 4), ("/usr/.x", 3), ("/usr/.x", 1)))
     good = folder["per_host"] == ["Size"] and list(folder["attributes"]) == ["Perm"]
-    sandbox.check("a folder's size is its own", good, folder)
+    sandbox.holds("a folder's size is its own", good, folder)
     values = list(file["attributes"].values())
     good = file["per_host"] == ["Inode"] and values and all("old" not in both and "new" in both for both in values)
-    sandbox.check("old values that are not the same", good, file)
+    sandbox.holds("old values that are not the same", good, file)
     good = "SHA256" in same["attributes"] and not {"Inode", "Mtime"} & set(same["attributes"])
-    sandbox.check("values of three hosts", good and {"Inode", "Mtime"} <= set(same["per_host"]), same)
+    sandbox.holds("values of three hosts", good and {"Inode", "Mtime"} <= set(same["per_host"]), same)
     good = other["attributes"].get("Inode", {}).get("new") == 4 and not other["per_host"]
-    sandbox.check("values of one host", good, other)
+    sandbox.holds("values of one host", good, other)
 
 
 def try_orders(sandbox):
@@ -118,24 +118,24 @@ def try_orders(sandbox):
     hosts = four_hosts(sandbox)
     for order, wanted in (("rare", [1, 3, 4, 4, 4]), ("common", [4, 4, 4, 3, 1])):
         changes = hosts.objects("--order", order)[2]
-        sandbox.check("the order " + order, [each["hosts"] for each in changes] == wanted, changes)
+        sandbox.holds("the order " + order, [each["hosts"] for each in changes] == wanted, changes)
         paths = [each["path"] for each in changes if each["hosts"] == 4]
-        sandbox.check("paths within the order " + order, paths == ["/d", "/etc/p", "/gone"], paths)
+        sandbox.holds("paths within the order " + order, paths == ["/d", "/etc/p", "/gone"], paths)
     changes = hosts.objects("--most-hosts", "2", "--only-path", "/usr/**")[2]
     got = sorted((each["path"], each["hosts"], each["names"]) for each in changes)
-    sandbox.check("two names", got == [("/usr/.x", 1, ["www4"]), ("/usr/.x", 3, ["www1", "www2"])], got)
+    sandbox.holds("two names", got == [("/usr/.x", 1, ["www4"]), ("/usr/.x", 3, ["www1", "www2"])], got)
     status, output, errors = hosts.report("--most-hosts", "2")
     good = output.startswith("aide on 5 hosts: 4 differ, 0 not compared, 1 without differences\n") and status == 7
-    sandbox.check("the text", good and not errors, (status, output, errors))
+    sandbox.holds("the text", good and not errors, (status, output, errors))
     parts = ("added on 3 of 5 hosts: File /usr/.x\n    on www1, www2 and 1 more\n    Size 4, Perm 4755 rwsr-xr-x, UID 0",
              "added on 1 of 5 hosts: File /usr/.x\n    on www4\n", "changed on 4 of 5 hosts: File /etc/p\n",
              "\n    Perm (various) -> 0600 rw-------, ", "\n  www4: added 1, removed 1, changed 2\n")
     for part in parts:
-        sandbox.check("the text has %r" % part, part in output, output)
+        sandbox.holds("the text has %r" % part, part in output, output)
     for words in (["--most-hosts", "0"], ["--order", "x"], ["--only-path", "x"], ["--age", "31d"], ["--json", "--to", "root"],
                   ["--most-mail", "1k"], ["--to", "-x"], ["x"]):
         status, output, errors = hosts.report(*words)
-        sandbox.check("the words %r" % words, status == 15 and not output and errors, (status, output, errors))
+        sandbox.holds("the words %r" % words, status == 15 and not output and errors, (status, output, errors))
 
 
 def try_not_compared(sandbox):
@@ -158,22 +158,22 @@ def try_not_compared(sandbox):
     finally:
         os.killpg(lock.pid, signal.SIGKILL)
         lock.wait()
-    sandbox.check("how many", summary["not_compared"] == 7 and summary["differ"] == 2 and status == 18, (status, summary))
+    sandbox.holds("how many", summary["not_compared"] == 7 and summary["differ"] == 2 and status == 18, (status, summary))
     for name, want in (("unknown", "Host key verification failed"), ("stale", "was compared 27 hours ago and not since"),
                        ("ahead", "in the future"), ("odd", "is no state file"), ("busy", "another run is at work on it"),
                        ("never", "was never compared"), ("a..b", "the name of a host")):
         good = found[name]["status"] in (15, 18) and want in found[name]["error"]
-        sandbox.check("the host " + name, good and "\n  %s: " % name in output and want in output, (found[name], output))
-    sandbox.check("only those of today", all(set(each["names"]) <= {"good1", "linked"} for each in changes), changes)
-    sandbox.check("nothing is made for a host", not os.path.exists(sandbox.path("store/hosts/never")))
+        sandbox.holds("the host " + name, good and "\n  %s: " % name in output and want in output, (found[name], output))
+    sandbox.holds("only those of today", all(set(each["names"]) <= {"good1", "linked"} for each in changes), changes)
+    sandbox.holds("nothing is made for a host", not os.path.exists(sandbox.path("store/hosts/never")))
     found = hosts.objects("--age", "0", "--time", "1s")[1]
-    sandbox.check("any age", found["stale"]["status"] == 7, found["stale"])
+    sandbox.holds("any age", found["stale"]["status"] == 7, found["stale"])
     if os.getuid() == 0:
         os.chown(sandbox.path("store/hosts/good1"), 65534, 65534)
         found = hosts.objects("--time", "1s")[1]
         os.chown(sandbox.path("store/hosts/good1"), 0, 0)
         good = "another user can write" in found["good1"].get("error", "")
-        sandbox.check("the folder of another user", good, found["good1"])
+        sandbox.holds("the folder of another user", good, found["good1"])
 
 
 def try_hostile_names(sandbox):
@@ -183,14 +183,14 @@ def try_hostile_names(sandbox):
     hosts.compared({"good1": (database(), database(*lines)), "good2": (database(), database(*lines))})
     changes = hosts.objects()[2]
     paths, wanted = [path_of(each) for each in changes], [decoded(path) for path in HOSTILE]
-    sandbox.check("the order of paths", paths == sorted(wanted, key=lambda path: path.split(b"/")), paths)
-    sandbox.check("all on two hosts", all(each["hosts"] == 2 for each in changes), changes)
+    sandbox.holds("the order of paths", paths == sorted(wanted, key=lambda path: path.split(b"/")), paths)
+    sandbox.holds("all on two hosts", all(each["hosts"] == 2 for each in changes), changes)
     output = hosts.start(hosts.words("report-hosts", sandbox.path("hosts"))).communicate()[0]
     good = not re.search(rb"[\x00-\x09\x0b-\x1f\x7f]", output) and "\u202e".encode() not in output
-    sandbox.check("escaped", good, output[:900])
-    sandbox.check("UTF-8", output.decode() and max(map(len, output.split(b"\n"))) < 6000, max(map(len, output.split(b"\n"))))
+    sandbox.holds("escaped", good, output[:900])
+    sandbox.holds("UTF-8", output.decode() and max(map(len, output.split(b"\n"))) < 6000, max(map(len, output.split(b"\n"))))
     starts = re.findall(rb"^added on (\d+) of (\d+) hosts: ", output, re.M)
-    sandbox.check("no name begins a line", starts == [(b"2", b"2")] * len(HOSTILE), starts)
+    sandbox.holds("no name begins a line", starts == [(b"2", b"2")] * len(HOSTILE), starts)
 
 
 def try_mail(sandbox):
@@ -201,23 +201,23 @@ def try_mail(sandbox):
     hosts.compared({"calm": (OLD, OLD)})
     status, output, errors = hosts.report("--to", "root")
     good = status == 0 and not os.path.exists(sandbox.path("mail")) and not output + errors
-    sandbox.check("no mail", good, (status, errors))
+    sandbox.holds("no mail", good, (status, errors))
     new = database(*(line(b"/n%04d" % number, b"%d" % number) for number in range(500)))
     hosts.compared({"calm": (OLD, OLD), "good1": (database(), new), "good2": (database(), new), "unknown": (OLD, OLD)})
     status, output, errors = hosts.report("--to", "root", "--most-mail", "30k")
     mail = sandbox.read("mail")
     good = b"\nSubject: aide on 4 hosts: 2 differ, 1 not compared\n" in mail and mail.startswith(b"To: root\n")
-    sandbox.check("its subject", good and status == 18 and not output + errors, (status, output, errors, mail[:300]))
-    sandbox.check("its bound", 10000 < len(mail) < 30 << 10, len(mail))
+    sandbox.holds("its subject", good and status == 18 and not output + errors, (status, output, errors, mail[:300]))
+    sandbox.holds("its bound", 10000 < len(mail) < 30 << 10, len(mail))
     listed, left = mail.count(b"\nadded on 2 of 4 hosts: File /n"), re.search(rb"cut: (\d+) more changes are left out", mail)
-    sandbox.check("what is left out", left and listed + int(left.group(1)) == 500, (listed, left and left.group()))
+    sandbox.holds("what is left out", left and listed + int(left.group(1)) == 500, (listed, left and left.group()))
     command = mail.decode().rstrip("\n").split("\n")[-1].strip()
     done = subprocess.run(["sh", "-c", command], stdout=subprocess.PIPE, env=sandbox.environment())
-    sandbox.check("the command that prints all", done.stdout.count(b"\nadded on 2 of 4 hosts: File /n") == 500, command)
+    sandbox.holds("the command that prints all", done.stdout.count(b"\nadded on 2 of 4 hosts: File /n") == 500, command)
     hosts.compared({"good1": (database(), new), "good3": (database(), database(line(b"/zz")))})
     hosts.report("--to", "root", "--most-mail", "30k")
     good = b"\nadded on 1 of 2 hosts: File /zz\n    on good3\n" in sandbox.read("mail")
-    sandbox.check("a host that crowds out no other", good, sandbox.read("mail")[-400:])
+    sandbox.holds("a host that crowds out no other", good, sandbox.read("mail")[-400:])
     sandbox.write("answer", "75")
     status, output, errors = hosts.report("--to", "root")
-    sandbox.check("a mail that is refused", status == 18 and "cannot send the mail: status 75" in errors, (status, errors))
+    sandbox.holds("a mail that is refused", status == 18 and "cannot send the mail: status 75" in errors, (status, errors))

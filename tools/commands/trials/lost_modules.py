@@ -21,7 +21,7 @@ def try_one(sandbox, folder, name, path, why):
         wanted = status == 3 and output.startswith(b"AIDE UNKNOWN: ")
     else:
         wanted = status == 18 and output == b"" and errors.startswith(name.encode() + b": cannot start: ")
-    sandbox.check("%s, %s" % (name, why), wanted, (status, output, errors))
+    sandbox.holds("%s, %s" % (name, why), wanted, (status, output, errors))
 
 
 def try_lost_modules(sandbox):
@@ -38,6 +38,6 @@ def try_lost_modules(sandbox):
                     path = shutil.copy(os.path.join(HERE, "commands", folder, name), os.path.join(room, place, name))
                     try_one(sandbox, folder, name, path, why)
                     found += 1
-        sandbox.check("a command is found", found > 20, found)
+        sandbox.holds("a command is found", found > 20, found)
     finally:
         shutil.rmtree(room, ignore_errors=True)

@@ -36,7 +36,7 @@ def edit(sandbox, module, old, new):
     """The copied module with one text replaced, such as the folder of sendmail by one of the trial."""
     name = "lib/aide_compare/%s.py" % module
     text = sandbox.read(name).decode()
-    sandbox.check("a text of the module " + module, old in text, old)
+    sandbox.holds("a text of the module " + module, old in text, old)
     sandbox.write(name, text.replace(old, new))
 
 
@@ -59,7 +59,7 @@ def sent(sandbox):
     text = sandbox.read("sent")
     os.remove(sandbox.path("sent"))
     good = all(len(line) <= 998 for line in text.split(b"\n")) and b"\r" not in text and b"\0" not in text
-    sandbox.check("the lines of a mail", good)
+    sandbox.holds("the lines of a mail", good)
     return email.message_from_bytes(text)
 
 
@@ -82,31 +82,31 @@ def try_texts(sandbox):
     for words, to in (([], "root"), (["--to", "a@b.example"], "a@b.example"), (["--to=x, y"], "x, y")):
         sandbox.expect("a mail to " + to, call(sandbox, "old.db", "new.db", *words), 7, b"", b"")
         message = sent(sandbox)
-        sandbox.check("the head of a mail to " + to, message and (message["To"], subject(message)) == (to, SUBJECT + COUNTS))
-        sandbox.check("the form of a mail", message and message.get_content_type() == "text/plain" and message["MIME-Version"]
+        sandbox.holds("the head of a mail to " + to, message and (message["To"], subject(message)) == (to, SUBJECT + COUNTS))
+        sandbox.holds("the form of a mail", message and message.get_content_type() == "text/plain" and message["MIME-Version"]
                       == "1.0" and message["Auto-Submitted"] == "auto-generated" and message["Date"])
         text = body(message)
-        sandbox.check("the report of a mail", report in text and len(report) > 500, text)
-        sandbox.check("the command that accepts", accept.encode() in text.partition(b"\n\n")[0] + b"\n", text)
-        sandbox.check("when it was written", b"New database: new.db, written %s\n" % written.encode() in text, text)
-        sandbox.check("how sendmail is called", sandbox.read("words") == b"-oi -t\n")
+        sandbox.holds("the report of a mail", report in text and len(report) > 500, text)
+        sandbox.holds("the command that accepts", accept.encode() in text.partition(b"\n\n")[0] + b"\n", text)
+        sandbox.holds("when it was written", b"New database: new.db, written %s\n" % written.encode() in text, text)
+        sandbox.holds("how sendmail is called", sandbox.read("words") == b"-oi -t\n")
     sandbox.expect("no mail", call(sandbox, "old.db", "old.db", "--state", "state"), 0, b"", b"")
-    sandbox.check("no mail without a difference", sent(sandbox) is None and sandbox.state()["status"] == "0")
+    sandbox.holds("no mail without a difference", sent(sandbox) is None and sandbox.state()["status"] == "0")
     for words, status in ((["old.db", "missing"], 18), (["old.db", "/dev/null"], 18), (["--odd"], 15),
                           (["old.db", "new.db", "--age", "x"], 15)):
         sandbox.expect("an error of %s" % words, call(sandbox, *words), status, b"", b"")
         message = sent(sandbox)
         good = subject(message) == SUBJECT + "no comparison (status %d)" % status and body(message).startswith(b"aide-compare-run")
-        sandbox.check("a mail of an error of %s" % words, good, message)
+        sandbox.holds("a mail of an error of %s" % words, good, message)
     for words in (["--to"], ["--to", ""], ["--to", "a\nBcc: b"], ["--to", "-x"], ["--to", "é"], ["--most-mail", "x"],
                   ["--weekly", "--", "x"], ["--weekly=Foo"]):
         answer = call(sandbox, "old.db", "new.db", *words)
-        sandbox.check("the arguments %r" % words, answer.status == 15 and sent(sandbox) is None, answer)
+        sandbox.holds("the arguments %r" % words, answer.status == 15 and sent(sandbox) is None, answer)
     sandbox.expect("after --", call(sandbox, "--to", "x", "old.db", "new.db", "--", "-A", "report_level=minimal"), 7, b"", b"")
     message = sent(sandbox)
-    sandbox.check("the subject without counts", subject(message) == SUBJECT + "differences (added, removed, changed)", message)
+    sandbox.holds("the subject without counts", subject(message) == SUBJECT + "differences (added, removed, changed)", message)
     sandbox.expect("an alarm is success", call(sandbox, "old.db", "new.db", "--alarm-sent-is-success"), 0, b"", b"")
-    sandbox.check("the mail of an alarm", subject(sent(sandbox)) == SUBJECT + COUNTS)
+    sandbox.holds("the mail of an alarm", subject(sent(sandbox)) == SUBJECT + COUNTS)
 
 
 def try_hostile(sandbox):
@@ -118,7 +118,7 @@ def try_hostile(sandbox):
         text = body(sent(sandbox)).decode("utf-8", "surrogateescape")
         bad = [letter for letter in text if ord(letter) in range(0x7F, 0xA0) or ord(letter) in range(0x202A, 0x202F)
                or ord(letter) > 0xDC7F and ord(letter) < 0xDD00]
-        sandbox.check("the mail of a hostile name", not bad and "Added entries" in text and "\nBcc" not in text, text[:900])
+        sandbox.holds("the mail of a hostile name", not bad and "Added entries" in text and "\nBcc" not in text, text[:900])
 
 
 def try_bounds(sandbox):
@@ -130,15 +130,15 @@ def try_bounds(sandbox):
     size = os.stat(sandbox.path("sent")).st_size if os.path.exists(sandbox.path("sent")) else 0
     message = sent(sandbox)
     text = body(message)
-    sandbox.check("the size of a cut mail", 10000 < size <= 1 << 20, size)
-    sandbox.check("the counts of a cut mail", b"Added entries:           60000" in text and "60000 added" in subject(message))
-    sandbox.check("the paths of a cut mail", text.count(b": /f0") == 1000, text.count(b": /f0"))
-    sandbox.check("what was cut", b"1000 paths are listed, 59000 are left out" in text, text[-500:])
+    sandbox.holds("the size of a cut mail", 10000 < size <= 1 << 20, size)
+    sandbox.holds("the counts of a cut mail", b"Added entries:           60000" in text and "60000 added" in subject(message))
+    sandbox.holds("the paths of a cut mail", text.count(b": /f0") == 1000, text.count(b": /f0"))
+    sandbox.holds("what was cut", b"1000 paths are listed, 59000 are left out" in text, text[-500:])
     command = sandbox.path("bin/aide-compare-run").encode() + b" empty.db large.db\n"
-    sandbox.check("the command for the rest", command in text, text[-500:])
+    sandbox.holds("the command for the rest", command in text, text[-500:])
     sandbox.expect("a small bound", call(sandbox, "empty.db", "large.db", "--most-mail", "8k"), 1, b"", b"")
     size = os.stat(sandbox.path("sent")).st_size if os.path.exists(sandbox.path("sent")) else 0
-    sandbox.check("the size by a small bound", 1000 < size <= 8192, size)
+    sandbox.holds("the size by a small bound", 1000 < size <= 8192, size)
     sent(sandbox)
 
 
@@ -153,7 +153,7 @@ def try_refusals(sandbox):
     sandbox.expect("a short mail", answer, 1, b"", [b"only a short mail was sent", b"too big"])
     message = sent(sandbox)
     good = subject(message) == SUBJECT + "differences (500 added)" and b"message file too big" in body(message)
-    sandbox.check("what a short mail says", good and b"aide-compare-accept --sha256" in body(message), message)
+    sandbox.holds("what a short mail says", good and b"aide-compare-accept --sha256" in body(message), message)
     sandbox.stub("sendmail", 'cat > /dev/null; echo "no route" >&2; exit 75')
     sandbox.expect("a mailer that fails", call(sandbox, "old.db", "new.db"), 18, b"",
                    [b"cannot send the mail", b"status 75", b"no route"])
@@ -163,14 +163,14 @@ def try_refusals(sandbox):
     start = time.monotonic()
     sandbox.expect("a mailer that hangs", call(sandbox, "old.db", "new.db", "--mail-time", "1s"), 18, b"",
                    [b"did not end within 1 seconds"])
-    sandbox.check("the time limit", time.monotonic() - start < 20, time.monotonic() - start)
+    sandbox.holds("the time limit", time.monotonic() - start < 20, time.monotonic() - start)
     os.remove(sandbox.path("stubs/sendmail"))
     edit(sandbox, "sending", '("/usr/sbin/sendmail", "/usr/lib/sendmail")', "()")
     path = {"PATH": sandbox.path("stubs") + ":/usr/bin:/bin"}
     for new, status in (("new.db", "7"), ("old.db", "0")):
         answer = call(sandbox, "old.db", new, "--state", "state", environment=path)
         sandbox.expect("no mailer, " + new, answer, 18, b"", [b"cannot find sendmail", b"ended with status " + status.encode()])
-        sandbox.check("the state without a mailer", sandbox.state()["status"] == status)
+        sandbox.holds("the state without a mailer", sandbox.state()["status"] == status)
     take_mail(sandbox)
 
 
@@ -188,7 +188,7 @@ def try_journal(sandbox):
             except socket.timeout:
                 line = b""
         os.remove(sandbox.path(name))
-        sandbox.check("the line in " + name, line.startswith(wanted) and COUNTS.encode() in line, line)
+        sandbox.holds("the line in " + name, line.startswith(wanted) and COUNTS.encode() in line, line)
     sandbox.expect("no log either", call(sandbox, "old.db", "new.db"), 18, b"", [b"no system log either"])
     take_mail(sandbox)
 
@@ -208,7 +208,7 @@ def try_room(sandbox):
             answer, message = call(sandbox, "empty.db", "half.db", environment={"TMPDIR": folder}), sent(sandbox)
             good = message is not None and (answer.status == 1 and "differences (4000 added)" in subject(message)
                                             or answer.status == 18 and "no comparison (status 18)" in subject(message))
-            sandbox.check("a mail with %d kB" % size, good and not os.listdir(folder), (answer, message))
+            sandbox.holds("a mail with %d kB" % size, good and not os.listdir(folder), (answer, message))
         finally:
             subprocess.run(["umount", folder])
 
@@ -219,21 +219,21 @@ def try_queue(sandbox):
     sandbox.expect("a mail that waits", call(sandbox, "old.db", "new.db", *queue), 0, b"", b"")
     names = os.listdir(sandbox.path("queue")) if os.path.isdir(sandbox.path("queue")) else []
     mode = stat.S_IMODE(os.stat(sandbox.path("queue/" + names[0])).st_mode) if names else None
-    sandbox.check("what waits", len(names) == 1 and mode == 0o600 and sent(sandbox) is None, (names, mode))
+    sandbox.holds("what waits", len(names) == 1 and mode == 0o600 and sent(sandbox) is None, (names, mode))
     sandbox.stub("sendmail", "exit 75")
     sandbox.expect("it cannot be sent", call(sandbox, "--send-queue", "queue"), 18, b"", [b"cannot send the mail"])
-    sandbox.check("it waits on", os.listdir(sandbox.path("queue")) == names)
+    sandbox.holds("it waits on", os.listdir(sandbox.path("queue")) == names)
     take_mail(sandbox)
     sandbox.expect("it is sent", call(sandbox, "--send-queue", "queue"), 0, b"", b"")
-    sandbox.check("what was sent", subject(sent(sandbox)) == SUBJECT + COUNTS and not os.listdir(sandbox.path("queue")))
+    sandbox.holds("what was sent", subject(sent(sandbox)) == SUBJECT + COUNTS and not os.listdir(sandbox.path("queue")))
     os.symlink(sandbox.path("old.db"), sandbox.path("queue/1.mail"))
-    sandbox.check("a link that waits", call(sandbox, "--send-queue", "queue").status == 18 and sent(sandbox) is None)
+    sandbox.holds("a link that waits", call(sandbox, "--send-queue", "queue").status == 18 and sent(sandbox) is None)
     if os.path.lexists(sandbox.path("queue/1.mail")):
         os.remove(sandbox.path("queue/1.mail"))
     failed = {"MONITOR_SERVICE_RESULT": "exit-code", "MONITOR_UNIT": "x.service", "MONITOR_EXIT_STATUS": "18"}
     call(sandbox, "--send-queue", "queue", environment=failed)
     message = sent(sandbox)
-    sandbox.check("a unit that failed", "failed" in (subject(message) or "") and b"x.service" in body(message), message)
+    sandbox.holds("a unit that failed", "failed" in (subject(message) or "") and b"x.service" in body(message), message)
     for number in range(64):
         sandbox.write("queue/%d.mail" % number, "x")
     sandbox.expect("a full queue", call(sandbox, "old.db", "new.db", *queue), 18, b"", [b"64 mails wait already"])
@@ -243,16 +243,16 @@ def try_queue(sandbox):
 def try_test_and_weekly(sandbox):
     prepare(sandbox)
     sandbox.expect("a test", call(sandbox, "--test"), 0, b"", b"")
-    sandbox.check("the test mail", subject(sent(sandbox)) == SUBJECT + "test")
+    sandbox.holds("the test mail", subject(sent(sandbox)) == SUBJECT + "test")
     day, other = time.strftime("%a", time.localtime()), time.strftime("%a", time.localtime(time.time() + 2 * 86400))
     words = ["old.db", "old.db", "--state", "weekly.state", "--weekly"]
     for _ in range(2):
         sandbox.expect("another day", call(sandbox, *words, other), 0, b"", b"")
-        sandbox.check("no sign of life on another day", sent(sandbox) is None)
+        sandbox.holds("no sign of life on another day", sent(sandbox) is None)
     sandbox.expect("the day", call(sandbox, *words, day), 0, b"", b"")
-    sandbox.check("the sign of life", subject(sent(sandbox)) == SUBJECT + "no difference in 3 runs")
+    sandbox.holds("the sign of life", subject(sent(sandbox)) == SUBJECT + "no difference in 3 runs")
     sandbox.expect("the day again", call(sandbox, *words, day), 0, b"", b"")
-    sandbox.check("only once a day", sent(sandbox) is None)
+    sandbox.holds("only once a day", sent(sandbox) is None)
 
 
 def try_pages(sandbox):
@@ -263,11 +263,11 @@ def try_pages(sandbox):
     message = sent(sandbox)
     parts = message.get_payload() if message is not None and message.is_multipart() else []
     kinds = [each.get_content_type() for each in parts]
-    sandbox.check("the parts", kinds == ["text/plain", "text/html"], message)
-    sandbox.check("a plain page with the host", len(parts) == 2 and b"--plain --title File changes on " in body(parts[1]), parts)
+    sandbox.holds("the parts", kinds == ["text/plain", "text/html"], message)
+    sandbox.holds("a plain page with the host", len(parts) == 2 and b"--plain --title File changes on " in body(parts[1]), parts)
     sandbox.stub("aide-compare-html", 'echo "an odd report" >&2; exit 3', "bin")
     sandbox.expect("a page that fails", call(sandbox, "--html", "old.db", "new.db"), 7, b"", b"")
-    sandbox.check("a mail without a page", body(sent(sandbox)).endswith(note + b"an odd report\n"))
+    sandbox.holds("a mail without a page", body(sent(sandbox)).endswith(note + b"an odd report\n"))
 
 
 def try_units(sandbox):
@@ -278,11 +278,11 @@ def try_units(sandbox):
     for word in ("NoNewPrivileges", "RestrictAddressFamilies", "SystemCall", "PrivateDevices", "ProtectKernel", "ProtectClock",
                  "RestrictNamespaces", "RestrictSUIDSGID", "LockPersonality", "MemoryDeny", "ProtectHostname", "DynamicUser",
                  "RestrictRealtime"):
-        sandbox.check("the sending unit without " + word, not any(line.startswith(word) for line in plain))
+        sandbox.holds("the sending unit without " + word, not any(line.startswith(word) for line in plain))
     for line in ("KillMode=process", "ReadWritePaths=-/var/mail -/var/spool -/var/log", "User=_aide", "Type=oneshot"):
-        sandbox.check("the sending unit: " + line, line in plain)
+        sandbox.holds("the sending unit: " + line, line in plain)
     daily = text["aide-compare.service"].splitlines()
     for line in ("NoNewPrivileges=yes", "CapabilityBoundingSet=", "User=_aide", "After=dailyaidecheck.service",
                  "OnSuccess=aide-compare-mail.service", "OnFailure=aide-compare-failed.service"):
-        sandbox.check("the daily unit: " + line, line in daily)
-    sandbox.check("no status of differences is a success", not any(line.startswith("SuccessExitStatus") for line in daily))
+        sandbox.holds("the daily unit: " + line, line in daily)
+    sandbox.holds("no status of differences is a success", not any(line.startswith("SuccessExitStatus") for line in daily))

@@ -118,7 +118,7 @@ def prepare(sandbox):
     """Writes the keys, and a stub where there is no gpgv. Says which of both is tried."""
     for name, text in (("archive.gpg", KEYRING), ("other.gpg", OTHER_KEYRING)):
         sandbox.write(name, base64.b64decode(text))
-    sandbox.check("the stored text is the signed one", release() in RELEASE, release())
+    sandbox.holds("the stored text is the signed one", release() in RELEASE, release())
     if not shutil.which("gpgv"):
         sandbox.stub("gpgv", STUB % hashlib.sha256(RELEASE.encode()).hexdigest())
         print("gpgv is not installed: a stub stands in for it")
@@ -181,4 +181,4 @@ def try_forms(sandbox):
                            and found.links == {b"/" + name.encode(): to.encode() for name, to in LINKS.items()})
                 except Refuted as refuted:
                     got = str(refuted) == ""
-            sandbox.check("a package packed as %r, %s" % (form, label), got == good, got)
+            sandbox.holds("a package packed as %r, %s" % (form, label), got == good, got)

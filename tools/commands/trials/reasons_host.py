@@ -164,14 +164,14 @@ class Host:
         """Checks the reasons of paths: `class grade`, with a `!` after it if the content is verified, and `-` for none. All
         other changes are not looked at."""
         answer, objects = self.ask(sandbox, *words, **more)
-        sandbox.check("reasons are given", answer.status == 0 and not sandbox.leftovers(), (answer, sandbox.leftovers()))
+        sandbox.holds("reasons are given", answer.status == 0 and not sandbox.leftovers(), (answer, sandbox.leftovers()))
         found = {}
         for fields in objects:
             if fields["record"] == "entry":
                 path = bytes.fromhex(fields["path_hex"]) if "path_hex" in fields else fields["path"].encode()
                 found[path] = in_short(fields.get("reason"))
         for (label, path), want in wanted.items():
-            sandbox.check("%s: %s" % (label, path.decode("utf-8", "replace")), found.get(path, "no change") == want,
+            sandbox.holds("%s: %s" % (label, path.decode("utf-8", "replace")), found.get(path, "no change") == want,
                           (found.get(path, "no change"), want))
         return objects
 

@@ -51,15 +51,15 @@ def try_same(sandbox):
         answer = sandbox.call(NAME, *GIVEN, *(("--rules", "rules") if number % 2 else ()), text=before.output)
         lines = answer.output.splitlines(True)
         objects = [json.loads(line) for line in lines]
-        sandbox.check("random report %d" % number, report.status in range(1, 8) and answer.status == 0, (report, answer))
+        sandbox.holds("random report %d" % number, report.status in range(1, 8) and answer.status == 0, (report, answer))
         same = b"".join(without_ours(line) for line in lines) == before.output
-        sandbox.check("its lines are the same", same and len(objects) > 10, (before.output[:300], answer.output[:300]))
+        sandbox.holds("its lines are the same", same and len(objects) > 10, (before.output[:300], answer.output[:300]))
         counts = counts_of(objects)
-        sandbox.check("its counts", objects[0]["reasons"] == counts and counts["not_verified"] == sum(
+        sandbox.holds("its counts", objects[0]["reasons"] == counts and counts["not_verified"] == sum(
             "reason" in fields for fields in objects[1:]), (objects[0], counts))
     answer = sandbox.call(NAME, *GIVEN, text=before.output.replace(b'"kind":"', b'"kind": "'))
     same = b"".join(map(without_ours, answer.output.splitlines(True))) == before.output.replace(b'"kind":"', b'"kind": "')
-    sandbox.check("lines with other blanks", same and answer.status == 0, answer)
+    sandbox.holds("lines with other blanks", same and answer.status == 0, answer)
     sandbox.write("same.db", OLD)
     empty = sandbox.call("aide-compare-json", text=sandbox.call("aide-compare-run", "same.db", "same.db").output)
     answer = sandbox.call(NAME, "--databases", "same.db", "same.db", text=empty.output)
@@ -172,25 +172,25 @@ def try_records(sandbox):
     sandbox.write("kept.packages", text)
     read = records.KeptRecords(sandbox.path("kept.packages"))
     found = {name: read.read(name) for name in read.names}
-    sandbox.check("records are kept whole", found == {name: text for name, text in files.items() if text != b"no"}, found)
-    sandbox.check("twice the same", kept() == text)
-    sandbox.check("there are records", records.has_records(sandbox.path("dpkg")) and not records.has_records(sandbox.path("bin")))
+    sandbox.holds("records are kept whole", found == {name: text for name, text in files.items() if text != b"no"}, found)
+    sandbox.holds("twice the same", kept() == text)
+    sandbox.holds("there are records", records.has_records(sandbox.path("dpkg")) and not records.has_records(sandbox.path("bin")))
     for label, name, mode in (("a file", "dpkg/info/tool.list", 0o666), ("the folder", "dpkg", 0o777)):
         before = os.stat(sandbox.path(name)).st_mode & 0o7777
         os.chmod(sandbox.path(name), mode)
         try:
             kept()
-            sandbox.check("%s that others can write" % label, False, "kept")
+            sandbox.holds("%s that others can write" % label, False, "kept")
         except fault as refused:
-            sandbox.check("%s that others can write" % label, refused.status == 18, refused.text)
+            sandbox.holds("%s that others can write" % label, refused.status == 18, refused.text)
         os.chmod(sandbox.path(name), before)
     os.remove(sandbox.path("dpkg/info/tool.list"))
     os.symlink("/etc/passwd", sandbox.path("dpkg/info/tool.list"))
     try:
         kept()
-        sandbox.check("a link in place of a list", False, "kept")
+        sandbox.holds("a link in place of a list", False, "kept")
     except fault as refused:
-        sandbox.check("a link in place of a list", refused.status == 18, refused.text)
+        sandbox.holds("a link in place of a list", refused.status == 18, refused.text)
 
 
 def try_interface(sandbox):
@@ -208,7 +208,7 @@ def try_interface(sandbox):
         explainer = Explainer(old.fileno(), new.fileno(), evidence_of(SimpleNamespace(archive=[], keyring=[], **none)))
         given = [{"record": "entry", "kind": "removed", "path": "/b"}, {"record": "entry", "kind": "changed", "path": "/var/log/a"}]
         found = list(explainer.explain(iter(given)))
-    sandbox.check("the objects", found == [
+    sandbox.holds("the objects", found == [
         {**given[0], "severity": "medium"}, {**given[1], "severity": "low", "reason": {
             "class": "growing", "text": "grew, content not verified", "verified": False, "grade": "databases"}}], found)
-    sandbox.check("the counts", explainer.counts == Counts(0, 1, 1, 0, 1, 1), explainer.counts)
+    sandbox.holds("the counts", explainer.counts == Counts(0, 1, 1, 0, 1, 1), explainer.counts)

@@ -53,13 +53,13 @@ def explained(sandbox, name, parts):
     lines = sandbox.call("aide-compare-json", text=report.output).output
     answer = sandbox.call(NAME, "--databases", "old.db", "new.db", "--packages", "old.packages", "--packages-now", "new.packages",
                           text=lines)
-    sandbox.check("%s is explained" % name, answer.status == 0, answer)
+    sandbox.holds("%s is explained" % name, answer.status == 0, answer)
     return [json.loads(line) for line in answer.output.splitlines()]
 
 
 def try_nights(sandbox):
     names = sorted(name[:-4] for name in os.listdir(FOLDER) if name.endswith(".txt"))
-    sandbox.check("there are nights", len(names) == 8, names)
+    sandbox.holds("there are nights", len(names) == 8, names)
     for name in names:
         parts = read_night(name)
         objects = explained(sandbox, name, parts)
@@ -67,7 +67,7 @@ def try_nights(sandbox):
                  for fields in objects if fields["record"] == "entry"}
         wanted = dict(reversed(line.split("\t")) for line in parts["wanted"].splitlines())
         for path in sorted(found.keys() | wanted.keys()):
-            sandbox.check("%s, %s" % (name, path), found.get(path) == wanted.get(path), (found.get(path), wanted.get(path)))
+            sandbox.holds("%s, %s" % (name, path), found.get(path) == wanted.get(path), (found.get(path), wanted.get(path)))
         check_marks(sandbox, name, found)
 
 
@@ -77,7 +77,7 @@ def check_marks(sandbox, name, found):
         return
     for path in ALWAYS + MARKS[name]:
         want = "package_made dpkg " if any(part in path for part in MADE_ONLY) else "- "
-        sandbox.check("%s, a mark of the intruder: %s" % (name, path), found.get(path, "").startswith(want), found.get(path))
+        sandbox.holds("%s, a mark of the intruder: %s" % (name, path), found.get(path, "").startswith(want), found.get(path))
     if name in FORGED:
         got = found.get(FORGED[name], "")
-        sandbox.check("%s, forged records are told apart by the grade" % name, got.startswith("package dpkg!"), got)
+        sandbox.holds("%s, forged records are told apart by the grade" % name, got.startswith("package dpkg!"), got)

@@ -131,7 +131,7 @@ def try_rules(sandbox):
     wanted["a new device", b"/srv/data/new-device"] = "-"
     objects = host.expect(sandbox, wanted, "--rules", "rules", records=False)
     texts = {fields["reason"]["text"] for fields in objects if "reason" in fields}
-    sandbox.check("the texts of rules, escaped", texts >= {"written each day", "modes\\033[0m"}, texts)
+    sandbox.holds("the texts of rules, escaped", texts >= {"written each day", "modes\\033[0m"}, texts)
     for label, text in (("a line of two words", b"content /srv/*\n"), ("an unknown word", b"contents /srv/* x\n"),
                         ("no pattern", b"content srv x\n")):
         sandbox.write("bad", b"# ..\n" + text)
@@ -174,15 +174,15 @@ def try_severity(sandbox):
                 night.add(path, mode, size=size)
         answer, objects = host.ask(sandbox, records=False)
         found = objects[1].get("severity") if len(objects) > 1 else answer
-        sandbox.check("severity %d of %s" % (number, path.decode()), found == want, (found, want))
+        sandbox.holds("severity %d of %s" % (number, path.decode()), found == want, (found, want))
         level = {"high": 0, "medium": 0, "low": 0, want: 1, "explained": 0, "not_verified": 0, "unexplained": 1}
-        sandbox.check("its count", bool(objects) and objects[0]["reasons"] == level, objects[:1])
+        sandbox.holds("its count", bool(objects) and objects[0]["reasons"] == level, objects[:1])
     sandbox.write("table", b"low added,link /opt/*\nhigh any /opt/*\n")
     host = Host()
     host.new.link(b"/opt/a", b"b").file(b"/opt/b", ONE).file(b"/srv/c", ONE)
     answer, objects = host.ask(sandbox, "--severity", "table", records=False)
     found = [fields.get("severity") for fields in objects[1:4]]
-    sandbox.check("another table", found == ["low", "high", "medium"], (found, answer))
+    sandbox.holds("another table", found == ["low", "high", "medium"], (found, answer))
     for text in (b"urgent any /opt/*\n", b"low /opt/*\n", b"low odd /opt/*\n", b"low any opt\n"):
         sandbox.write("table", text)
         answer, _ = host.ask(sandbox, "--severity", "table", records=False)

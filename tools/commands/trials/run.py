@@ -43,14 +43,14 @@ def direct(sandbox, *words):
 
 def try_reports(sandbox):
     status, report = direct(sandbox)
-    sandbox.check('the databases differ in every way', status == 7, status)
+    sandbox.holds('the databases differ in every way', status == 7, status)
     for old in ('old.db', 'old.db.gz'):
         for new in ('new.db', 'new.db.gz'):
             want = report.replace(sandbox.path('old.db').encode(), b'/proc/self/fd/3')
             want = want.replace(sandbox.path('new.db').encode(), b'/proc/self/fd/4')
             answer = sandbox.call(TOOL, old, new)
             sandbox.expect('the report of %s and %s' % (old, new), answer, 7, want, DIFFER)
-            sandbox.check('the whole report of %s and %s' % (old, new), answer.output == want, answer)
+            sandbox.holds('the whole report of %s and %s' % (old, new), answer.output == want, answer)
     for new, status in (
         (OLD, 0),
         (OLD.replace(END, b'/e 36 100644 1\n' + END), 1),
@@ -92,7 +92,7 @@ def try_names(sandbox):
             '\\%03o' % byte if byte < 32 or byte in (92, 127, 255) else chr(byte) for byte in os.fsencode('./odd/' + name)
         )
         given = sandbox.state().get('new', '').encode('utf-8', 'surrogateescape').decode('latin-1')
-        sandbox.check('the name %r in the state' % name, given == printed, given)
+        sandbox.holds('the name %r in the state' % name, given == printed, given)
     sandbox.expect(
         'a name with ..',
         sandbox.call(TOOL, 'odd/../old.db', sandbox.path('bin/../../') + os.path.basename(sandbox.root) + '/new.db'),
@@ -101,7 +101,7 @@ def try_names(sandbox):
         [b'aide-compare-run: old database: odd/../old.db, written '],
     )
     errors = sandbox.call(TOOL, 'odd/old é', 'new.db').errors
-    sandbox.check('the true names', re.fullmatch(
+    sandbox.holds('the true names', re.fullmatch(
         ('aide-compare-run: old database: odd/old é, written %s, SHA-256 %s\n'
          'aide-compare-run: new database: new.db, written %s, SHA-256 %s\n' % (DATE, sha256(OLD), DATE, sha256(NEW))).encode(),
         errors), errors)
@@ -180,7 +180,7 @@ def try_arguments(sandbox):
         ['-B', 'report_level=minimal'],
     ):
         answer = sandbox.call(TOOL, 'old.db', 'new.db', '--', *words)
-        sandbox.check('the arguments %r' % words, (answer.status, answer.output) == (7, minimal), answer)
+        sandbox.holds('the arguments %r' % words, (answer.status, answer.output) == (7, minimal), answer)
     answer = sandbox.call(TOOL, 'old.db', 'new.db', '--', '-A', 'database_in=file:/no')
     sandbox.expect('the databases of the command line win', answer, 7, minimal, DIFFER)
     for words in ([], ['old.db', 'new.db', 'x']):
@@ -211,7 +211,7 @@ def try_state(sandbox):
     before = int(time.time())
     sandbox.call(TOOL, 'old.db.gz', './new.db', '--state', 'state')
     state = sandbox.state()
-    sandbox.check('the keys of a state', list(state) == KEYS and sandbox.read('state').count(b'\n') == len(KEYS), state)
+    sandbox.holds('the keys of a state', list(state) == KEYS and sandbox.read('state').count(b'\n') == len(KEYS), state)
     want = {
         'format': '2',
         'status': '7',
@@ -222,19 +222,19 @@ def try_state(sandbox):
         'new': './new.db',
         'error': '',
     }
-    sandbox.check('the values of a state', {**state, **want} == state, state)
+    sandbox.holds('the values of a state', {**state, **want} == state, state)
     moment = int(state.get('time', '0'))
-    sandbox.check('the time of a state', before <= moment <= time.time(), state)
-    sandbox.check('the date of a state', state.get('date') == time.strftime('%Y-%m-%dT%H:%M:%SZ', time.gmtime(moment)), state)
+    sandbox.holds('the time of a state', before <= moment <= time.time(), state)
+    sandbox.holds('the date of a state', state.get('date') == time.strftime('%Y-%m-%dT%H:%M:%SZ', time.gmtime(moment)), state)
     for mask in (0o77, 0o22):
         sandbox.call(TOOL, 'old.db', 'new.db', '--state', 'masked/by/state', before=UMASK % mask)
-        sandbox.check('the mode of a state', os.stat(sandbox.path('masked/by/state')).st_mode & 0o7777 == 0o644)
-        sandbox.check('the mode of its folder', os.stat(sandbox.path('masked/by')).st_mode & 0o777 == 0o755)
-    sandbox.check('nothing beside a state', os.listdir(sandbox.path('masked/by')) == ['state'],
+        sandbox.holds('the mode of a state', os.stat(sandbox.path('masked/by/state')).st_mode & 0o7777 == 0o644)
+        sandbox.holds('the mode of its folder', os.stat(sandbox.path('masked/by')).st_mode & 0o777 == 0o755)
+    sandbox.holds('nothing beside a state', os.listdir(sandbox.path('masked/by')) == ['state'],
                   os.listdir(sandbox.path('masked/by')))
     sandbox.call(TOOL, 'old.db', 'old.db', '--state', 'state')
     state = sandbox.state()
-    sandbox.check(
+    sandbox.holds(
         'a state without a difference', [state[key] for key in KEYS[4:7]] == ['0'] * 3 and state['status'] == '0', state
     )
     sandbox.write('bad.db', NEW.replace(b'@@end_db', b'\x01|x'))
@@ -245,7 +245,7 @@ def try_state(sandbox):
     ):
         sandbox.call(TOOL, '--state', 'state', *words)
         state = sandbox.state()
-        sandbox.check(
+        sandbox.holds(
             'the state of a status %s' % status,
             state['status'] == status
             and state['error'].startswith(error)
@@ -255,7 +255,7 @@ def try_state(sandbox):
         )
     before = sandbox.read('state')
     sandbox.call(TOOL, '--state', 'state', 'old.db')
-    sandbox.check('bad arguments leave the state', sandbox.read('state') == before)
+    sandbox.holds('bad arguments leave the state', sandbox.read('state') == before)
 
 
 def try_counts(sandbox):
@@ -277,8 +277,8 @@ def try_counts(sandbox):
         plain = sandbox.call(TOOL, 'old.db', 'new.db', *words)
         answer = sandbox.call(TOOL, '--state', 'state', 'old.db', 'new.db', *words)
         state = sandbox.state()
-        sandbox.check('the counts with %r' % words, [state[key] for key in KEYS[4:7]] == ['1', '1', changed], state)
-        sandbox.check(
+        sandbox.holds('the counts with %r' % words, [state[key] for key in KEYS[4:7]] == ['1', '1', changed], state)
+        sandbox.holds(
             'the report with %r' % words,
             (answer.output, answer.errors, answer.status) == (plain.output, plain.errors, plain.status),
             answer,
@@ -305,7 +305,7 @@ def try_runs(sandbox):
         sandbox.write('ran', '')
         answer = sandbox.call(TOOL, 'old.db', 'new.db', *words)
         found = sandbox.read('ran').count(b'x')
-        sandbox.check('%d runs with %r' % (runs, words), answer.status == 7 and found == runs, (found, answer))
+        sandbox.holds('%d runs with %r' % (runs, words), answer.status == 7 and found == runs, (found, answer))
     os.rename(program + '.away', program)
 
 
@@ -323,10 +323,10 @@ def try_state_faults(sandbox):
     sandbox.call(TOOL, 'old.db', 'new.db', '--state', 'state')
     runs = [sandbox.start(TOOL, 'old.db', 'new.db', '--state', 'state') for _ in range(6)]
     reports = {run.communicate()[0] for run in runs}
-    sandbox.check(
+    sandbox.holds(
         'runs at once', len(reports) == 1 and {run.returncode for run in runs} == {7} and list(sandbox.state()) == KEYS, reports
     )
-    sandbox.check(
+    sandbox.holds(
         'nothing is left of runs at once',
         not sandbox.leftovers() and not [name for name in os.listdir(sandbox.root) if re.match(r'state\.', name)],
     )

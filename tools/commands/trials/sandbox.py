@@ -98,7 +98,7 @@ class Sandbox:
     def edit(self, name, old, new):
         """A file of the sandbox with one text replaced."""
         text = self.read(name).decode()
-        self.check('a text of ' + name, text.count(old) == 1, old)
+        self.holds('a text of ' + name, text.count(old) == 1, old)
         self.write(name, text.replace(old, new))
 
     def stub(self, name, body, folder='stubs'):
@@ -136,7 +136,7 @@ class Sandbox:
     def leftovers(self):
         return os.listdir(self.room)
 
-    def check(self, label, good, got=''):
+    def holds(self, label, good, got=''):
         self.tally.add('%s, %s' % (' '.join(self.shell), label), [] if good else [repr(got)])
 
     def expect(self, label, answer, status, output=None, errors=None):
@@ -146,7 +146,7 @@ class Sandbox:
             for part in [want] if isinstance(want, bytes) else want or []:
                 good = good and part in text
             good = good and (want != b'' or text == b'')
-        self.check(label, good, (answer, self.leftovers()))
+        self.holds(label, good, (answer, self.leftovers()))
 
     def state(self, name='state'):
         """A state file as a map, which keeps the order of its lines; nothing where there is none."""

@@ -75,7 +75,7 @@ def call(words, text, room, environment=None):
 def expect(sandbox, label, done, status, output=None, errors=()):
     good = done[0] == status and (output is None or done[1] == output) and all(part in done[2] for part in errors)
     good = good and b"Traceback" not in done[2] and not os.listdir(sandbox.room)
-    sandbox.check("sort: " + label, good, (done[0], done[1][:300], done[2][:600], os.listdir(sandbox.room)))
+    sandbox.holds("sort: " + label, good, (done[0], done[1][:300], done[2][:600], os.listdir(sandbox.room)))
 
 
 def try_order(sandbox):
@@ -93,7 +93,7 @@ def try_order(sandbox):
     whole = sorted_text(lines)[0]
     done = call([COMMAND], whole, sandbox.room)
     expect(sandbox, "nothing moved", done, 0, whole, [b"moved 0 of 13,257 lines\n"])
-    sandbox.check("sort: no advice where nothing moved", b"damaged" not in done[2], done[2])
+    sandbox.holds("sort: no advice where nothing moved", b"damaged" not in done[2], done[2])
 
 
 def try_refused(sandbox):
@@ -141,12 +141,12 @@ def try_bounds(sandbox):
     memory = int(done[2].split(b"memory ")[-1])
     expect(sandbox, "120 MB", (done[0], b"", done[2]), 0, b"", [b" of 600,000 lines"])
     keys = [line.split()[1] for line in done[1].splitlines() if line.startswith(b"36 ")]
-    sandbox.check("sort: 120 MB in order", len(keys) == 600000 and keys == sorted(keys), len(keys))
-    sandbox.check("sort: memory", memory < 64000, memory)
+    sandbox.holds("sort: 120 MB in order", len(keys) == 600000 and keys == sorted(keys), len(keys))
+    sandbox.holds("sort: memory", memory < 64000, memory)
     bomb = subprocess.run("head -c 300000000 /dev/zero | gzip -1", shell=True, stdout=subprocess.PIPE).stdout
     done = call([sys.executable, "-c", MEASURE, COMMAND, "--most", "20M"], bomb, sandbox.room)
     expect(sandbox, "300 MB of zeros", (done[0], b"", done[2]), 18, b"", [b"more than 20971520 bytes unpacked"])
-    sandbox.check("sort: memory of zeros", int(done[2].split(b"memory ")[-1]) < 64000, done[2])
+    sandbox.holds("sort: memory of zeros", int(done[2].split(b"memory ")[-1]) < 64000, done[2])
     for number, left in ((signal.SIGTERM, 0), (signal.SIGINT, 0), (signal.SIGHUP, 0), (signal.SIGKILL, 1)):
         try_signal(sandbox, path, number, left)
     expect(sandbox, "after KILL", call([COMMAND], text_of([b"1 /a 1"]), sandbox.room), 0)
@@ -164,7 +164,7 @@ def try_signal(sandbox, path, number, left):
     status = process.wait(60)
     # What sort itself has left may go later than the command, after KILL only.
     time.sleep(1 if left else 0)
-    sandbox.check("sort: signal %d" % number, status == -number and len(folder) == 1 and len(os.listdir(sandbox.room)) == left,
+    sandbox.holds("sort: signal %d" % number, status == -number and len(folder) == 1 and len(os.listdir(sandbox.room)) == left,
                   (status, folder, os.listdir(sandbox.room)))
 
 

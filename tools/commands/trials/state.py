@@ -40,7 +40,7 @@ def check(sandbox, label, status, *parts, words=(), **more):
     good = good and line.startswith('AIDE %s: ' % ['OK', 'WARNING', 'CRITICAL', 'UNKNOWN'][status])
     numbers = line.strip().partition('|')[2]
     good = good and re.match(r"^((added|removed|changed)=(\d+|U) ){0,3}(age=\d+s)?$", numbers)
-    sandbox.check('the check of ' + label, good and all(part in line for part in parts) and len(line) < 500, answer)
+    sandbox.holds('the check of ' + label, good and all(part in line for part in parts) and len(line) < 500, answer)
 
 
 def try_check(sandbox):
@@ -135,7 +135,7 @@ def try_metrics(sandbox):
         )
         names.update({found.group(1)[13:]: int(found.group(2))} if found else {})
     want = {'status': 5, 'added_entries': 1, 'removed_entries': 0, 'changed_entries': 4}
-    sandbox.check('the metrics', good and {**names, **want} == names and abs(names['end_time_seconds'] - moment) < 5, answer)
+    sandbox.holds('the metrics', good and {**names, **want} == names and abs(names['end_time_seconds'] - moment) < 5, answer)
     sandbox.expect(
         'metrics to a file',
         sandbox.call('aide-compare-metrics', '--state=state', 'aide.prom', before=UMASK % 0o77),
@@ -143,7 +143,7 @@ def try_metrics(sandbox):
         b'',
         b'',
     )
-    sandbox.check(
+    sandbox.holds(
         'the file of the metrics',
         sandbox.read('aide.prom') == answer.output
         and os.stat(sandbox.path('aide.prom')).st_mode & 0o777 == 0o644
@@ -151,7 +151,7 @@ def try_metrics(sandbox):
     )
     write_state(sandbox, status=18, added='', removed='', changed='')
     sandbox.call('aide-compare-metrics', '--state', 'state', 'aide.prom')
-    sandbox.check(
+    sandbox.holds(
         'the metrics of no comparison',
         b'\naide_compare_status 18\n' in sandbox.read('aide.prom') and b'entries' not in sandbox.read('aide.prom'),
         sandbox.read('aide.prom'),
@@ -162,7 +162,7 @@ def try_metrics(sandbox):
         'metrics of a bad state', sandbox.call('aide-compare-metrics', '--state', 'state', 'aide.prom'), 18, b'',
         b'no state file'
     )
-    sandbox.check('the metrics are as before', sandbox.read('aide.prom') == before)
+    sandbox.holds('the metrics are as before', sandbox.read('aide.prom') == before)
     write_state(sandbox)
     sandbox.expect(
         'metrics to nowhere', sandbox.call('aide-compare-metrics', '--state', 'state', 'old.db/x.prom'), 18, b'',
@@ -178,7 +178,7 @@ def try_metrics(sandbox):
 def log(sandbox, **state):
     write_state(sandbox, **state)
     answer = sandbox.call('aide-compare-log', '--state', 'state')
-    sandbox.check(
+    sandbox.holds(
         'one line for the log',
         answer.status == 0 and answer.output.count(b'\n') == 1 and answer.output.endswith(b'\n') and answer.errors == b'',
         answer,
@@ -200,7 +200,7 @@ def try_log(sandbox):
         ({'time': 'x'}, 'no comparison: state cannot be read, or is no state file of aide-compare-run\n'),
     ):
         line = log(sandbox, **state)
-        sandbox.check('the line for the log of %r' % state, line == want, line)
+        sandbox.holds('the line for the log of %r' % state, line == want, line)
     write_state(sandbox, age=100)
     sandbox.expect(
         'an old line', sandbox.call('aide-compare-log', '--state', 'state', '--age', '50'), 0, b'no comparison: the last one',
@@ -226,14 +226,14 @@ def try_rules(sandbox):
             stdout=subprocess.PIPE,
             universal_newlines=True,
         ).stdout
-        sandbox.check('the rule for logcheck', left == ''.join(head + line for line in lines[1:]), left)
+        sandbox.holds('the rule for logcheck', left == ''.join(head + line for line in lines[1:]), left)
     left = subprocess.run(
         ['grep', '-E', '-c', '-f', rules],
         input=head + lines[0][:-1] + ' more\nx' + head + lines[0],
         stdout=subprocess.PIPE,
         universal_newlines=True,
     ).stdout
-    sandbox.check('the rule for logcheck takes whole lines', left == '0\n', left)
+    sandbox.holds('the rule for logcheck takes whole lines', left == '0\n', left)
 
 
 LINKS = """import os, sys
@@ -268,12 +268,12 @@ def try_links(sandbox):
         attacker.communicate()
     found = os.stat(prey)
     good = sandbox.read('prey') == b'of root\n' and found.st_mode & 0o777 == 0o600 and found.st_uid == 0
-    sandbox.check('200 rounds of links in the folder of the metrics', good and set(statuses) <= {0, 18}, set(statuses))
+    sandbox.holds('200 rounds of links in the folder of the metrics', good and set(statuses) <= {0, 18}, set(statuses))
     for name in os.listdir(folder):
         os.remove(folder + '/' + name)
     sandbox.expect('metrics in a folder of another user',
                    sandbox.call('aide-compare-metrics', '--state', 'state', 'exporter/aide.prom'), 0, b'', b'')
-    sandbox.check('they are that user\'s, and readable', os.stat(folder + '/aide.prom').st_uid == NOBODY
+    sandbox.holds('they are that user\'s, and readable', os.stat(folder + '/aide.prom').st_uid == NOBODY
                   and os.stat(folder + '/aide.prom').st_mode & 0o777 == 0o644)
 
 
@@ -283,7 +283,7 @@ def try_own_failures(sandbox):
     for label, before in (('few descriptors', 'resource.setrlimit(resource.RLIMIT_NOFILE, (4, 4))'),
                           ('no process', 'os.setgid(%d); os.setuid(%d); resource.setrlimit(resource.RLIMIT_NPROC, (0, 0))' % (NOBODY, NOBODY))):
         answer = sandbox.call(CHECK, '--state', 'state', before=before)
-        sandbox.check('the check with ' + label, answer.status == (3 if label == 'few descriptors' else 0), answer)
+        sandbox.holds('the check with ' + label, answer.status == (3 if label == 'few descriptors' else 0), answer)
     for name in MODULES:
         for label, text in (('a missing module', None), ('no memory', 'raise MemoryError'), ('a fault', 'raise KeyError')):
             path = sandbox.path('lib/aide_compare/%s.py' % name)
@@ -292,7 +292,7 @@ def try_own_failures(sandbox):
                 sandbox.write('lib/aide_compare/%s.py' % name, text)
             answer = sandbox.call(CHECK, '--state', 'state')
             os.rename(path + '.kept', path)
-            sandbox.check('the check with %s, %s' % (label, name), answer.status == 3 and b'UNKNOWN' in answer.output, answer)
+            sandbox.holds('the check with %s, %s' % (label, name), answer.status == 3 and b'UNKNOWN' in answer.output, answer)
     with open('/dev/full', 'wb') as full:
         answer = sandbox.call(CHECK, '--state', 'state', stdout=full)
-        sandbox.check('the check with a full device', answer.status == 3, answer)
+        sandbox.holds('the check with a full device', answer.status == 3, answer)

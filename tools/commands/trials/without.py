@@ -50,14 +50,14 @@ def try_patterns(sandbox):
     patterns = modules()
     for text, path, want in PATTERNS:
         got = patterns.Pattern(text).matches(path[1:].split(b"/"))
-        sandbox.check("the pattern %r and %r" % (text, path), got == want, got)
-        sandbox.check("the plain definition, %r and %r" % (text, path), means(text, path) == want)
+        sandbox.holds("the pattern %r and %r" % (text, path), got == want, got)
+        sandbox.holds("the plain definition, %r and %r" % (text, path), means(text, path) == want)
     for text in NO_PATTERNS:
         try:
             patterns.Pattern(text)
-            sandbox.check("%r is no pattern" % text, not text, "taken")
+            sandbox.holds("%r is no pattern" % text, not text, "taken")
         except patterns.BadPattern:
-            sandbox.check("%r is no pattern" % text, True)
+            sandbox.holds("%r is no pattern" % text, True)
 
 
 def means(pattern, path):
@@ -118,7 +118,7 @@ def try_random(sandbox):
         path = b"/" + b"/".join(bytes(numbers.choices(b"ab", k=numbers.randint(1, 4))) for _ in range(numbers.randint(1, 5)))
         got = patterns.Pattern(text).matches(path[1:].split(b"/"))
         fits, wrong = fits + got, wrong + (got != means(text, path))
-    sandbox.check("random patterns", fits > 1000 and wrong == 0, (fits, wrong))
+    sandbox.holds("random patterns", fits > 1000 and wrong == 0, (fits, wrong))
 
 
 def try_time(sandbox):
@@ -127,7 +127,7 @@ def try_time(sandbox):
     start = time.process_time()
     for text, path in ((b"/" + b"*a" * 20 + b"b", b"/" + b"a" * 4000), (b"/" + b"**/a/" * 20 + b"b", b"/a" * 2000)):
         patterns.Pattern(text).matches(path[1:].split(b"/"))
-    sandbox.check("hostile paths in time", time.process_time() - start < 2, time.process_time() - start)
+    sandbox.holds("hostile paths in time", time.process_time() - start < 2, time.process_time() - start)
 
 
 def try_left_out(sandbox):
@@ -139,14 +139,14 @@ def try_left_out(sandbox):
         b"left out of the new database: 2 entries", b"1 by /etc/*.bak (logs, line 4)"])
     state = sandbox.state()
     want = {"left_out_old": "2", "left_out_new": "2", "changed": "1", "old_sha256": sha256(OLD), "new_sha256": sha256(NEW)}
-    sandbox.check("the state has both, and the digests of the whole databases", want.items() <= state.items(), state)
+    sandbox.holds("the state has both, and the digests of the whole databases", want.items() <= state.items(), state)
     answer = sandbox.call(TOOL, "--without-path", "/var/log/x y", "--without-path=/etc/**", "o.db", "n.db")
     sandbox.expect("by single lines", answer, 2, [b"Removed entries:         1"], [b"1 by /var/log/x y (--without-path)"])
     answer = sandbox.call(TOOL, "--without-path", "/etc/a", "o.db", "n.db")
     sandbox.expect("one entry", answer, 7, None, [b"left out of the old database: 1 entry\n"])
     answer = sandbox.call(TOOL, "--without-path", "/nothing", "o.db", "n.db")
     sandbox.expect("nothing is left out", answer, 7, None, [b"left out of the new database: 0 entries"])
-    sandbox.check("without the option nothing is said", b"left out" not in sandbox.call(TOOL, "o.db", "n.db").errors)
+    sandbox.holds("without the option nothing is said", b"left out" not in sandbox.call(TOOL, "o.db", "n.db").errors)
 
 
 def try_damage(sandbox):

@@ -99,25 +99,25 @@ def try_files(trial):
     for path in commands(trial):
         name, zsh = os.path.basename(path), found[zsh_file(path)]
         named = zsh.split("\n")[0].split()
-        trial.check(named[0] == "#compdef", "the first line for zsh", named)
-        trial.check(BASH + name in found, "a completion of bash for " + name)
-        trial.check(FISH + name + ".fish" in found, "a completion of fish for " + name)
-        trial.check(name in named, "a completion of zsh for " + name)
+        trial.holds("the first line for zsh", named[0] == "#compdef", named)
+        trial.holds("a completion of bash for " + name, BASH + name in found)
+        trial.holds("a completion of fish for " + name, FISH + name + ".fish" in found)
+        trial.holds("a completion of zsh for " + name, name in named)
         wanted = options(trial, path) + (options_after(trial) if is_comparison(name) else [])
-        trial.check(len(wanted) > 0, "options of " + name, wanted)
+        trial.holds("options of " + name, len(wanted) > 0, wanted)
         fish = found.get(FISH + name + ".fish", "")
         for option in wanted:
             form = r"-l %s(?![\w-])" % option[2:] if option.startswith("--") else r"-s %s\b" % option[1:]
             form += r"|-a '(?:[^']* )?%s[ ']" % option
-            trial.check(re.search(form, fish), "%s %s in fish" % (name, option))
+            trial.holds("%s %s in fish" % (name, option), re.search(form, fish))
             # A star says that an option may be given again.
-            trial.check(re.search(r"[{,'(*)]%s(?![\w-])" % option, zsh), "%s %s in zsh" % (name, option))
+            trial.holds("%s %s in zsh" % (name, option), re.search(r"[{,'(*)]%s(?![\w-])" % option, zsh))
 
 
 def ask_bash(trial, name, *words):
     path = trial.path("first/usr/local", BASH + name)
     status, output, errors = trial.run(["bash", "--norc", "-c", ASK_BASH, "bash", path, name, *words], cwd=trial.source)
-    trial.check((status, errors) == (0, ""), "bash completes " + " ".join([name, *words]), (status, errors))
+    trial.holds("bash completes " + " ".join([name, *words]), (status, errors) == (0, ""), (status, errors))
     return output.split()
 
 
@@ -130,12 +130,12 @@ def try_bash(trial):
         wanted = options(trial, path)
         given = ask_bash(trial, name, "-")
         for option in wanted:
-            trial.check(option in given, "bash offers %s %s" % (name, option), given)
+            trial.holds("bash offers %s %s" % (name, option), option in given, given)
         for option in given:
-            trial.check(option in wanted + ["--"], "%s has the option %s that bash offers" % (name, option), wanted)
+            trial.holds("%s has the option %s that bash offers" % (name, option), option in wanted + ["--"], wanted)
         if is_comparison(name):
             given = ask_bash(trial, name, "--state", "x", "--", "-")
-            trial.check(sorted(given) == options_after(trial) != [], "bash offers what %s takes after --" % name, given)
+            trial.holds("bash offers what %s takes after --" % name, sorted(given) == options_after(trial) != [], given)
     for words, wanted in ((["aide-compare", "-E", "-A", "report_level", "="], LEVELS),
                           (["aide-compare", "-E", "-A", "report_level", "=", "su"], ["summary"]),
                           (["aide-compare", "-E", "-A", "report_l"], ["report_level="]),
@@ -154,7 +154,7 @@ def try_bash(trial):
                           (["report-hosts", "--store", "pack"], ["packaging"]),
                           (["compare-hosts", "VERS"], ["VERSION"])):
         given = ask_bash(trial, words[0], *words[1:])
-        trial.check(sorted(given) == sorted(wanted), "bash completes " + " ".join(words), given)
+        trial.holds("bash completes " + " ".join(words), sorted(given) == sorted(wanted), given)
 
 
 def try_zsh(trial):
@@ -172,7 +172,7 @@ def try_zsh(trial):
                          ("aide-compare-sort VERS", "aide-compare-sort VERSION"),
                          ("report-hosts --order=ra", "report-hosts --order=rare")):
         done = trial.run(["zsh", "-f", "-c", ASK_ZSH, "zsh", folder, line], cwd=trial.source, timeout=60)
-        trial.check(done[0] == 0 and wanted in done[1].replace("\r", ""), "zsh completes " + line, done)
+        trial.holds("zsh completes " + line, done[0] == 0 and wanted in done[1].replace("\r", ""), done)
 
 
 def try_fish(trial):
@@ -193,4 +193,4 @@ def try_fish(trial):
                          ("aide-compare ", [])):
         done = trial.run(["fish", "-c", "complete -C '%s'" % line], cwd=trial.source, env=surroundings, timeout=60)
         given = [one.split("\t")[0] for one in done[1].splitlines()]
-        trial.check(done[0] == 0 and given == wanted, "fish completes " + line, done)
+        trial.holds("fish completes " + line, done[0] == 0 and given == wanted, done)

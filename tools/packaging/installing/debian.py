@@ -18,20 +18,20 @@ def try_texts(trial, folder):
     """What a user of the package reads first: the command of README.Debian, and whose choice the licence is."""
     found = texts(tree(folder))
     documents = "usr/share/doc/aide-compare/"
-    trial.check("choice of their owner" in found.get(documents + "copyright", "").replace("\n", " "), "the copyright file")
+    trial.holds("the copyright file", "choice of their owner" in found.get(documents + "copyright", "").replace("\n", " "))
     # AIDE on Debian runs a file of this folder that is executable.
     mode = os.stat(os.path.join(folder, RULES)).st_mode & 0o777
-    trial.check(mode == 0o644, "the mode of the rules for AIDE", oct(mode))
+    trial.holds("the mode of the rules for AIDE", mode == 0o644, oct(mode))
     readme = found.get(documents + "README.Debian", "")
     commands = re.findall(r"^    (aide-compare-run .*(?:\n {8}.*)*)", readme, re.M)
-    trial.check(len(commands) == 1, "a first answer in README.Debian", commands)
+    trial.holds("a first answer in README.Debian", len(commands) == 1, commands)
     for command in commands:
         here = command.replace("/usr/", folder + "/usr/").replace("aide-compare-run", folder + "/usr/bin/aide-compare-run")
         done = trial.run(["sh", "-c", here])
         said = re.findall(r"ends with status (\d+)", readme)
-        trial.check([str(done[0])] == said and done[1].startswith("AIDE found differences"), "the first answer", done)
+        trial.holds("the first answer", [str(done[0])] == said and done[1].startswith("AIDE found differences"), done)
     for name in re.findall(r"/(?:usr|etc)/[\w./-]*\w", readme):
-        trial.check(os.path.exists(folder + name), "what README.Debian names: " + name)
+        trial.holds("what README.Debian names: " + name, os.path.exists(folder + name))
 
 
 def try_stop(trial, folder):
@@ -46,19 +46,19 @@ def try_stop(trial, folder):
     with open(os.path.join(folder, "DEBIAN", "prerm")) as file:
         script = file.read().replace("/run/systemd/system", machine)
     shipped = sorted(os.listdir(os.path.join(folder, "usr/lib/systemd/system")))
-    trial.check(shipped == UNITS, "the units of the package", shipped)
+    trial.holds("the units of the package", shipped == UNITS, shipped)
     for words in (["upgrade", "2"], ["remove"]):
         if os.path.exists(log):
             os.remove(log)
         done = trial.run(["sh", "-c", script, "prerm", *words], env=more)
         lines = open(log).read().splitlines() if os.path.exists(log) else []
-        trial.check(done == (0, "", ""), "prerm " + words[0], done)
+        trial.holds("prerm " + words[0], done == (0, "", ""), done)
         stopped = [line.split()[1:] for line in lines if line.startswith("stop ")]
         if words == ["remove"]:
             good = sorted(sum(stopped, [])) == UNITS and sorted(stopped[0]) == ["aide-compare.service", TIMER]
-            trial.check(good, "all units are stopped, the comparison first", lines)
+            trial.holds("all units are stopped, the comparison first", good, lines)
         else:
-            trial.check(not lines, "an upgrade stops nothing", lines)
+            trial.holds("an upgrade stops nothing", not lines, lines)
 
 
 class Machine:
@@ -74,7 +74,7 @@ class Machine:
     def dpkg(self, action, what):
         done = self.trial.run(["dpkg", "--root=" + self.root, "--log=/dev/null", "--force-script-chrootless", "--force-depends",
                                "--force-confold", action, what])
-        self.trial.check(done[0] == 0, "dpkg %s" % action, done)
+        self.trial.holds("dpkg %s" % action, done[0] == 0, done)
 
     def install(self):
         self.dpkg("--install", self.package)
@@ -103,21 +103,21 @@ def try_life(trial, package):
         return
     machine = Machine(trial, package)
     machine.install()
-    trial.check(machine.has("usr/bin/aide-compare"), "dpkg installs the program")
-    trial.check(machine.has("usr/share/doc/aide-compare/copyright"), "dpkg installs the documents")
-    trial.check(not machine.has(WANTED), "the timer is off after a first installation")
-    trial.check(machine.has(NOTES + TIMER + ".dsh-also"), "an installation notes which link an administrator may make")
+    trial.holds("dpkg installs the program", machine.has("usr/bin/aide-compare"))
+    trial.holds("dpkg installs the documents", machine.has("usr/share/doc/aide-compare/copyright"))
+    trial.holds("the timer is off after a first installation", not machine.has(WANTED))
+    trial.holds("an installation notes which link an administrator may make", machine.has(NOTES + TIMER + ".dsh-also"))
     again(trial, machine)
     kept(trial, machine)
     machine.dpkg("--purge", "aide-compare")
     for path in (WANTED, RULES, DAILY, "var/lib/aide-compare/daily", NOTES + TIMER + ".dsh-also"):
-        trial.check(not machine.has(path), "a purge removes " + path)
-    trial.check(machine.has(BASELINE), "a purge leaves the baselines of hosts")
+        trial.holds("a purge removes " + path, not machine.has(path))
+    trial.holds("a purge leaves the baselines of hosts", machine.has(BASELINE))
     shutil.rmtree(os.path.join(machine.root, "var/lib/aide-compare/hosts"), ignore_errors=True)
     machine.install()
     machine.write(DAILY, "mail\n")
     machine.dpkg("--purge", "aide-compare")
-    trial.check(not machine.has("var/lib/aide-compare"), "a purge leaves no empty folder")
+    trial.holds("a purge leaves no empty folder", not machine.has("var/lib/aide-compare"))
 
 
 def again(trial, machine):
@@ -129,12 +129,12 @@ def again(trial, machine):
             os.remove(os.path.join(machine.root, WANTED))
         # Older tools of Debian mask a unit when its package goes, so that systemd does not miss it.
         done = machine.helper("mask")
-        trial.check(machine.has("etc/systemd/system/" + TIMER), "the timer is masked", done)
+        trial.holds("the timer is masked", machine.has("etc/systemd/system/" + TIMER), done)
         machine.dpkg("--remove", "aide-compare")
-        trial.check(not machine.has("usr/bin/aide-compare"), "a removal removes the program")
+        trial.holds("a removal removes the program", not machine.has("usr/bin/aide-compare"))
         machine.install()
-        trial.check(not machine.has("etc/systemd/system/" + TIMER), "the timer is not masked")
-        trial.check(machine.has(WANTED) == is_on, "the timer is on again" if is_on else "the timer stays off")
+        trial.holds("the timer is not masked", not machine.has("etc/systemd/system/" + TIMER))
+        trial.holds("the timer is on again" if is_on else "the timer stays off", machine.has(WANTED) == is_on)
     # A former version was wanted by another target, and was on.
     former = "multi-user.target.wants/" + TIMER
     shutil.rmtree(os.path.join(machine.root, NOTES), ignore_errors=True)
@@ -142,7 +142,7 @@ def again(trial, machine):
     machine.write(NOTES + former, "")
     machine.enable("etc/systemd/system/" + former)
     machine.install()
-    trial.check(machine.has(WANTED), "the timer stays on when another target wants it")
+    trial.holds("the timer stays on when another target wants it", machine.has(WANTED))
 
 
 def kept(trial, machine):
@@ -152,7 +152,7 @@ def kept(trial, machine):
     machine.write(BASELINE, "@@begin_db\n")
     machine.dpkg("--remove", "aide-compare")
     for path in (RULES, DAILY, BASELINE, WANTED):
-        trial.check(machine.has(path), "a removal leaves " + path)
+        trial.holds("a removal leaves " + path, machine.has(path))
     machine.install()
     with open(os.path.join(machine.root, RULES)) as file:
-        trial.check(file.read() == "# mine\n", "the rules for AIDE stay as an administrator has changed them")
+        trial.holds("the rules for AIDE stay as an administrator has changed them", file.read() == "# mine\n")

@@ -28,16 +28,16 @@ def make(trial, name, **more):
 def try_packages(trial):
     more = {key: value for key, value in os.environ.items() if key != "SOURCE_DATE_EPOCH"}
     done, first = make(trial, "packages", env=more)
-    trial.check(done[0] == 0 and done[2] == "", "make_package", done)
+    trial.holds("make_package", done[0] == 0 and done[2] == "", done)
     tarball = "aide-compare-%s-x86_64-linux.tar.gz" % trial.version
     package = "aide-compare_%s-1_amd64.deb" % trial.version
     has_dpkg = shutil.which("dpkg-deb") is not None
     wanted = {tarball, "SHA256SUMS"} | ({package} if has_dpkg else set())
-    trial.check(set(first) == wanted, "the packages", sorted(first))
+    trial.holds("the packages", set(first) == wanted, sorted(first))
     if tarball not in first or "SHA256SUMS" not in first:
         return
     lines = sorted("%s  %s" % (hashlib.sha256(first[name]).hexdigest(), name) for name in wanted - {"SHA256SUMS"})
-    trial.check(sorted(first["SHA256SUMS"].decode().splitlines()) == lines, "SHA256SUMS")
+    trial.holds("SHA256SUMS", sorted(first["SHA256SUMS"].decode().splitlines()) == lines)
     os.makedirs(trial.path("other place"))
     shells = ["busybox", "sh"] if shutil.which("busybox") else ["sh"]
     script = os.path.join(trial.source, "packaging", "make_package")
@@ -45,17 +45,17 @@ def try_packages(trial):
                       trial.path("packages2")], cwd=trial.path("other place"),
                      env=dict(more, TMPDIR=trial.path("other place"), LC_ALL="C.UTF-8", TZ="Asia/Tokyo"))
     second = {path: data for path, (_, data) in files(tree(trial.path("packages2"))).items()}
-    trial.check(done[0] == 0, "make_package elsewhere", done)
+    trial.holds("make_package elsewhere", done[0] == 0, done)
     for name in sorted(wanted):
-        trial.check(first[name] == second.get(name), "byte for byte the same twice: " + name)
+        trial.holds("byte for byte the same twice: " + name, first[name] == second.get(name))
     try_nobody(trial, first, more)
     try_tarball(trial, first[tarball], FIXED)
     try_unpacking(trial, trial.path("packages", tarball))
     done, dated = make(trial, "dated", env=dict(more, SOURCE_DATE_EPOCH="4000000000"))
-    trial.check(done[0] == 0, "make_package with a time", done)
+    trial.holds("make_package with a time", done[0] == 0, done)
     try_tarball(trial, dated[tarball], 4000000000)
     done, none = make(trial, "undated", env=dict(more, SOURCE_DATE_EPOCH="today"))
-    trial.check(done[0] == 1 and none == {}, "a time that is none", done)
+    trial.holds("a time that is none", done[0] == 1 and none == {}, done)
     if has_dpkg:
         try_debian(trial, trial.path("packages", package), FIXED)
         try_debian(trial, trial.path("dated", package), 4000000000)
@@ -66,8 +66,8 @@ def try_packages(trial):
         trial.skip("the Debian package: dpkg-deb is not installed")
     done, least = make(trial, "least", env=dict(more, PATH=trial.plain_path))
     good = done[0] == 0 and set(least) == {tarball, "SHA256SUMS"} and "no Debian package" in done[1]
-    trial.check(good and least[tarball] == first[tarball], "without dpkg-deb", (done, sorted(least)))
-    trial.check(os.listdir(trial.path("other place")) == [], "no temporary file is left", os.listdir(trial.path("other place")))
+    trial.holds("without dpkg-deb", good and least[tarball] == first[tarball], (done, sorted(least)))
+    trial.holds("no temporary file is left", os.listdir(trial.path("other place")) == [], os.listdir(trial.path("other place")))
 
 
 def try_nobody(trial, first, surroundings):
@@ -80,7 +80,7 @@ def try_nobody(trial, first, surroundings):
     except (OSError, subprocess.SubprocessError) as error:
         trial.skip("packages without root's rights (%s)" % error)
         return
-    trial.check(done[0] == 0 and third == first, "packages without root's rights", (done, sorted(third)))
+    trial.holds("packages without root's rights", done[0] == 0 and third == first, (done, sorted(third)))
 
 
 def try_tarball(trial, data, time):
@@ -91,18 +91,18 @@ def try_tarball(trial, data, time):
     with tarfile.open(fileobj=io.BytesIO(data)) as archive:
         members = archive.getmembers()
         given = {one.name[len(top):]: (one.mode, archive.extractfile(one).read()) for one in members if one.isfile()}
-    trial.check(given == installed, "the tarball has what is installed", sorted(set(given) ^ set(installed)))
-    trial.check(len(given) == len(members) and all(one.name.startswith(top) for one in members), "files below one folder")
-    trial.check(all((one.uid, one.gid, one.mtime) == (0, 0, time) for one in members), "owner and time of the tarball")
-    trial.check([one.name for one in members] == sorted(one.name for one in members), "the tarball is sorted")
-    trial.check(data[4:8] == b"\0\0\0\0", "gzip's own time")
+    trial.holds("the tarball has what is installed", given == installed, sorted(set(given) ^ set(installed)))
+    trial.holds("files below one folder", len(given) == len(members) and all(one.name.startswith(top) for one in members))
+    trial.holds("owner and time of the tarball", all((one.uid, one.gid, one.mtime) == (0, 0, time) for one in members))
+    trial.holds("the tarball is sorted", [one.name for one in members] == sorted(one.name for one in members))
+    trial.holds("gzip's own time", data[4:8] == b"\0\0\0\0")
 
 
 def try_unpacking(trial, tarball):
     """What the help says of the tarball, word for word, with another folder in the place of /usr/local."""
     help_text = trial.run(["sh", os.path.join(trial.source, "packaging", "make_package"), "--help"])[1]
     lines = re.findall(r"^ +(?:and to remove it: )?(tar .*)$", help_text, re.M)
-    trial.check(len(lines) == 2, "the commands for the tarball", lines)
+    trial.holds("the commands for the tarball", len(lines) == 2, lines)
     folder = trial.path("unpacked")
     os.makedirs(os.path.join(folder, "bin"))
     os.chmod(os.path.join(folder, "bin"), 0o2775)
@@ -110,10 +110,10 @@ def try_unpacking(trial, tarball):
     done = trial.run(["sh", "-c", commands[0]])
     wanted = files(tree(trial.path("first/usr/local")))
     wanted.pop("lib/aide-compare/installed")
-    trial.check(done == (0, "", "") and files(tree(folder)) == wanted, "the tarball is unpacked", done)
-    trial.check(tree(folder)["bin"][0] == 0o2775, "a folder that was there keeps its permissions")
+    trial.holds("the tarball is unpacked", done == (0, "", "") and files(tree(folder)) == wanted, done)
+    trial.holds("a folder that was there keeps its permissions", tree(folder)["bin"][0] == 0o2775)
     done = trial.run(["sh", "-c", commands[1]])
-    trial.check(done == (0, "", "") and files(tree(folder)) == {}, "what was unpacked is removed", done)
+    trial.holds("what was unpacked is removed", done == (0, "", "") and files(tree(folder)) == {}, done)
 
 
 def try_debian(trial, path, time):
@@ -123,10 +123,10 @@ def try_debian(trial, path, time):
     for name, wanted in (("Package", "aide-compare"), ("Version", trial.version + "-1"), ("Architecture", "amd64"),
                          ("Depends", "libc6 (>= 2.34), python3:any"), ("Suggests", "aide"),
                          ("Recommends", "default-mta | mail-transport-agent")):
-        trial.check(fields.get(name) == wanted, "the field " + name, fields.get(name))
+        trial.holds("the field " + name, fields.get(name) == wanted, fields.get(name))
     folder = path + ".tree"
     done = trial.run(["dpkg-deb", "-R", path, folder])
-    trial.check(done[0] == 0, "dpkg-deb -R", done)
+    trial.holds("dpkg-deb -R", done[0] == 0, done)
     found = tree(folder)
     sums = found["DEBIAN/md5sums"][1].decode().splitlines()
     kept = {name: data for name, (_, data) in files(found).items() if not name.startswith("DEBIAN/")}
@@ -134,10 +134,10 @@ def try_debian(trial, path, time):
     conffiles = found["DEBIAN/conffiles"][1].decode() if "DEBIAN/conffiles" in found else ""
     for name, example in CONFIGURATION.items():
         same = kept.pop(name, None) == kept["usr/share/doc/aide-compare/examples/aide/" + example]
-        trial.check(same, "a configuration file: " + name)
-    trial.check(conffiles == "".join("/%s\n" % name for name in CONFIGURATION), "the configuration files", conffiles)
-    trial.check(sorted(sums) == sorted("%s  %s" % (hashlib.md5(data).hexdigest(), name) for name, data in kept.items()),
-                "md5sums")
+        trial.holds("a configuration file: " + name, same)
+    trial.holds("the configuration files", conffiles == "".join("/%s\n" % name for name in CONFIGURATION), conffiles)
+    trial.holds("md5sums",
+                sorted(sums) == sorted("%s  %s" % (hashlib.md5(data).hexdigest(), name) for name, data in kept.items()))
     installed = {name[len("usr/local/"):] for name in files(tree(trial.path("first")))} - {"lib/aide-compare/installed"}
     renamed = set()
     for name in installed:
@@ -145,25 +145,25 @@ def try_debian(trial, path, time):
         renamed.add("usr/" + name.replace("aide-compare/CHANGELOG.md", "aide-compare/changelog.gz"))
     renamed |= {"usr/share/doc/aide-compare/" + name for name in ("changelog.Debian.gz", "copyright", "README.Debian")}
     renamed.add("usr/share/lintian/overrides/aide-compare")
-    trial.check(set(kept) == renamed, "the package has what is installed", sorted(set(kept) ^ renamed))
+    trial.holds("the package has what is installed", set(kept) == renamed, sorted(set(kept) ^ renamed))
     for name, text in texts(found).items():
         named = [] if "/kubernetes" in name else re.findall(r"/usr/local/(?:bin/a|lib/|share/)[\w./-]*", text)
-        trial.check(not named, "no /usr/local in " + name, named)
-        trial.check(not text.startswith("#!/usr/bin/env python3") or "/examples/" in name, "the interpreter of " + name)
+        trial.holds("no /usr/local in " + name, not named, named)
+        trial.holds("the interpreter of " + name, not text.startswith("#!/usr/bin/env python3") or "/examples/" in name)
     documents = "usr/share/doc/aide-compare/"
     links = [(name, link) for name, text in texts(found).items() if name.startswith(documents) and name.endswith(".md")
              for link in re.findall(r"\]\(([^)#:]+)(?:#[^)]*)?\)", text)]
     lost = [(name, link) for name, link in links if documents + link not in kept]
-    trial.check(len(links) > 5 and not lost, "the documents of the package link to what it has", lost)
+    trial.holds("the documents of the package link to what it has", len(links) > 5 and not lost, lost)
     page = gzip.decompress(kept["usr/share/man/man1/aide-compare.1.gz"]).decode()
-    trial.check(".Os aide-compare " + trial.version in page and "/usr/local" not in page, "a page of the package")
+    trial.holds("a page of the package", ".Os aide-compare " + trial.version in page and "/usr/local" not in page)
     log = gzip.decompress(kept["usr/share/doc/aide-compare/changelog.Debian.gz"]).decode()
-    trial.check(log.startswith("aide-compare (%s-1) " % trial.version), "changelog.Debian.gz", log)
+    trial.holds("changelog.Debian.gz", log.startswith("aide-compare (%s-1) " % trial.version), log)
     whole = trial.path("whole.tar")
     with open(whole, "wb") as file:
         data = trial.run(["sh", "-c", 'dpkg-deb --fsys-tarfile "$1" > "$2"', "sh", path, whole])
     with tarfile.open(whole) as archive:
         members = archive.getmembers()
-    trial.check(data[0] == 0 and all((one.uid, one.gid, one.mtime) == (0, 0, time) for one in members),
-                "owner and time of the package", [(one.name, one.uid, one.mtime) for one in members][:3])
-    trial.check(all(one.mode in (0o755, 0o644) for one in members), "the permissions in the package")
+    trial.holds("owner and time of the package",
+                data[0] == 0 and all((one.uid, one.gid, one.mtime) == (0, 0, time) for one in members), [(one.name, one.uid, one.mtime) for one in members][:3])
+    trial.holds("the permissions in the package", all(one.mode in (0o755, 0o644) for one in members))

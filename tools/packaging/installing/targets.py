@@ -50,21 +50,21 @@ def wanted_modes(source):
 def try_targets(trial):
     wanted = wanted_modes(trial.source)
     for target in KNOWN:
-        trial.check(target in wanted, "a file to install: " + target)
+        trial.holds("a file to install: " + target, target in wanted)
     found = trial.installed("first")
     prefix = "usr/local/"
     given = {path[len(prefix):]: mode for path, (mode, _) in files(found).items()}
     for target in sorted(set(wanted) | set(given)):
-        trial.check(wanted.get(target) == given.get(target), "installed with its mode: " + target,
+        trial.holds("installed with its mode: " + target, wanted.get(target) == given.get(target),
                     "wanted %s, given %s" % (show(wanted.get(target)), show(given.get(target))))
     for path, (mode, data) in sorted(found.items()):
         if data is None:
-            trial.check(mode == 0o755, "the mode of the folder " + path, show(mode))
+            trial.holds("the mode of the folder " + path, mode == 0o755, show(mode))
     with open(trial.program, "rb") as file:
-        trial.check(found[prefix + "bin/aide-compare"][1] == file.read(), "the program is installed as it is")
+        trial.holds("the program is installed as it is", found[prefix + "bin/aide-compare"][1] == file.read())
     for target, mode in sorted(wanted.items()):
         if mode == 0o755 and target.startswith("bin/"):
-            trial.check(target[4:].startswith("aide-compare"), "the name of the command " + target)
+            trial.holds("the name of the command " + target, target[4:].startswith("aide-compare"))
 
 
 def show(mode):
@@ -81,11 +81,11 @@ def try_shells(trial):
         folder = trial.path(words[0])
         narrow = ["sh", "-c", 'umask 077; exec "$@"', "sh", *words]
         done = trial.install("--destdir", folder, "--program", trial.program, shell=narrow)
-        trial.check(done[0] == 0 and done[2] == "", "install under " + words[0], done)
+        trial.holds("install under " + words[0], done[0] == 0 and done[2] == "", done)
         different = [path for path, kept in tree(folder).items() if first.get(path) != kept]
-        trial.check(tree(folder) == first, "the same files under " + words[0], different)
+        trial.holds("the same files under " + words[0], tree(folder) == first, different)
         done = trial.install("--destdir", folder, "--uninstall", shell=words)
-        trial.check(done[0] == 0 and done[2] == "" and tree(folder) == {}, "uninstall under " + words[0], done)
+        trial.holds("uninstall under " + words[0], done[0] == 0 and done[2] == "" and tree(folder) == {}, done)
 
 
 def try_again(trial):
@@ -96,20 +96,20 @@ def try_again(trial):
     shutil.copy(os.path.join(source, "VERSION"), more)
     target = os.path.join(folder, "usr/local", DOCUMENTS, "examples/cron/left out later")
     trial.install("--destdir", folder, "--program", trial.program, source=source)
-    trial.check(os.path.exists(target), "a further file of contrib is installed")
+    trial.holds("a further file of contrib is installed", os.path.exists(target))
     before = tree(folder)
     running = open(os.path.join(folder, "usr/local/bin/aide-compare"), "rb")
     done = trial.install("--destdir", folder, "--program", trial.program, source=source)
-    trial.check(done[0] == 0 and tree(folder) == before, "a second run changes nothing", done)
+    trial.holds("a second run changes nothing", done[0] == 0 and tree(folder) == before, done)
     with running:
         old, new = os.fstat(running.fileno()), os.stat(running.name)
-        trial.check(old.st_ino != new.st_ino, "the program is replaced by another file")
-        trial.check(len(running.read()) == old.st_size > 0, "a run of the old program keeps its file")
+        trial.holds("the program is replaced by another file", old.st_ino != new.st_ino)
+        trial.holds("a run of the old program keeps its file", len(running.read()) == old.st_size > 0)
     os.remove(more)
     done = trial.install("--destdir", folder, "--program", trial.program, source=source)
-    trial.check(done[0] == 0 and not os.path.exists(target), "what is not in the repository any more is removed", done)
+    trial.holds("what is not in the repository any more is removed", done[0] == 0 and not os.path.exists(target), done)
     done = trial.install("--destdir", folder, "--uninstall", source=source)
-    trial.check(done[0] == 0 and tree(folder) == {}, "nothing is left after three runs", sorted(tree(folder)))
+    trial.holds("nothing is left after three runs", done[0] == 0 and tree(folder) == {}, sorted(tree(folder)))
 
 
 def try_uninstall(trial):
@@ -125,19 +125,19 @@ def try_uninstall(trial):
     with open(os.path.join(folder, "usr/local", MANIFEST), "a") as file:
         file.write("file /usr/local/../../../outside\nfile /etc/kept\n")
     done = trial.install("--destdir", folder, "--uninstall")
-    trial.check(done[0] == 0 and done[2] == "", "uninstall beside others", done)
+    trial.holds("uninstall beside others", done[0] == 0 and done[2] == "", done)
     left = tree(folder)
-    trial.check(os.path.exists(mine), "a stranger's file in a folder of ours is left")
-    trial.check(os.path.exists(outside), "a file outside the prefix is left")
+    trial.holds("a stranger's file in a folder of ours is left", os.path.exists(mine))
+    trial.holds("a file outside the prefix is left", os.path.exists(outside))
     for path, kept in before.items():
-        trial.check(left.get(path) == kept, "what was there before is left: " + path)
+        trial.holds("what was there before is left: " + path, left.get(path) == kept)
     wanted = set(before) | {os.path.relpath(mine, folder)}
-    trial.check(set(files(left)) == set(files(before)) | {os.path.relpath(mine, folder)}, "no file of ours is left",
+    trial.holds("no file of ours is left", set(files(left)) == set(files(before)) | {os.path.relpath(mine, folder)},
                 sorted(left))
-    trial.check(all(any(one == path or one.startswith(path + "/") for one in wanted) for path in left),
-                "no empty folder of ours is left", sorted(left))
+    trial.holds("no empty folder of ours is left",
+                all(any(one == path or one.startswith(path + "/") for one in wanted) for path in left), sorted(left))
     done = trial.install("--destdir", folder, "--uninstall")
-    trial.check(done[0] == 1 and "nothing is installed" in done[2], "uninstall a second time", done)
+    trial.holds("uninstall a second time", done[0] == 1 and "nothing is installed" in done[2], done)
 
 
 def try_interrupted(trial):
@@ -155,9 +155,9 @@ def try_interrupted(trial):
     with open(script, "w") as file:
         file.write(text.replace("put() {\n", "put() {\n    case $4 in */zzz.1) kill -9 $$ ;; esac\n"))
     done = trial.install(*words, source=source)
-    trial.check(done[0] != 0 and len(files(tree(folder))) > 10, "an installation that is killed", done)
+    trial.holds("an installation that is killed", done[0] != 0 and len(files(tree(folder))) > 10, done)
     done = trial.install("--destdir", folder, "--uninstall")
-    trial.check(done[0] == 0 and tree(folder) == {}, "it is removed all the same", sorted(tree(folder)))
+    trial.holds("it is removed all the same", done[0] == 0 and tree(folder) == {}, sorted(tree(folder)))
 
 
 def try_refusals(trial):
@@ -171,27 +171,27 @@ def try_refusals(trial):
         trial.skip("a prefix that cannot be written (%s)" % error)
     else:
         good = done[0] == 1 and "cannot write below" in done[2] and "--prefix" in done[2]
-        trial.check(good and list(tree(shut)) == ["usr"], "a prefix that cannot be written", done)
+        trial.holds("a prefix that cannot be written", good and list(tree(shut)) == ["usr"], done)
         done = trial.install("--destdir", shut, env=trial.plain(), **rights())
-        trial.check(done[0] == 1 and "cannot write below" in done[2], "the same before the program is built", done)
+        trial.holds("the same before the program is built", done[0] == 1 and "cannot write below" in done[2], done)
     blocked = trial.path("blocked")
     os.makedirs(os.path.join(blocked, "usr/local/bin/aide-compare-sort"))
     before = tree(blocked)
     done = trial.install("--destdir", blocked, "--program", trial.program)
-    trial.check(done[0] == 1 and "is in the way" in done[2] and tree(blocked) == before, "a folder in the way", done)
+    trial.holds("a folder in the way", done[0] == 1 and "is in the way" in done[2] and tree(blocked) == before, done)
     trial.write("blocked2/usr/local/share", "a file\n")
     done = trial.install("--destdir", trial.path("blocked2"), "--program", trial.program)
-    trial.check(done[0] == 1 and "is in the way" in done[2] and len(tree(trial.path("blocked2"))) == 3,
-                "a file in the place of a folder", done)
+    trial.holds("a file in the place of a folder",
+                done[0] == 1 and "is in the way" in done[2] and len(tree(trial.path("blocked2"))) == 3, done)
     for words in (["--prefix", "usr"], ["--prefix", "/a b"], ["--prefix", "/a/../b"], ["--prefix", "/a|b"], ["--prefix"],
                   ["--destdir"], ["--nonsense"], ["more"], ["--prefix="]):
         done = trial.install("--destdir", trial.path("refused"), "--program", trial.program, *words)
-        trial.check(done[0] == 2 and done[1] == "" and not os.path.exists(trial.path("refused")),
-                    "refused: " + " ".join(words), done)
+        trial.holds("refused: " + " ".join(words),
+                    done[0] == 2 and done[1] == "" and not os.path.exists(trial.path("refused")), done)
     done = trial.install("--destdir", trial.path("refused"), "--program", trial.path("nowhere"))
-    trial.check(done[0] == 1 and not os.path.exists(trial.path("refused")), "a program that is not there", done)
+    trial.holds("a program that is not there", done[0] == 1 and not os.path.exists(trial.path("refused")), done)
     done = trial.install("--help")
-    trial.check(done[0] == 0 and "--uninstall" in done[1] and "8 to 13 minutes" in done[1], "--help", done)
+    trial.holds("--help", done[0] == 0 and "--uninstall" in done[1] and "8 to 13 minutes" in done[1], done)
 
 
 def try_build(trial):
@@ -205,7 +205,7 @@ def try_build(trial):
     words = ["--destdir", trial.path("built")]
     done = trial.install(*words, source=source, env=trial.plain())
     good = done[0] == 1 and "rt" in done[2] and "--program" in done[2] and not os.path.exists(trial.path("built"))
-    trial.check(good, "no program and no rt", done)
+    trial.holds("no program and no rt", good, done)
     surroundings = dict(os.environ, PATH=trial.path("stubs") + ":" + trial.plain_path)
     for name, wanted in (("no program", 1), ("a program that was built after its sources", 1), ("an old program", 2)):
         if name == "an old program":
@@ -213,18 +213,18 @@ def try_build(trial):
         done = trial.install(*words, source=source, env=surroundings)
         with open(calls) as file:
             lines = file.read().splitlines()
-        trial.check(done[0] == 0 and len(lines) == wanted, name, (done, lines))
-        trial.check(("8 to 13 minutes" in done[2]) == (name != "a program that was built after its sources"),
-                    "it says how long it takes: " + name, done)
-    trial.check(lines[-1] == os.path.dirname(os.path.dirname(code)) + " run -- -D -c /dev/null", "how rt is called", lines)
+        trial.holds(name, done[0] == 0 and len(lines) == wanted, (done, lines))
+        trial.holds("it says how long it takes: " + name,
+                    ("8 to 13 minutes" in done[2]) == (name != "a program that was built after its sources"), done)
+    trial.holds("how rt is called", lines[-1] == os.path.dirname(os.path.dirname(code)) + " run -- -D -c /dev/null", lines)
     with open(trial.path("built/usr/local/bin/aide-compare"), "rb") as one, open(trial.program, "rb") as two:
-        trial.check(one.read() == two.read(), "what was built is installed")
+        trial.holds("what was built is installed", one.read() == two.read())
     os.remove(built)
     script = os.path.join(source, "packaging", "make_package")
     done = trial.run(["sh", script, "--output", trial.path("unbuilt/out")], env=surroundings)
     good = done[0] == 0 and "8 to 13 minutes" in done[2] and os.path.exists(built)
-    trial.check(good, "make_package builds the program and says how long it takes", done)
+    trial.holds("make_package builds the program and says how long it takes", good, done)
     trial.write("stubs/rt", "#!/bin/sh\nexit 1\n", 0o755)
     os.remove(built)
     done = trial.install("--destdir", trial.path("unproved"), source=source, env=surroundings)
-    trial.check(done[0] == 1 and not os.path.exists(trial.path("unproved")), "a program that is not proved", done)
+    trial.holds("a program that is not proved", done[0] == 1 and not os.path.exists(trial.path("unproved")), done)

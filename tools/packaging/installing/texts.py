@@ -19,42 +19,42 @@ def try_programs(trial):
     folder = trial.path("run/usr/local/bin")
     words = ["-E", "-c", os.path.join(HERE, "examples", "aide.conf"), "-B", "@@define DIR %s/examples" % HERE]
     done = trial.run([os.path.join(folder, "aide-compare"), *words])
-    trial.check(done[0] == 7 and done[1].startswith("AIDE found differences"), "the installed program", done)
+    trial.holds("the installed program", done[0] == 7 and done[1].startswith("AIDE found differences"), done)
     for name in sorted(os.listdir(folder)):
         if name != "aide-compare":
             done = trial.run([os.path.join(folder, name), "--help"])
             good = done[0] == 0 and done[2] == "" and "usage: " + name in done[1]
-            trial.check(good, name + " --help", done)
+            trial.holds(name + " --help", good, done)
     database = trial.write("mixed.db", "@@begin_db\n@@db_spec name attr\n/b 0\n/a-b 0\n/a/b 0\n@@end_db\n")
     done = trial.run([os.path.join(folder, "aide-compare-sort"), database])
     wanted = "@@begin_db\n@@db_spec name attr\n/a/b 0\n/a-b 0\n/b 0\n@@end_db\n"
-    trial.check(done[:2] == (0, wanted) and "moved" in done[2], "aide-compare-sort", done)
+    trial.holds("aide-compare-sort", done[:2] == (0, wanted) and "moved" in done[2], done)
     done = trial.run(["sh", "-c", 'gzip -c "$1" | "$2"', "sh", database, os.path.join(folder, "aide-compare-sort")])
-    trial.check(done[:2] == (0, wanted), "aide-compare-sort of gzip", done)
+    trial.holds("aide-compare-sort of gzip", done[:2] == (0, wanted), done)
     trial.write("twice.db", "@@begin_db\n@@db_spec name attr\n/a\\ 0\n/a\\ 0\n@@end_db\n")
     done = trial.run([os.path.join(folder, "aide-compare-sort"), trial.path("twice.db")])
-    trial.check(done[0] == 24 and done[2].endswith("aide-compare-sort: stands twice: /a\\134\n"), "a path that stands twice", done)
+    trial.holds("a path that stands twice", done[0] == 24 and done[2].endswith("aide-compare-sort: stands twice: /a\\134\n"), done)
 
 
 def try_pages(trial):
     """Each command has a page, which has the version and names no file of the repository."""
     found = texts(tree(trial.path("first/usr/local")))
     pages = {path: text for path, text in found.items() if path.startswith("share/man/")}
-    trial.check(len(pages) >= 3, "manual pages", sorted(pages))
+    trial.holds("manual pages", len(pages) >= 3, sorted(pages))
     if not shutil.which("man"):
         trial.skip("what man warns of: it is not installed")
     commands = [path for path in tree(trial.path("first/usr/local")) if re.match(r"(bin|lib/nagios/plugins)/.", path)]
     for path in sorted(commands):
-        trial.check("share/man/man1/%s.1" % os.path.basename(path) in pages, "a manual page of " + path)
+        trial.holds("a manual page of " + path, "share/man/man1/%s.1" % os.path.basename(path) in pages)
     for path, text in pages.items():
-        trial.check(("\n.Os aide-compare %s\n" % trial.version) in text, "the version in " + path)
-        trial.check(not SOURCE_PATH.search(text), "no path of the repository in " + path, SOURCE_PATH.findall(text))
+        trial.holds("the version in " + path, ("\n.Os aide-compare %s\n" % trial.version) in text)
+        trial.holds("no path of the repository in " + path, not SOURCE_PATH.search(text), SOURCE_PATH.findall(text))
         for name in re.findall(r"^\.Pa (\S+\.md)", text, re.M):
             good = name.startswith("/usr/local/") and name[len("/usr/local/"):] in found
-            trial.check(good, "%s names a document that is installed" % path, name)
+            trial.holds("%s names a document that is installed" % path, good, name)
         if shutil.which("man"):
             done = trial.run(["man", "--warnings", "-E", "UTF-8", "-l", "-Tutf8", "-Z", trial.path("first/usr/local", path)])
-            trial.check(done[0] == 0 and done[2] == "", "man --warnings " + path, done[2])
+            trial.holds("man --warnings " + path, done[0] == 0 and done[2] == "", done[2])
 
 
 def try_documents(trial):
@@ -65,8 +65,8 @@ def try_documents(trial):
         if path.startswith(DOCUMENTS) and path.endswith(".md"):
             for name in re.findall(r"\]\(([^)#:]+)(?:#[^)]*)?\)", text):
                 count += 1
-                trial.check(os.path.exists(trial.path("first/usr/local", DOCUMENTS, name)), "a link in " + path, name)
-    trial.check(count > 5, "links between the documents", count)
+                trial.holds("a link in " + path, os.path.exists(trial.path("first/usr/local", DOCUMENTS, name)), name)
+    trial.holds("links between the documents", count > 5, count)
 
 
 def try_prefix(trial):
@@ -77,17 +77,17 @@ def try_prefix(trial):
     for path, text in texts(found).items():
         if "/kubernetes" in path:
             good = "hostPath: {path: %s," % prefix in text and "mountPath: /usr/local," in text
-            trial.check(good, "the job mounts the prefix as /usr/local")
+            trial.holds("the job mounts the prefix as /usr/local", good)
             continue
         named = re.findall(r"/usr/local" + OWN_PATH, text)
-        trial.check(not named, "the usual prefix in " + path, named)
+        trial.holds("the usual prefix in " + path, not named, named)
         for name in re.findall(re.escape(prefix) + OWN_PATH, text):
             if path.endswith(("/installed", "/CHANGELOG.md")) or name.endswith(("-", "/", "/system")):
                 continue
             count += 1
             there = any(one == name.rstrip(".")[1:] or one.startswith(name.rstrip(".")[1:] + "/") for one in found)
-            trial.check(there, "what %s names is installed" % path, name)
-    trial.check(count > 4, "texts that name what is installed", count)
+            trial.holds("what %s names is installed" % path, there, name)
+    trial.holds("texts that name what is installed", count > 4, count)
 
 
 def try_units(trial):
@@ -96,9 +96,9 @@ def try_units(trial):
     with open(os.path.join(folder, "aide-compare.service")) as file:
         service = file.read()
     start = re.findall(r"^ExecStart=(.*)$", service, re.M)
-    trial.check(start == ["/usr/local/bin/aide-compare-mail --alarm-sent-is-success --queue /var/lib/aide-compare/daily/mail --age 50h "
-                          "--state /var/lib/aide-compare/daily/state --reasons"], "ExecStart", start)
-    trial.check("SuccessExitStatus" not in service, "no status of differences is a success")
+    trial.holds("ExecStart", start == ["/usr/local/bin/aide-compare-mail --alarm-sent-is-success --queue /var/lib/aide-compare/daily/mail --age 50h "
+                          "--state /var/lib/aide-compare/daily/state --reasons"], start)
+    trial.holds("no status of differences is a success", "SuccessExitStatus" not in service)
     if not shutil.which("systemd-analyze"):
         trial.skip("the units: systemd-analyze is not installed")
         return
@@ -111,9 +111,9 @@ def try_units(trial):
         with open(os.path.join(folder, name)) as file:
             trial.write("units/" + name, file.read().replace("/usr/local/bin/aide-compare-mail", "/bin/true"))
     done = trial.run(["systemd-analyze", "security", "--offline=true", "--threshold=10", copy])
-    trial.check(done[0] == 0, "the service is exposed by 1.0 at most", done[1][-80:])
+    trial.holds("the service is exposed by 1.0 at most", done[0] == 0, done[1][-80:])
     done = trial.run(["systemd-analyze", "verify", "--man=no", copy, os.path.join(os.path.dirname(copy), "aide-compare.timer")])
-    trial.check(done[0] == 0 and "aide-compare" not in done[2], "systemd-analyze verify", done)
+    trial.holds("systemd-analyze verify", done[0] == 0 and "aide-compare" not in done[2], done)
 
 
 def try_cron(trial):
@@ -121,7 +121,7 @@ def try_cron(trial):
     folder = trial.path("jobs")
     trial.installed("unused")
     done = trial.install("--prefix", folder, "--program", trial.program)
-    trial.check(done[0] == 0, "install below a prefix of its own", done)
+    trial.holds("install below a prefix of its own", done[0] == 0, done)
     examples = os.path.join(folder, DOCUMENTS, "examples", "cron")
     daily = os.path.join(examples, "aide-compare.cron.daily")
     os.makedirs(trial.path("lib/aide"))
@@ -137,31 +137,31 @@ def try_cron(trial):
         else:
             trial.write("jobs/bin/aide-compare-mail", '#!/bin/sh\necho "$0 $*" >> "%s"\nexit %d\n' % (called, status), 0o755)
         done = trial.run([daily])
-        trial.check(done == (status or 0, "", ""), "cron.daily, the tool's status %s" % status, done)
+        trial.holds("cron.daily, the tool's status %s" % status, done == (status or 0, "", ""), done)
     with open(called) as file:
         lines = file.read().splitlines()
     wanted = "%s --user %s --alarm-sent-is-success --age 50h --state %s" % (
         tool, pwd.getpwuid(os.geteuid()).pw_name, trial.path("lib/aide-compare/daily/state"))
-    trial.check(lines == [wanted] * 3, "what the jobs call", lines)
+    trial.holds("what the jobs call", lines == [wanted] * 3, lines)
     if shutil.which("run-parts"):
         for name in ("aide-compare.cron.daily", "aide-compare"):
             target = trial.path("parts-" + name, name)
             os.makedirs(os.path.dirname(target))
             shutil.copy(daily, target)
             done = trial.run(["run-parts", "--test", os.path.dirname(target)])
-            trial.check((target in done[1]) == (name == "aide-compare"), "run-parts and the name " + name, done)
+            trial.holds("run-parts and the name " + name, (target in done[1]) == (name == "aide-compare"), done)
     else:
         trial.skip("the names that run-parts takes: it is not installed")
 
 
 def try_version(trial):
     """Whatever else names a version agrees with VERSION."""
-    trial.check(re.match(r"\d+\.\d+\.\d+$", trial.version), "the form of VERSION", trial.version)
+    trial.holds("the form of VERSION", re.match(r"\d+\.\d+\.\d+$", trial.version), trial.version)
     with open(os.path.join(HERE, "CHANGELOG.md")) as file:
         parts = re.findall(r"^## (\S+)", file.read(), re.M)
-    trial.check(trial.version in parts, "a part of CHANGELOG.md for the version", parts)
+    trial.holds("a part of CHANGELOG.md for the version", trial.version in parts, parts)
     for name in ("README.md", "docs/RECIPES.md"):
         with open(os.path.join(HERE, name)) as file:
             found = re.findall(r"aide-compare[_-]\d[\w.-]*?(?:-x86_64|_amd64)", file.read())
         wanted = ["aide-compare-%s-x86_64" % trial.version, "aide-compare_%s-1_amd64" % trial.version]
-        trial.check(all(one in wanted for one in found), "the packages that %s names" % name, found)
+        trial.holds("the packages that %s names" % name, all(one in wanted for one in found), found)

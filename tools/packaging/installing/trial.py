@@ -5,6 +5,8 @@ import stat
 import subprocess
 import tempfile
 
+from tools.lib.tally import Tally
+
 HERE = os.path.dirname(os.path.dirname(os.path.dirname(os.path.dirname(os.path.abspath(__file__)))))
 PARTS = ["commands", "contrib", "docs", "examples/small_tree", "man", "README.md", "CHANGELOG.md", "SECURITY.md", "VERSION",
          "packaging"]
@@ -14,14 +16,14 @@ NEEDED = """[ awk basename cat chmod cmp comm cp cut date dirname env find grep 
 python3 readlink rm rmdir sed sh sha256sum sort tail tar touch tr uniq wc xargs""".split()
 
 
-class Trial:
+class Trial(Tally):
     """Each trial installs below a folder of its own from a copy that it may change."""
 
     def __init__(self, program):
+        super().__init__()
         self.root = tempfile.mkdtemp(prefix="try-install-")
         os.chmod(self.root, 0o755)
         self.program = shutil.copy(program, self.path("program"))
-        self.passed = self.failed = 0
         self.source = self.copy("source")
         with open(os.path.join(self.source, "VERSION")) as file:
             self.version = file.read().strip()
@@ -61,13 +63,6 @@ class Trial:
         os.chmod(path, mode)
         return path
 
-    def check(self, good, name, got=""):
-        if good:
-            self.passed += 1
-        else:
-            self.failed += 1
-            print("FAILED:", name, got)
-
     def skip(self, what):
         print("skipped:", what)
 
@@ -85,7 +80,7 @@ class Trial:
         """Installs the program below a new folder, and gives what lies there."""
         folder = self.path(name)
         done = self.install("--destdir", folder, "--program", self.program, *words)
-        self.check(done[0] == 0 and done[2] == "", "install into " + name, done)
+        self.holds("install into " + name, done[0] == 0 and done[2] == "", done)
         return tree(folder)
 
     def plain(self):

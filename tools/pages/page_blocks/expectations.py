@@ -29,7 +29,7 @@ def prints(text):
 
     def look(sandbox, done):
         good = done[1] == text if text.endswith("\n") else done[1].lstrip().startswith(text)
-        sandbox.check(good and not done[2], "prints %r" % text, done)
+        sandbox.holds("prints %r" % text, good and not done[2], done)
 
     return look
 
@@ -39,22 +39,22 @@ def lists(*paths):
 
     def look(sandbox, done):
         found = sorted(re.findall(r"^\S.{17}: (/.*)$", done[1], re.M))
-        sandbox.check(found == sorted(paths) and not faults_in(done[2]), "the entries of the report", done)
+        sandbox.holds("the entries of the report", found == sorted(paths) and not faults_in(done[2]), done)
 
     return look
 
 
 def has_summary(sandbox, done):
-    sandbox.check(done[1].startswith(MINIMAL + "\n" + SUMMARY) and not faults_in(done[2]), "the report", done)
+    sandbox.holds("the report", done[1].startswith(MINIMAL + "\n" + SUMMARY) and not faults_in(done[2]), done)
 
 
 def is_minimal(sandbox, done):
-    sandbox.check(done[1] == MINIMAL and not faults_in(done[2]), "the first line of the report and no more", done)
+    sandbox.holds("the first line of the report and no more", done[1] == MINIMAL and not faults_in(done[2]), done)
 
 
 def is_refused(words):
     def look(sandbox, done):
-        sandbox.check(not done[1] and words in done[2], "no report, and: " + words, done)
+        sandbox.holds("no report, and: " + words, not done[1] and words in done[2], done)
 
     return look
 
@@ -62,7 +62,7 @@ def is_refused(words):
 def compare(sandbox):
     """What an administrator did before: a comparison that left its state."""
     done = sandbox.run("aide-compare-run --state %s" % STATE)
-    sandbox.check(done[0] == [7], "a comparison before", done)
+    sandbox.holds("a comparison before", done[0] == [7], done)
 
 
 def put_examples(sandbox):
@@ -79,19 +79,19 @@ def same_files(sandbox, *names):
 
 
 def is_accepted(sandbox, done):
-    sandbox.check(same_files(sandbox, AIDE, AIDE + ".new"), "the new database is the baseline", done)
+    sandbox.holds("the new database is the baseline", same_files(sandbox, AIDE, AIDE + ".new"), done)
 
 
 def has_page(sandbox, done):
     text = sandbox.read("/tmp/page.html")
-    sandbox.check(not done[1] and not faults_in(done[2]) and text.endswith("</html>\n") and "/c" in text, "the page", done)
+    sandbox.holds("the page", not done[1] and not faults_in(done[2]) and text.endswith("</html>\n") and "/c" in text, done)
 
 
 def has_lists(sandbox, done):
     """A page without script, of the entries that were added or removed."""
     text = sandbox.read("/tmp/page.html")
     found = ["<code>%s</code>" % name in text for name in "abc"]
-    sandbox.check(not done[1] and not faults_in(done[2]) and "<script" not in text and found[2] is False and any(found), "the lists", done)
+    sandbox.holds("the lists", not done[1] and not faults_in(done[2]) and "<script" not in text and found[2] is False and any(found), done)
 
 
 def put_logs(sandbox):
@@ -106,11 +106,11 @@ def leaves_out(path, count, place):
 
     def look(sandbox, done):
         listed = re.findall(r"^\S.{17}: (/.*)$", done[1], re.M)
-        sandbox.check(path not in listed and "/etc/passwd" in listed, "the entries of the report", done)
+        sandbox.holds("the entries of the report", path not in listed and "/etc/passwd" in listed, done)
         for side in ("old", "new"):
             line = "aide-compare-run: left out of the %s database: %d entries\n" % (side, count)
-            sandbox.check(line in done[2], "how many entries were left out", done)
-        sandbox.check(" (%s" % place in done[2], "by which line", done)
+            sandbox.holds("how many entries were left out", line in done[2], done)
+        sandbox.holds("by which line", " (%s" % place in done[2], done)
 
     return look
 
@@ -128,14 +128,14 @@ def has_events(sandbox, done):
     """Each line has a host, a date, a kind and a path."""
     event = re.compile(r"[^\t\n]+\t[0-9]{4}-[0-9]{2}-[0-9]{2}T[0-9:]{8}Z\t(added|removed|changed)\t/[^\t\n]*")
     lines = done[1].splitlines()
-    sandbox.check(lines and all(event.fullmatch(line) for line in lines), "events that stand alone", done)
+    sandbox.holds("events that stand alone", lines and all(event.fullmatch(line) for line in lines), done)
 
 
 def is_logged(sandbox, done):
     words, _, line = (taken(sandbox.trial, "logged") or "").partition("\n")
     good = words == "-t aide-compare -p auth.notice"
     good = good and line.startswith("differences: status=7 added=1 removed=1 changed=2 ")
-    sandbox.check(good and not done[1] and not done[2], "the line in the log", (words, line, done))
+    sandbox.holds("the line in the log", good and not done[1] and not done[2], (words, line, done))
 
 
 def is_mailed(address, page):
@@ -144,14 +144,14 @@ def is_mailed(address, page):
     def look(sandbox, done):
         mail = taken(sandbox.trial, "mailed") or ""
         good = "To: %s\n" % address in mail and "Changed entries:         2" in mail and ("text/html" in mail) == page
-        sandbox.check(good and not done[1] and not done[2], "the mail", (mail[:600], done))
+        sandbox.holds("the mail", good and not done[1] and not done[2], (mail[:600], done))
         has_state(sandbox, done)
 
     return look
 
 
 def has_state(sandbox, done):
-    sandbox.check("\nadded=1\nremoved=1\nchanged=2\n" in sandbox.read(STATE), "the state", done)
+    sandbox.holds("the state", "\nadded=1\nremoved=1\nchanged=2\n" in sandbox.read(STATE), done)
 
 
 def metrics(sandbox):
@@ -161,7 +161,7 @@ def metrics(sandbox):
 def has_metrics(sandbox, done):
     text = metrics(sandbox)
     wanted = ["aide_compare_status 7\n", "aide_compare_added_entries 1\n", "aide_compare_changed_entries 2\n"]
-    sandbox.check(all("\n" + line in text for line in wanted), "the metrics", (text, done))
+    sandbox.holds("the metrics", all("\n" + line in text for line in wanted), (text, done))
 
 
 def compare_with_reasons(sandbox):
@@ -173,17 +173,17 @@ def try_quiet_alarm(sandbox, text):
     compare_with_reasons(sandbox)
     sandbox.run("aide-compare-metrics /var/lib/prometheus/node-exporter/aide.prom")
     names = set(re.findall(r"\baide_compare_\w+", text))
-    sandbox.check(names and all("\n%s " % name in metrics(sandbox) for name in names), "the metrics of the rule", names)
-    sandbox.check(set(re.findall(r"^[ -]*(\w+):", text, re.M)) == {"alert", "expr"}, "the words of the rule")
+    sandbox.holds("the metrics of the rule", names and all("\n%s " % name in metrics(sandbox) for name in names), names)
+    sandbox.holds("the words of the rule", set(re.findall(r"^[ -]*(\w+):", text, re.M)) == {"alert", "expr"})
 
 
 def has_brief(sandbox, done):
     good = done[1].startswith(MINIMAL) and " unexplained of 4 changes" in done[1] and "\nUnexplained:\n" in done[1]
-    sandbox.check(good, "what people read first", done)
+    sandbox.holds("what people read first", good, done)
 
 
 def has_page_of_reasons(sandbox, done):
-    sandbox.check('"left_out"' in sandbox.read("/tmp/lines") and "</html>" in sandbox.read("/tmp/page.html"), "lines and page", done)
+    sandbox.holds("lines and page", '"left_out"' in sandbox.read("/tmp/lines") and "</html>" in sandbox.read("/tmp/page.html"), done)
 
 
 def try_alarms(sandbox, text):
@@ -191,16 +191,16 @@ def try_alarms(sandbox, text):
     compare(sandbox)
     sandbox.run("aide-compare-metrics /var/lib/prometheus/node-exporter/aide.prom")
     names = set(re.findall(r"\baide_compare_\w+", text))
-    sandbox.check(names and all("\n%s " % name in metrics(sandbox) for name in names), "the metrics of the rules", names)
+    sandbox.holds("the metrics of the rules", names and all("\n%s " % name in metrics(sandbox) for name in names), names)
     words = set(re.findall(r"^[ -]*(\w+):", text, re.M))
-    sandbox.check(words == {"groups", "name", "rules", "alert", "expr"}, "the words of the rules", words)
+    sandbox.holds("the words of the rules", words == {"groups", "name", "rules", "alert", "expr"}, words)
 
 
 def is_private(sandbox, done):
     has_summary(sandbox, done)
     for name in ("/root/old.db", "/root/new.db"):
         mode = stat.S_IMODE(os.stat(sandbox.path(name)).st_mode)
-        sandbox.check(mode == 0o600, "others cannot read " + name, oct(mode))
+        sandbox.holds("others cannot read " + name, mode == 0o600, oct(mode))
 
 
 def run_with(sandbox, text, words):
@@ -214,7 +214,7 @@ def is_configuration(words):
 
     def look(sandbox, text):
         done = run_with(sandbox, text, words)
-        sandbox.check(done[0] == 7, "the configuration %r" % text, done)
+        sandbox.holds("the configuration %r" % text, done[0] == 7, done)
         has_summary(sandbox, done)
 
     return look
@@ -223,7 +223,7 @@ def is_configuration(words):
 def is_database(sandbox, text):
     sandbox.fill(text, text)
     done = run_with(sandbox, sandbox.pair("/tmp/old.db", "/tmp/new.db"), [])
-    sandbox.check(done[0] == 0 and "NO differences" in done[1] and not done[2], "the database of the page", done)
+    sandbox.holds("the database of the page", done[0] == 0 and "NO differences" in done[1] and not done[2], done)
 
 
 def try_owners_and_modes(sandbox, text):
@@ -235,16 +235,16 @@ def try_owners_and_modes(sandbox, text):
     for old, new in ((with_digest, without), (without, with_digest)):
         sandbox.fill(old, new)
         done = run_with(sandbox, text, [])
-        sandbox.check(done == (0, "", ""), "times, inodes, and a digest that one run has", done)
+        sandbox.holds("times, inodes, and a digest that one run has", done == (0, "", ""), done)
         sandbox.fill(old, new.replace("100644", "100600"))
         done = run_with(sandbox, text, [])
-        sandbox.check(done[0] == 4 and "\nf = p" in done[1], "a mode", done)
+        sandbox.holds("a mode", done[0] == 4 and "\nf = p" in done[1], done)
 
 
 def is_line_of_check(sandbox, text):
     """The line of the page is that of a state with its counts; the age is that of now."""
     counts = [int(word) for word in re.findall(r"(\d+) (?:added|removed|changed)", text.partition("|")[0])]
-    sandbox.check(len(counts) == 3, "the counts of the line", text)
+    sandbox.holds("the counts of the line", len(counts) == 3, text)
     added = "".join("/a%d 100644 1 MA== 1\n" % k for k in range(counts[0]))
     removed = "".join("/r%d 100644 1 MA== 1\n" % k for k in range(counts[1]))
     changed = "".join("/c%d 100644 %%d MA== 1\n" % k for k in range(counts[2]))
@@ -253,7 +253,7 @@ def is_line_of_check(sandbox, text):
     sandbox.run("aide-compare-run --state %s" % STATE)
     done = sandbox.run("/usr/local/lib/nagios/plugins/check_aide_compare")
     without_age = [re.sub(r"age=\d+s", "age", line) for line in (done[1], text)]
-    sandbox.check(without_age[0] == without_age[1], "the line of the check", done)
+    sandbox.holds("the line of the check", without_age[0] == without_age[1], done)
 
 
 def put_baseline(sandbox):
@@ -261,13 +261,13 @@ def put_baseline(sandbox):
 
 
 def is_first_of_host(sandbox, done):
-    sandbox.check("SHA-256 " in done[1] + done[2] and os.path.isfile(sandbox.path(HOST)), "the first baseline", done)
+    sandbox.holds("the first baseline", "SHA-256 " in done[1] + done[2] and os.path.isfile(sandbox.path(HOST)), done)
 
 
 def compare_host(sandbox):
     put_baseline(sandbox)
     done = sandbox.run("compare-hosts /etc/aide-compare/hosts")
-    sandbox.check(done[0] == [7], "a comparison of the host before", done)
+    sandbox.holds("a comparison of the host before", done[0] == [7], done)
     with open(sandbox.path("/var/lib/aide-compare/states/www")) as file:
         os.environ["DIGEST"] = re.search("^new_sha256=(.*)$", file.read(), re.M).group(1)
 
@@ -275,11 +275,11 @@ def compare_host(sandbox):
 def is_mailed_for_hosts(sandbox, done):
     mail = taken(sandbox.trial, "mailed") or ""
     good = "To: root\nSubject: aide on 1 hosts: 1 differ, 0 not compared\n" in mail and "\n    on www\n" in mail
-    sandbox.check(good and not done[1] and not done[2], "the mail", (mail[:600], done))
+    sandbox.holds("the mail", good and not done[1] and not done[2], (mail[:600], done))
 
 
 def is_accepted_for_host(sandbox, done):
-    sandbox.check(same_files(sandbox, HOST, AIDE + ".new"), "the baseline of the host", done)
+    sandbox.holds("the baseline of the host", same_files(sandbox, HOST, AIDE + ".new"), done)
 
 
 def is_shortened_report(sandbox, text):
@@ -288,22 +288,22 @@ def is_shortened_report(sandbox, text):
     done = sandbox.trial.run(["aide-compare", "-E", "-c", folder + "/aide.conf", "-B", "@@define DIR " + folder])
     lines = iter([line.rstrip() for line in done[1].splitlines()])
     missing = [line for line in text.splitlines() if line.rstrip() not in lines]
-    sandbox.check(done[0] == 7 and not missing, "lines that the report has not, or not in this order", missing)
+    sandbox.holds("lines that the report has not, or not in this order", done[0] == 7 and not missing, missing)
 
 
 def is_first_answer(sandbox, done):
     """README says what its first command prints and what it ends with."""
     said = re.search(r"\(`(\w+=\w+)`\), prints `([^`]+)` and ends with\s+status (\d+)\.", read("README.md"))
-    sandbox.check(said, "the page says the output and the status")
+    sandbox.holds("the page says the output and the status", said)
     if said:
-        sandbox.check([int(said.group(3))] == done[0], "the status, as the page says", done)
-        sandbox.check(done[1].startswith(said.group(2) + "\n"), "the output, as the page says", done)
-        sandbox.check(not sandbox.with_rt or said.group(1) in done[1] + done[2], "what rt says, as the page says", done)
+        sandbox.holds("the status, as the page says", [int(said.group(3))] == done[0], done)
+        sandbox.holds("the output, as the page says", done[1].startswith(said.group(2) + "\n"), done)
+        sandbox.holds("what rt says, as the page says", not sandbox.with_rt or said.group(1) in done[1] + done[2], done)
 
 
 def is_package(sandbox, text):
     name = "aide-compare_%s-1_amd64.deb" % read("VERSION").strip()
-    sandbox.check(text == "dpkg -i %s\n" % name, "the package that packaging/make_package writes", name)
+    sandbox.holds("the package that packaging/make_package writes", text == "dpkg -i %s\n" % name, name)
 
 
 def set_pages(sandbox):
@@ -313,10 +313,10 @@ def set_pages(sandbox):
 
 def is_kit(sandbox, done):
     told = "`%s` (`rt version`)" % done[1].strip()
-    sandbox.check(told in read("README.md"), "the version of the kit, as the page says", done)
+    sandbox.holds("the version of the kit, as the page says", told in read("README.md"), done)
 
 
 def are_examples(sandbox, done):
     said = re.search(r"^All three end with status (\d+):", read("examples/README.md"), re.M)
-    sandbox.check(said and done[0][1:] == [int(said.group(1))] * 3, "the status of all three, as the page says", done)
-    sandbox.check(done[1].count(MINIMAL) == 3 and not done[2], "three reports", done)
+    sandbox.holds("the status of all three, as the page says", said and done[0][1:] == [int(said.group(1))] * 3, done)
+    sandbox.holds("three reports", done[1].count(MINIMAL) == 3 and not done[2], done)

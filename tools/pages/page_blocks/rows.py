@@ -37,9 +37,9 @@ class Commands(Row):
         if self.prepare:
             self.prepare(sandbox)
         done = sandbox.run(display.text, self.folder, self.given)
-        sandbox.check(done[0] == self.statuses, "ends with %s" % self.statuses, done)
+        sandbox.holds("ends with %s" % self.statuses, done[0] == self.statuses, done)
         said = re.findall(r"\(?status (\d+)", display.key)
-        sandbox.check(not said or [int(word) for word in said] == done[0][-1:], "ends as the page says: %s" % said, done)
+        sandbox.holds("ends as the page says: %s" % said, not said or [int(word) for word in said] == done[0][-1:], done)
         self.look(sandbox, done)
 
 
@@ -63,9 +63,9 @@ class Elsewhere(Row):
         self.reason, self.file, self.look = reason, file, look
 
     def work(self, sandbox, display):
-        sandbox.check(os.path.isfile(os.path.join(HERE, self.file)), "is tried by a file that is there: " + self.file)
+        sandbox.holds("is tried by a file that is there: " + self.file, os.path.isfile(os.path.join(HERE, self.file)))
         for name in re.findall(r"^(?:tools|packaging)/\S+", display.text, re.M):
-            sandbox.check(os.access(os.path.join(HERE, name), os.X_OK), "names a command that is there: " + name)
+            sandbox.holds("names a command that is there: " + name, os.access(os.path.join(HERE, name), os.X_OK))
         self.look(sandbox, display.text)
 
 

@@ -40,9 +40,9 @@ class Sandbox:
         self.path, self.write, self.read = self.trial.path, self.trial.write, self.trial.read
         self.now = ""
 
-    def check(self, good, name, got=""):
+    def holds(self, name, good, got=""):
         """A trial of the display that is tried now."""
-        self.trial.check(good, self.now + name, got)
+        self.trial.holds(self.now + name, good, got)
 
     def install(self):
         self.trial.install()

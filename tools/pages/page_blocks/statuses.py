@@ -49,10 +49,10 @@ def try_statuses(sandbox):
         sandbox.fill(old, new)
         done = sandbox.run(command)
         good = said(words) == [str(number) for number in done[0]]
-        sandbox.check(good, "README.md: the status of: " + words, (said(words), done))
+        sandbox.holds("README.md: the status of: " + words, good, (said(words), done))
         seen.update(said(words))
     numbers = {number for numbers, _ in table() for number in numbers}
-    sandbox.check(numbers and numbers == seen, "README.md: statuses that were not tried", numbers ^ seen)
+    sandbox.holds("README.md: statuses that were not tried", numbers and numbers == seen, numbers ^ seen)
     sandbox.fill()
     done = sandbox.run(COMPARE)
-    sandbox.check(done[0] == [7] and SUMMARY in done[1], "README.md: sums of statuses", done)
+    sandbox.holds("README.md: sums of statuses", done[0] == [7] and SUMMARY in done[1], done)

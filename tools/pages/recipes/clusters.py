@@ -25,7 +25,7 @@ def try_slurm(trial):
         found.update(lines_of(done[1])[0])
         statuses.append(done[0])
     got = {host: line[0] for host, line in found.items()}
-    trial.check(got == WANTED and statuses == [24, 7, 24], "Slurm: three jobs", (statuses, got))
+    trial.holds("Slurm: three jobs", got == WANTED and statuses == [24, 7, 24], (statuses, got))
 
 
 def script_of(text):
@@ -39,11 +39,11 @@ def try_kubernetes(trial):
     """The pods of a job: only a part with a host that was not compared fails, and each host has its line once."""
     text = trial.read(EXAMPLES + "/kubernetes-job.yaml")
     for line in ("  completionMode: Indexed\n", "  backoffLimitPerIndex: 1\n", "  podReplacementPolicy: Failed\n"):
-        trial.check("\n" + line in text, "Kubernetes: " + line.strip())
+        trial.holds("Kubernetes: " + line.strip(), "\n" + line in text)
     try:
         import yaml
 
-        trial.check(yaml.safe_load(text)["kind"] == "Job", "Kubernetes: the file is YAML")
+        trial.holds("Kubernetes: the file is YAML", yaml.safe_load(text)["kind"] == "Job")
     except ImportError:
         print("skipped: the file for Kubernetes as YAML (no yaml for Python)")
     script, parts = script_of(text)
@@ -58,7 +58,7 @@ def try_kubernetes(trial):
     # `down` is not fetched here: the databases were fetched before, and it has one of another day.
     wanted = dict(WANTED, down="0")
     got = {host: line[0] for host, line in found.items()}
-    trial.check(got == wanted and failed == {"forged", "cut"}, "Kubernetes: ten pods", (got, failed))
+    trial.holds("Kubernetes: ten pods", got == wanted and failed == {"forged", "cut"}, (got, failed))
 
 
 def try_keys(trial):
@@ -66,8 +66,8 @@ def try_keys(trial):
     keys = trial.read(EXAMPLES + "/authorized_keys")
     line = [line for line in keys.splitlines() if not line.startswith("#")]
     wanted = trial.below('command="cat /var/lib/aide/aide.db.new"')
-    trial.check(len(line) == 1 and line[0].startswith("restrict,from=") and wanted in line[0], "authorized_keys", line)
-    trial.check("cat /var/lib/aide/aide.db.new" in trial.above(trial.read(EXAMPLES + "/playbook.yaml")), "playbook.yaml")
+    trial.holds("authorized_keys", len(line) == 1 and line[0].startswith("restrict,from=") and wanted in line[0], line)
+    trial.holds("playbook.yaml", "cat /var/lib/aide/aide.db.new" in trial.above(trial.read(EXAMPLES + "/playbook.yaml")))
 
 
 def try_clusters(trial, page, with_packages):

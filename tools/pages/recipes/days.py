@@ -52,7 +52,7 @@ def unit_commands(trial):
         text = trial.read("/usr/local/lib/systemd/system/" + name) + "".join(open(path).read() for path in drop_ins)
         found = re.findall(r"^ExecStart=(.*)$", text.replace("\\\n", " "), re.M)
         starts = found[len(found) - found[::-1].index("") :] if "" in found else found
-        trial.check(len(starts) == 1, "%s starts one command" % name, starts)
+        trial.holds("%s starts one command" % name, len(starts) == 1, starts)
         commands += starts
     return commands
 
@@ -70,8 +70,8 @@ class Day:
         self.status = 0 if counts is None else sum(bit for bit, count in zip((1, 2, 4), counts) if count)
         self.read = None
 
-    def check(self, good, name, got):
-        self.trial.check(good, "%s: %s" % (self.name, name), got)
+    def holds(self, name, good, got):
+        self.trial.holds("%s: %s" % (self.name, name), good, got)
 
     def says_counts(self, text):
         """The summary of a report has the counts."""
@@ -85,11 +85,11 @@ class Day:
     def ask_run(self):
         done = self.page.run("compare")
         good = "NO differences" in done[1] if self.counts is None else self.says_counts(done[1])
-        self.check(done[0] == self.status and good, "the report", done)
+        self.holds("the report", done[0] == self.status and good, done)
         said = self.trial.below(PASSED_OVER)
         if self.counts is not None:
             said += introduction(self.trial, self.trial.path(BASELINE), self.trial.path(NEWEST))
-        self.check(done[2] == said, "what the command says beside the report", (done[2], said))
+        self.holds("what the command says beside the report", done[2] == said, (done[2], said))
 
     def ask_mail(self):
         for name, commands in (("timer", unit_commands(self.trial)), ("cron", [crons_command(self.trial)])):
@@ -99,9 +99,9 @@ class Day:
             done = [self.trial.shell(command) for command in commands]
             mail = self.read = taken(self.trial, "mailed")
             good = mail is None if self.counts is None else self.says_counts(mail or "")
-            self.check(done == [(0, "", "")] * len(done) and good, "mail by " + name, (done, mail))
+            self.holds("mail by " + name, done == [(0, "", "")] * len(done) and good, (done, mail))
             state = self.trial.read(STATE)
-            self.check("\nstatus=%d\n" % self.status in state, "the state after mail by " + name, state)
+            self.holds("the state after mail by " + name, "\nstatus=%d\n" % self.status in state, state)
 
     def ask_check(self):
         done = self.page.run("check", rights=NOBODY)
@@ -110,36 +110,36 @@ class Day:
         good = re.search(r"\bOK\b" if self.counts is None else r"\bCRITICAL\b", done[1]) and done[1].count("\n") == 1
         numbers = re.findall(r"(?:added|removed|changed)'?=(\d+)", done[1].partition("|")[2])
         good = good and tuple(map(int, numbers[:3])) == counts
-        self.check(done[0] == (0 if self.counts is None else 2) and good, "the check (%s)" % text, done)
+        self.holds("the check (%s)" % text, done[0] == (0 if self.counts is None else 2) and good, done)
         self.prints("check", done[1])
         done = self.page.run("check limits", rights=NOBODY)
         words = ("OK", "WARNING", "CRITICAL")
         state = self.trial.read(STATE)
         wanted = 0 if self.counts is None else 1 if "\nhigh=0\n" in state else 2
-        self.check(done[0] == wanted and words[wanted] in done[1], "the check with limits", (done, state))
+        self.holds("the check with limits", done[0] == wanted and words[wanted] in done[1], (done, state))
 
     def ask_metrics(self):
         done = self.page.run("metrics")
         files = glob.glob(self.trial.path("/var/lib/prometheus/node-exporter/*.prom"))
         text = "".join(open(name).read() for name in files)
         got = tuple(int(number) for number in re.findall(r"^aide_compare_(?:added|removed|changed)_entries (\d+)$", text, re.M))
-        self.check(done == (0, "", "") and got == (self.counts or (0, 0, 0)), "metrics", (done, text))
+        self.holds("metrics", done == (0, "", "") and got == (self.counts or (0, 0, 0)), (done, text))
         for name in files:
             done = self.trial.run(["cat", name], rights=NOBODY)
-            self.check(done[0] == 0, "metrics: the exporter can read them", done)
+            self.holds("metrics: the exporter can read them", done[0] == 0, done)
 
     def ask_log(self):
         done, text = self.page.run("log"), taken(self.trial, "logged") or ""
         counts = self.counts or (0, 0, 0)
         got = tuple(int(number) for number in re.findall(r"\b(?:added|removed|changed)[ =](\d+)", text))
-        self.check(done[0] == 0 and got[:3] == counts, "log", (done, text))
+        self.holds("log", done[0] == 0 and got[:3] == counts, (done, text))
         self.prints("log", text.partition("\n")[2])
 
     def ask_fleet(self):
         done = self.page.run("hosts")
         lines, summary = lines_of(done[1])
         text = "no differences" if self.counts is None else "added %d, removed %d, changed %d" % self.counts
-        self.check(done[0] == self.status and lines == {"www": (str(self.status), text)}, "fleet", (done, summary))
+        self.holds("fleet", done[0] == self.status and lines == {"www": (str(self.status), text)}, (done, summary))
         self.prints("hosts", done[1])
 
     def prints(self, name, output):
@@ -166,23 +166,23 @@ def play(trial, page, watched):
     watched.baseline()
     watched.nightly()
     done = page.run("first")
-    trial.check(done[0] == 0 and done[2] == "", "first", done)
+    trial.holds("first", done[0] == 0 and done[2] == "", done)
     wanted = "".join("_aide: %s\n" % trial.path(name) for name in (STORE + "/daily", BASELINE))
-    trial.check(taken(trial, "owners") == wanted, "first: folder and baseline are given to the user of the timer")
+    trial.holds("first: folder and baseline are given to the user of the timer", taken(trial, "owners") == wanted)
     page.prints("first", done[1])
     # The days that follow are those of the unit as it is installed.
     shutil.rmtree(trial.path("/etc/systemd/system/aide-compare.service.d"))
     done = page.run("at once")
-    trial.check(done[0] == 0 and done[2] == trial.below(PASSED_OVER), "at once", done)
+    trial.holds("at once", done[0] == 0 and done[2] == trial.below(PASSED_OVER), done)
     page.prints("at once", done[1])
     page.prints("compare", done[2])
     done = page.run("cron daily")
-    trial.check(done == (0, "", ""), "cron daily", done)
+    trial.holds("cron daily", done == (0, "", ""), done)
     trial.write(HOSTS, "www\n")
     os.makedirs(trial.path("/remote"))
     os.symlink(trial.path("/var/lib/aide"), trial.path("/remote/www"))
     done = page.run("first host")
-    trial.check(done[0] == 0 and "SHA-256 " in done[1], "the first database of a host", done)
+    trial.holds("the first database of a host", done[0] == 0 and "SHA-256 " in done[1], done)
     Day(trial, page, "day 0", None).ask_all()
     watched.nightly()
     Day(trial, page, "day 1", None).ask_all()
@@ -209,7 +209,7 @@ def digest_in_mail(trial, page, mail):
     found = re.search(r"^    aide-compare-accept --sha256 ([0-9a-f]{64}) .*$", mail, re.M)
     digest = found.group(1) if found else "0" * 64
     command = trial.below(page.text("accept")).replace("DIGEST", digest)
-    trial.check(found and found.group(0).strip() == command.strip(), "the mail has the command that accepts", mail[:1500])
+    trial.holds("the mail has the command that accepts", found and found.group(0).strip() == command.strip(), mail[:1500])
     return digest
 
 
@@ -220,17 +220,17 @@ def accept(trial, page, counts, yesterday, today):
     before = open(baseline, "rb").read()
     for name, digest in (("a wrong digest", "0" * 64), ("the digest of yesterday's mail", digest_in_mail(trial, page, yesterday))):
         done = accept_by(trial, page, digest)
-        trial.check(done[0] == 24 and open(baseline, "rb").read() == before, name + " is refused", done)
+        trial.holds(name + " is refused", done[0] == 24 and open(baseline, "rb").read() == before, done)
     done = accept_by(trial, page, digest_in_mail(trial, page, today)[:16])
     same = open(baseline, "rb").read() == open(new, "rb").read()
-    trial.check(done[0] == 0 and same, "the first 16 digits of today's mail are enough", done)
-    trial.check(": added %d, removed %d, changed %d\n" % counts in done[1], "accepting prints the counts", done)
-    trial.check(open(baseline + ".previous", "rb").read() == before, "the former baseline is kept")
+    trial.holds("the first 16 digits of today's mail are enough", done[0] == 0 and same, done)
+    trial.holds("accepting prints the counts", ": added %d, removed %d, changed %d\n" % counts in done[1], done)
+    trial.holds("the former baseline is kept", open(baseline + ".previous", "rb").read() == before)
     done = trial.shell("accept-host --sha256 %s www" % ("0" * 64))
-    trial.check(done[0] == 24, "a wrong digest is refused for a host", done)
+    trial.holds("a wrong digest is refused for a host", done[0] == 24, done)
     os.environ["DIGEST"] = digest_in(trial.read(STORE + "/states/www"))
     done = page.run("accept host")
-    trial.check(done[0] == 0, "the right one is accepted for a host", done)
+    trial.holds("the right one is accepted for a host", done[0] == 0, done)
 
 
 def accept_by(trial, page, digest, **more):
@@ -264,27 +264,27 @@ def ask_about_age(trial, page, name, reason):
         done = [trial.shell(command) for command in commands]
         mail = taken(trial, "mailed") or ""
         good = done == [(0, "", "")] * len(done) and re.search(r"^Subject: .*: no comparison \(status 18\)$", mail, re.M) and reason in mail
-        trial.check(good, "%s: mail by %s" % (name, way), (done, mail))
+        trial.holds("%s: mail by %s" % (name, way), good, (done, mail))
         state = trial.read(STATE)
         good = "\nstatus=18\n" in state and re.search(r"^error=.*" + re.escape(reason), state, re.M)
-        trial.check(good, "%s: the state after mail by %s" % (name, way), state)
+        trial.holds("%s: the state after mail by %s" % (name, way), good, state)
     done = page.run("age")
-    trial.check(done[:2] == (18, "") and reason in done[2], name + ": the report", done)
+    trial.holds(name + ": the report", done[:2] == (18, "") and reason in done[2], done)
     done = page.run("check", rights=NOBODY)
     good = done[0] == 3 and done[1].startswith("AIDE UNKNOWN: ") and reason in done[1] and done[1].count("\n") == 1
-    trial.check(good, name + ": the check", done)
+    trial.holds(name + ": the check", good, done)
     done, text = page.run("metrics"), trial.read("/var/lib/prometheus/node-exporter/aide-compare.prom")
     good = done == (0, "", "") and "\naide_compare_status 18\n" in text and "_entries" not in text
-    trial.check(good, name + ": metrics", (done, text))
+    trial.holds(name + ": metrics", good, (done, text))
     done, text = page.run("log"), taken(trial, "logged") or ""
-    trial.check(done[0] == 0 and "no comparison: status=18" in text and reason in text, name + ": log", (done, text))
+    trial.holds(name + ": log", done[0] == 0 and "no comparison: status=18" in text and reason in text, (done, text))
 
 
 def check_privacy(trial):
     """Nobody else can read a database or a report; everyone may read the state."""
     trial.is_private("databases", ["/var/lib/aide", STORE + "/hosts"])
     left = os.listdir(trial.path("/var/tmp")) + [name for name in os.listdir(trial.path("/tmp")) if "aide" in name]
-    trial.check(not left, "nothing is left in temporary folders", left)
+    trial.holds("nothing is left in temporary folders", not left, left)
     done = trial.run(["cat", trial.path(STATE)], rights=NOBODY)
-    trial.check(done[0] == 0 and done[1].startswith("format=2\n"), "everyone may read the state", done)
-    trial.check(os.access(trial.path(FLEET + "/compare-hosts"), os.X_OK), "the scripts for many hosts are installed")
+    trial.holds("everyone may read the state", done[0] == 0 and done[1].startswith("format=2\n"), done)
+    trial.holds("the scripts for many hosts are installed", os.access(trial.path(FLEET + "/compare-hosts"), os.X_OK))

@@ -38,19 +38,19 @@ def check_told(trial, page, name, status, reason, **more):
     """No comparison: by the command, by mail, by the check, in the metrics and in the log. The job of cron ends with 0 and
     prints nothing, since the mail went out."""
     done = page.run("compare", **more)
-    trial.check(done[0] == status and not done[1] and re.search(reason, done[2]), name + ": the command", done)
+    trial.holds(name + ": the command", done[0] == status and not done[1] and re.search(reason, done[2]), done)
     taken(trial, "mailed")
     done, mail = trial.shell(crons_command(trial), **more), taken(trial, "mailed") or ""
     good = re.search(r"^Subject: .*: no comparison \(status %d\)$" % status, mail, re.M) and re.search(reason, mail)
-    trial.check(done == (0, "", "") and good, name + ": mail", (done, mail))
+    trial.holds(name + ": mail", done == (0, "", "") and good, (done, mail))
     done = page.run("check", rights=NOBODY)
-    trial.check(done[0] == 3 and "UNKNOWN" in done[1] and done[1].count("\n") == 1, name + ": the check", done)
+    trial.holds(name + ": the check", done[0] == 3 and "UNKNOWN" in done[1] and done[1].count("\n") == 1, done)
     done = page.run("metrics")
     text = trial.read("/var/lib/prometheus/node-exporter/aide-compare.prom")
-    trial.check(done[0] == 0 and re.search(r"_status %d$" % status, text, re.M) and "added" not in text.replace("1 added", ""),
-                name + ": metrics", text)
+    trial.holds(name + ": metrics",
+                done[0] == 0 and re.search(r"_status %d$" % status, text, re.M) and "added" not in text.replace("1 added", ""), text)
     done, text = page.run("log"), taken(trial, "logged") or ""
-    trial.check("no comparison" in text, name + ": log", (done, text))
+    trial.holds(name + ": log", "no comparison" in text, (done, text))
 
 
 def try_damaged(trial, page):
@@ -67,7 +67,7 @@ def try_damaged(trial, page):
         baseline = open(trial.path(BASELINE), "rb").read()
         done = accept_by(trial, page, "0" * 64)
         same = open(trial.path(BASELINE), "rb").read() == baseline
-        trial.check(done[0] == status and same, name + ": is not accepted", done)
+        trial.holds(name + ": is not accepted", done[0] == status and same, done)
 
 
 def try_missing(trial, page):
@@ -79,20 +79,20 @@ def try_missing(trial, page):
 def write_state(trial, name):
     """Compares by the job of cron: the databases of this module differ in changed entries only."""
     done = trial.shell(crons_command(trial))
-    trial.check(done == (0, "", "") and "\nstatus=4\n" in trial.read(STATE), name, done)
+    trial.holds(name, done == (0, "", "") and "\nstatus=4\n" in trial.read(STATE), done)
 
 
 def try_no_room(trial, page):
     put(trial, large(1), large(2))
     check_told(trial, page, "no room", 18, "cannot (copy|unpack|write)", limits=no_room(300000))
     put(trial, large(1), large(1))
-    trial.check(page.run("compare")[0] == 0, "with room again")
+    trial.holds("with room again", page.run("compare")[0] == 0)
     before = open(trial.path(BASELINE), "rb").read()
     put(trial, before, large(2))
     write_state(trial, "the state for accepting")
     done = accept_by(trial, page, digest_of(trial.path(NEWEST)), limits=no_room(300000))
     same = open(trial.path(BASELINE), "rb").read() == before
-    trial.check(done[0] == 18 and same, "no room: the baseline stays", done)
+    trial.holds("no room: the baseline stays", done[0] == 18 and same, done)
 
 
 def try_no_right(trial, page):
@@ -101,7 +101,7 @@ def try_no_right(trial, page):
     os.chmod(trial.path("/var/lib/aide"), 0o700 if os.geteuid() == 0 else 0)
     done = page.run("compare", rights=NOBODY)
     os.chmod(trial.path("/var/lib/aide"), 0o700)
-    trial.check(done[0] == 18 and not done[1] and done[2], "no right to read the databases", done)
+    trial.holds("no right to read the databases", done[0] == 18 and not done[1] and done[2], done)
 
 
 def has_private_file(trial, process):
@@ -118,17 +118,17 @@ def try_killed(trial):
     """A run that is killed while it reads a pipe: the state before it stays, and nothing is left in the temporary folder."""
     put(trial, OLD, OLD)
     words = ["aide-compare-run", "--state", trial.path(STATE)]
-    trial.check(trial.run(words)[0] == 0, "a whole run")
+    trial.holds("a whole run", trial.run(words)[0] == 0)
     before = trial.read(STATE)
     for number in (signal.SIGTERM, signal.SIGINT, signal.SIGHUP, signal.SIGKILL):
         process = trial.start(words + ["/dev/stdin", trial.path(NEWEST)], stdin=subprocess.PIPE)
-        trial.check(wait_until(lambda: has_private_file(trial, process)), "the run has begun")
+        trial.holds("the run has begun", wait_until(lambda: has_private_file(trial, process)))
         process.send_signal(number)
         process.communicate()
-        trial.check(process.returncode == -number, "killed by %d: the status" % number, process.returncode)
-        trial.check(trial.read(STATE) == before, "killed by %d: the state stays" % number)
+        trial.holds("killed by %d: the status" % number, process.returncode == -number, process.returncode)
+        trial.holds("killed by %d: the state stays" % number, trial.read(STATE) == before)
         left = os.listdir(trial.path("/var/tmp"))
-        trial.check(not left, "killed by %d: nothing is left" % number, left)
+        trial.holds("killed by %d: nothing is left" % number, not left, left)
 
 
 def try_accept_killed(trial):
@@ -145,9 +145,9 @@ def try_accept_killed(trial):
         process.kill()
         process.communicate()
         got = open(trial.path(BASELINE), "rb").read()
-        trial.check(got in texts, "accepting was killed: a whole baseline", (number, len(got)))
+        trial.holds("accepting was killed: a whole baseline", got in texts, (number, len(got)))
         seen.add(got)
-    trial.check(trial.run(words)[0] == 0, "accepting after it was killed")
+    trial.holds("accepting after it was killed", trial.run(words)[0] == 0)
 
 
 def try_twice(trial):
@@ -155,9 +155,9 @@ def try_twice(trial):
     words = ["aide-compare-run", "--state", trial.path(STATE)]
     runs = [trial.start(words) for _ in range(4)]
     answers = {(run.communicate()[0], run.returncode) for run in runs}
-    trial.check(len(answers) == 1 and answers.pop()[1] == 4, "four runs at once: one answer")
+    trial.holds("four runs at once: one answer", len(answers) == 1 and answers.pop()[1] == 4)
     state = trial.read(STATE)
-    trial.check(state.count("\n") == 14 and "\nchanged=30000\n" in state, "four runs at once: a whole state", state)
+    trial.holds("four runs at once: a whole state", state.count("\n") == 14 and "\nchanged=30000\n" in state, state)
 
 
 def try_names(trial):
@@ -168,9 +168,9 @@ def try_names(trial):
     state = trial.path(folder + "/a state")
     done = trial.run(["aide-compare-run", "--state", state, old, new])
     good = done[0] == 7 and ": /a é\n" in done[1] and done[2] == introduction(trial, old, new)
-    trial.check(good, "names with blanks and é", done)
-    trial.check(trial.run(["aide-compare-accept", "--sha256", digest_of(new), new, old])[0] == 0, "they are accepted too")
-    trial.check(trial.run(["aide-compare-run", old, new])[0] == 0, "and then quiet")
+    trial.holds("names with blanks and é", good, done)
+    trial.holds("they are accepted too", trial.run(["aide-compare-accept", "--sha256", digest_of(new), new, old])[0] == 0)
+    trial.holds("and then quiet", trial.run(["aide-compare-run", old, new])[0] == 0)
 
 
 def try_faults(trial, page, with_packages):

@@ -89,13 +89,13 @@ def shown(name):
 
 def check_lines(trial, name, done):
     lines, summary = lines_of(done[1])
-    trial.check(done[0] == 24, name + ": the greatest status", done)
-    trial.check(set(lines) == {shown(host) for host in WANTED}, name + ": a line for each host", sorted(lines))
+    trial.holds(name + ": the greatest status", done[0] == 24, done)
+    trial.holds(name + ": a line for each host", set(lines) == {shown(host) for host in WANTED}, sorted(lines))
     for host, (status, text) in WANTED.items():
         got = lines.get(shown(host), ("", ""))
-        trial.check(got[0] == str(status) and re.search(text, got[1]), "%s: the host %r" % (name, host), got)
+        trial.holds("%s: the host %r" % (name, host), got[0] == str(status) and re.search(text, got[1]), got)
     wanted = "%d hosts: 2 without differences, 2 with, %d not compared" % (len(WANTED), len(WANTED) - 4)
-    trial.check(summary == wanted, name + ": the summary", summary)
+    trial.holds(name + ": the summary", summary == wanted, summary)
 
 
 def try_lines(trial):
@@ -103,20 +103,20 @@ def try_lines(trial):
     check_lines(trial, "all hosts", trial.run(words + ["--jobs", "4", trial.path(HOSTS)]))
     parts = [trial.run(words + ["--share", "%d/3" % part, trial.path(HOSTS)]) for part in (1, 2, 3)]
     lines = [lines_of(done[1])[0] for done in parts]
-    trial.check(sum(len(each) for each in lines) == len(WANTED), "three parts: each host once", lines)
-    trial.check(len({host for each in lines for host in each}) == len(WANTED), "three parts: all hosts", lines)
+    trial.holds("three parts: each host once", sum(len(each) for each in lines) == len(WANTED), lines)
+    trial.holds("three parts: all hosts", len({host for each in lines for host in each}) == len(WANTED), lines)
     for host, (status, text) in WANTED.items():
         if status in (18, 24):
             state = trial.read("%s/states/%s" % (STORE, host))
             good = "\nstatus=%d\n" % status in state and re.search("^error=.*(%s)" % text, state, re.M)
-            trial.check(good, "the state of %s says that nothing was compared" % host, state)
+            trial.holds("the state of %s says that nothing was compared" % host, good, state)
     got = trial.read(STORE + "/hosts/other/report")
-    trial.check("f+++" in got and ": /a é\n" in got, "the report of a host, with a blank and an é", got)
-    trial.check(trial.read(STORE + "/hosts/other/aide.db") == OLD, "the baseline of a host stays as it was")
-    trial.check(not os.path.exists(trial.path(STORE + "/hosts/x")), "a refused name makes no folder")
+    trial.holds("the report of a host, with a blank and an é", "f+++" in got and ": /a é\n" in got, got)
+    trial.holds("the baseline of a host stays as it was", trial.read(STORE + "/hosts/other/aide.db") == OLD)
+    trial.holds("a refused name makes no folder", not os.path.exists(trial.path(STORE + "/hosts/x")))
     trial.is_private("the databases and reports of hosts", [STORE + "/hosts"])
     done = trial.run(["cat", trial.path(STORE + "/states/other")], rights=NOBODY)
-    trial.check(done[0] == 0 and "\nadded=1\nremoved=1\nchanged=1\n" in done[1], "everyone may read the state of a host", done)
+    trial.holds("everyone may read the state of a host", done[0] == 0 and "\nadded=1\nremoved=1\nchanged=1\n" in done[1], done)
 
 
 def asked(trial, page, name, words):
@@ -130,17 +130,17 @@ def try_report(trial, page):
     """What differs on all hosts at once: each change once, and one mail."""
     done = asked(trial, page, "report hosts", ["report-hosts"])
     first = "aide on %d hosts: 2 differ, %d not compared, 2 without differences\n" % (len(WANTED), len(WANTED) - 4)
-    trial.check(done[0] == 24 and done[1].startswith(first), "report-hosts: how many", done)
+    trial.holds("report-hosts: how many", done[0] == 24 and done[1].startswith(first), done)
     parts = ["added on 2 of %d hosts: File /a é\n    on other, user@other.example-1\n    Size 5, Perm 0644" % len(WANTED),
              "changed on 2 of %d hosts: File /c\n" % len(WANTED), "\n  forged: ",
              "\n  down: ssh: connect to host down port 22: No route to host", "\n  a b: the name of a host"]
     for part in parts:
-        trial.check(part in done[1], "report-hosts: %r" % part, done[1])
+        trial.holds("report-hosts: %r" % part, part in done[1], done[1])
     trial.stub("sendmail", 'cat > "%s/mail"' % trial.path("/tmp"))
     done = asked(trial, page, "mail hosts", ["report-hosts", "--to", "root"])
     got = trial.read("/tmp/mail")
     good = done[0] == 24 and "\nSubject: aide on %d hosts: 2 differ, %d not compared\n" % (len(WANTED), len(WANTED) - 4) in got
-    trial.check(good and parts[0] in got, "one mail for all hosts", (done, got[:500]))
+    trial.holds("one mail for all hosts", good and parts[0] in got, (done, got[:500]))
 
 
 def try_check(trial):
@@ -148,37 +148,37 @@ def try_check(trial):
     put_host(trial, "turns", NEW)
     words = [tool(trial, "compare-hosts"), "--one", "turns"]
     check = [trial.path("/usr/local/lib/nagios/plugins/check_aide_compare"), "--state", trial.path(STORE + "/states/turns")]
-    trial.check(trial.run(words)[0] == 7 and trial.run(check)[0] == 2, "a host that differs is critical", trial.run(check))
+    trial.holds("a host that differs is critical", trial.run(words)[0] == 7 and trial.run(check)[0] == 2, trial.run(check))
     os.rename(trial.path("/remote/turns"), trial.path("/remote/away"))
     done = trial.run(words)
     got = trial.run(check, rights=NOBODY)
     good = done[0] == 18 and got[0] == 3 and "ssh ended with" in got[1]
-    trial.check(good, "a host that is not fetched is UNKNOWN", (done, got))
+    trial.holds("a host that is not fetched is UNKNOWN", good, (done, got))
     os.rename(trial.path("/remote/away"), trial.path("/remote/turns"))
-    trial.check(trial.run(words)[0] == 7 and trial.run(check)[0] == 2, "and critical again", trial.run(check))
+    trial.holds("and critical again", trial.run(words)[0] == 7 and trial.run(check)[0] == 2, trial.run(check))
 
 
 def try_slow(trial):
     put_host(trial, "slow", OLD)
     trial.write("/tmp/slow", "slow\n")
     done = trial.run([tool(trial, "compare-hosts"), "--time", "1", trial.path("/tmp/slow")])
-    trial.check(done[0] == 18 and "had not sent all of it after 1 seconds" in done[1], "a host that is too slow", done)
+    trial.holds("a host that is too slow", done[0] == 18 and "had not sent all of it after 1 seconds" in done[1], done)
 
 
 def try_quiet(trial):
     trial.write("/tmp/quiet", "same\n")
     words = [tool(trial, "compare-hosts"), "--quiet", "--jobs", "2"]
     done = trial.run(words + [trial.path("/tmp/quiet")])
-    trial.check(done == (0, "", ""), "--quiet says nothing if there is nothing", done)
+    trial.holds("--quiet says nothing if there is nothing", done == (0, "", ""), done)
     trial.write("/tmp/quiet", "same\nother\n")
     done = trial.run(words + [trial.path("/tmp/quiet")])
-    trial.check(
-        done[0] == 7 and done[1].startswith("other 7 added") and "same" not in done[1], "--quiet names the others", done
+    trial.holds(
+        "--quiet names the others", done[0] == 7 and done[1].startswith("other 7 added") and "same" not in done[1], done
     )
     for text, status in (("", 18), ("# none\n", 18), (None, 18)):
         trial.write("/tmp/quiet", text or "")
         done = trial.run(words + [trial.path("/tmp/quiet" if text is not None else "/tmp/none")])
-        trial.check(done[0] == status and done[2], "a file of hosts that names none is no success", done)
+        trial.holds("a file of hosts that names none is no success", done[0] == status and done[2], done)
 
 
 def digest_in(state):
@@ -189,29 +189,29 @@ def try_first(trial):
     """A first baseline, then one that came after the report was read, a wrong digest, and the right one."""
     accept, fetch, compare = (tool(trial, name) for name in ("accept-host", "fetch-host", "compare-host"))
     put_host(trial, "new-one", OLD, None)
-    trial.check(trial.run([fetch, "new-one"])[0] == 0, "a first database is fetched")
+    trial.holds("a first database is fetched", trial.run([fetch, "new-one"])[0] == 0)
     done = trial.run([accept, "--first", "new-one"])
-    trial.check(done[0] == 0 and "SHA-256 " in done[1], "a first database is accepted", done)
+    trial.holds("a first database is accepted", done[0] == 0 and "SHA-256 " in done[1], done)
     done = trial.run([accept, "--first", "new-one"])
-    trial.check(done[0] == 24 and "already" in done[2], "--first is refused when there is a baseline", done)
-    trial.check(trial.run([compare, "new-one"])[0] == 0, "the first database is the baseline")
+    trial.holds("--first is refused when there is a baseline", done[0] == 24 and "already" in done[2], done)
+    trial.holds("the first database is the baseline", trial.run([compare, "new-one"])[0] == 0)
     put_host(trial, "new-one", NEW, None)
-    trial.check([trial.run([each, "new-one"])[0] for each in (fetch, compare)] == [0, 7], "then it differs")
+    trial.holds("then it differs", [trial.run([each, "new-one"])[0] for each in (fetch, compare)] == [0, 7])
     read = digest_in(trial.read(STORE + "/states/new-one"))
     put_host(trial, "new-one", LATER, None)
-    trial.check(trial.run([fetch, "new-one"])[0] == 0, "a later database is fetched")
-    trial.check(trial.run([accept, "new-one"])[0] == 15, "nothing is accepted without a digest")
+    trial.holds("a later database is fetched", trial.run([fetch, "new-one"])[0] == 0)
+    trial.holds("nothing is accepted without a digest", trial.run([accept, "new-one"])[0] == 15)
     done = trial.run([accept, "--sha256", read, "new-one"])
-    trial.check(done[0] == 24 and done[2], "a database that came after the report is refused", done)
+    trial.holds("a database that came after the report is refused", done[0] == 24 and done[2], done)
     done = trial.run([accept, "--sha256", "0" * 64, "new-one"])
-    trial.check(done[0] == 24 and read not in done[1], "a wrong digest is refused", done)
-    trial.check(trial.read(STORE + "/hosts/new-one/aide.db") == OLD, "a refused database is not the baseline")
-    trial.check(trial.run([compare, "new-one"])[0] == 7, "the later one is compared")
+    trial.holds("a wrong digest is refused", done[0] == 24 and read not in done[1], done)
+    trial.holds("a refused database is not the baseline", trial.read(STORE + "/hosts/new-one/aide.db") == OLD)
+    trial.holds("the later one is compared", trial.run([compare, "new-one"])[0] == 7)
     read = digest_in(trial.read(STORE + "/states/new-one"))
     done = trial.run([accept, "--sha256", read, "new-one"])
-    trial.check(done[0] == 0, "the database that was compared is accepted", done)
-    trial.check(trial.run([compare, "new-one"])[0] == 0, "then there are no differences")
-    trial.check(trial.read(STORE + "/hosts/new-one/aide.db.previous") == OLD, "the former baseline is kept")
+    trial.holds("the database that was compared is accepted", done[0] == 0, done)
+    trial.holds("then there are no differences", trial.run([compare, "new-one"])[0] == 0)
+    trial.holds("the former baseline is kept", trial.read(STORE + "/hosts/new-one/aide.db.previous") == OLD)
 
 
 def try_stale(trial):
@@ -219,13 +219,13 @@ def try_stale(trial):
     put_host(trial, "stale", OLD)
     kept = trial.path(STORE + "/hosts/stale/aide.db.new")
     words = [tool(trial, "fetch-host"), "stale"], [tool(trial, "compare-host"), "stale"]
-    trial.check([trial.run(each)[0] for each in words] == [0, 0], "a fresh database")
+    trial.holds("a fresh database", [trial.run(each)[0] for each in words] == [0, 0])
     os.utime(kept, (time.time() - 51 * 3600,) * 2)
     got = [trial.run(each) for each in words]
-    trial.check([each[0] for each in got] == [0, 18] and "same database" in got[1][2], "the same bytes for 51 hours", got)
-    trial.check("\nstatus=18\n" in "\n" + trial.read(STORE + "/states/stale"), "the state says so too")
+    trial.holds("the same bytes for 51 hours", [each[0] for each in got] == [0, 18] and "same database" in got[1][2], got)
+    trial.holds("the state says so too", "\nstatus=18\n" in "\n" + trial.read(STORE + "/states/stale"))
     put_host(trial, "stale", OLD + "# later\n", None)
-    trial.check([trial.run(each)[0] for each in words] == [0, 0], "other bytes are fresh again")
+    trial.holds("other bytes are fresh again", [trial.run(each)[0] for each in words] == [0, 0])
 
 
 def try_killed(trial):
@@ -238,17 +238,17 @@ def try_killed(trial):
     for number in (signal.SIGTERM, signal.SIGKILL):
         before = trial.read(STORE + "/hosts/same/aide.db.new")
         process = trial.start([tool(trial, "fetch-host"), "same"])
-        trial.check(wait_until(lambda: os.path.exists(began)), "a fetch has begun")
+        trial.holds("a fetch has begun", wait_until(lambda: os.path.exists(began)))
         process.send_signal(number)
         process.wait()
         os.remove(began)
         process.communicate()
-        trial.check(process.returncode != 0, "a killed fetch, signal %d" % number, process.returncode)
-        trial.check(trial.read(STORE + "/hosts/same/aide.db.new") == before, "a killed fetch leaves the former database")
+        trial.holds("a killed fetch, signal %d" % number, process.returncode != 0, process.returncode)
+        trial.holds("a killed fetch leaves the former database", trial.read(STORE + "/hosts/same/aide.db.new") == before)
     put_stub(trial)
     done = trial.run([tool(trial, "fetch-host"), "same"])
     left = [name for name in os.listdir(folder) if name.startswith("part.")]
-    trial.check(done[0] == 0 and not left, "the fetch after a killed one clears up", (done, left))
+    trial.holds("the fetch after a killed one clears up", done[0] == 0 and not left, (done, left))
 
 
 def try_twice(trial):
@@ -259,9 +259,9 @@ def try_twice(trial):
     for run in runs:
         output = run.communicate()[0].decode()
         lines = lines_of(output)[0]
-        trial.check(run.returncode == 7 and {host: lines[host][0] for host in lines} == {"same": "0", "other": "7", "zipped": "0"},
-                    "three runs at once", output)
-    trial.check(trial.read(STORE + "/hosts/other/aide.db.new") == NEW, "a database after three runs at once")
+        trial.holds("three runs at once",
+                    run.returncode == 7 and {host: lines[host][0] for host in lines} == {"same": "0", "other": "7", "zipped": "0"}, output)
+    trial.holds("a database after three runs at once", trial.read(STORE + "/hosts/other/aide.db.new") == NEW)
 
 
 def try_place(trial):
@@ -270,7 +270,7 @@ def try_place(trial):
     trial.write("/tmp/one", "other\n")
     trial.write("/tmp/the store é/hosts/other/aide.db", OLD, 0o600)
     done = trial.run([tool(trial, "compare-hosts"), "--store", store, trial.path("/tmp/one")])
-    trial.check(done[0] == 7 and "added 1, removed 1, changed 1" in done[1], "a store with a blank and an é", done)
+    trial.holds("a store with a blank and an é", done[0] == 7 and "added 1, removed 1, changed 1" in done[1], done)
     trial.write("/remote/other/aide.db.new", NEW + "x" * 3000000)
 
     def full():
@@ -280,36 +280,36 @@ def try_place(trial):
         resource.setrlimit(resource.RLIMIT_FSIZE, (1000000, 1000000))
 
     done = trial.run([tool(trial, "fetch-host"), "--store", store, "other"], limits=full)
-    trial.check(done[0] == 18 and "not written" in done[2], "no room for what a host sends", done)
-    trial.check(trial.read("/tmp/the store é/hosts/other/aide.db.new") == NEW, "the former database is still there")
+    trial.holds("no room for what a host sends", done[0] == 18 and "not written" in done[2], done)
+    trial.holds("the former database is still there", trial.read("/tmp/the store é/hosts/other/aide.db.new") == NEW)
     left = [name for name in os.listdir(store + "/hosts/other") if name.startswith("part.")]
-    trial.check(not left, "and nothing else", left)
+    trial.holds("and nothing else", not left, left)
 
 
 def try_options(trial):
     """A configuration, and arguments for aide-compare."""
     put_host(trial, "other", NEW)
-    trial.check(trial.run([tool(trial, "fetch-host"), "other"])[0] == 0, "a host for options")
+    trial.holds("a host for options", trial.run([tool(trial, "fetch-host"), "other"])[0] == 0)
     conf = trial.write("/tmp/one line.conf", "report_level=minimal\n")
     compare = tool(trial, "compare-host")
     for words in (["other", "--", "-A", "report_level=minimal"], ["--conf", conf, "other"], ["--conf", conf, "other", "--"]):
         done = trial.run([compare] + words)
-        trial.check(done[0] == 7 and done[1].count("\n") == 1 and "to accept it" in done[2], "compare-host with options", (words, done))
+        trial.holds("compare-host with options", done[0] == 7 and done[1].count("\n") == 1 and "to accept it" in done[2], (words, done))
     done = trial.run([compare, "other", "same"])
-    trial.check(done[0] == 15 and done[2], "compare-host with two hosts", done)
+    trial.holds("compare-host with two hosts", done[0] == 15 and done[2], done)
 
 
 def try_words(trial):
     """Arguments that are wrong end with 15 and a line, and --help says what there is."""
     for name in ("fetch-host", "compare-host", "accept-host", "compare-hosts", "report-hosts"):
         done = trial.run([tool(trial, name), "--help"])
-        trial.check(done[0] == 0 and done[1].startswith("usage: " + name) and not done[2], name + " --help", done)
+        trial.holds(name + " --help", done[0] == 0 and done[1].startswith("usage: " + name) and not done[2], done)
         for words in ([], ["--nope", "x"], ["--store"], ["a", "b"]):
             done = trial.run([tool(trial, name)] + words)
-            trial.check(done[0] == 15 and done[2].startswith(name + ": ") and not done[1], name + " with wrong words", (words, done))
+            trial.holds(name + " with wrong words", done[0] == 15 and done[2].startswith(name + ": ") and not done[1], (words, done))
     for words in (["--jobs", "0"], ["--jobs", "x"], ["--share", "3/2"], ["--share", "2"], ["--same-for", "31d"]):
         done = trial.run([tool(trial, "compare-hosts")] + words + [trial.path("/tmp/one")])
-        trial.check(done[0] == 15, "compare-hosts with wrong numbers", (words, done))
+        trial.holds("compare-hosts with wrong numbers", done[0] == 15, (words, done))
 
 
 def try_hosts(trial, page, with_packages):

@@ -30,4 +30,4 @@ def try_packages(trial, page, with_packages):
     lines = output.split("\n")
     trial.passed += sum(line.startswith("passed: ") for line in lines)
     trial.failed += sum(line.startswith("FAILED: ") for line in lines)
-    trial.check(any(line.startswith("passed: ") for line in lines), "something was tried with the packages")
+    trial.holds("something was tried with the packages", any(line.startswith("passed: ") for line in lines))

@@ -15,9 +15,9 @@ class Page:
             found = FENCED.findall(file.read())
         self.trial, self.tried = trial, set()
         self.blocks = {(mark, name): text for mark, name, _, text in found}
-        trial.check(found and len(self.blocks) == len(found), "RECIPES.md: each block has a mark of its own")
+        trial.holds("RECIPES.md: each block has a mark of its own", found and len(self.blocks) == len(found))
         for mark, name, _, text in found:
-            trial.check(mark in MARKS, "RECIPES.md: a block without a mark that says how it is tried", text[:60])
+            trial.holds("RECIPES.md: a block without a mark that says how it is tried", mark in MARKS, text[:60])
 
     def text(self, name, mark="try"):
         self.tried.add((mark, name))
@@ -30,9 +30,9 @@ class Page:
     def prints(self, name, output):
         """What a block prints begins as the page says."""
         good = self.trial.above(output).startswith(self.text(name, "prints").rstrip("\n"))
-        self.trial.check(good, "RECIPES.md: what %s prints" % name, self.trial.above(output))
+        self.trial.holds("RECIPES.md: what %s prints" % name, good, self.trial.above(output))
 
     def check_all_tried(self, by_hand):
         marks = ("try", "prints") + (("by hand",) if by_hand else ())
         left = sorted(key for key in self.blocks if key[0] in marks and key not in self.tried)
-        self.trial.check(not left, "RECIPES.md: blocks that were not tried", left)
+        self.trial.holds("RECIPES.md: blocks that were not tried", not left, left)

@@ -40,18 +40,18 @@ def try_command(trial, page):
     logs, caches, own = places(trial)
     left = left_out([(3, logs), (2, caches), (1, own)], [(4, logs), (1, own)])
     put(trial, NIGHT)
-    trial.check(page.run("compare")[0] == 7, "a night of logs: differences")
+    trial.holds("a night of logs: differences", page.run("compare")[0] == 7)
     done = page.run("quiet")
-    trial.check(done[0] == 0 and "NO differences" in done[1] and done[2] == left, "quiet", (done, left))
+    trial.holds("quiet", done[0] == 0 and "NO differences" in done[1] and done[2] == left, (done, left))
     page.prints("quiet", done[2])
     put(trial, INTRUDER)
     done = page.run("quiet")
     said = left + introduction(trial, trial.path(BASELINE), trial.path(NEWEST))
     good = done[0] == 5 and "/etc/ld.so.preload\n" in done[1] and "/etc/passwd\n" in done[1] and "/var/" not in done[1]
-    trial.check(good and done[2] == said, "quiet: an intruder is reported, and the digests are of whole databases", (done, said))
+    trial.holds("quiet: an intruder is reported, and the digests are of whole databases", good and done[2] == said, (done, said))
     os.chmod(trial.path(WITHOUT), 0o666)
     done = page.run("quiet")
-    trial.check(done[0] == 18 and not done[1] and "other users can write" in done[2], "quiet: a file that others can write", done)
+    trial.holds("quiet: a file that others can write", done[0] == 18 and not done[1] and "other users can write" in done[2], done)
     os.chmod(trial.path(WITHOUT), 0o644)
 
 
@@ -59,7 +59,7 @@ def mails_of(trial, commands):
     """The mail of a job, None if there was none; the job has to end well."""
     taken(trial, "mailed")
     done = [trial.shell(command) for command in commands]
-    trial.check(done == [(0, "", "")] * len(done), "quiet: the job ends well", done)
+    trial.holds("quiet: the job ends well", done == [(0, "", "")] * len(done), done)
     return taken(trial, "mailed")
 
 
@@ -68,28 +68,28 @@ def try_job(trial, name, commands):
     put(trial, NIGHT)
     mail, state = mails_of(trial, commands), trial.read(STATE)
     good = mail is None and "\nstatus=0\n" in state and "\nleft_out_old=6\nleft_out_new=5\n" in state
-    trial.check(good, "quiet %s: no mail of a night of logs" % name, (mail, state))
+    trial.holds("quiet %s: no mail of a night of logs" % name, good, (mail, state))
     put(trial, INTRUDER)
     mail = mails_of(trial, commands) or ""
     good = "Subject: " in mail and ": 2 unexplained of 2 changes, " in mail and "/etc/ld.so.preload\n" in mail
-    trial.check(good and "left out of the new database: 5 entries\n" in mail, "quiet %s: the mail of an intruder" % name, mail)
+    trial.holds("quiet %s: the mail of an intruder" % name, good and "left out of the new database: 5 entries\n" in mail, mail)
 
 
 def try_timer(trial, page):
     put(trial, NIGHT)
     mail = mails_of(trial, unit_commands(trial)) or ""
-    trial.check(": 7 unexplained of 7 changes" in mail, "the timer as installed mails a night of logs", mail)
+    trial.holds("the timer as installed mails a night of logs", ": 7 unexplained of 7 changes" in mail, mail)
     done = page.run("quiet timer")
-    trial.check(done == (0, "", ""), "quiet timer", done)
+    trial.holds("quiet timer", done == (0, "", ""), done)
     text = trial.read(DROP_IN + "/local.conf")
-    trial.check("[Service]\nExecStart=\nExecStart=/" in text, "quiet timer: the command is replaced, not added", text)
+    trial.holds("quiet timer: the command is replaced, not added", "[Service]\nExecStart=\nExecStart=/" in text, text)
     try_job(trial, "timer", unit_commands(trial))
 
 
 def try_cron(trial, page):
     page.run("cron daily")
     done = page.run("quiet cron")
-    trial.check(done == (0, "", ""), "quiet cron", done)
+    trial.holds("quiet cron", done == (0, "", ""), done)
     try_job(trial, "cron", [crons_command(trial)])
 
 
@@ -116,18 +116,18 @@ def own_files(trial):
 def try_own_files(trial, page):
     os.makedirs(trial.path("/etc/aide/aide.conf.d"), exist_ok=True)
     done = page.run("own files")
-    trial.check(done == (0, "", ""), "own files", done)
+    trial.holds("own files", done == (0, "", ""), done)
     name = "/etc/aide/aide.conf.d/31_aide_aide-compare"
     rules = list(rules_in(trial, name))
     put(trial, INTRUDER)
     trial.shell(unit_commands(trial)[0])
     paths = list(own_files(trial))
-    trial.check(any("/daily/mail/" in path for _, path in paths), "own files: a mail waits", paths)
+    trial.holds("own files: a mail waits", any("/daily/mail/" in path for _, path in paths), paths)
     for kind, path in paths:
         found = any(kind == wanted and pattern.match(path) for pattern, wanted in rules)
-        trial.check(found, "own files: a rule for AIDE", (kind, path))
+        trial.holds("own files: a rule for AIDE", found, (kind, path))
     other = trial.path(os.path.dirname(STATE) + "/other")
-    trial.check(not any(pattern.match(other) for pattern, _ in rules), "own files: no rule for any other file there")
+    trial.holds("own files: no rule for any other file there", not any(pattern.match(other) for pattern, _ in rules))
     os.remove(trial.path(name))
     trial.shell(unit_commands(trial)[1])
 
@@ -135,9 +135,9 @@ def try_own_files(trial, page):
 def try_one_mail(trial, page):
     name = trial.write("/etc/default/aide", DEFAULTS)
     done = page.run("one mail")
-    trial.check(done == (0, "", ""), "one mail", done)
+    trial.holds("one mail", done == (0, "", ""), done)
     done = trial.shell('. "%s"; echo "$QUIETREPORTS $SILENTREPORTS $COMMAND $COPYNEWDB"' % name)
-    trial.check(done[1] == "yes  update no\n", "one mail: what Debian's job reads", done)
+    trial.holds("one mail: what Debian's job reads", done[1] == "yes  update no\n", done)
 
 
 def try_owner(trial, page):
@@ -149,15 +149,15 @@ def try_owner(trial, page):
     put(trial, INTRUDER)
     folder, owners = os.path.dirname(STATE), {}
     shutil.rmtree(trial.path(folder))
-    trial.check(trial.run(["aide-compare-run", "--state", trial.path(STATE)])[0] == 7, "cron: a first comparison of root's")
+    trial.holds("cron: a first comparison of root's", trial.run(["aide-compare-run", "--state", trial.path(STATE)])[0] == 7)
     for path in ("/var/lib/aide", BASELINE, NEWEST):
         owners[path] = os.stat(trial.path(path))
         os.chown(trial.path(path), NOBODY, NOBODY)
     for name, owner in (("the user of the databases", NOBODY), ("root, whose AIDE wrote the new one", 0)):
         os.chown(trial.path(NEWEST), owner, owner)
         mail = mails_of(trial, [crons_command(trial)]) or ""
-        trial.check(" unexplained of " in mail, "cron: %s compares" % name, mail)
-        trial.check(os.stat(trial.path(STATE)).st_uid == owner, "cron: %s writes the state" % name)
+        trial.holds("cron: %s compares" % name, " unexplained of " in mail, mail)
+        trial.holds("cron: %s writes the state" % name, os.stat(trial.path(STATE)).st_uid == owner)
     for path, found in owners.items():
         os.chown(trial.path(path), found.st_uid, found.st_gid)
     shutil.rmtree(trial.path(folder))
@@ -192,20 +192,20 @@ def try_upgrade(trial, page):
     put_night(trial, BASELINE, before)
     put_night(trial, NEWEST, before)
     done = page.run("first")
-    trial.check(done[0] == 0 and done[2] == "", "the first three commands", done)
-    trial.check(is_sign_of_life(mails_of(trial, unit_commands(trial))), "a quiet night")
+    trial.holds("the first three commands", done[0] == 0 and done[2] == "", done)
+    trial.holds("a quiet night", is_sign_of_life(mails_of(trial, unit_commands(trial))))
     put_packages(trial, "3.0.17-1", {path: sum.hexdigest() for path, sum in sums_of(after).items() if path in FILES})
     put_night(trial, NEWEST, after)
-    trial.check(is_sign_of_life(mails_of(trial, unit_commands(trial))), "a night of an upgrade")
+    trial.holds("a night of an upgrade", is_sign_of_life(mails_of(trial, unit_commands(trial))))
     state = trial.read(STATE)
-    trial.check("\nexplained=2\n" in state and "\nunexplained=0\n" in state, "the state of an upgrade", state)
+    trial.holds("the state of an upgrade", "\nexplained=2\n" in state and "\nunexplained=0\n" in state, state)
     put_night(trial, NEWEST, {**after, "/usr/bin/ls": "with a back door"})
     mail = mails_of(trial, unit_commands(trial)) or ""
     subject, _, text = mail.partition("\n\n")
-    trial.check(": 1 unexplained of 3 changes, 1 high\n" in subject + "\n", "the subject after an intruder", mail)
+    trial.holds("the subject after an intruder", ": 1 unexplained of 3 changes, 1 high\n" in subject + "\n", mail)
     page.prints("first mail", text)
     done = page.run("reasons")
-    trial.check(done[0] == 4 and "1 unexplained of 3 changes" in done[2], "reasons", done)
+    trial.holds("reasons", done[0] == 4 and "1 unexplained of 3 changes" in done[2], done)
     page.prints("reasons", done[1])
     taken(trial, "owners")
 
@@ -216,9 +216,9 @@ def try_lines(trial, page):
         lines = ["%s 36 100644 %d\n" % pair for pair in sizes.items()]
         trial.write("/tmp/%s.db.gz" % name, gzip.compress((HEAD + "".join(sorted(lines)) + "@@end_db\n").encode()))
     done = page.run("lines")
-    trial.check(done[0] == 0 and "unexplained" in done[2], "lines", done)
-    trial.check('"left_out":{"old":3,"new":4}' in trial.read("/tmp/lines") and "</html>" in trial.read("/tmp/page.html"),
-                "lines: what was left out, and the page", trial.read("/tmp/lines")[:500])
+    trial.holds("lines", done[0] == 0 and "unexplained" in done[2], done)
+    trial.holds("lines: what was left out, and the page",
+                '"left_out":{"old":3,"new":4}' in trial.read("/tmp/lines") and "</html>" in trial.read("/tmp/page.html"), trial.read("/tmp/lines")[:500])
 
 
 def try_quiet(trial, page, with_packages):

@@ -51,35 +51,35 @@ def entries(report):
 
 def try_install(trial, page):
     text = page.text("install")
-    trial.check(text == "packaging/install\n", "install: the command that was run", text)
+    trial.holds("install: the command that was run", text == "packaging/install\n", text)
     for name in ("aide-compare", "aide-compare-run", "aide-compare-accept", "aide-compare-mail", "aide-compare-metrics",
                  "aide-compare-log", "aide-compare-sort", "aide-compare-json", "aide-compare-html"):
         path = trial.path("/usr/local/bin/" + name)
-        trial.check(os.access(path, os.X_OK), "installed: " + name)
+        trial.holds("installed: " + name, os.access(path, os.X_OK))
     done = trial.run(["aide-compare", "-D", "-c", "/dev/null"])
-    trial.check(done == (0, "", ""), "the installed program", done)
+    trial.holds("the installed program", done == (0, "", ""), done)
 
 
 def try_pair(trial, page):
     put_pair(trial, example("old.db"), example("new.db"))
     done = page.run("pair")
     said = introduction(trial, "old.db.gz", "new.db.gz")
-    trial.check(done[0] == 7 and "Added entries:           3\n" in done[1] and done[2] == said, "pair", (done, said))
+    trial.holds("pair", done[0] == 7 and "Added entries:           3\n" in done[1] and done[2] == said, (done, said))
     page.prints("pair", done[1])
     trial.write("/etc/aide/compare.conf", "report_level=summary\n")
     done = page.run("options")
-    trial.check(done[0] == 7 and done[2] == 2 * said and done[1].count("Summary:") == 2, "options", done)
-    trial.check(len(entries(done[1])) == 22 and "Detailed information" not in done[1], "options: a list, no details", done[1])
+    trial.holds("options", done[0] == 7 and done[2] == 2 * said and done[1].count("Summary:") == 2, done)
+    trial.holds("options: a list, no details", len(entries(done[1])) == 22 and "Detailed information" not in done[1], done[1])
     put_pair(trial, OLD, OLD)
     done = page.run("pair")
-    trial.check(done[0] == 0 and "NO differences" in done[1] and not done[2], "an equal pair", done)
+    trial.holds("an equal pair", done[0] == 0 and "NO differences" in done[1] and not done[2], done)
 
 
 def try_grouped(trial, page):
     put_pair(trial, example("old.db"), example("new.db"))
     groups, one = page.run("pair"), page.run("grouped")
-    trial.check(groups[0] == one[0] == 7 and one[2] == groups[2] != "", "grouped: the status", one)
-    trial.check(len(entries(one[1])) == 22 and entries(groups[1]) == entries(one[1]), "grouped: the same entries", one[1])
+    trial.holds("grouped: the status", groups[0] == one[0] == 7 and one[2] == groups[2] != "", one)
+    trial.holds("grouped: the same entries", len(entries(one[1])) == 22 and entries(groups[1]) == entries(one[1]), one[1])
     folder = trial.path("/tmp/openings")
     os.makedirs(folder)
     for name in ("old.db", "new.db"):
@@ -90,7 +90,7 @@ def try_grouped(trial, page):
             openings = Openings(folder)
             trial.run(["aide-compare", "-E", "-c", "/dev/null", "-A", pair + more])
             got = openings.of(name)
-            trial.check(got in (count, None), "%d openings of %s" % (count, name), got)
+            trial.holds("%d openings of %s" % (count, name), got in (count, None), got)
 
 
 def try_measured(trial, page):
@@ -99,15 +99,15 @@ def try_measured(trial, page):
         "@@begin_db\n@@db_spec name size md5\n/a 1 0\n@@end_db\n",
         "@@begin_db\n@@db_spec name size md5\n/a 1 1B2M2Y8AsgTpgAmY7PhCfg==\n@@end_db\n",
     )
-    trial.check(page.run("pair")[0] == 4, "an attribute that only one entry has")
+    trial.holds("an attribute that only one entry has", page.run("pair")[0] == 4)
     done = page.run("measured")
-    trial.check(done[0] == 0 and not done[2], "measured", done)
+    trial.holds("measured", done[0] == 0 and not done[2], done)
     columns = "lname size bcount perm uid gid atime mtime ctime inode lcount md5 acl xattrs selinux e2fsattrs capabilities"
     fields = "x 1 1 100644 1 1 1 1 1 1 1 1B2M2Y8AsgTpgAmY7PhCfg== 1 1 1 1 1"
     spec = "@@begin_db\n@@db_spec name attr %s\n" % columns
     put_pair(trial, spec + "/a 0%s\n@@end_db\n" % (" 0" * 17), spec + "/a 4094 %s\n@@end_db\n" % fields)
     done = page.run("measured")
-    trial.check(done[0] == 0, "measured: the group has all attributes", done)
+    trial.holds("measured: the group has all attributes", done[0] == 0, done)
 
 
 def try_debian(trial):
@@ -116,7 +116,7 @@ def try_debian(trial):
     put_pair(trial, spec % "1", spec % "17")
     for option, status in (("report_ignore_e2fsattrs=VNIE", 4), ("report_ignore_changed_attrs=e2fsattrs", 0)):
         done = trial.run(["aide-compare-run", "old.db.gz", "new.db.gz", "--", "-A", option])
-        trial.check(done[0] == status, option, done)
+        trial.holds(option, done[0] == status, done)
 
 
 def try_without(trial, page):
@@ -125,11 +125,11 @@ def try_without(trial, page):
         HEAD + "/a 36 100644 1\n/var/log/x 36 100644 1\n@@end_db\n",
         HEAD + "/a 36 100644 1\n/var/cache/y 36 100644 1\n/var/log/x 36 100644 2\n@@end_db\n",
     )
-    trial.check(page.run("pair")[0] == 5, "with the paths")
+    trial.holds("with the paths", page.run("pair")[0] == 5)
     done = page.run("without")
     patterns = ["/var/%s/** (--without-path)" % name for name in ("log", "cache")]
     said = left_out([(1, patterns[0])], [(1, patterns[1]), (1, patterns[0])])
-    trial.check(done[0] == 0 and "NO differences" in done[1] and done[2] == said, "without", (done, said))
+    trial.holds("without", done[0] == 0 and "NO differences" in done[1] and done[2] == said, (done, said))
     page.prints("without", done[2])
 
 
@@ -138,7 +138,7 @@ def try_page(trial, page):
     done = page.run("page")
     text = trial.read("/tmp/page.html")
     good = "</html>" in text and "a é</code>" in text and done[2] == introduction(trial, "old.db.gz", "new.db.gz")
-    trial.check(done[0] == 0 and good, "page", (done, text[:300]))
+    trial.holds("page", done[0] == 0 and good, (done, text[:300]))
 
 
 def try_order(trial, page):
@@ -148,13 +148,13 @@ def try_order(trial, page):
     mixed = HEAD + "".join(line % names[k] for k in (3, 0, 5, 2, 4, 1)) + "@@end_db\n"
     trial.write("/tmp/mixed.db", mixed)
     done = trial.run(["aide-compare-run", "mixed.db", "mixed.db"])
-    trial.check(done[0] == 24 and "entry out of path order" in done[2], "a mixed database is refused", done)
+    trial.holds("a mixed database is refused", done[0] == 24 and "entry out of path order" in done[2], done)
     done = page.run("order")
-    trial.check(done[0] == 0 and trial.read("/tmp/sorted.db") == wanted, "order", done)
-    trial.check(trial.run(["aide-compare-run", "sorted.db", "sorted.db"])[0] == 0, "a sorted database")
+    trial.holds("order", done[0] == 0 and trial.read("/tmp/sorted.db") == wanted, done)
+    trial.holds("a sorted database", trial.run(["aide-compare-run", "sorted.db", "sorted.db"])[0] == 0)
     trial.write("/tmp/mixed.db", mixed.replace("/a-b", "/%61"))
     done = page.run("order")
-    trial.check(done[0] == 24 and "stands twice: /a\n" in done[2], "order: a path twice", done)
+    trial.holds("order: a path twice", done[0] == 24 and "stands twice: /a\n" in done[2], done)
 
 
 def try_mail(trial, page):
@@ -163,9 +163,9 @@ def try_mail(trial, page):
     for name, text in (("aide.db", OLD), ("aide.db.new", NEW)):
         trial.write("/var/lib/aide/" + name, gzip.compress(text.encode()), 0o600)
     done, mail = page.run("mail"), taken(trial, "mailed") or ""
-    trial.check(done == (7, "", "") and "multipart" in mail and "text/html" in mail, "mail", (done, mail[:1000]))
-    trial.check("To: root\n" in mail and "Added entries: " in mail, "mail: the text of the report", mail[:1000])
-    trial.check("\nadded=1\nremoved=1\nchanged=1\n" in trial.read(STATE), "mail: the state")
+    trial.holds("mail", done == (7, "", "") and "multipart" in mail and "text/html" in mail, (done, mail[:1000]))
+    trial.holds("mail: the text of the report", "To: root\n" in mail and "Added entries: " in mail, mail[:1000])
+    trial.holds("mail: the state", "\nadded=1\nremoved=1\nchanged=1\n" in trial.read(STATE))
 
 
 def try_short(trial, page, with_packages):

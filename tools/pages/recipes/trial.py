@@ -7,6 +7,8 @@ import sys
 import tempfile
 import time
 
+from tools.lib.tally import Tally
+
 HERE = os.path.dirname(os.path.dirname(os.path.dirname(os.path.dirname(os.path.abspath(__file__)))))
 # The folders that recipes and tools name; in a trial they lie below its root.
 FOLDERS = [
@@ -44,12 +46,12 @@ def wait_until(condition):
     return condition()
 
 
-class Trial:
+class Trial(Tally):
     def __init__(self, program, shell):
+        super().__init__()
         self.program, self.interpreter = os.path.abspath(program), shell
         self.root = tempfile.mkdtemp(prefix="try-recipes-")
         os.chmod(self.root, 0o755)
-        self.passed = self.failed = 0
         for folder in FOLDERS + ["/stubs", "/tmp"]:
             os.makedirs(self.root + folder, exist_ok=True)
         os.chmod(self.root + "/var/lib/aide", 0o700)
@@ -58,13 +60,6 @@ class Trial:
 
     def close(self):
         shutil.rmtree(self.root, ignore_errors=True)
-
-    def check(self, good, name, got=""):
-        if good:
-            self.passed += 1
-        else:
-            self.failed += 1
-            print("FAILED:", name, got if isinstance(got, str) else repr(got)[:2000], flush=True)
 
     def below(self, text):
         """A text with the folders that it names put below the root."""
@@ -146,7 +141,7 @@ class Trial:
         """Installs by packaging/install, and puts the folders that the installed texts name below the root."""
         words = [os.path.join(HERE, "packaging", "install"), "--destdir", self.root, "--program", self.program]
         done = self.run(words)
-        self.check(done[0] == 0, "packaging/install", done)
+        self.holds("packaging/install", done[0] == 0, done)
         if done[0] != 0:
             sys.exit("nothing was installed, so nothing can be tried")
         for folder, _, names in os.walk(self.root + "/usr/local"):
@@ -170,10 +165,10 @@ class Trial:
             for path, _, names in os.walk(self.root + folder):
                 for each in names:
                     file = os.path.join(path, each)
-                    self.check(os.stat(file).st_mode & 0o077 == 0 or self.is_shut(file), name + ": mode", file)
+                    self.holds(name + ": mode", os.stat(file).st_mode & 0o077 == 0 or self.is_shut(file), file)
                     if os.geteuid() == 0:
                         got = self.run(["cat", file], rights=NOBODY)
-                        self.check(got[0] != 0 and not got[1], name + ": another user", file)
+                        self.holds(name + ": another user", got[0] != 0 and not got[1], file)
 
     def is_shut(self, path):
         """A folder above a file, below the root, lets nobody but its owner in."""

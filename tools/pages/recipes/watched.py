@@ -58,7 +58,7 @@ class Watched:
 
     def call(self, command, statuses):
         done = self.trial.run([self.aide, command, "-c", self.trial.path("/etc/aide/aide.conf")])
-        self.trial.check(done[0] in statuses, "aide " + command, done)
+        self.trial.holds("aide " + command, done[0] in statuses, done)
 
     def store(self):
         name = "new.db" if self.taken else "old.db"
