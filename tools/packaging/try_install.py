@@ -1,17 +1,15 @@
 #!/usr/bin/env python3
 """Tries packaging/install and packaging/make_package, and what they install.
 
-usage: python3 -m tools.packaging.try_install PROGRAM
-
 Everything is installed below a folder of this run, from a copy of the repository's files, with PROGRAM, the built program.
 The trials need sh, Python, coreutils, find, sed, grep, tar and gzip. Some need more (other shells, dpkg-deb,
 systemd-analyze, zsh, fish): they are tried if this is installed, and otherwise named as skipped. Prints what fails and, at
 the end, `N passed, M failed`.
 """
-import os
 import shutil
 import sys
 
+from tools.lib.arguments import add_program, parser_of
 from tools.packaging.installing import completions, packages, targets, texts
 from tools.packaging.installing.trial import Trial
 
@@ -22,14 +20,10 @@ PARTS = [targets.try_targets, targets.try_shells, targets.try_again, targets.try
          completions.try_bash, completions.try_zsh, completions.try_fish, packages.try_packages]
 
 
-def main(words):
-    if len(words) != 1 or words[0] in ("-h", "--help"):
-        sys.stderr.write(__doc__)
-        return 0 if words[:1] in (["-h"], ["--help"]) else 2
-    if not os.access(words[0], os.X_OK):
-        sys.stderr.write("there is no program %s\n" % words[0])
-        return 2
-    trial = Trial(words[0])
+def main():
+    parser = parser_of("tools.packaging.try_install", __doc__)
+    add_program(parser)
+    trial = Trial(parser.parse_args().program)
     try:
         for part in PARTS:
             before = trial.passed + trial.failed
@@ -42,4 +36,4 @@ def main(words):
 
 
 if __name__ == "__main__":
-    sys.exit(main(sys.argv[1:]))
+    sys.exit(main())

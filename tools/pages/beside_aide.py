@@ -1,8 +1,6 @@
 #!/usr/bin/env python3
 """Tries what docs/DIFFERENCES.md says of AIDE, on AIDE itself and on the built program.
 
-usage: python3 -m tools.pages.beside_aide PROGRAM
-
 Each case is one configuration and one pair of databases, given to both programs. If AIDE is not installed, the tool says so and
 tries nothing. Prints each case whose answer is not the one that the page gives and, at the end, `N passed, M failed`.
 """
@@ -16,6 +14,7 @@ import sys
 import tempfile
 from urllib.parse import unquote_to_bytes
 
+from tools.lib.arguments import add_program, parser_of
 from tools.lib.tally import Tally
 
 AIDE = shutil.which("aide")
@@ -647,10 +646,13 @@ def try_version(trial):
 
 
 def main():
+    parser = parser_of("tools.pages.beside_aide", __doc__)
+    add_program(parser)
+    given = parser.parse_args()
     if AIDE is None:
         print("skipped: AIDE is not installed")
         return 0
-    trial = Trial(sys.argv[1])
+    trial = Trial(given.program)
     version = trial.run(AIDE, ["--version"])[1].split("\n")[0]
     print(version + ("" if version.startswith("AIDE 0.18.") else " (docs/DIFFERENCES.md describes 0.18.3)"))
     try:
@@ -668,6 +670,4 @@ def main():
 
 
 if __name__ == "__main__":
-    if len(sys.argv) != 2:
-        sys.exit("usage: python3 -m tools.pages.beside_aide PROGRAM")
     sys.exit(main())

@@ -1,8 +1,6 @@
 #!/usr/bin/env python3
 """Tries what the manual pages say on the built program.
 
-usage: python3 -m tools.pages.try_manual PROGRAM
-
 The tool reads from the pages in man/ all names (options, directives, levels, groups, attributes with column, bit and
 letter), reports, lines on standard error and limits, and tries each of them. Prints what fails and, at the end, `N passed, M
 failed`.
@@ -16,6 +14,7 @@ import subprocess
 import sys
 import tempfile
 
+from tools.lib.arguments import add_program, parser_of
 from tools.lib.tally import Tally
 from tools.oracle.configuration import LEVELS
 
@@ -617,7 +616,9 @@ def try_databases(trial, page):
 
 
 def main():
-    trial = Trial(sys.argv[1])
+    parser = parser_of("tools.pages.try_manual", __doc__)
+    add_program(parser)
+    trial = Trial(parser.parse_args().program)
     with open(PAGE) as file:
         page = file.read()
     with open(CONF_PAGE) as file:
@@ -642,6 +643,4 @@ def main():
 
 
 if __name__ == "__main__":
-    if len(sys.argv) != 2:
-        sys.exit("usage: python3 -m tools.pages.try_manual PROGRAM")
     sys.exit(main())

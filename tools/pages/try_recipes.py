@@ -1,24 +1,16 @@
 #!/usr/bin/env python3
 """Tries docs/RECIPES.md over several days, with the tools that packaging/install installs into a folder of its own.
 
-usage: python3 -m tools.pages.try_recipes [--with-packages] [--shell INTERPRETER] [--only PART] PROGRAM
-
 Each block of the page that is marked for it is run without changes, except that the folders that it names are below a
 folder of this run. The trials play five days of a watched host: nothing changes, an intruder comes, every kind of alarm is
 raised and raised again, a wrong and the right database are accepted, and all is quiet. Then AIDE stops for three days. Then
 faults are made. `ssh`, `mail` and `logger` are small programs of this script, so nothing leaves the machine. Prints what
 fails and, at the end, `N passed, M failed`.
-
-  --with-packages        also what needs Debian's packages: AIDE, slurm-wlm, nagios4, cron, openssh-server,
-                         ansible-core; as root, with daemons on 127.0.0.1 that are stopped at the end
-  --shell INTERPRETER    the job of cron begins with this instead of /bin/sh, for example "/bin/busybox sh"
-  --only PART            only this part: short, quiet, days, faults, hosts, clusters or packages
 """
-import argparse
-import os
 import sys
 
 from tools.lib import signals
+from tools.lib.arguments import add_program, parser_of
 from tools.pages.recipes.clusters import try_clusters
 from tools.pages.recipes.days import try_days
 from tools.pages.recipes.faults import try_faults
@@ -41,19 +33,14 @@ PARTS = {
 
 
 def arguments():
-    parser = argparse.ArgumentParser(usage=__doc__.split("\n")[2][len("usage: ") :], add_help=False)
-    parser.add_argument("--help", action="store_true")
-    parser.add_argument("--with-packages", action="store_true")
-    parser.add_argument("--shell", default="")
-    parser.add_argument("--only", choices=PARTS)
-    parser.add_argument("program", nargs="?")
-    found = parser.parse_args()
-    if found.help:
-        print(__doc__)
-        sys.exit(0)
-    if not found.program or not os.access(found.program, os.X_OK):
-        parser.error("PROGRAM has to be the built program, crates/aide/out/aide")
-    return found
+    parser = parser_of("tools.pages.try_recipes", __doc__)
+    parser.add_argument("--with-packages", action="store_true",
+                        help="also what needs Debian's packages: AIDE, slurm-wlm, nagios4, cron, openssh-server, ansible-core; as root, with daemons on 127.0.0.1 that are stopped at the end")
+    parser.add_argument("--shell", default="", metavar="INTERPRETER",
+                        help="the job of cron begins with this instead of /bin/sh, for example \"/bin/busybox sh\"")
+    parser.add_argument("--only", choices=PARTS, help="only this part")
+    add_program(parser)
+    return parser.parse_args()
 
 
 def main():

@@ -1,8 +1,7 @@
 #!/usr/bin/env python3
 """The stored cases of tools/program/cases: whole sessions, each in one file, with their answers.
 
-usage: python3 -m tools.program.cases PROGRAM [CASE...]    runs the program over the cases; the last line is 'N passed, M failed'
-       cases.py --write CASE...      writes what the definitions answer into the cases
+The last line is 'N passed, M failed'.
 
 A case begins with a sentence that says what it shows. Then come sections, each under a line `-- NAME --`: `words` (the
 arguments, one a line), files of the folder in which the case is run (`conf`, `old`, `new`), and the right answer:
@@ -12,11 +11,11 @@ backslashes as in C. So are the arguments.
 import glob
 import os
 import re
-import sys
 import tempfile
 from collections import namedtuple
 
 from tools.oracle.session import Answer
+from tools.lib.arguments import parser_of
 from tools.lib.tally import Tally, difference, file_at, program_of, run, wanted
 
 HEADER = re.compile(r'^-- (\w+)( \(escaped\))? --$')
@@ -124,14 +123,17 @@ def all_cases():
 
 
 def main():
-    if len(sys.argv) > 2 and sys.argv[1] == '--write':
-        for path in sys.argv[2:]:
+    parser = parser_of('tools.program.cases', __doc__)
+    parser.add_argument('--write', action='store_true',
+                        help='write what the definitions answer into each CASE; then no PROGRAM is named')
+    parser.add_argument('names', nargs='+', metavar='PROGRAM [CASE...]', help='the built program, and cases (all of them)')
+    given = parser.parse_args()
+    if given.write:
+        for path in given.names:
             write(path)
         return
-    if len(sys.argv) < 2:
-        sys.exit(__doc__)
     tally = Tally()
-    try_cases(program_of(sys.argv[1]), sys.argv[2:] or all_cases(), tally)
+    try_cases(program_of(given.names[0]), given.names[1:] or all_cases(), tally)
     tally.end()
 
 

@@ -1,7 +1,7 @@
 #!/usr/bin/env python3
 """Makes the databases in examples/ that AIDE has written, of a small tree before and after some changes.
 
-usage: python3 -m tools.program.make_examples   (as root, with AIDE 0.18.3 installed; the tree is made in /srv/aide-example and removed again)
+It runs as root, with AIDE 0.18.3 installed. The tree is made in /srv/aide-example and removed again.
 
 For each folder of examples/ with an `aide.conf` that begins with the line of MARK, AIDE writes `old.db` and `new.db` by
 that configuration. `aide-counts.txt` gets what AIDE counts between the two.
@@ -14,6 +14,8 @@ import shutil
 import subprocess
 import sys
 import time
+
+from tools.lib.arguments import parser_of
 
 TREE = '/srv/aide-example'
 MARK = '# Read by AIDE 0.18.3 and by this program alike.'
@@ -114,6 +116,7 @@ def write_counts(folder):
 
 
 def main():
+    parser_of('tools.program.make_examples', __doc__).parse_args()
     folders = [os.path.dirname(found) for found in glob.glob(os.path.join(os.path.realpath(EXAMPLES), '*', 'aide.conf'))
                if open(found).readline().strip() == MARK]
     os.umask(0o022)

@@ -1,8 +1,6 @@
 #!/usr/bin/env python3
 """Checks what the pages of this repository name: links, files, code that was copied in, clauses, tables of files.
 
-usage: python3 -m tools.source.check_docs [--help]
-
 - Each link of a page leads to a file of the repository.
 - Each file that a page names in backquotes exists: below the top, a crate, or a crate's src/. Built files (`out/`) and
   names with `NAME` in them are left out.
@@ -20,6 +18,7 @@ import re
 import subprocess
 import sys
 
+from tools.lib.arguments import parser_of
 from tools.lib.tally import Tally
 from tools.source import public_specs
 
@@ -131,9 +130,7 @@ def check_clauses(tally):
 
 
 def main():
-    if len(sys.argv) > 1:
-        print(__doc__)
-        return 0 if sys.argv[1] in ("-h", "--help") else 2
+    parser_of("tools.source.check_docs", __doc__).parse_args()
     tally = Kinds()
     for page in tracked():
         if page.endswith(".md"):

@@ -1,8 +1,6 @@
 #!/usr/bin/env python3
 """Compares the must-fail edits with the public functions: each public function has an edit in its own code.
 
-usage: python3 -m tools.source.check_edits [--list]
-
 A public function is one that a crate's lib.rt exports, or a method of an exported type, its own or of a trait of this
 repository. An edit belongs to a function if it changes a line of the function's body, or of a private function or a
 constant that no other public function names. Four kinds need no edit; docs/CONTRACTS.md says why:
@@ -15,13 +13,14 @@ constant that no other public function names. Four kinds need no edit; docs/CONT
 An edit has a name that says what the edited code does, so the words of the function's own name are not enough.
 
 Prints each public function that has no edit and needs one, each edit that changes no line of code or whose text does not
-stand exactly once in its file, and each that is only named after what it changes. With --list, prints every public function with its edits or its kind. The last line
-is `N passed, M failed`.
+stand exactly once in its file, and each that is only named after what it changes. The last line is `N passed, M failed`.
 """
 import os
 import pathlib
 import re
 import sys
+
+from tools.lib.arguments import parser_of
 
 HERE = os.path.dirname(os.path.dirname(os.path.dirname(os.path.abspath(__file__))))
 CRATES = os.path.join(HERE, "crates")
@@ -208,16 +207,16 @@ def judge(crate, traits, lists):
     return passed, failed + len(wrong), sum(1 for _ in crate.edits())
 
 
-def main(words):
-    if words not in ([], ["--list"]):
-        print(__doc__.strip())
-        return 0 if words in (["--help"], ["-h"]) else 2
+def main():
+    parser = parser_of("tools.source.check_edits", __doc__)
+    parser.add_argument("--list", action="store_true", help="print every public function with its edits or its kind")
+    given = parser.parse_args()
     names = sorted(name for name in os.listdir(CRATES) if os.path.isdir(os.path.join(CRATES, name, "src")))
     crates = [Crate(name) for name in names]
     traits = set().union(*(crate.traits() for crate in crates))
     passed = failed = edits = 0
     for crate in crates:
-        good, bad, tried = judge(crate, traits, bool(words))
+        good, bad, tried = judge(crate, traits, given.list)
         passed, failed, edits = passed + good, failed + bad, edits + tried
     if passed + failed < FEWEST_FUNCTIONS or edits < FEWEST_EDITS:
         print(f"FAILED: only {passed + failed} functions and {edits} edits were found")
@@ -227,4 +226,4 @@ def main(words):
 
 
 if __name__ == "__main__":
-    sys.exit(main(sys.argv[1:]))
+    sys.exit(main())

@@ -1,14 +1,14 @@
 #!/usr/bin/env python3
 """Finds the files of specs/ that say what the public calls promise.
 
-usage: python3 -m tools.source.public_specs [--help]
-
 From the contracts of all public functions and traits this follows each name to its definition, and from there to the
 definitions that it uses. Prints a line for each crate: its name and the files of its specs/ that were met.
 """
 import os
 import re
 import sys
+
+from tools.lib.arguments import parser_of
 
 TOP = os.path.dirname(os.path.dirname(os.path.dirname(os.path.abspath(__file__))))
 IMPORT = re.compile(r"use\s+Rattle\.(\w+)\.specs\.([\w.]+?)\.\{([^}]*)\}", re.S)
@@ -140,9 +140,7 @@ def met(names):
 
 
 def main():
-    if len(sys.argv) > 1:
-        print(__doc__)
-        return 0 if sys.argv[1] in ("-h", "--help") else 2
+    parser_of("tools.source.public_specs", __doc__).parse_args()
     found = met(crates())
     for crate, files in found.items():
         if files:

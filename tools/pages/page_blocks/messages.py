@@ -32,16 +32,16 @@ def source(page):
     return "".join(JOINT.sub("", PROSE.sub("", read(os.path.relpath(path, HERE)))) for some in files for path in some)
 
 
-def try_messages(check):
+def try_messages(holds):
     found = 0
     for page in manual_pages():
         if page in TRIED:
             continue
         text = source(page)
-        check(text, "%s: the tool that it is about" % page)
+        holds("%s: the tool that it is about" % page, text)
         for message in messages(page):
             pieces = [piece.strip(" :") for piece in ANY.split(message)]
             missing = [piece for piece in pieces if piece and piece not in text]
-            check(not missing, "%s: the tool has no such message: %s" % (page, message), missing)
+            holds("%s: the tool has the message %s" % (page, message), not missing, missing)
             found += 1
-    check(found, "no message was found in the pages of the tools")
+    holds("a message is found in the pages of the tools", found)

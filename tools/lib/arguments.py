@@ -1,0 +1,20 @@
+"""The arguments of the tools: each says by --help what it does, and does nothing before it has read its arguments."""
+import argparse
+import os
+
+
+def parser_of(module, text):
+    """A parser for a tool that is run as a module; `text` is its docstring."""
+    raw = argparse.RawDescriptionHelpFormatter
+    return argparse.ArgumentParser(prog="python3 -m " + module, description=text, formatter_class=raw)
+
+
+def executable(path):
+    """The whole path of an executable file, for `type=`."""
+    if not os.path.isfile(path) or not os.access(path, os.X_OK):
+        raise argparse.ArgumentTypeError("%s is not an executable file" % path)
+    return os.path.abspath(path)
+
+
+def add_program(parser):
+    parser.add_argument("program", metavar="PROGRAM", type=executable, help="the built program, crates/aide/out/aide")
