@@ -9,8 +9,9 @@ A list has a block for each body, and a blank line between two blocks:
     new:         None => Turn::Ended,
 
 `file`, `old` and `new` mean what they mean in a must-fail edit: each `old` is on one line and stands once in its file,
-and a further pair applies to what the earlier ones made. A body that the contracts should let through has one more
-line, `right: REASON` or `test: NAME OF THE TEST THAT SEES IT`.
+and a further pair applies to what the earlier ones made. A line `in: FUNCTION`, or `in: TYPE::FUNCTION`, asks for texts
+that stand once in that function. A body that the contracts should let through has one more line, `right: REASON` or
+`test: NAME OF THE TEST THAT SEES IT`.
 """
 import hashlib
 import pathlib
@@ -18,7 +19,7 @@ import pathlib
 HERE = pathlib.Path(__file__).resolve().parent
 ROOT = HERE.parent.parent
 LISTS = HERE / "bodies"
-WORDS = ("body", "why", "file", "old", "new", "right", "test")
+WORDS = ("body", "why", "file", "in", "old", "new", "right", "test")
 
 
 class ListError(Exception):
@@ -30,7 +31,7 @@ class Body:
 
     def __init__(self, crate, name, place):
         self.crate, self.name, self.place = crate, name, place
-        self.why, self.right, self.test = "", "", ""
+        self.why, self.right, self.test, self.within = "", "", "", ""
         self.pairs = []
 
     def is_let_through(self):
@@ -39,15 +40,7 @@ class Body:
 
     def sum(self):
         """A sum of what is planted."""
-        return hashlib.sha256(repr(self.pairs).encode()).hexdigest()[:16]
-
-    def as_edit(self):
-        """The text of the must-fail edit that plants the same."""
-        lines, named = [], None
-        for file, old, new in self.pairs:
-            lines += [f"file: {file}"] * (file != named) + [f"old: {old}", f"new: {new}"]
-            named = file
-        return "\n".join(lines) + "\n"
+        return hashlib.sha256((repr(self.pairs) + self.within).encode()).hexdigest()[:16]
 
 
 def take_line(body, word, rest, state):
@@ -61,7 +54,7 @@ def take_line(body, word, rest, state):
             raise ListError(f"{body.place}: a `new` needs a `file` and an `old` above it")
         body.pairs.append((state["file"], state.pop("old"), rest))
     else:
-        setattr(body, word, rest.strip())
+        setattr(body, "within" if word == "in" else word, rest.strip())
 
 
 def read_list(crate, path):
@@ -94,6 +87,11 @@ def bodies_of(crate):
     found = [body for path in sorted((LISTS / crate).glob("*.txt")) for body in read_list(crate, path)]
     refuse_doubles(found)
     return found
+
+
+def listed(crate, edits=False):
+    """The bodies of a crate's list, or its must-fail edits."""
+    return edits_of(crate) if edits else bodies_of(crate)
 
 
 def edits_of(crate):

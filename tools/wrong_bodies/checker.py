@@ -21,7 +21,7 @@ def check(folder, names):
     for name in names:
         words += ["--only", name]
     before = used()
-    began = subprocess.Popen(["nice", "-n", "10", *words], cwd=folder, stdin=subprocess.DEVNULL,
+    began = subprocess.Popen(words, cwd=folder, stdin=subprocess.DEVNULL,
                              stdout=subprocess.PIPE, stderr=subprocess.STDOUT, start_new_session=True)
     started = time.monotonic()
     try:

@@ -27,6 +27,8 @@ def end_of_head(text, head, indent):
         line = text[at].split("//")[0].rstrip()
         if depth > 0 or CLAUSE.match(line):
             depth += line.count("{") - line.count("}")
+            if depth == 0 and line.endswith(";"):
+                return None
         elif line == indent + "{" or line.endswith(" {"):
             return at
         elif line.endswith(";") or line.endswith("{}"):

@@ -16,6 +16,7 @@ import tempfile
 
 from tools.wrong_bodies import base, batches, bodies, page, results, scratch, sources, verdicts
 
+STALE = "only bodies that were not judged since they or their functions were changed"
 CHOSEN = "only these bodies: NAME, or a part of the name, file or function"
 
 
@@ -24,7 +25,7 @@ def read_words():
                                      formatter_class=argparse.RawDescriptionHelpFormatter)
     parser.add_argument("crates", nargs="+", metavar="CRATE")
     parser.add_argument("--only", metavar="WORD", action="append", help=CHOSEN)
-    parser.add_argument("--new", action="store_true", help="only bodies that were not judged since they were written")
+    parser.add_argument("--stale", action="store_true", help=STALE)
     parser.add_argument("--edits", action="store_true", help="judge the crate's must-fail edits in place of its list")
     parser.add_argument("--write", action="store_true", help="store the results, and write docs/WRONG_BODIES.md")
     parser.add_argument("--most", type=int, default=24, metavar="N", help="the bodies of one check (default: 24)")
@@ -35,15 +36,14 @@ def read_words():
 
 def chosen(crate, options, found):
     """The bodies to judge, each with its place."""
-    listed = bodies.edits_of(crate) if options.edits else bodies.bodies_of(crate)
-    old = results.stored(crate) if options.new else {}
-    for body in listed:
+    old = results.stored(crate, options.edits)
+    for body in bodies.listed(crate, options.edits):
         place = found.place_of(body)
         words = f"{body.name} {place.file} {place.title()}"
         if options.only and not any(word in words for word in options.only):
             continue
-        row = old.get(body.name, {})
-        if row.get("sum") != body.sum() or row["kind"] == verdicts.UNJUDGED:
+        row = old.get(body.name)
+        if not options.stale or results.stale(row, body, found.sum_of(place)) or row["kind"] == verdicts.UNJUDGED:
             yield body, place
 
 
@@ -53,9 +53,10 @@ def judge(crate, options, folder):
     pairs = list(chosen(crate, options, found))
     counts, wrong = collections.Counter(), 0
     if not pairs:
-        print(f"FAILED: {crate}: there is nothing to judge")
-        return counts, 1
+        print(f"{crate}: no body is stale" if options.stale else f"FAILED: {crate}: there is nothing to judge")
+        return counts, 0 if options.stale else 1
     run = batches.Run(scratch.Scratch(crate, folder), base.Base(found), options)
+    source_of = {body.name: found.sum_of(place) for body, place in pairs}
     for body, verdict in run.verdicts(pairs):
         counts[verdict.kind] += 1
         print(f"{crate}: {body.name}: {verdict.function}: {verdict.kind}: {', '.join(verdict.clauses())}", flush=True)
@@ -63,8 +64,8 @@ def judge(crate, options, folder):
         if why:
             print(f"FAILED: {body.place}: {body.name} {why}", flush=True)
             wrong += 1
-        if options.write and not options.edits:
-            results.add(crate, body, verdict)
+        if options.write:
+            results.add(crate, body, verdict, source_of[body.name], options.edits)
     told = ", ".join(f"{counts[kind]} {kind}" for kind in verdicts.KINDS if counts[kind])
     spent = f"{run.seconds_of_base:.0f} s for the base, {run.seconds:.0f} s for the bodies"
     print(f"{crate}: {len(pairs)} bodies: {told}; {spent}")
@@ -82,10 +83,10 @@ def main():
             print(f"FAILED: {error}")
             counts, wrong = {}, 1
         passed, failed = passed + max(sum(counts.values()) - wrong, 0), failed + wrong
-    if options.write and not options.edits:
+    if options.write:
         page.write()
     print(f"{passed} passed, {failed} failed")
-    return 1 if failed or not passed else 0
+    return 1 if failed or not (passed or options.stale) else 0
 
 
 if __name__ == "__main__":

@@ -2,7 +2,10 @@
 from tools.wrong_bodies import bodies, results, verdicts
 
 PAGE = bodies.ROOT / "docs" / "WRONG_BODIES.md"
+TRIALS = bodies.ROOT / "docs" / "TRIALS.md"
+BEGINNING = "[WRONG_BODIES.md](WRONG_BODIES.md) lists"
 LONGEST = 160
+EDITS = "The crates' must-fail edits, judged in the same way by `--edits`. Those of the other crates were not."
 
 HEAD = """# Wrong bodies, and how the prover refuses them
 
@@ -22,9 +25,15 @@ lists and the stored results; it calls no prover.
 | proves | the contracts let the body through; the table says why that does no harm, or which test sees it |
 | not judged | the body does not compile, or the check said nothing of it |
 
-An open goal is no proof that the goal is false: the search may have missed its proof. So the table names the clause. A verdict is of
-the sources on which it was taken, 2026-11-25; those of `aide_entry`, `aide_text` and `aide_report` were taken before the
-last change of lemmas and definitions of these crates. Not all clauses have a body, and `aide_session` has none yet.
+An open goal is no proof that the goal is false: the search may have missed its proof. So the table names the clause. A verdict
+is of a function with its contract as they were when it was taken, and is kept with a sum of both. After a change of the
+function `tools.wrong_bodies.check` fails until `python3 -m tools.wrong_bodies.judge --stale --write CRATE` has judged its bodies
+again. What the lemmas of a crate say may have changed since.
+
+No body can break some clauses, so none is listed for them. `answered` of `session` and `session_on` speaks of the definitions
+alone. No call can make a count of failures fall (`sources_never_fall` of `run`), close a side so that `lookups` of `run`
+rises, or make the peak of a desk fall (`peak` of `run` and `Cursor::next`). What a test sees of a body that proves is tried by
+`python3 -m tools.wrong_bodies.seen`, which plants the body in the place of the function and runs the crate's tests.
 """
 
 
@@ -47,11 +56,21 @@ def told(body, row):
     return shortened(f"{row['kind']}: " + ", ".join(name if " " in name else f"`{name}`" for name in by))
 
 
-def counts_of(crate):
+def counts_of(crate, edits=False):
     """The numbers of a crate's verdicts, and of those without one."""
-    rows = results.stored(crate)
-    kinds = [rows[body.name]["kind"] for body in bodies.bodies_of(crate) if body.name in rows]
+    rows = results.stored(crate, edits)
+    kinds = [rows[body.name]["kind"] for body in bodies.listed(crate, edits) if body.name in rows]
     return [kinds.count(kind) for kind in verdicts.KINDS]
+
+
+def table_of(numbers):
+    """The table of numbers of verdicts, a row for each crate and one for all."""
+    yield "| Crate | " + " | ".join(verdicts.KINDS) + " | all |"
+    yield "|---" * (len(verdicts.KINDS) + 2) + "|"
+    for crate, counts in numbers.items():
+        yield f"| `{crate}` | " + " | ".join(map(str, counts)) + f" | {sum(counts)} |"
+    sums = [sum(column) for column in zip(*numbers.values())]
+    yield "| all | " + " | ".join(map(str, sums)) + f" | {sum(sums)} |"
 
 
 def rows_of(crate):
@@ -64,20 +83,46 @@ def rows_of(crate):
             yield f"| `{body.name}` | {function} | {cell(body.why)} | {cell(told(body, row))} |"
 
 
+def edit_lines():
+    """The table of those must-fail edits that were judged in the same way."""
+    numbers = {crate: counts_of(crate, edits=True) for crate in bodies.crates_with_lists()}
+    numbers = {crate: counts for crate, counts in numbers.items() if sum(counts)}
+    if numbers:
+        yield from ("", "## Must-fail edits", "", EDITS, "")
+        yield from table_of(numbers)
+
+
 def text():
     """The whole page."""
     crates = bodies.crates_with_lists()
-    lines = [HEAD, "| Crate | " + " | ".join(verdicts.KINDS) + " | all |", "|---" * (len(verdicts.KINDS) + 2) + "|"]
-    numbers = {crate: counts_of(crate) for crate in crates}
-    for crate, counts in numbers.items():
-        lines.append(f"| `{crate}` | " + " | ".join(map(str, counts)) + f" | {sum(counts)} |")
-    sums = [sum(column) for column in zip(*numbers.values())]
-    lines.append("| all | " + " | ".join(map(str, sums)) + f" | {sum(sums)} |")
+    lines = [HEAD, *table_of({crate: counts_of(crate) for crate in crates}), *edit_lines()]
     for crate in crates:
         lines += ["", f"## {crate}", "", "| Body | Function | What is wrong | Verdict |", "|---|---|---|---|"]
         lines += rows_of(crate)
     return "\n".join(lines) + "\n"
 
 
+def sentence():
+    """What TRIALS.md says of the lists, on one line."""
+    sums = [sum(column) for column in zip(*(counts_of(crate) for crate in bodies.crates_with_lists()))]
+    told = [f"{count} {kind}" for count, kind in zip(sums, verdicts.KINDS) if count]
+    return f"{BEGINNING} {sum(sums)} wrong bodies, with the function of each and what refuses it: {', '.join(told)}."
+
+
+def told_in_trials():
+    """TRIALS.md with this sentence in the place of the one that it has."""
+    lines = TRIALS.read_text(encoding="utf-8").split("\n")
+    return "\n".join(sentence() if line.startswith(BEGINNING) else line for line in lines)
+
+
 def write():
     PAGE.write_text(text(), encoding="utf-8")
+    TRIALS.write_text(told_in_trials(), encoding="utf-8")
+
+
+def faults():
+    """What of both pages is not what the stored results say."""
+    if not PAGE.is_file() or PAGE.read_text(encoding="utf-8") != text():
+        yield f"{PAGE.relative_to(bodies.ROOT)} is not what the stored results say"
+    if sentence() not in TRIALS.read_text(encoding="utf-8").split("\n"):
+        yield f"{TRIALS.relative_to(bodies.ROOT)} has not this line: {sentence()}"

@@ -1,4 +1,7 @@
-"""The last stored result of each body, `results/CRATE.json`."""
+"""The last stored result of each body, `results/CRATE.json`, and of each must-fail edit, `results/edits/CRATE.json`.
+
+A result is of the body and of the function that it changes, so each has a sum of both.
+"""
 import json
 
 from tools.wrong_bodies import bodies
@@ -6,17 +9,31 @@ from tools.wrong_bodies import bodies
 FOLDER = bodies.HERE / "results"
 
 
-def stored(crate):
-    path = FOLDER / f"{crate}.json"
+def path_of(crate, edits=False):
+    return (FOLDER / "edits" if edits else FOLDER) / f"{crate}.json"
+
+
+def stored(crate, edits=False):
+    path = path_of(crate, edits)
     return json.loads(path.read_text(encoding="utf-8")) if path.is_file() else {}
 
 
-def add(crate, body, verdict):
+def stale(row, body, source):
+    """Why a stored result is not of this body in this source, or nothing."""
+    if row is None or row["sum"] != body.sum():
+        return "was not judged since it was written"
+    if row.get("source") != source:
+        return "is stale: its function was changed since it was judged"
+    return None
+
+
+def add(crate, body, verdict, source, edits=False):
     """Stores the verdict on a body. What the list has no longer goes."""
-    rows = stored(crate)
-    rows[body.name] = {"sum": body.sum(), "function": verdict.function, "kind": verdict.kind, "by": verdict.clauses()}
-    names = {listed.name for listed in bodies.bodies_of(crate)}
+    rows = stored(crate, edits)
+    rows[body.name] = {"sum": body.sum(), "source": source, "function": verdict.function, "kind": verdict.kind,
+                       "by": verdict.clauses()}
+    names = {listed.name for listed in bodies.listed(crate, edits)}
     text = json.dumps({name: row for name, row in rows.items() if name in names}, indent=1, sort_keys=True,
                       ensure_ascii=False)
-    FOLDER.mkdir(exist_ok=True)
-    (FOLDER / f"{crate}.json").write_text(text + "\n", encoding="utf-8")
+    path_of(crate, edits).parent.mkdir(exist_ok=True)
+    path_of(crate, edits).write_text(text + "\n", encoding="utf-8")

@@ -1,4 +1,5 @@
 """A crate's sources as the lists see them: where a body's text stands, and which function it changes."""
+import hashlib
 import pathlib
 
 from tools.wrong_bodies import bodies, functions
@@ -37,7 +38,8 @@ class Sources:
         for file, old, new in body.pairs:
             if file not in texts:
                 raise bodies.ListError(f"{body.place}: `{body.name}`: there is no file {file}")
-            at = line_of(texts[file], old, body, file)
+            first, last = self.range_of(body, file)
+            at = first + line_of(texts[file][first:last], old, body, file)
             function = functions.function_at(self.functions[file], at)
             if function is None and functions.has_head_at(self.functions[file], at):
                 raise bodies.ListError(f"{body.place}: `{body.name}` changes a contract, which shows nothing")
@@ -46,6 +48,22 @@ class Sources:
         if len(places) == 1:
             return Place(*places.pop())
         return Place(body.pairs[0][0], None)
+
+    def range_of(self, body, file):
+        """The lines in which a body's texts stand: those of the function that it names, or all."""
+        if not body.within:
+            return 0, len(self.texts[file])
+        found = [function for function in self.functions[file] if function.title() == body.within]
+        if len(found) != 1:
+            times = f"{len(found)} functions {body.within}, not one"
+            raise bodies.ListError(f"{body.place}: `{body.name}`: {file} has {times}")
+        return found[0].body, found[0].last
+
+    def sum_of(self, place):
+        """A sum of the function that a body changes, with its contract, or of the file if it changes no function."""
+        text, function = self.texts[place.file], place.function
+        lines = text[function.begin:function.last + 1] if function else text
+        return hashlib.sha256("\n".join(lines).encode()).hexdigest()[:16]
 
     def changed(self, body, text, file, first, last):
         """The lines from `first` to `last` of a file, as the body has them."""
