@@ -28,7 +28,7 @@ class Run:
         """Checks the right bodies without their answers, where that is not known."""
         plants = [self.plant(place, None, []) for place in places if self.base.lacks(place)]
         for batch in in_batches(plants, self.most):
-            said = self.check(batch)
+            said = self.check(batch, names_of(batch))
             self.seconds_of_base += said.seconds
             for plant in batch:
                 self.learn_one(plant, printed.seen_of(plant, said.text))
@@ -47,31 +47,47 @@ class Run:
         needed = [answer for answer in stored if any(answers.covers(answer, goal) for goal in seen.open)]
         self.base.learn(plant.place, needed)
 
-    def check(self, batch):
-        """Checks a batch as it is planted."""
+    def check(self, batch, names):
+        """Checks a batch as it is planted: these functions, or all if none is named."""
         self.copy.write(batch)
         try:
-            said = checker.check(self.copy.folder, names_of(batch))
+            said = checker.check(self.copy.folder, names)
         finally:
             self.copy.restore()
         if self.prints:
             print(said.text)
         return said
 
+    def source_faults(self, batch, said):
+        """Each body of a batch that the front end refuses, with its message. All of them if it stopped elsewhere."""
+        refused = {}
+        for file, line, what in printed.source_errors(said.text):
+            for plant in batch:
+                if plant.place.file == file and line in plant.lines:
+                    refused.setdefault(plant, what)
+        return refused or {plant: "the check did not end: " + last_line(said.text) for plant in batch}
+
+    def compiled(self, pairs):
+        """Each body that the front end refuses, with its message. Nothing is proved."""
+        for batch in in_batches([self.plant(place, body, []) for body, place in pairs if place.function], len(pairs)):
+            while batch:
+                said = self.check(batch, [""])
+                self.seconds += said.seconds
+                if printed.is_ended(said.text):
+                    break
+                refused = self.source_faults(batch, said)
+                for plant, what in refused.items():
+                    yield plant.body, what
+                batch = [plant for plant in batch if plant not in refused]
+
     def judged(self, batch):
         """Each body of a batch with its verdict. What the front end refuses is left out, and the rest checked again."""
         while batch:
-            said = self.check(batch)
+            said = self.check(batch, names_of(batch))
             self.seconds += said.seconds
             if printed.is_ended(said.text):
                 break
-            refused = {}
-            for file, line, what in printed.source_errors(said.text):
-                for plant in batch:
-                    if plant.place.file == file and line in plant.lines:
-                        refused.setdefault(plant, what)
-            if not refused:
-                refused = {plant: "the check did not end: " + last_line(said.text) for plant in batch}
+            refused = self.source_faults(batch, said)
             for plant, what in refused.items():
                 yield plant.body, verdicts.Verdict(verdicts.UNJUDGED, [what], plant.place.title())
             batch = [plant for plant in batch if plant not in refused]
@@ -82,7 +98,7 @@ class Run:
 
     def judged_whole(self, plant):
         """The verdict on a body that changes no single function: the whole crate is checked, its laws too."""
-        said = self.check([plant])
+        said = self.check([plant], [])
         self.seconds += said.seconds
         if not printed.is_ended(said.text):
             return verdicts.Verdict(verdicts.UNJUDGED, [last_line(said.text)])

@@ -16,6 +16,7 @@ import tempfile
 
 from tools.wrong_bodies import base, batches, bodies, page, results, scratch, sources, verdicts
 
+COMPILES = "prove nothing, and tell which bodies the front end refuses; it takes some seconds"
 STALE = "only bodies that were not judged since they or their functions were changed"
 CHOSEN = "only these bodies: NAME, or a part of the name, file or function"
 
@@ -27,6 +28,7 @@ def read_words():
     parser.add_argument("--only", metavar="WORD", action="append", help=CHOSEN)
     parser.add_argument("--stale", action="store_true", help=STALE)
     parser.add_argument("--edits", action="store_true", help="judge the crate's must-fail edits in place of its list")
+    parser.add_argument("--compiles", action="store_true", help=COMPILES)
     parser.add_argument("--write", action="store_true", help="store the results, and write docs/WRONG_BODIES.md")
     parser.add_argument("--most", type=int, default=24, metavar="N", help="the bodies of one check (default: 24)")
     parser.add_argument("--scratch", metavar="FOLDER", help="a folder for the copy, which is kept (default: a new one)")
@@ -47,6 +49,16 @@ def chosen(crate, options, found):
             yield body, place
 
 
+def compile_all(crate, run, pairs):
+    """Tells which bodies do not compile. Returns what `judge` returns."""
+    refused = 0
+    for body, what in run.compiled(pairs):
+        print(f"FAILED: {body.place}: {body.name} does not compile: {what}", flush=True)
+        refused += 1
+    print(f"{crate}: {len(pairs)} bodies, {refused} do not compile; {run.seconds:.0f} s")
+    return {"compiles": len(pairs)}, refused
+
+
 def judge(crate, options, folder):
     """Judges the bodies of a crate. Returns how many verdicts of each kind there are, and how many are wrong."""
     found = sources.Sources(crate)
@@ -56,6 +68,8 @@ def judge(crate, options, folder):
         print(f"{crate}: no body is stale" if options.stale else f"FAILED: {crate}: there is nothing to judge")
         return counts, 0 if options.stale else 1
     run = batches.Run(scratch.Scratch(crate, folder), base.Base(found), options)
+    if options.compiles:
+        return compile_all(crate, run, pairs)
     source_of = {body.name: found.sum_of(place) for body, place in pairs}
     for body, verdict in run.verdicts(pairs):
         counts[verdict.kind] += 1

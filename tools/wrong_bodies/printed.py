@@ -13,9 +13,9 @@ ENDED = re.compile(r"^(?:only=|holes=)", re.MULTILINE)
 # That another body of the batch is not proved says nothing of the body that calls it.
 CALLEE = re.compile(r"(no proof: )?it (calls|passes the block) ")
 IS_FALSE = "allow values at which this goal is false"
-# An answer that names what the body has no longer says nothing about its clause. A message may end with the record, and
-# the next line then says that it has no such field.
-NAME = re.compile(r"has no field|that can be named|nearest:|is not in scope|not found|: record `[^`]*`$")
+# An answer that names what the body has no longer says nothing about its clause. A message may end with the record or
+# the module, and the next line then says what it lacks.
+NAME = re.compile(r"has no field|that can be named|nearest:|is not in scope|not found|(: record|module) `[^`]*`$")
 
 
 class Seen:

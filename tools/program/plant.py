@@ -1,0 +1,116 @@
+#!/usr/bin/env python3
+"""Plants each bug of the lists in planted/ into a copy, one at a time, and runs the trial that is to see it.
+
+usage: python3 -m tools.program.plant [--only NAME] [--trial PART] PROGRAM
+
+A list is a module with PLANTED: bugs of the definitions (oracle), planted in their text; and bugs of what stands between
+the program and the machine (machine), planted around PROGRAM: its arguments and status are changed, or the answers of the
+C library. NAME is the name of a list, or of one bug as LIST:NUMBER from 1. A bug has to be seen: at least one check of its
+trial fails with it. Each trial is also run without a bug, and has to pass. The last line is 'N passed, M failed'.
+"""
+import argparse
+import importlib
+import os
+import re
+import shutil
+import subprocess
+import sys
+import tempfile
+
+from tools.lib.tally import Tally, program_of
+from tools.program.planted import machine, oracle
+
+HERE = os.path.dirname(os.path.dirname(os.path.dirname(os.path.abspath(__file__))))
+FAILED = re.compile("[0-9]+ passed, [1-9][0-9]* failed")
+PASSED = re.compile("[1-9][0-9]* passed, 0 failed")
+# The words after the program. A part of end_to_end.py is run by itself.
+WORDS = {"cases": [], "try_fields": [], "try_configurations": ["--count", "40"], "random_sessions": ["120", "7"],
+         "failed_calls": []}
+PARTS = {"devices": "devices.try_devices", "paths": "paths.try_paths", "fifos": "fifos.try_openings",
+         "descriptors": "outside.try_descriptors", "twenty_megabytes": "outside.try_twenty_megabytes"}
+
+
+def words_of(trial, program):
+    """The command that runs a trial."""
+    if trial in PARTS:
+        return [sys.executable, "-m", "tools.program.plant", "--trial", trial, program]
+    return [sys.executable, "-m", "tools.program." + trial, program] + WORDS[trial]
+
+
+def run_part(trial, program):
+    """Runs one part of end_to_end.py by itself."""
+    module, function = PARTS[trial].split(".")
+    tally = Tally()
+    getattr(importlib.import_module("tools.program.real_files." + module), function)(program, tally)
+    tally.end()
+
+
+def last_line(trial, program, folder):
+    """The last line of a trial that is run with the tools of a folder."""
+    done = subprocess.run(words_of(trial, program), cwd=folder, stdin=subprocess.DEVNULL, stdout=subprocess.PIPE,
+                          stderr=subprocess.STDOUT)
+    return done.stdout.decode("utf-8", "replace").rstrip("\n").rpartition("\n")[2]
+
+
+def copied(folder):
+    """Copies what the trials read."""
+    ignored = shutil.ignore_patterns("__pycache__", "out")
+    for name in ("tools", "examples", "commands"):
+        shutil.copytree(os.path.join(HERE, name), os.path.join(folder, name), ignore=ignored)
+
+
+def planted_in_text(plant, folder):
+    """Plants a bug in a copied file. Returns what is wrong with the list, or None."""
+    path = os.path.join(folder, plant.file)
+    with open(path, encoding="utf-8") as file:
+        text = file.read()
+    if text.count(plant.old) != 1:
+        return "the old text is there %d times: %r" % (text.count(plant.old), plant.old)
+    with open(path, "w", encoding="utf-8") as file:
+        file.write(text.replace(plant.old, plant.new))
+    return None
+
+
+def fault_of(plant, program):
+    """Why a bug is not seen by its trial, or None."""
+    with tempfile.TemporaryDirectory(prefix="plant-") as folder:
+        os.chmod(folder, 0o755)
+        copied(folder)
+        if isinstance(plant, machine.Around):
+            program, fault = machine.planted_around(plant, program, folder), None
+        else:
+            fault = planted_in_text(plant, folder)
+        line = "" if fault else last_line(plant.seen_by, program, folder)
+        return fault or (None if FAILED.fullmatch(line) else "not seen by %s: %s" % (plant.seen_by, line))
+
+
+def bugs(only):
+    """The bugs of both lists, by name."""
+    for module in (machine, oracle):
+        name = module.__name__.rpartition(".")[2]
+        for number, plant in enumerate(module.PLANTED, 1):
+            if only in (None, name, "%s:%d" % (name, number)):
+                yield "%s:%d" % (name, number), plant
+
+
+def main():
+    parser = argparse.ArgumentParser(description="Plants bugs around the program and in the definitions.")
+    parser.add_argument("--only", metavar="NAME")
+    parser.add_argument("--trial", choices=sorted(PARTS), help="run this part of end_to_end.py alone")
+    parser.add_argument("program")
+    given = parser.parse_args()
+    program, tally, tried = program_of(given.program), Tally(), set()
+    if given.trial:
+        run_part(given.trial, program)
+    for name, plant in bugs(given.only):
+        if plant.seen_by not in tried:
+            tried.add(plant.seen_by)
+            line = last_line(plant.seen_by, program, HERE)
+            tally.add("%s without a bug" % plant.seen_by, [] if PASSED.fullmatch(line) else [line])
+        fault = fault_of(plant, program)
+        tally.add("%s, seen by %s" % (name, plant.seen_by), [fault] if fault else [])
+    tally.end()
+
+
+if __name__ == "__main__":
+    main()
