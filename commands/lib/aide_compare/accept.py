@@ -18,8 +18,10 @@ STATE = "/var/lib/aide-compare/daily/state"
 MOST_BYTES = 1 << 40
 FEWEST_DIGITS, ALL_DIGITS = 16, 64
 DIGITS = "0123456789abcdef"
-DESCRIPTION = "Makes NEW the baseline, if the SHA-256 of its unpacked bytes is DIGEST. The former baseline is kept " \
-              "as BASELINE.previous."
+DESCRIPTION = (
+    "Makes NEW the baseline, if the SHA-256 of its unpacked bytes is DIGEST. The former baseline is kept "
+    "as BASELINE.previous."
+)
 EPILOG = """\
 If another user can write in the folder of BASELINE, or in one above it, all changes there are made with the rights of
 that user, and the new baseline belongs to him. A BASELINE that is a link is refused.
@@ -35,8 +37,11 @@ class Wanted:
         joined = "".join(text.split())
         self.digits = self._decoded(joined) if joined.endswith("=") else joined.lower()
         if self.digits.strip(DIGITS) or not FEWEST_DIGITS <= len(self.digits) <= ALL_DIGITS:
-            raise Fault(Status.USAGE, "no SHA-256: %s; give its first 16 or more digits of base 16, or all 44 "
-                        "characters of base 64" % (shown(text, 100) or "''"))
+            raise Fault(
+                Status.USAGE,
+                "no SHA-256: %s; give its first 16 or more digits of base 16, or all 44 "
+                "characters of base 64" % (shown(text, 100) or "''"),
+            )
 
     @staticmethod
     def _decoded(text):
@@ -90,9 +95,12 @@ def accept(digest, new, path, most=MOST_BYTES, keeps_records=True):
     """Makes the database `new` the baseline at a path if its SHA-256 is `digest`; otherwise a Fault of status 24."""
     wanted, offered = Wanted(digest), Offered(new, most)
     if not wanted.fits(offered.sha256):
-        raise Fault(Status.DATABASE, "refused: %s is not the database that was reported" % shown(new),
-                    "the SHA-256 that was given: %s" % wanted.digits,
-                    "the SHA-256 of the database: %s" % offered.sha256)
+        raise Fault(
+            Status.DATABASE,
+            "refused: %s is not the database that was reported" % shown(new),
+            "the SHA-256 that was given: %s" % wanted.digits,
+            "the SHA-256 of the database: %s" % offered.sha256,
+        )
     baseline = Baseline(path)
     former, found = _digest_of_former(baseline, most), baseline.former
     records = Records(baseline, offered.sha256) if keeps_records else None
@@ -135,6 +143,7 @@ def _names(user, group):
     """The names of a user and of a group, or their numbers."""
     import grp
     import pwd
+
     try:
         user = pwd.getpwuid(user).pw_name
     except KeyError:
@@ -167,19 +176,42 @@ def _told(done, path, new, counts):
 def _parser():
     parser = Parser(NAME, DESCRIPTION, epilog=EPILOG)
     add = parser.add_argument
-    add("--sha256", metavar="DIGEST", type=some_text,
-        help="the SHA-256 in the report or mail that was read: 16 or more first digits of base 16, or all of it in "
-             "base 64")
-    add("--state", metavar="FILE", type=some_text,
-        help="print the time and the counts of the comparison from this file (%s); it decides nothing" % STATE)
-    add("--most", metavar="BYTES", type=size, default=MOST_BYTES,
-        help="refuse a database that has more bytes unpacked: plain, or with k, M or G (1024G)")
-    add("--no-packages", action="store_true",
-        help="keep no records of dpkg: the database is that of another machine, or of another time")
-    add("--only-packages", action="store_true",
-        help="accept nothing: keep dpkg's records beside BASELINE as it is, as after a first aideinit")
-    add("files", metavar="NEW BASELINE", nargs="*", type=some_text,
-        help="the new database, plain or compressed by gzip, and the file that it replaces; only BASELINE with --only-packages")
+    add(
+        "--sha256",
+        metavar="DIGEST",
+        type=some_text,
+        help="the SHA-256 in the report or mail that was read: 16 or more first digits of base 16, or all of it in " "base 64",
+    )
+    add(
+        "--state",
+        metavar="FILE",
+        type=some_text,
+        help="print the time and the counts of the comparison from this file (%s); it decides nothing" % STATE,
+    )
+    add(
+        "--most",
+        metavar="BYTES",
+        type=size,
+        default=MOST_BYTES,
+        help="refuse a database that has more bytes unpacked: plain, or with k, M or G (1024G)",
+    )
+    add(
+        "--no-packages",
+        action="store_true",
+        help="keep no records of dpkg: the database is that of another machine, or of another time",
+    )
+    add(
+        "--only-packages",
+        action="store_true",
+        help="accept nothing: keep dpkg's records beside BASELINE as it is, as after a first aideinit",
+    )
+    add(
+        "files",
+        metavar="NEW BASELINE",
+        nargs="*",
+        type=some_text,
+        help="the new database, plain or compressed by gzip, and the file that it replaces; only BASELINE with --only-packages",
+    )
     return parser
 
 
@@ -188,11 +220,15 @@ def _given(arguments):
     given = _parser().parse(arguments)
     many = 1 if given.only_packages else 2
     if len(given.files) != many:
-        raise Fault(Status.USAGE, "name BASELINE alone" if given.only_packages else "name NEW and BASELINE",
-                    "try: %s --help" % NAME)
+        raise Fault(
+            Status.USAGE, "name BASELINE alone" if given.only_packages else "name NEW and BASELINE", "try: %s --help" % NAME
+        )
     if given.only_packages == bool(given.sha256) or (given.only_packages and given.no_packages):
-        raise Fault(Status.USAGE, "--only-packages goes with no other of these options" if given.only_packages
-                    else "--sha256 DIGEST is needed", "try: %s --help" % NAME)
+        raise Fault(
+            Status.USAGE,
+            "--only-packages goes with no other of these options" if given.only_packages else "--sha256 DIGEST is needed",
+            "try: %s --help" % NAME,
+        )
     return given
 
 

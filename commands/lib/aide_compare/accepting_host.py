@@ -52,8 +52,11 @@ def accept(place, digest):
     """The command aide-compare-accept does the work, beside this one where the programs are installed, or from PATH."""
     here = os.path.dirname(os.path.realpath(__file__))
     places = [os.path.realpath(here + folder) for folder in ("/../../../../bin", "/../../bin")]
-    found = [folder + "/aide-compare-accept" for folder in places + os.environ.get("PATH", "").split(":")
-             if os.access(folder + "/aide-compare-accept", os.X_OK)]
+    found = [
+        folder + "/aide-compare-accept"
+        for folder in places + os.environ.get("PATH", "").split(":")
+        if os.access(folder + "/aide-compare-accept", os.X_OK)
+    ]
     if not found:
         raise place.fault("cannot find aide-compare-accept")
     say_what(place, digest)
@@ -64,18 +67,33 @@ def accept(place, digest):
 
 
 def main(arguments):
-    parser = Parser(NAME, "Makes the database that was fetched from HOST its baseline. The former baseline is kept beside it,\n"
-                          "as aide.db.previous.",
-                    epilog="Status: 0 accepted; 24 refused, because it is another database; 15 bad arguments; 18.")
+    parser = Parser(
+        NAME,
+        "Makes the database that was fetched from HOST its baseline. The former baseline is kept beside it,\n"
+        "as aide.db.previous.",
+        epilog="Status: 0 accepted; 24 refused, because it is another database; 15 bad arguments; 18.",
+    )
     add_place(parser)
-    parser.add_argument("--most-unpacked", type=size, default=MOST_BASELINE, metavar="SIZE",
-                        help="the most bytes of a first database, unpacked (4G)")
+    parser.add_argument(
+        "--most-unpacked",
+        type=size,
+        default=MOST_BASELINE,
+        metavar="SIZE",
+        help="the most bytes of a first database, unpacked (4G)",
+    )
     which = parser.add_mutually_exclusive_group(required=True)
-    which.add_argument("--first", action="store_true",
-                       help="HOST has no baseline yet: keep what was fetched, and print its SHA-256, which is to be that on\n"
-                            "HOST: zcat -f /var/lib/aide/aide.db.new | sha256sum")
-    which.add_argument("--sha256", type=some_text, metavar="DIGEST",
-                       help="the SHA-256 of the unpacked database that was read, or its first 16 digits or more")
+    which.add_argument(
+        "--first",
+        action="store_true",
+        help="HOST has no baseline yet: keep what was fetched, and print its SHA-256, which is to be that on\n"
+        "HOST: zcat -f /var/lib/aide/aide.db.new | sha256sum",
+    )
+    which.add_argument(
+        "--sha256",
+        type=some_text,
+        metavar="DIGEST",
+        help="the SHA-256 of the unpacked database that was read, or its first 16 digits or more",
+    )
     parser.add_argument("host", metavar="HOST")
     given = parser.parse(arguments)
     place = Place(given.store, check_name(given.host))

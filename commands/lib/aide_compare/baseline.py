@@ -102,6 +102,7 @@ class Baseline:
         if self.owner is None:
             return work()
         from aide_compare.rights import with_rights_of
+
         seconds = SECONDS_FOR_WORK + os.fstat(source).st_size // BYTES_A_SECOND
         return with_rights_of(self.owner, work, seconds, (self.folder, source))
 

@@ -65,9 +65,11 @@ def brief(changes, counts, read):
         else:
             unverified.add(change)
             unverified_reasons[group_of(change.reason)] += 1
-    parts = (("Unexplained:", list(unexplained.lines(read))),
-             ("Not verified:", list(unverified.lines(read)) + list(reason_lines(unverified_reasons))),
-             ("Explained:", list(reason_lines(reasons))))
+    parts = (
+        ("Unexplained:", list(unexplained.lines(read))),
+        ("Not verified:", list(unverified.lines(read)) + list(reason_lines(unverified_reasons))),
+        ("Explained:", list(reason_lines(reasons))),
+    )
     lines = [counts.words(), ""]
     for title, part in parts:
         lines += [title] + part + [""] if part else []

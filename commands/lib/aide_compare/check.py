@@ -20,7 +20,7 @@ class Limit:
     def __init__(self, text):
         self.least, self.severities = None, ()
         if text in SEVERITIES:
-            self.severities = SEVERITIES[:SEVERITIES.index(text) + 1]
+            self.severities = SEVERITIES[: SEVERITIES.index(text) + 1]
         elif text.isascii() and text.isdigit() and 0 < len(text) <= 9 and int(text):
             self.least = int(text)
         else:
@@ -69,8 +69,11 @@ def judged(given):
     numbers = (numbers_of(state, reading.counts("U")) if state.status <= 7 else "") + "age=%ds" % age
     text = text_of(state, reading.counts("?"))
     if age > given.age:
-        return UNKNOWN, "the last comparison is older than %s: %s: %s" % (
-            age_in_words(given.age), date_of(state.time), text), numbers
+        return (
+            UNKNOWN,
+            "the last comparison is older than %s: %s: %s" % (age_in_words(given.age), date_of(state.time), text),
+            numbers,
+        )
     if state.status == 0:
         return OK, "no difference", numbers
     return alarm_of(state, given) if state.status <= 7 else UNKNOWN, text, numbers
@@ -86,12 +89,16 @@ def answer(status, text, numbers=""):
 def main(arguments):
     """Every failure of the check itself is UNKNOWN, since 1 and 2 say what was found."""
     try:
-        options = parser(NAME, "Says in one line what the last aide-compare-run found.", "the result is UNKNOWN if it is older",
-                         "Status: 0 OK, no difference; 1 WARNING, entries were added; 2 CRITICAL, entries were removed or\n"
-                         "changed; 3 UNKNOWN, all else. With --alarm unexplained or a LIMIT, and the counts of\n"
-                         "aide-compare-run --reasons: 0 OK, all is explained; 1 WARNING, a reason is not verified;\n"
-                         "2 CRITICAL, something is unexplained. A LIMIT takes the place of one of these two: a number of\n"
-                         "changes that are not explained or not verified, or the least severity of one, high, medium or low.")
+        options = parser(
+            NAME,
+            "Says in one line what the last aide-compare-run found.",
+            "the result is UNKNOWN if it is older",
+            "Status: 0 OK, no difference; 1 WARNING, entries were added; 2 CRITICAL, entries were removed or\n"
+            "changed; 3 UNKNOWN, all else. With --alarm unexplained or a LIMIT, and the counts of\n"
+            "aide-compare-run --reasons: 0 OK, all is explained; 1 WARNING, a reason is not verified;\n"
+            "2 CRITICAL, something is unexplained. A LIMIT takes the place of one of these two: a number of\n"
+            "changes that are not explained or not verified, or the least severity of one, high, medium or low.",
+        )
         options.add_argument("--alarm", choices=ALARMS, default=ALARMS[0], help="which changes count (differences: all)")
         options.add_argument("--warning", metavar="LIMIT", type=Limit, help="WARNING from this limit on")
         options.add_argument("--critical", metavar="LIMIT", type=Limit, help="CRITICAL from this limit on")

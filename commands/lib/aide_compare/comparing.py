@@ -32,6 +32,7 @@ class Outcome:
 
 def limit(place, seconds, deadline):
     """From now on this process gets a Fault when the time of the host is over. The program ends with this process."""
+
     def over(*_):
         raise place.fault("was not compared within %d seconds" % seconds)
 
@@ -46,10 +47,10 @@ def drained(place, reading, part, most):
         block = os.read(reading, BLOCK)
         if not block:
             return head, whole
-        head += block[:max(HEAD_BYTES - len(head), 0)]
+        head += block[: max(HEAD_BYTES - len(head), 0)]
         whole += len(block)
         try:
-            part.write(block[:max(most - part.size, 0)])
+            part.write(block[: max(most - part.size, 0)])
         except OSError as error:
             raise place.fault("cannot keep its report: %s" % no_room(error))
 
@@ -91,6 +92,7 @@ def run(place, program, words, copies, configuration, part, most):
 
 def end_with_parent():
     import ctypes
+
     ctypes.CDLL(None).prctl(1, signal.SIGKILL)
 
 
@@ -159,8 +161,18 @@ def state_of(place, outcome, copies):
     old, new = copies
     counts = outcome.counts or (None,) * 3
     error = first_error(outcome.errors) if outcome.status > 7 else ""
-    return State(outcome.status, int(time.time()), *(counts if outcome.status <= 7 else (None,) * 3), old.sha256, new.sha256,
-                 shown(old.name), shown(new.name), int(old.written), int(new.written), error)
+    return State(
+        outcome.status,
+        int(time.time()),
+        *(counts if outcome.status <= 7 else (None,) * 3),
+        old.sha256,
+        new.sha256,
+        shown(old.name),
+        shown(new.name),
+        int(old.written),
+        int(new.written),
+        error,
+    )
 
 
 def keep_text(place, name, data):
@@ -174,8 +186,10 @@ def keep_text(place, name, data):
 
 def compare(place, given, arguments=(), jobs=1):
     """Compares under the lock of the host, and keeps report, errors and state. Returns the State."""
-    for name, text in (("aide.db.new", "nothing was fetched yet; see fetch-host --help"),
-                       ("aide.db", "there is no baseline yet; see accept-host --help")):
+    for name, text in (
+        ("aide.db.new", "nothing was fetched yet; see fetch-host --help"),
+        ("aide.db", "there is no baseline yet; see accept-host --help"),
+    ):
         if not place.has(name):
             raise place.fault(text)
     part = Part(place.fd)
@@ -185,8 +199,15 @@ def compare(place, given, arguments=(), jobs=1):
         stale = stale_text(place, given.same_for)
         if stale:
             found = "; it differs: added %d, removed %d, changed %d" % state.counts if state.status and state.counts else ""
-            state = State(int(Status.DEVICE), state.time, old_sha256=state.old_sha256, new_sha256=state.new_sha256,
-                          old=state.old, new=state.new, error="%s: %s%s" % (place.host, stale, found))
+            state = State(
+                int(Status.DEVICE),
+                state.time,
+                old_sha256=state.old_sha256,
+                new_sha256=state.new_sha256,
+                old=state.old,
+                new=state.new,
+                error="%s: %s%s" % (place.host, stale, found),
+            )
             outcome.errors += (state.error + "\n").encode()
         keep_text(place, "errors", outcome.errors)
         part.keep("report")
@@ -212,12 +233,27 @@ def compare_or_say(place, given, arguments, jobs, deadline):
 
 def add_options(parser):
     parser.add_argument("--conf", metavar="FILE", help="a configuration for aide-compare (none)")
-    parser.add_argument("--most-unpacked", type=size, default=0, metavar="SIZE",
-                        help="the most bytes of the unpacked database (4 times the baseline, at least 64M)")
-    parser.add_argument("--most-report", type=size, default=MOST_REPORT, metavar="SIZE",
-                        help="the most bytes of a report that are kept; what is cut is said (4M)")
-    parser.add_argument("--same-for", type=duration, default=SAME_FOR, metavar="TIME",
-                        help="how long a host may send the same bytes (50h; 0: no limit)")
+    parser.add_argument(
+        "--most-unpacked",
+        type=size,
+        default=0,
+        metavar="SIZE",
+        help="the most bytes of the unpacked database (4 times the baseline, at least 64M)",
+    )
+    parser.add_argument(
+        "--most-report",
+        type=size,
+        default=MOST_REPORT,
+        metavar="SIZE",
+        help="the most bytes of a report that are kept; what is cut is said (4M)",
+    )
+    parser.add_argument(
+        "--same-for",
+        type=duration,
+        default=SAME_FOR,
+        metavar="TIME",
+        help="how long a host may send the same bytes (50h; 0: no limit)",
+    )
 
 
 def print_file(path, target):
@@ -228,10 +264,13 @@ def print_file(path, target):
 
 
 def main(arguments):
-    parser = Parser(NAME, "Compares the database that was fetched from HOST with its baseline, prints the report and keeps it.",
-                    usage="%(prog)s [options] HOST [-- ARGUMENTS]",
-                    epilog="ARGUMENTS are for aide-compare. Status: that of aide-compare. 18 also means that there is no baseline\n"
-                           "yet, or that AIDE has written no new database on HOST for too long.")
+    parser = Parser(
+        NAME,
+        "Compares the database that was fetched from HOST with its baseline, prints the report and keeps it.",
+        usage="%(prog)s [options] HOST [-- ARGUMENTS]",
+        epilog="ARGUMENTS are for aide-compare. Status: that of aide-compare. 18 also means that there is no baseline\n"
+        "yet, or that AIDE has written no new database on HOST for too long.",
+    )
     add_place(parser)
     add_options(parser)
     parser.add_argument("host", metavar="HOST")
@@ -240,7 +279,7 @@ def main(arguments):
     deadline = time.monotonic() + given.time
     place = Place(given.store, check_name(given.host))
     place.lock(deadline)
-    state = compare_or_say(place, given, arguments[cut + 1:], 1, deadline)
+    state = compare_or_say(place, given, arguments[cut + 1 :], 1, deadline)
     print_file(place.file("errors"), 2)
     print_file(place.file("report"), 1)
     if 0 < state.status <= 7:

@@ -3,8 +3,14 @@ import os
 import re
 import time
 
-from aide_compare.configuration import (Texts, databases_of, default_configuration, defining_host, read_configuration,
-                                        without_includes)
+from aide_compare.configuration import (
+    Texts,
+    databases_of,
+    default_configuration,
+    defining_host,
+    read_configuration,
+    without_includes,
+)
 from aide_compare.ending import Fault, Status, write_all
 from aide_compare.escapes import shown, shown_lines
 from aide_compare.files import nameless
@@ -30,8 +36,20 @@ class Request:
     the texts of -B and -A. `beside` is the folder of the command. `counts`: the counts are wanted at every level. `without`:
     the Rules of the entries that are left out, or None."""
 
-    def __init__(self, beside, old=None, new=None, configuration=None, before=None, after=None, most=MOST, most_age=0,
-                 most_report=MOST_REPORT, counts=True, without=None):
+    def __init__(
+        self,
+        beside,
+        old=None,
+        new=None,
+        configuration=None,
+        before=None,
+        after=None,
+        most=MOST,
+        most_age=0,
+        most_report=MOST_REPORT,
+        counts=True,
+        without=None,
+    ):
         self.beside, self.old, self.new, self.before, self.after = beside, old, new, before, after
         self.configuration = configuration or (default_configuration() if old is None else "/dev/null")
         self.most, self.most_age, self.most_report, self.counts = most, most_age, most_report, counts
@@ -74,10 +92,11 @@ class Comparison:
     def _read_texts(self):
         config, included = without_includes(read_configuration(self.path))
         if included:
-            self.outcome.notes.append("%s: %d lines that include other files are passed over, the first: %s"
-                                      % (shown(self.path), len(included), shown(included[0], 200)))
-        before, after = ((text or "").encode("utf-8", "surrogateescape")
-                         for text in (self.request.before, self.request.after))
+            self.outcome.notes.append(
+                "%s: %d lines that include other files are passed over, the first: %s"
+                % (shown(self.path), len(included), shown(included[0], 200))
+            )
+        before, after = ((text or "").encode("utf-8", "surrogateescape") for text in (self.request.before, self.request.after))
         self.given = Texts(before, config, after)
         return self.given.unfixed(("config",)) if after else self.given
 
@@ -124,8 +143,9 @@ class Comparison:
         outcome.report = self._run("-E", self.texts, self.texts.after + b"\n" + DATABASES.encode(), self.request.most_report)
         size = os.fstat(outcome.report).st_size
         if outcome.status == Status.DEVICE and size >= self.request.most_report:
-            raise Fault(Status.DEVICE, "the report has more than %d bytes; --most-report allows more"
-                        % self.request.most_report)
+            raise Fault(
+                Status.DEVICE, "the report has more than %d bytes; --most-report allows more" % self.request.most_report
+            )
         if outcome.status > 7:
             return
         head = os.pread(outcome.report, HEAD_BYTES, 0)
@@ -133,9 +153,12 @@ class Comparison:
         if outcome.counts is None and self.request.counts:
             outcome.counts = self._counted()
         if not (head.startswith(DIFFER) if outcome.status else head.startswith(SAME) or not head) or (
-                outcome.counts and status_of(outcome.counts) != outcome.status):
-            raise Fault(Status.DEVICE, "%s ended with status %d, but its report does not say so"
-                        % (shown(self.program), outcome.status))
+            outcome.counts and status_of(outcome.counts) != outcome.status
+        ):
+            raise Fault(
+                Status.DEVICE,
+                "%s ended with status %d, but its report does not say so" % (shown(self.program), outcome.status),
+            )
 
     def _counted(self):
         """The counts by a second run at the level summary: only the level minimal has none. None if it ends otherwise."""
@@ -210,5 +233,6 @@ def check_age(opened, most):
     if age < -CLOCKS_DIFFER:
         raise Fault(Status.DEVICE, "%s was written %s in the future: is a clock wrong?" % (opened.words, age_in_words(-age)))
     if age > most:
-        raise Fault(Status.DEVICE, "%s is %s old, more than --age allows: does AIDE still run?"
-                    % (opened.words, age_in_words(age)))
+        raise Fault(
+            Status.DEVICE, "%s is %s old, more than --age allows: does AIDE still run?" % (opened.words, age_in_words(age))
+        )

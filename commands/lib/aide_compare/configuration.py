@@ -12,9 +12,19 @@ from aide_compare.files import open_regular
 DEFAULTS = ("/etc/aide/aide.conf", "/etc/aide.conf")
 MOST_BYTES = 4194304
 INCLUDES = (b"@@include", b"@@x_include")
-REPORT_OPTIONS = frozenset((
-    b"report_level", b"report_grouped", b"report_summarize_changes", b"report_base16", b"report_quiet",
-    b"report_ignore_added_attrs", b"report_ignore_removed_attrs", b"report_ignore_changed_attrs", b"report_force_attrs"))
+REPORT_OPTIONS = frozenset(
+    (
+        b"report_level",
+        b"report_grouped",
+        b"report_summarize_changes",
+        b"report_base16",
+        b"report_quiet",
+        b"report_ignore_added_attrs",
+        b"report_ignore_removed_attrs",
+        b"report_ignore_changed_attrs",
+        b"report_force_attrs",
+    )
+)
 BLANKS = b" \t"
 
 
@@ -82,7 +92,7 @@ class Reader:
         elif self.used and word == b"@@undef":
             self.variables.pop(names[0], None)
         elif self.used and word == b"@@define":
-            rest = line[len(word):].strip(BLANKS)[len(names[0]):]
+            rest = line[len(word) :].strip(BLANKS)[len(names[0]) :]
             self.variables[names[0]] = self.expanded(rest.strip(BLANKS))
 
     def _open(self, condition):
@@ -140,11 +150,14 @@ def _database(side, names, values, twice, path):
     if name is None:
         raise Fault(Status.CONFIGURATION, "%s names no %s database; %s" % (file, side, advice))
     if name in twice:
-        raise Fault(Status.CONFIGURATION, "%s names the %s database twice, and AIDE takes the first; %s"
-                    % (file, side, advice))
+        raise Fault(
+            Status.CONFIGURATION, "%s names the %s database twice, and AIDE takes the first; %s" % (file, side, advice)
+        )
     if not values[name].startswith(b"file:/"):
-        raise Fault(Status.CONFIGURATION, "%s names a %s database that is no file: %s; %s"
-                    % (file, side, shown(values[name], 1000), advice))
+        raise Fault(
+            Status.CONFIGURATION,
+            "%s names a %s database that is no file: %s; %s" % (file, side, shown(values[name], 1000), advice),
+        )
     found = values[name][5:]
     return os.fsdecode(b"/" + found.lstrip(b"/") if found.startswith(b"//") else found)
 
@@ -155,8 +168,9 @@ def databases_of(texts, path):
     old = _database("old", (b"database_in",), values, twice, path)
     new = _database("new", (b"database_new", b"database_out"), values, twice, path)
     if old == new:
-        raise Fault(Status.CONFIGURATION, "%s names one file as the old and as the new database: %s"
-                    % (shown(path), shown(old)))
+        raise Fault(
+            Status.CONFIGURATION, "%s names one file as the old and as the new database: %s" % (shown(path), shown(old))
+        )
     return old, new
 
 

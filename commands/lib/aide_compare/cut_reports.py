@@ -9,8 +9,11 @@ CUT_WORDS = "compare-host: cut here: the report has %d bytes, and --most-report 
 CUT_LINE = re.compile(rb"\ncompare-host: cut here: the report has ([0-9]{1,19}) bytes, and --most-report allows [0-9]+\n\Z")
 KINDS = (b"added", b"removed", b"changed")
 TITLES = {kind.capitalize() + b" entries:": kind for kind in KINDS}
-TOGETHER, DETAILS, DATABASES = (b"Added, removed and changed entries:", b"Detailed information about changes:",
-                                b"The attributes of the databases:")
+TOGETHER, DETAILS, DATABASES = (
+    b"Added, removed and changed entries:",
+    b"Detailed information about changes:",
+    b"The attributes of the databases:",
+)
 COUNT = re.compile(rb"(  (Added|Removed|Changed) entries: *) [0-9]+\n")
 END = b"\n".join([RULE, DATABASES, RULE, b""])
 # The summary is within the first lines.

@@ -15,8 +15,15 @@ from aide_compare.escapes import shown
 from aide_compare.shown_text import letters_of
 
 # The first letter of a mode by the type of the file in words, as reports name it.
-TYPE_LETTERS = {"File": "-", "Directory": "d", "Link": "l", "Character device": "c", "Block device": "b", "FIFO": "p",
-                "Socket": "s"}
+TYPE_LETTERS = {
+    "File": "-",
+    "Directory": "d",
+    "Link": "l",
+    "Character device": "c",
+    "Block device": "b",
+    "FIFO": "p",
+    "Socket": "s",
+}
 # Texts of values up to this length are kept, since most files of a system share theirs.
 KEPT = 600
 
@@ -33,6 +40,7 @@ def mode_text(digits, kind=None):
 def _name(what, number):
     import grp
     import pwd
+
     try:
         found = pwd.getpwuid(number).pw_name if what == "UID" else grp.getgrgid(number).gr_name
     except (KeyError, OverflowError, OSError, ValueError):

@@ -5,10 +5,12 @@ import struct
 from aide_compare.decoded_base import cut, from_base64
 
 # capabilities(7), in the order of their numbers.
-NAMES = ("chown dac_override dac_read_search fowner fsetid kill setgid setuid setpcap linux_immutable net_bind_service "
-         "net_broadcast net_admin net_raw ipc_lock ipc_owner sys_module sys_rawio sys_chroot sys_ptrace sys_pacct sys_admin "
-         "sys_boot sys_nice sys_resource sys_time sys_tty_config mknod lease audit_write audit_control setfcap mac_override "
-         "mac_admin syslog wake_alarm block_suspend audit_read perfmon bpf checkpoint_restore").split()
+NAMES = (
+    "chown dac_override dac_read_search fowner fsetid kill setgid setuid setpcap linux_immutable net_bind_service "
+    "net_broadcast net_admin net_raw ipc_lock ipc_owner sys_module sys_rawio sys_chroot sys_ptrace sys_pacct sys_admin "
+    "sys_boot sys_nice sys_resource sys_time sys_tty_config mknod lease audit_write audit_control setfcap mac_override "
+    "mac_admin syslog wake_alarm block_suspend audit_read perfmon bpf checkpoint_restore"
+).split()
 # The versions of the attribute: how many words of 32 bits follow the first one. The third has the user of a namespace too.
 WORDS = {0x01000000: 2, 0x02000000: 4, 0x03000000: 5}
 VERSION, EFFECTIVE = 0xFF000000, 1
@@ -28,8 +30,12 @@ def _name(number):
 def _states(words, is_effective):
     """For each capability which sets it is in."""
     permitted, inheritable = words[0] | (words[2] << 32), words[1] | (words[3] << 32)
-    return [(2 if permitted >> number & 1 else 0) | (4 if inheritable >> number & 1 else 0)
-            | (1 if is_effective and (permitted | inheritable) >> number & 1 else 0) for number in range(64)]
+    return [
+        (2 if permitted >> number & 1 else 0)
+        | (4 if inheritable >> number & 1 else 0)
+        | (1 if is_effective and (permitted | inheritable) >> number & 1 else 0)
+        for number in range(64)
+    ]
 
 
 def _clause(state, base, numbers, is_first):
@@ -41,7 +47,7 @@ def _clause(state, base, numbers, is_first):
 
 def capabilities_text(states):
     """The text that cap_to_text(3) gives: what most capabilities have, then those that differ."""
-    known, unknown = states[:len(NAMES)], states[len(NAMES):]
+    known, unknown = states[: len(NAMES)], states[len(NAMES) :]
     base = max(range(8), key=lambda state: (known.count(state), -state))
     clauses = []
     for state in range(7, -1, -1):

@@ -8,6 +8,7 @@ from aide_compare.escapes import guarded
 
 class Status(IntEnum):
     """The statuses of a command itself. 0 to 7 also are those of a comparison; a failure never has one of these."""
+
     OK = 0
     USAGE = 15
     CONFIGURATION = 17
@@ -38,7 +39,7 @@ def write_all(descriptor, data):
     """Writes all bytes; Python's own buffers would keep some and fail once more at the end."""
     rest = memoryview(data)
     while rest:
-        rest = rest[os.write(descriptor, rest):]
+        rest = rest[os.write(descriptor, rest) :]
 
 
 def say(text):
@@ -65,6 +66,7 @@ def take_standard_descriptors():
 def _heed_interrupts():
     """^C ends the command by its signal, without a traceback. All other signals have their default already."""
     import signal
+
     if signal.getsignal(signal.SIGINT) is signal.default_int_handler:
         signal.signal(signal.SIGINT, signal.SIG_DFL)
 

@@ -3,10 +3,23 @@ import stat
 
 from aide_compare.reasons.entries import DIGESTS, TIMES, differences
 
-KINDS = {stat.S_IFREG: "file", stat.S_IFDIR: "folder", stat.S_IFLNK: "link", stat.S_IFIFO: "FIFO", stat.S_IFSOCK: "socket",
-         stat.S_IFCHR: "device", stat.S_IFBLK: "device"}
-OTHERS = (("lname", "target"), ("acl", "ACL"), ("xattrs", "extended attributes"), ("selinux", "SELinux"),
-          ("e2fsattrs", "flags"), ("capabilities", "capabilities"))
+KINDS = {
+    stat.S_IFREG: "file",
+    stat.S_IFDIR: "folder",
+    stat.S_IFLNK: "link",
+    stat.S_IFIFO: "FIFO",
+    stat.S_IFSOCK: "socket",
+    stat.S_IFCHR: "device",
+    stat.S_IFBLK: "device",
+}
+OTHERS = (
+    ("lname", "target"),
+    ("acl", "ACL"),
+    ("xattrs", "extended attributes"),
+    ("selinux", "SELinux"),
+    ("e2fsattrs", "flags"),
+    ("capabilities", "capabilities"),
+)
 
 
 def _kind(entry):

@@ -10,6 +10,7 @@ def exchange(folder, one, other):
     """Exchanges two names by renameat2. False, with nothing changed, if the file system or the machine cannot do it."""
     try:
         import ctypes
+
         call = ctypes.CDLL(None, use_errno=True).renameat2
     except (ImportError, AttributeError, OSError):
         return False

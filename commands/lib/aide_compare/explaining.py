@@ -170,8 +170,11 @@ def explain(comparison, wanted, left_out):
     """Explains a comparison and writes what is wanted. Returns the ReasonCounts, None if there are none."""
     if not wanted:
         return None
-    explained = _tried(lambda: Explained(Entries(_listed(comparison, wanted.lines is not None), comparison.outcome), comparison.outcome,
-                                         wanted.sources))
+    explained = _tried(
+        lambda: Explained(
+            Entries(_listed(comparison, wanted.lines is not None), comparison.outcome), comparison.outcome, wanted.sources
+        )
+    )
     if explained is None:
         wanted.write_nothing()
         return None

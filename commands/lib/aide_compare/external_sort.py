@@ -19,8 +19,11 @@ def _pipe_from(program, words):
     """The first bytes that a program writes."""
     reading, writing = os.pipe()
     with open("/dev/null", "r+b", buffering=0) as null:
-        actions = [(os.POSIX_SPAWN_DUP2, null.fileno(), 0), (os.POSIX_SPAWN_DUP2, null.fileno(), 2),
-                   (os.POSIX_SPAWN_DUP2, writing, 1)]
+        actions = [
+            (os.POSIX_SPAWN_DUP2, null.fileno(), 0),
+            (os.POSIX_SPAWN_DUP2, null.fileno(), 2),
+            (os.POSIX_SPAWN_DUP2, writing, 1),
+        ]
         try:
             child = os.posix_spawn(program, words, {"LC_ALL": "C"}, file_actions=actions)
         except OSError:
@@ -39,8 +42,12 @@ def find_sort():
     for path in found:
         if _pipe_from(path, [path, "--version"]).startswith(GNU):
             return path
-    raise Fault(Status.DEVICE, "%s is not that of GNU coreutils, which sorts on disk" % shown(found[0]) if found
-                else "there is no program sort (GNU coreutils)")
+    raise Fault(
+        Status.DEVICE,
+        "%s is not that of GNU coreutils, which sorts on disk" % shown(found[0])
+        if found
+        else "there is no program sort (GNU coreutils)",
+    )
 
 
 class ExternalSort:
@@ -74,11 +81,16 @@ class ExternalSort:
         from_us, to_child = os.pipe()
         from_child, to_us = os.pipe()
         os.set_inheritable(self.room.fd, True)
-        actions = [(os.POSIX_SPAWN_DUP2, from_us, 0), (os.POSIX_SPAWN_DUP2, to_us, 1),
-                   (os.POSIX_SPAWN_DUP2, self.errors, 2)]
+        actions = [(os.POSIX_SPAWN_DUP2, from_us, 0), (os.POSIX_SPAWN_DUP2, to_us, 1), (os.POSIX_SPAWN_DUP2, self.errors, 2)]
         words = ["sort"] + OPTIONS + ["-T", "/proc/self/fd/%d" % self.room.fd]
-        self.child = os.posix_spawn(self.program, words, {"LC_ALL": "C"}, file_actions=actions, setsigmask=[],
-                                    setsigdef=[signal.SIGPIPE, signal.SIGTERM])
+        self.child = os.posix_spawn(
+            self.program,
+            words,
+            {"LC_ALL": "C"},
+            file_actions=actions,
+            setsigmask=[],
+            setsigdef=[signal.SIGPIPE, signal.SIGTERM],
+        )
         os.close(from_us)
         os.close(to_us)
         self.target, self.source = open(to_child, "wb", buffering=BLOCK), open(from_child, "rb", buffering=BLOCK)

@@ -14,10 +14,14 @@ from aide_compare.options import Parser, duration, size, some_text
 NAME = "fetch-host"
 PATH, MOST, SECONDS = "/var/lib/aide/aide.db.new", 1 << 30, 600
 MOST_ERRORS = 65536
-SSH = ("ssh -n -a -x -o BatchMode=yes -o ConnectTimeout=30 -o ServerAliveInterval=30 -o LogLevel=ERROR "
-       "-o ControlPath=none -o ClearAllForwardings=yes").split()
-HINTS = (("Host key verification failed", "is its key in known_hosts?"),
-         ("Permission denied", "is the key of this user in its authorized_keys?"))
+SSH = (
+    "ssh -n -a -x -o BatchMode=yes -o ConnectTimeout=30 -o ServerAliveInterval=30 -o LogLevel=ERROR "
+    "-o ControlPath=none -o ClearAllForwardings=yes"
+).split()
+HINTS = (
+    ("Host key verification failed", "is its key in known_hosts?"),
+    ("Permission denied", "is the key of this user in its authorized_keys?"),
+)
 PR_SET_PDEATHSIG = 1
 
 
@@ -161,15 +165,19 @@ def add_options(parser):
 
 
 def add_place(parser):
-    parser.add_argument("--store", type=some_text, default=STORE, metavar="DIR",
-                        help="where the databases are kept (%s)" % STORE)
+    parser.add_argument(
+        "--store", type=some_text, default=STORE, metavar="DIR", help="where the databases are kept (%s)" % STORE
+    )
     parser.add_argument("--time", type=duration, default=SECONDS, metavar="TIME", help="the most time for a host (10m)")
 
 
 def main(arguments):
-    parser = Parser(NAME, "Fetches the newest database of HOST by ssh into DIR/hosts/HOST/aide.db.new.",
-                    epilog="The key of the caller needs one line on HOST; see the example authorized_keys.\n"
-                           "Status: 0 fetched; 15 bad arguments; 18 nothing was fetched, and what was fetched before is there.")
+    parser = Parser(
+        NAME,
+        "Fetches the newest database of HOST by ssh into DIR/hosts/HOST/aide.db.new.",
+        epilog="The key of the caller needs one line on HOST; see the example authorized_keys.\n"
+        "Status: 0 fetched; 15 bad arguments; 18 nothing was fetched, and what was fetched before is there.",
+    )
     add_place(parser)
     add_options(parser)
     parser.add_argument("host", metavar="HOST")

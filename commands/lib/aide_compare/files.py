@@ -11,8 +11,14 @@ from aide_compare.folders import ANYBODY, Folder, failure, open_folder, walked  
 COPIED = 1 << 18
 NO_TMPFILE = (errno.EOPNOTSUPP, errno.EISDIR, errno.EINVAL)
 NEW_FILE = os.O_CREAT | os.O_EXCL | os.O_RDWR | os.O_NOFOLLOW | os.O_CLOEXEC
-KINDS = ((stat.S_ISDIR, "a folder"), (stat.S_ISFIFO, "a FIFO"), (stat.S_ISSOCK, "a socket"), (stat.S_ISCHR, "a device"),
-         (stat.S_ISBLK, "a device"), (stat.S_ISLNK, "a link"))
+KINDS = (
+    (stat.S_ISDIR, "a folder"),
+    (stat.S_ISFIFO, "a FIFO"),
+    (stat.S_ISSOCK, "a socket"),
+    (stat.S_ISCHR, "a device"),
+    (stat.S_ISBLK, "a device"),
+    (stat.S_ISLNK, "a link"),
+)
 
 
 def kind_of(mode):
@@ -88,8 +94,9 @@ def nameless(room=None):
         finally:
             os.close(folder)
     except OSError as error:
-        raise Fault(Status.DEVICE, "cannot make a private file in %s: %s; name another folder by TMPDIR"
-                    % (shown(room), reason(error)))
+        raise Fault(
+            Status.DEVICE, "cannot make a private file in %s: %s; name another folder by TMPDIR" % (shown(room), reason(error))
+        )
 
 
 class Replacement:
@@ -145,6 +152,7 @@ class Replacement:
         if len(others) > 1 or ANYBODY in others or os.geteuid() != 0:
             raise Fault(Status.DEVICE, "other users can write in its folder or above it")
         from aide_compare.rights import with_rights_of
+
         return with_rights_of(min(others), work, keep=(self.folder.fd,) + tuple(keep))
 
     def _refuse_other_kinds(self):

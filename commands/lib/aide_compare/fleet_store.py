@@ -18,8 +18,11 @@ BLOCK = 1 << 18
 def check_name(host):
     """A Fault unless the name of a host can be no option, no path and no shell text."""
     if not NAME.fullmatch(host) or ".." in host:
-        raise Fault(Status.USAGE, "the name of a host begins with a letter or a digit, has only these and . _ : @ -, "
-                                  "no two dots together, and at most 200 characters")
+        raise Fault(
+            Status.USAGE,
+            "the name of a host begins with a letter or a digit, has only these and . _ : @ -, "
+            "no two dots together, and at most 200 characters",
+        )
     return host
 
 

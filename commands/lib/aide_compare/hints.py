@@ -8,17 +8,25 @@ LINE = re.compile(rb"aide: (old database|new database|config|before|after):(\d+)
 OPENING = re.compile(rb"aide: (?:cannot open the (old|new) database|the (old|new) database changed)")
 COLUMN = re.compile(rb".* in column (\d+)$")
 BLOCK, MOST_LINE = 1 << 20, 1 << 16
-LEVELS = ("a level is minimal, summary, database_attributes, list_entries, changed_attributes, "
-          "added_removed_attributes or added_removed_entries")
-KINDS = ((b"\x1f\x8b", "it is compressed twice"), (b"\x1f\x9d", "it is compressed twice"),
-         (b"\xfd7zXZ", "it is compressed by xz: unpack it first"),
-         (b"\x28\xb5\x2f\xfd", "it is compressed by zstd: unpack it first"),
-         (b"BZh", "it is compressed by bzip2: unpack it first"),
-         (b"\xef\xbb\xbf", "it begins with a byte order mark, which AIDE does not write"),
-         (b"\xff\xfe", "it is UTF-16, which AIDE does not write"), (b"\xfe\xff", "it is UTF-16, which AIDE does not write"))
-ORDER = ("AIDE writes its databases in order, so one that comes straight from AIDE is damaged: make it anew",
-         "if another tool wrote or merged it, aide-compare-sort(1) puts its entries in order; find out why if a path is "
-         "there twice")
+LEVELS = (
+    "a level is minimal, summary, database_attributes, list_entries, changed_attributes, "
+    "added_removed_attributes or added_removed_entries"
+)
+KINDS = (
+    (b"\x1f\x8b", "it is compressed twice"),
+    (b"\x1f\x9d", "it is compressed twice"),
+    (b"\xfd7zXZ", "it is compressed by xz: unpack it first"),
+    (b"\x28\xb5\x2f\xfd", "it is compressed by zstd: unpack it first"),
+    (b"BZh", "it is compressed by bzip2: unpack it first"),
+    (b"\xef\xbb\xbf", "it begins with a byte order mark, which AIDE does not write"),
+    (b"\xff\xfe", "it is UTF-16, which AIDE does not write"),
+    (b"\xfe\xff", "it is UTF-16, which AIDE does not write"),
+)
+ORDER = (
+    "AIDE writes its databases in order, so one that comes straight from AIDE is damaged: make it anew",
+    "if another tool wrote or merged it, aide-compare-sort(1) puts its entries in order; find out why if a path is "
+    "there twice",
+)
 
 
 def line_and_columns(descriptor, number):
@@ -57,8 +65,9 @@ def _database_hints(side, number, words, copy):
             yield "column %d is %s: %s" % (place, shown(names[place - 1], 200), shown(fields[place - 1], 200))
     elif words == b"no @@begin_db":
         head = os.pread(copy.fd, 8, 0)
-        yield next((text for mark, text in KINDS if head.startswith(mark)),
-                   "it is no database of AIDE, or its beginning is missing")
+        yield next(
+            (text for mark, text in KINDS if head.startswith(mark)), "it is no database of AIDE, or its beginning is missing"
+        )
     elif words == b"no @@end_db":
         yield "it ends too early: was the disk full, or is AIDE still writing it?"
     elif words == b"entry out of path order":
@@ -76,8 +85,7 @@ def _configuration_hints(number, words, text, introduction):
         if not re.fullmatch("report_ignore_[a-z]+_attrs|report_force_attrs", name):
             yield "%s is no option, so the line defines a group of attributes; is it a misspelt option?" % name
     elif words in (b"left out of this profile", b"unknown directive"):
-        yield "AIDE may know it, and aide-compare does not: leave AIDE's own configuration as it is, and name OLD and NEW " \
-            "(no configuration is needed then), or write a short one, as in aide-compare.conf(5)"
+        yield "AIDE may know it, and aide-compare does not: leave AIDE's own configuration as it is, and name OLD and NEW " "(no configuration is needed then), or write a short one, as in aide-compare.conf(5)"
     elif words == b"bad value" and name == "report_level":
         yield LEVELS
 
@@ -94,6 +102,9 @@ def explained(errors, texts, path, copies):
     if where.endswith(" database"):
         copy = copies.get(where[:3])
         return list(_database_hints(where, number, words, copy)) if copy else []
-    introduction = {"config": "the configuration is %s" % shown(path), "before": "this is the text of -B",
-                    "after": "this is the text of -A"}[where]
+    introduction = {
+        "config": "the configuration is %s" % shown(path),
+        "before": "this is the text of -B",
+        "after": "this is the text of -A",
+    }[where]
     return list(_configuration_hints(number, words, getattr(texts, where), introduction))

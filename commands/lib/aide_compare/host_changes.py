@@ -41,8 +41,10 @@ class Line:
         shared = {label: both for label, both in (attributes or {}).items() if label not in own}
         # Without values, the letters are all that says what has changed.
         new = values_of(shared, "new") if attributes is not None else fields.get("summary")
-        self.key = b"%s\0%s" % (key_of(path_in(fields).replace(b"%", b"%25")),
-                                digest_of([fields["kind"], fields.get("type"), new]))
+        self.key = b"%s\0%s" % (
+            key_of(path_in(fields).replace(b"%", b"%25")),
+            digest_of([fields["kind"], fields.get("type"), new]),
+        )
         self.old = digest_of(values_of(shared, "old"))
         self.own = sum(1 << LABELS.index(label) for label in attributes or () if label in own)
         self.fields = fields
@@ -87,8 +89,9 @@ class Same:
         if self.count > 1 and "attributes" in fields:
             fields.pop("summary", None)
             per_host = [label for place, label in enumerate(LABELS) if self.own >> place & 1]
-            fields["attributes"] = {label: self._shared(both) for label, both in fields["attributes"].items()
-                                    if label not in per_host}
+            fields["attributes"] = {
+                label: self._shared(both) for label, both in fields["attributes"].items() if label not in per_host
+            }
             fields.update({"per_host": per_host} if per_host else {})
         return {**fields, "hosts": self.count, "names": self.names}
 

@@ -134,7 +134,7 @@ def hosts_of(path, share):
     names = list(dict.fromkeys(line for line in lines if line and not line.startswith("#")))
     if not names:
         raise Fault(Status.DEVICE, "there is no host in the file %s" % shown(path))
-    return names[share[0] - 1::share[1]]
+    return names[share[0] - 1 :: share[1]]
 
 
 def share(text):
@@ -167,13 +167,18 @@ def compare_all(hosts, given):
 
 
 def options():
-    parser = Parser(NAME, "Fetches and compares the databases of the hosts of HOSTS-FILE, which has a name a line. Prints a line for\n"
-                          "each host as it ends: its name, its status, and what that says. Then a summary.",
-                    epilog="Ends with the greatest status of all hosts: 0, up to 7 if there are differences and each host was\n"
-                           "compared, more if a host was not; 15 if arguments or a host's name are wrong; 18 if it cannot run.")
+    parser = Parser(
+        NAME,
+        "Fetches and compares the databases of the hosts of HOSTS-FILE, which has a name a line. Prints a line for\n"
+        "each host as it ends: its name, its status, and what that says. Then a summary.",
+        epilog="Ends with the greatest status of all hosts: 0, up to 7 if there are differences and each host was\n"
+        "compared, more if a host was not; 15 if arguments or a host's name are wrong; 18 if it cannot run.",
+    )
     parser.add_argument("--jobs", type=jobs, default=8, metavar="N", help="how many hosts at a time (8)")
     parser.add_argument("--share", type=share, default=(1, 1), metavar="K/N", help="only each Nth host, from the Kth on")
-    parser.add_argument("--quiet", action="store_true", help="only hosts whose status is not 0, and a summary if there are any")
+    parser.add_argument(
+        "--quiet", action="store_true", help="only hosts whose status is not 0, and a summary if there are any"
+    )
     parser.add_argument("--no-fetch", action="store_true", help="compare what was fetched before")
     parser.add_argument("--one", action="store_true", help="HOSTS-FILE is the name of one host")
     fetching.add_place(parser)

@@ -23,7 +23,7 @@ class Host:
 
     def __init__(self, name, status, text, state=None):
         self.name, self.status, self.state = name, int(status), state
-        self.text = text[len(name) + 2:] if text.startswith(name + ": ") else text
+        self.text = text[len(name) + 2 :] if text.startswith(name + ": ") else text
         self.report, self.listed = None, 0
 
     @property

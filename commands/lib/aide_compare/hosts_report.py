@@ -21,7 +21,7 @@ NAME = "report-hosts"
 FORMAT = 1
 BLOCK = 1 << 18
 MOST_NAMES = 100000
-GREATEST = 10 ** 12
+GREATEST = 10**12
 LEAST_MAIL = 16 << 10
 
 
@@ -47,9 +47,11 @@ def read_hosts(names, given, sorter):
     """Reads all hosts one after the other. Their changes go to the sorter."""
     lines, hosts = ChangeLines(), []
     for place, name in enumerate(names):
+
         def take(fields):
             if is_wanted(fields, given.only_path):
                 sorter.put(lines.of(place, fields))
+
         hosts.append(read_host(name, given, take))
     return hosts
 
@@ -82,14 +84,22 @@ class HostsReport:
         differ = [host for host in hosts if host.differs]
         self.worst, self.hosts = max(host.status for host in hosts), [host.fields() for host in hosts]
         self.summary = {
-            "record": "summary", "format": FORMAT, "hosts": len(hosts), "unchanged": sum(host.status == 0 for host in hosts),
-            "differ": len(differ), "not_compared": sum(host.status > 7 for host in hosts),
+            "record": "summary",
+            "format": FORMAT,
+            "hosts": len(hosts),
+            "unchanged": sum(host.status == 0 for host in hosts),
+            "differ": len(differ),
+            "not_compared": sum(host.status > 7 for host in hosts),
             "cut": sum(host.report == CUT for host in differ),
             "not_listed": sum(host.report not in (WHOLE, CUT) for host in differ),
-            "changes": count, "order": given.order, "lines": 1 + len(hosts) + count}
+            "changes": count,
+            "order": given.order,
+            "lines": 1 + len(hosts) + count,
+        }
 
     def changes(self):
         import json
+
         self.body.seek(0)
         return map(json.loads, self.body)
 
@@ -102,6 +112,7 @@ class HostsReport:
 
     def write_text(self):
         from aide_compare.hosts_text import report_lines
+
         with open(1, "wb", buffering=BLOCK, closefd=False) as target:
             for line in report_lines(self.summary, self.hosts, self.changes(), self.summary["order"]):
                 target.write((line + "\n").encode("utf-8", "backslashreplace"))
@@ -111,13 +122,17 @@ class HostsReport:
         from aide_compare.hosts_text import fitting, headline
         from aide_compare.message import build, clean
         from aide_compare.sending import Sendmail, Smtp, deliver
+
         way = Smtp(given.smtp, given.mail_time) if given.smtp else Sendmail(seconds=given.mail_time)
         if not self.worst:
             return
         lines, left_out = fitting(self.summary, self.hosts, self.changes(), self.summary["order"], given.most_mail * 3 // 4)
         if left_out:
-            lines += ["This mail is cut: %d more changes are left out. This command prints all:" % left_out,
-                      "    " + command, ""]
+            lines += [
+                "This mail is cut: %d more changes are left out. This command prints all:" % left_out,
+                "    " + command,
+                "",
+            ]
         text = clean("\n".join(lines).encode("utf-8", "backslashreplace"))
         note = deliver(way, build(given.to, headline(self.summary), text))
         if note:
@@ -125,33 +140,47 @@ class HostsReport:
 
 
 def options():
-    parser = Parser(NAME, "Reports what differs on the hosts of HOSTS-FILE, as compare-hosts has found it: which hosts were\n"
-                          "not compared, and each change once with the hosts that have it.",
-                    epilog="Ends with the greatest status of all hosts, as compare-hosts does: 0, up to 7 if there are\n"
-                           "differences and each host was compared, more if a host was not. 15, 18 or 22 if it cannot do\n"
-                           "its work.")
-    parser.add_argument("--store", type=some_text, default=STORE, metavar="DIR",
-                        help="where the reports are kept (%s)" % STORE)
-    parser.add_argument("--order", choices=("path", "rare", "common"),
-                        help="changes by path (as JSON), on the fewest hosts first (as text), or on the most")
-    parser.add_argument("--only-path", type=pattern, action="append", default=[], metavar="PATTERN",
-                        help="only changes of these paths, as in /usr/local/**")
-    parser.add_argument("--most-hosts", type=number, default=20, metavar="N",
-                        help="how many hosts of a change are named (20)")
-    parser.add_argument("--age", type=duration, default=AGE, metavar="TIME",
-                        help="a host that was compared longer ago counts as not compared (26h; 0: no limit)")
-    parser.add_argument("--time", type=duration, default=600, metavar="TIME",
-                        help="how long to wait for a run over a host (10m)")
+    parser = Parser(
+        NAME,
+        "Reports what differs on the hosts of HOSTS-FILE, as compare-hosts has found it: which hosts were\n"
+        "not compared, and each change once with the hosts that have it.",
+        epilog="Ends with the greatest status of all hosts, as compare-hosts does: 0, up to 7 if there are\n"
+        "differences and each host was compared, more if a host was not. 15, 18 or 22 if it cannot do\n"
+        "its work.",
+    )
+    parser.add_argument(
+        "--store", type=some_text, default=STORE, metavar="DIR", help="where the reports are kept (%s)" % STORE
+    )
+    parser.add_argument(
+        "--order",
+        choices=("path", "rare", "common"),
+        help="changes by path (as JSON), on the fewest hosts first (as text), or on the most",
+    )
+    parser.add_argument(
+        "--only-path",
+        type=pattern,
+        action="append",
+        default=[],
+        metavar="PATTERN",
+        help="only changes of these paths, as in /usr/local/**",
+    )
+    parser.add_argument("--most-hosts", type=number, default=20, metavar="N", help="how many hosts of a change are named (20)")
+    parser.add_argument(
+        "--age",
+        type=duration,
+        default=AGE,
+        metavar="TIME",
+        help="a host that was compared longer ago counts as not compared (26h; 0: no limit)",
+    )
+    parser.add_argument(
+        "--time", type=duration, default=600, metavar="TIME", help="how long to wait for a run over a host (10m)"
+    )
     form = parser.add_mutually_exclusive_group()
     form.add_argument("--json", action="store_true", help="write JSON, one object a line")
-    form.add_argument("--to", type=address, metavar="ADDRESS",
-                      help="mail the text, if a host differs or was not compared")
-    parser.add_argument("--most-mail", type=size, default=1 << 20, metavar="SIZE",
-                        help="cut a mail that would be larger (1M)")
-    parser.add_argument("--smtp", type=some_text, metavar="HOST[:PORT]",
-                        help="send by SMTP to this server, not by sendmail")
-    parser.add_argument("--mail-time", type=duration, default=60, metavar="TIME",
-                        help="how long sending may take (60s)")
+    form.add_argument("--to", type=address, metavar="ADDRESS", help="mail the text, if a host differs or was not compared")
+    parser.add_argument("--most-mail", type=size, default=1 << 20, metavar="SIZE", help="cut a mail that would be larger (1M)")
+    parser.add_argument("--smtp", type=some_text, metavar="HOST[:PORT]", help="send by SMTP to this server, not by sendmail")
+    parser.add_argument("--mail-time", type=duration, default=60, metavar="TIME", help="how long sending may take (60s)")
     parser.add_argument("file", metavar="HOSTS-FILE")
     return parser
 
@@ -172,4 +201,5 @@ def main(arguments):
         else:
             (report.write_json if given.json else report.write_text)()
         return report.worst
+
     return stoppable(work)

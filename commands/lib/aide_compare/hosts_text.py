@@ -4,12 +4,34 @@ from aide_compare.hosts_read import CUT, NO_LIST, UNREADABLE
 from aide_compare.shown_text import letters_of
 
 MOST_VALUE = 200
-DIGESTS = ("SHA256", "SHA512", "SHA3-256", "SHA3-512", "SHA512/256", "STRIBOG256", "STRIBOG512", "WHIRLPOOL", "SHA1",
-           "RMD160", "MD5", "TIGER", "HAVAL", "GOST", "CRC32", "CRC32B")
-WHY = {CUT: ("its report was cut (--most-report of compare-hosts)", ", not all with values"),
-       NO_LIST: ("its report has no list of them", ""), UNREADABLE: ("its report cannot be read", "")}
-ORDERS = {"path": "in the order of paths", "rare": "those on the fewest hosts first",
-          "common": "those on the most hosts first"}
+DIGESTS = (
+    "SHA256",
+    "SHA512",
+    "SHA3-256",
+    "SHA3-512",
+    "SHA512/256",
+    "STRIBOG256",
+    "STRIBOG512",
+    "WHIRLPOOL",
+    "SHA1",
+    "RMD160",
+    "MD5",
+    "TIGER",
+    "HAVAL",
+    "GOST",
+    "CRC32",
+    "CRC32B",
+)
+WHY = {
+    CUT: ("its report was cut (--most-report of compare-hosts)", ", not all with values"),
+    NO_LIST: ("its report has no list of them", ""),
+    UNREADABLE: ("its report cannot be read", ""),
+}
+ORDERS = {
+    "path": "in the order of paths",
+    "rare": "those on the fewest hosts first",
+    "common": "those on the most hosts first",
+}
 
 
 def headline(summary):
@@ -87,11 +109,17 @@ def head_lines(summary, hosts, most):
     """The lines before the changes: how many hosts there are of each kind, and which."""
     yield "%s, %d without differences" % (headline(summary), summary["unchanged"])
     yield ""
-    yield from some("Not compared:", ["%s: %s (status %d)" % (each["host"], guarded(each["error"]), each["status"])
-                                      for each in hosts if each["status"] > 7], most)
+    yield from some(
+        "Not compared:",
+        [
+            "%s: %s (status %d)" % (each["host"], guarded(each["error"]), each["status"])
+            for each in hosts
+            if each["status"] > 7
+        ],
+        most,
+    )
     differ = [each for each in hosts if 1 <= each["status"] <= 7]
-    yield from some("Of these not all is listed below:", [not_listed(each) for each in differ if each["report"] in WHY],
-                    most)
+    yield from some("Of these not all is listed below:", [not_listed(each) for each in differ if each["report"] in WHY], most)
     yield from some("Hosts that differ:", ["%s: %s" % (each["host"], counts_text(each)) for each in differ], most)
 
 

@@ -11,10 +11,20 @@ from aide_compare.files import nameless
 
 BLOCK = 1 << 18
 KINDS = ("added", "removed", "changed")
-OUTLINES = {True: "AIDE found differences between the two databases!!",
-            False: "AIDE found NO differences between the two databases. Looks okay!!"}
-NAMES = {"Type": "file_type", "Lname": "link_name", "Bcount": "block_count", "Atime": "access_time", "Mtime": "modify_time",
-         "Ctime": "change_time", "Linkcount": "link_count", "Caps": "capabilities"}
+OUTLINES = {
+    True: "AIDE found differences between the two databases!!",
+    False: "AIDE found NO differences between the two databases. Looks okay!!",
+}
+NAMES = {
+    "Type": "file_type",
+    "Lname": "link_name",
+    "Bcount": "block_count",
+    "Atime": "access_time",
+    "Mtime": "modify_time",
+    "Ctime": "change_time",
+    "Linkcount": "link_count",
+    "Caps": "capabilities",
+}
 # The level that AIDE does not name, since it is its own.
 USUAL_LEVEL = "changed_attributes"
 GRAPHIC = re.compile(rb"[!-~]*\0?")
@@ -80,8 +90,9 @@ def details_of(fields):
     kind = None if fields.get("summary", "").startswith("!") else kind
     kinds = {side: attributes.get("Type", {}).get(side) or kind for side in ("old", "new")}
     for label, sides in attributes.items():
-        found[NAMES.get(label) or re.sub("[/-]", "_", label.lower())] = {side: value_of(label, sides, side, kinds[side]) for side in ("old", "new")
-                                                  if sides[side] is not None}
+        found[NAMES.get(label) or re.sub("[/-]", "_", label.lower())] = {
+            side: value_of(label, sides, side, kinds[side]) for side in ("old", "new") if sides[side] is not None
+        }
     return found
 
 
@@ -144,8 +155,10 @@ class AideObject:
     def end(target, summary, databases, ended):
         """The databases, which may have the same name, and the time."""
         if databases:
-            texts = ["    %s: {\n      \"sha256\": \"%s\"\n    }" % (encode(name_of(exact(fields, "path"))), digest(fields, summary))
-                     for fields in databases]
+            texts = [
+                '    %s: {\n      "sha256": "%s"\n    }' % (encode(name_of(exact(fields, "path"))), digest(fields, summary))
+                for fields in databases
+            ]
             target.write((',\n  "databases": {\n' + ",\n".join(texts) + "\n  }").encode())
         if ended is not None:
             target.write((',\n  "end_time": %s' % encode(decoded("Mtime", ended))).encode())

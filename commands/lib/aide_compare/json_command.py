@@ -12,16 +12,33 @@ Example: aide-compare-run --state state old.gz new.gz | aide-compare-json --full
 def _options():
     from aide_compare.json_members import member
     from aide_compare.report_parts import LEVELS
+
     parser = parser_of(NAME, "the report", DESCRIPTION, EPILOG)
     add = parser.add_argument
-    add("--least", choices=LEVELS, metavar="LEVEL",
-        help="refuse a report of a lower level; from database_attributes on, every cut is seen")
+    add(
+        "--least",
+        choices=LEVELS,
+        metavar="LEVEL",
+        help="refuse a report of a lower level; from database_attributes on, every cut is seen",
+    )
     add("--empty", action="store_true", help="take an empty report for one without differences (report_quiet)")
-    add("--format", choices=("lines", "aide"), default="lines", metavar="FORMAT",
-        help="lines (the default), or aide: one object with the names of AIDE 0.18")
+    add(
+        "--format",
+        choices=("lines", "aide"),
+        default="lines",
+        metavar="FORMAT",
+        help="lines (the default), or aide: one object with the names of AIDE 0.18",
+    )
     add("--full", action="store_true", help="each line says host, times, status and both digests")
-    add("--with", dest="members", action="append", default=[], type=member, metavar="NAME=VALUE",
-        help="a member more in each line, such as site=berlin")
+    add(
+        "--with",
+        dest="members",
+        action="append",
+        default=[],
+        type=member,
+        metavar="NAME=VALUE",
+        help="a member more in each line, such as site=berlin",
+    )
     add("--state", metavar="FILE", type=some_text, help="the state file of this comparison: names, times and status")
     add("--old", metavar="NAME", type=some_text, help="the name of the old database, in place of the one in the report")
     add("--new", metavar="NAME", type=some_text, help="the name of the new database")
@@ -36,6 +53,7 @@ class _Form:
     def __init__(self, source, given):
         from aide_compare.report_lines import Lines
         from aide_compare.report_parts import judge, read_report
+
         self.given, self.count, self.databases = given, 0, []
         self.begin()
         for fields in read_report(Lines(source), *self.how()):
@@ -51,6 +69,7 @@ class _Form:
     def complete(self, occasion):
         """Adds what is known of the comparison: names, and members for each line, which are returned."""
         from aide_compare.json_members import members
+
         occasion.read()
         occasion.check(self.summary, self.databases)
         for fields in self.databases:
@@ -68,10 +87,12 @@ class _Lines(_Form):
 
     def how(self):
         from aide_compare.report_written import Values
+
         return Values(not self.given.no_text, self.given.names), True
 
     def begin(self):
         from aide_compare.report_json import LineWriter
+
         self.body, self.writer = open(nameless(), "w+b", buffering=BLOCK), LineWriter()
 
     def add(self, fields):
@@ -80,6 +101,7 @@ class _Lines(_Form):
     def write(self, target, occasion):
         members = self.complete(occasion)
         from aide_compare.report_json import LineWriter
+
         writer = LineWriter(members)
         target.write(writer.line(self.summary))
         self.body.seek(0)
@@ -102,6 +124,7 @@ class _Aide(_Form):
 
     def begin(self):
         from aide_compare.json_aide import AideObject
+
         self.whole = AideObject()
 
     def add(self, fields):
@@ -114,6 +137,7 @@ class _Aide(_Form):
 
 def _write(source, target, given):
     from aide_compare.json_members import Occasion
+
     occasion = Occasion(given.state, given.old, given.new)
     form = {"lines": _Lines, "aide": _Aide}[given.format](source, given)
     form.write(target, occasion)
@@ -121,6 +145,7 @@ def _write(source, target, given):
 
 def main(arguments):
     from aide_compare.json_members import members
+
     given = _options().parse(arguments)
     members(given.members)
     return run(given.file, lambda source, target: _write(source, target, given))

@@ -9,7 +9,7 @@ from aide_compare.report_values import FORMS
 from aide_compare.shown_text import PLAIN, notes_of, shown, shown_note, shown_path
 
 # An entry has at most the bytes of two lines of databases, and six times as many in JSON, some of them in base 16 too.
-LINE_LIMIT = 2 ** 25
+LINE_LIMIT = 2**25
 KINDS = ["added", "removed", "changed"]
 SEVERITIES = ["high", "medium", "low"]
 GRADES = ["databases", "dpkg", "rpm", "archive", "rules"]
@@ -21,8 +21,24 @@ LETTERS, PERMISSIONS = re.compile("[A-Za-z?!<>=:.+ -]{18}"), re.compile("[0-7]{4
 DATE = re.compile("[0-9]{4}-[0-9]{2}-[0-9]{2}T[0-9]{2}:[0-9]{2}:[0-9]{2}Z")
 TEXTS = frozenset((str, type(None)))
 # The digest that people look at first, if an entry has it, and so on.
-STRENGTH = ("SHA256", "SHA512", "SHA3-256", "SHA3-512", "SHA512/256", "STRIBOG256", "STRIBOG512", "WHIRLPOOL", "RMD160",
-            "SHA1", "GOST", "TIGER", "HAVAL", "MD5", "CRC32", "CRC32B")
+STRENGTH = (
+    "SHA256",
+    "SHA512",
+    "SHA3-256",
+    "SHA3-512",
+    "SHA512/256",
+    "STRIBOG256",
+    "STRIBOG512",
+    "WHIRLPOOL",
+    "RMD160",
+    "SHA1",
+    "GOST",
+    "TIGER",
+    "HAVAL",
+    "MD5",
+    "CRC32",
+    "CRC32B",
+)
 ADDED_BY_COUNTS = ["explained", "not_verified", "unexplained"] + SEVERITIES
 
 # An entry; `names` are the pieces of its path, `name` is the path as it is shown, `size` the length of the line. A row is
@@ -50,8 +66,14 @@ def bytes_of(fields, key):
 def is_usual(line):
     """Whether every text of a line is shown as it is: all is ASCII, nothing is escaped in JSON or is a control byte, no text
     begins or ends with a blank, and none is given in base 16 too."""
-    return (line.isascii() and b"\\" not in line and b"\x7f" not in line and b'" ' not in line and b' "' not in line
-            and b'_hex"' not in line)
+    return (
+        line.isascii()
+        and b"\\" not in line
+        and b"\x7f" not in line
+        and b'" ' not in line
+        and b' "' not in line
+        and b'_hex"' not in line
+    )
 
 
 def value_of(fields, side, usual):
@@ -69,8 +91,11 @@ def row_of(label, fields, usual):
     """The row of an attribute that is no digest."""
     place = PLACES[label]
     old, new = fields["old"], fields["new"]
-    row = [place, str(old) if type(old) is int else value_of(fields, "old", usual),
-           str(new) if type(new) is int else value_of(fields, "new", usual)]
+    row = [
+        place,
+        str(old) if type(old) is int else value_of(fields, "old", usual),
+        str(new) if type(new) is int else value_of(fields, "new", usual),
+    ]
     if place not in NOTED and "old_text" not in fields and "new_text" not in fields:
         return row
     if label == "Perm":
@@ -118,9 +143,19 @@ def entry_of(fields, line):
     rows, digests = rows_of(fields.get("attributes", {}), usual)
     severity, reason = fields.get("severity"), fields.get("reason")
     name = fields["path"] if usual and b" " not in path else shown_path(path)
-    return Entry(KINDS.index(fields["kind"]), "uncertain" in fields, path, path.split(b"/"), name, letters, rows, digests,
-                 None if severity is None else SEVERITIES.index(severity),
-                 None if reason is None else reason_of(reason["text"], reason["verified"], reason["grade"]), len(line))
+    return Entry(
+        KINDS.index(fields["kind"]),
+        "uncertain" in fields,
+        path,
+        path.split(b"/"),
+        name,
+        letters,
+        rows,
+        digests,
+        None if severity is None else SEVERITIES.index(severity),
+        None if reason is None else reason_of(reason["text"], reason["verified"], reason["grade"]),
+        len(line),
+    )
 
 
 def judge_summary(fields):

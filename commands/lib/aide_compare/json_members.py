@@ -15,8 +15,10 @@ REFUSED = 65
 NAME = re.compile("[A-Za-z_@][A-Za-z0-9_.@-]{0,63}")
 MOST_MEMBERS, LONGEST = 64, 4096
 # The members that lines have themselves.
-TAKEN = frozenset("record kind path path_hex summary type attributes uncertain severity reason reasons side sha256 format "
-                  "differences total added removed changed levels grouped summarized base16 lines left_out".split())
+TAKEN = frozenset(
+    "record kind path path_hex summary type attributes uncertain severity reason reasons side sha256 format "
+    "differences total added removed changed levels grouped summarized base16 lines left_out".split()
+)
 DIGITS = 16
 COUNTS, SIDES = ("added", "removed", "changed"), ("old", "new")
 
@@ -25,8 +27,9 @@ def member(text):
     """A member of each line, from NAME=VALUE."""
     name, equals, value = text.partition("=")
     if not equals or not NAME.fullmatch(name) or name in TAKEN:
-        raise argparse.ArgumentTypeError("needs NAME=VALUE with a name of letters, digits and _ . @ - that lines do not have "
-                                         "yet: %s" % shown(text, 100))
+        raise argparse.ArgumentTypeError(
+            "needs NAME=VALUE with a name of letters, digits and _ . @ - that lines do not have " "yet: %s" % shown(text, 100)
+        )
     if len(value) > LONGEST or any("\ud800" <= letter <= "\udfff" for letter in value):
         raise argparse.ArgumentTypeError("needs a value in UTF-8 of at most %d letters: %s" % (LONGEST, shown(text, 100)))
     return name, value
@@ -36,8 +39,9 @@ def members(pairs):
     """The members by --with, each once."""
     found = dict(pairs)
     if len(found) < len(pairs) or len(found) > MOST_MEMBERS:
-        raise Fault(Status.USAGE, "more than %d members, or one given twice by --with" % MOST_MEMBERS,
-                    "try: aide-compare-json --help")
+        raise Fault(
+            Status.USAGE, "more than %d members, or one given twice by --with" % MOST_MEMBERS, "try: aide-compare-json --help"
+        )
     return found
 
 
@@ -71,8 +75,13 @@ class Occasion:
         digests = {fields["side"]: fields["sha256"] for fields in databases}
         cut = self.left_out()  # Of a database from which entries were left out, the report has another digest.
         others = [side for side in digests if not cut.get(side) and getattr(state, side + "_sha256") != digests[side]]
-        if state.status > 7 or None not in counts and state.counts != counts or others \
-                or summary["differences"] != (state.status > 0):
+        if (
+            state.status > 7
+            or None not in counts
+            and state.counts != counts
+            or others
+            or summary["differences"] != (state.status > 0)
+        ):
             raise Fault(REFUSED, "the state file %s is of another comparison than the report" % shown(self.path))
 
     def name(self, fields):

@@ -29,6 +29,7 @@ def _mark(digest):
 def records_for(digest):
     """A descriptor of dpkg's records of now, for the baseline with this digest; None on a machine without dpkg."""
     from aide_compare.reasons.records import has_records, write_records
+
     if not has_records():
         return None
     target = nameless()

@@ -27,8 +27,11 @@ def line_of(path, most_age):
 
 
 def main(arguments):
-    options = parser(NAME, "Writes the result of the last aide-compare-run as one line, for logger(1).",
-                     "an older result counts as no comparison",
-                     "Status: 0 written; 15 bad arguments; 18 the line cannot be written.")
+    options = parser(
+        NAME,
+        "Writes the result of the last aide-compare-run as one line, for logger(1).",
+        "an older result counts as no comparison",
+        "Status: 0 written; 15 bad arguments; 18 the line cannot be written.",
+    )
     given = options.parse(arguments)
     return write_line(guarded(line_of(given.state, given.age))[:MOST])

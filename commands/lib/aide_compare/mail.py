@@ -19,8 +19,24 @@ DESCRIPTION = """Runs aide-compare-run with all other arguments, and mails the r
 nothing was compared. No mail is sent if there is no difference."""
 EPILOG = """Status: that of aide-compare-run(1); 18 if no mail can be sent. With --alarm-sent-is-success it is 0 if the mail
 went out or was kept in the queue."""
-RUN_VALUES = ("-c", "--config", "--state", "--most", "--most-report", "--age", "--without", "--without-path", "--lines",
-              "--brief", "--packages", "--packages-now", "--archive", "--keyring", "--rules", "--severity")
+RUN_VALUES = (
+    "-c",
+    "--config",
+    "--state",
+    "--most",
+    "--most-report",
+    "--age",
+    "--without",
+    "--without-path",
+    "--lines",
+    "--brief",
+    "--packages",
+    "--packages-now",
+    "--archive",
+    "--keyring",
+    "--rules",
+    "--severity",
+)
 OWN_VALUES = ("--to", "--most-mail", "--smtp", "--queue", "--send-queue", "--user", "--mail-time", "--alarm")
 OWN_FLAGS = ("--html", "--test", "--alarm-sent-is-success", "--help", "-h", "--version")
 MOST_ERRORS = 1 << 20
@@ -30,6 +46,7 @@ BRIEF, LINES = 3, 4  # The descriptors of what aide-compare-run writes for a mai
 def address(text):
     if not text or text.startswith("-") or not text.isascii() or not text.isprintable():
         import argparse
+
         raise argparse.ArgumentTypeError("needs an address")
     return text
 
@@ -40,11 +57,21 @@ def parser():
     add("--to", metavar="ADDRESS", type=address, default="root", help="where the mail goes (root)")
     add("--html", action="store_true", help="send the report as a text and as a page")
     add("--most-mail", metavar="SIZE", type=size, default=1 << 20, help="cut a mail that would be larger (1M)")
-    add("--alarm", choices=ALARMS, default=ALARMS[0],
-        help="with --reasons: unexplained mails nothing if every change is explained (differences)")
+    add(
+        "--alarm",
+        choices=ALARMS,
+        default=ALARMS[0],
+        help="with --reasons: unexplained mails nothing if every change is explained (differences)",
+    )
     add("--test", action="store_true", help="compare nothing, and send a test mail the same way")
-    add("--weekly", metavar="DAY", nargs="?", const="Mon", choices=weekly.DAYS,
-        help="with --state: mail a sign of life on one day of the week (Mon)")
+    add(
+        "--weekly",
+        metavar="DAY",
+        nargs="?",
+        const="Mon",
+        choices=weekly.DAYS,
+        help="with --state: mail a sign of life on one day of the week (Mon)",
+    )
     add("--smtp", metavar="HOST[:PORT]", type=some_text, help="send by SMTP to this server in place of sendmail")
     add("--mail-time", metavar="TIME", type=duration, default=SECONDS, help="how long sending may take (60s)")
     add("--queue", metavar="FOLDER", type=some_text, help="keep the mail in this folder; --send-queue sends it")
@@ -73,7 +100,7 @@ def split(arguments):
 
 
 def before_dashes(words):
-    return words[:words.index("--")] if "--" in words else words
+    return words[: words.index("--")] if "--" in words else words
 
 
 def has_flag(flag, words):
@@ -126,8 +153,11 @@ def owner_hint(text):
     if not found or os.geteuid() == 0:
         return b""
     import pwd
-    return ("%s: the baseline is not readable for this user, as aideinit leaves it. As root: chown %s: %s\n" % (
-        NAME, pwd.getpwuid(os.geteuid()).pw_name, os.fsdecode(found.group(1)))).encode()
+
+    return (
+        "%s: the baseline is not readable for this user, as aideinit leaves it. As root: chown %s: %s\n"
+        % (NAME, pwd.getpwuid(os.geteuid()).pw_name, os.fsdecode(found.group(1)))
+    ).encode()
 
 
 def page_of(folder, lines, most):
@@ -138,8 +168,9 @@ def page_of(folder, lines, most):
     os.lseek(lines, 0, os.SEEK_SET)
     actions = [(os.POSIX_SPAWN_DUP2, lines, 0), (os.POSIX_SPAWN_DUP2, page, 1), (os.POSIX_SPAWN_DUP2, errors, 2)]
     try:
-        child = os.posix_spawn(path, [path, "--plain", "--title", "File changes on %s" % host()], os.environ,
-                               file_actions=actions)
+        child = os.posix_spawn(
+            path, [path, "--plain", "--title", "File changes on %s" % host()], os.environ, file_actions=actions
+        )
     except OSError as error:
         return None, "cannot run aide-compare-html: %s" % error.strerror
     if os.waitpid(child, 0)[1] != 0:
@@ -161,6 +192,7 @@ def message_of(given, folder, comparison, result):
 def way_of(given):
     if given.queue:
         from aide_compare.queue import Queue
+
         return Queue(given.queue)
     return Smtp(given.smtp, given.mail_time) if given.smtp else Sendmail(seconds=given.mail_time)
 
@@ -180,15 +212,17 @@ def quiet_text(runs, explained):
     if not explained:
         return "no difference in %d runs" % runs, "%d comparisons found no difference.\n" % runs
     return "%d quiet runs, %s explained" % (runs, counted(explained, "change")), (
-        "In %d comparisons nothing was unexplained. %s had a reason.\n" % (runs, counted(explained, "change")))
+        "In %d comparisons nothing was unexplained. %s had a reason.\n" % (runs, counted(explained, "change"))
+    )
 
 
 def be_quiet(given, words, way, result):
     """A run that raises no alarm: it is counted, and once a week a mail says so."""
     if given.weekly:
         explained = result.reasons.explained if result.reasons else 0
-        weekly.count(value_of("--state", words), given.weekly, explained,
-                     lambda *sums: send(way, simple(given, *quiet_text(*sums))))
+        weekly.count(
+            value_of("--state", words), given.weekly, explained, lambda *sums: send(way, simple(given, *quiet_text(*sums)))
+        )
     return 0 if given.alarm_sent_is_success else result.status
 
 
@@ -211,11 +245,23 @@ def compare_and_mail(given, folder, words):
 def empty_queue(given):
     """Sends what waits. systemd says by two variables if the unit that should have queued a mail has failed."""
     from aide_compare.queue import send_all
+
     way, result = way_of(given), os.environ.get("MONITOR_SERVICE_RESULT", "success")
     if result != "success":
-        send(way, simple(given, "the comparison failed", "%s failed: %s, status %s. Its lines: journalctl -u %s\n" % (
-            os.environ.get("MONITOR_UNIT", "a unit"), result, os.environ.get("MONITOR_EXIT_STATUS", "unknown"),
-            os.environ.get("MONITOR_UNIT", "aide-compare.service"))))
+        send(
+            way,
+            simple(
+                given,
+                "the comparison failed",
+                "%s failed: %s, status %s. Its lines: journalctl -u %s\n"
+                % (
+                    os.environ.get("MONITOR_UNIT", "a unit"),
+                    result,
+                    os.environ.get("MONITOR_EXIT_STATUS", "unknown"),
+                    os.environ.get("MONITOR_UNIT", "aide-compare.service"),
+                ),
+            ),
+        )
     send_all(given.send_queue, way)
     return 0
 
@@ -225,6 +271,7 @@ def main(arguments):
     given = parser().parse(own)
     if given.user:
         from aide_compare.rights import give_up
+
         give_up(given.user)
     if given.alarm == "unexplained" and not has_flag("--reasons", words):
         raise Fault(Status.USAGE, "--alarm unexplained needs --reasons, which finds out what explains a change")

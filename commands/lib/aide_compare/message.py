@@ -16,8 +16,11 @@ MOST_PATHS = 1000
 MOST_LINE = 1000
 ENTRY = re.compile(rb"[^ :\n][^\n]{17}: ")
 SECTION = re.compile(rb"(?:Added|Removed|Changed) entries:$")
-REASONS = re.compile(r"^aide-compare-run: [a-z0-9 ,]+: unexplained=(\d{1,18}) not_verified=(\d{1,18}) explained=(\d{1,18}) "
-                     r"high=(\d{1,18}) medium=(\d{1,18}) low=(\d{1,18})\n", re.M)
+REASONS = re.compile(
+    r"^aide-compare-run: [a-z0-9 ,]+: unexplained=(\d{1,18}) not_verified=(\d{1,18}) explained=(\d{1,18}) "
+    r"high=(\d{1,18}) medium=(\d{1,18}) low=(\d{1,18})\n",
+    re.M,
+)
 DATABASE = re.compile(r"^aide-compare-run: (old|new) database: (.*), written (\S+), SHA-256 ([0-9a-f]{64})$", re.M)
 KINDS = ((1, "added"), (2, "removed"), (4, "changed"))
 
@@ -77,14 +80,21 @@ def opening(result):
     """The first lines of a mail: which databases, when each was written, and the command that accepts what was read."""
     if len(result.databases) != 2:
         return ""
-    lines = ["%s database: %s, written %s" % (side.capitalize(), name, date)
-             for side, (name, date, _) in sorted(result.databases.items(), reverse=True)]
+    lines = [
+        "%s database: %s, written %s" % (side.capitalize(), name, date)
+        for side, (name, date, _) in sorted(result.databases.items(), reverse=True)
+    ]
     old, new = result.databases["old"][0], result.databases["new"][0]
     if "\\" in old + new:  # An escaped name is not the name, so no command is given that could mean another file.
-        lines.append("To accept what is reported here: aide-compare-accept --sha256 %s NEW BASELINE" % result.databases["new"][2])
+        lines.append(
+            "To accept what is reported here: aide-compare-accept --sha256 %s NEW BASELINE" % result.databases["new"][2]
+        )
     else:
-        lines += ["To accept what is reported here, and nothing else:", "    aide-compare-accept --sha256 %s %s %s"
-                  % (result.databases["new"][2], shlex.quote(os.path.abspath(new)), shlex.quote(os.path.abspath(old)))]
+        lines += [
+            "To accept what is reported here, and nothing else:",
+            "    aide-compare-accept --sha256 %s %s %s"
+            % (result.databases["new"][2], shlex.quote(os.path.abspath(new)), shlex.quote(os.path.abspath(old))),
+        ]
     return "\n".join(lines) + "\n\n"
 
 
@@ -93,7 +103,7 @@ def beginning(brief, most):
     text = clean(brief)
     if len(text) <= most:
         return text
-    return text[:text.rfind(b"\n", 0, most) + 1] + b"  ... (the report below has all)\n\n"
+    return text[: text.rfind(b"\n", 0, most) + 1] + b"  ... (the report below has all)\n\n"
 
 
 class CutReport:
@@ -130,14 +140,18 @@ class CutReport:
         self.lines.append(line)
 
     def text(self, command):
-        return b"".join(self.lines) + (
-            "\nThis mail is cut: %d paths are listed, %d are left out, and no details are shown.\n"
-            "This command prints the whole report:\n    %s\n" % (self.paths, self.left_out, command)).encode()
+        return (
+            b"".join(self.lines)
+            + (
+                "\nThis mail is cut: %d paths are listed, %d are left out, and no details are shown.\n"
+                "This command prints the whole report:\n    %s\n" % (self.paths, self.left_out, command)
+            ).encode()
+        )
 
 
 def text_of(result, most, command):
     """The text of the mail, in bytes: whole if it fits, cut otherwise. All bytes of others are escaped."""
-    errors = result.errors[:most // 8 + 1].decode("utf-8", "surrogateescape")
+    errors = result.errors[: most // 8 + 1].decode("utf-8", "surrogateescape")
     errors = DATABASE.sub("", REASONS.sub("", errors)).strip("\n")
     if not result.differs:
         return clean((errors + "\n").encode("utf-8", "surrogateescape"))
@@ -156,10 +170,13 @@ def clean(data):
 def part(data, kind="plain"):
     """The headers and the body of a part. Lines that are too long for mail need quoted-printable."""
     import binascii
+
     is_short = all(len(line) <= 990 for line in data.split(b"\n")) and b"\0" not in data and b"\r" not in data
     body = data if is_short else binascii.b2a_qp(data)
-    return ("Content-Type: text/%s; charset=utf-8\nContent-Transfer-Encoding: %s\n\n"
-            % (kind, "8bit" if is_short else "quoted-printable")).encode() + body
+    return (
+        "Content-Type: text/%s; charset=utf-8\nContent-Transfer-Encoding: %s\n\n"
+        % (kind, "8bit" if is_short else "quoted-printable")
+    ).encode() + body
 
 
 def build(address, subject, text, page=None):
@@ -169,7 +186,7 @@ def build(address, subject, text, page=None):
     if page is None:
         return head.encode() + part(text)
     mark = "aide-compare-" + os.urandom(16).hex()
-    head += "Content-Type: multipart/alternative; boundary=\"%s\"\n\n" % mark
+    head += 'Content-Type: multipart/alternative; boundary="%s"\n\n' % mark
     between = ("\n--%s\n" % mark).encode()
     return head.encode() + between[1:] + part(text) + between + part(page, "html") + ("\n--%s--\n" % mark).encode()
 
@@ -179,6 +196,7 @@ def shortened(message, why):
     whole one, since that is all that a queue has."""
     import email
     import email.policy
+
     whole = email.message_from_bytes(message, policy=email.policy.compat32)
     first = next((each for each in whole.walk() if each.get_content_type() == "text/plain"), whole)
     lines = (first.get_payload(decode=True) or b"").split(b"\n")[:25]

@@ -31,12 +31,19 @@ def metrics_of(state):
 
 
 def main(arguments):
-    options = parser(NAME, "Writes the result of the last aide-compare-run for the node exporter of Prometheus.",
-                     epilog="A folder in which another user can write, as Debian's user prometheus can in its own, is\n"
-                            "written with that user's rights.\n\n"
-                            "Status: 0 written; 15 bad arguments; 18 a file cannot be read or written.")
-    options.add_argument("output", nargs="?", metavar="OUTPUT",
-                         help="the file that is replaced; its name should end with .prom; standard output without it")
+    options = parser(
+        NAME,
+        "Writes the result of the last aide-compare-run for the node exporter of Prometheus.",
+        epilog="A folder in which another user can write, as Debian's user prometheus can in its own, is\n"
+        "written with that user's rights.\n\n"
+        "Status: 0 written; 15 bad arguments; 18 a file cannot be read or written.",
+    )
+    options.add_argument(
+        "output",
+        nargs="?",
+        metavar="OUTPUT",
+        help="the file that is replaced; its name should end with .prom; standard output without it",
+    )
     given = options.parse(arguments)
     data = metrics_of(read_state(given.state))
     if given.output is None:

@@ -23,7 +23,7 @@ class Parser(argparse.ArgumentParser):
 
     def parse(self, arguments):
         """What the arguments say; options and operands may stand in any order."""
-        if "--version" in arguments[:arguments.index("--") if "--" in arguments else None]:
+        if "--version" in arguments[: arguments.index("--") if "--" in arguments else None]:
             write_all(1, ("%s %s\n" % (self.prog, VERSION)).encode())
             raise Done
         return self.parse_intermixed_args(arguments)

@@ -42,8 +42,17 @@ def seen_of(entry, place, group):
     """An entry as filters see it. The rank of its reason is not known yet."""
     signs = attributes_of(entry)
     severity = 3 if entry.severity is None else entry.severity
-    return Seen(place, entry.kind, standing_of(group), severity, [int(sign, 36) for sign in signs],
-                group.key if group else "", 0, growth_of(entry), entry.name)
+    return Seen(
+        place,
+        entry.kind,
+        standing_of(group),
+        severity,
+        [int(sign, 36) for sign in signs],
+        group.key if group else "",
+        0,
+        growth_of(entry),
+        entry.name,
+    )
 
 
 class Contents:
@@ -78,10 +87,20 @@ class Contents:
 
     def data(self):
         """What the script needs beside the packed entries."""
-        groups = [[group.key, group.text, GRADES[group.grade], int(group.verified), group.count, group.rank]
-                  for group in self.reasons.groups]
-        text = json.dumps({"labels": LABELS, "attributes": ATTRIBUTES, "groups": groups, "state": self.only,
-                           "hasReasons": self.reasons.has_any}, separators=(",", ":"))
+        groups = [
+            [group.key, group.text, GRADES[group.grade], int(group.verified), group.count, group.rank]
+            for group in self.reasons.groups
+        ]
+        text = json.dumps(
+            {
+                "labels": LABELS,
+                "attributes": ATTRIBUTES,
+                "groups": groups,
+                "state": self.only,
+                "hasReasons": self.reasons.has_any,
+            },
+            separators=(",", ":"),
+        )
         return text.replace("<", "\\u003c").replace(">", "\\u003e").encode()
 
     def notes_of_lists(self):
@@ -89,8 +108,11 @@ class Contents:
         if self.lists is None:
             return []
         (names, values), count = self.lists.listed(), self.lists.count
-        notes = ["These lists have the %s of %s that fit %s." % (entries(count), number(self.count), self.view.text())] \
-            if self.only and self.is_plain else []
+        notes = (
+            ["These lists have the %s of %s that fit %s." % (entries(count), number(self.count), self.view.text())]
+            if self.only and self.is_plain
+            else []
+        )
         if names < count:
             notes.append("These lists have room for %s of %s; the others are only counted." % (entries(names), number(count)))
         if values < names:
@@ -102,13 +124,16 @@ class Contents:
         kept = [sum(getattr(stream, name).kept() for stream in self.streams) for name in ("index", "values", "digests")]
         notes = []
         if kept[0] < self.count:
-            notes.append("This page has room for %s of %s. The counts above are those of all." % (
-                entries(kept[0]), number(self.count)))
+            notes.append(
+                "This page has room for %s of %s. The counts above are those of all." % (entries(kept[0]), number(self.count))
+            )
         if kept[1] < kept[0]:
             notes.append("Values are on this page of %s." % entries(kept[1]))
         if kept[2] < kept[1] and self.has_more_digests():
-            notes.append("Of each entry the strongest digest is on this page; the other digests only of %s, so that the page "
-                         "stays below 20 MB." % entries(kept[2]))
+            notes.append(
+                "Of each entry the strongest digest is on this page; the other digests only of %s, so that the page "
+                "stays below 20 MB." % entries(kept[2])
+            )
         return notes
 
     def has_more_digests(self):
@@ -119,13 +144,22 @@ def head(report, contents, title, parts):
     """The beginning of the page, up to the entries."""
     style, script, more = parts
     policy = POLICY % digest_of(style) + ("; script-src '%s'" % digest_of(script) if script else "")
-    heading = title if report.changes() is None else "%s: %s" % (
-        title, ", ".join("%s %s" % (number(report.summary[kind]), kind) for kind in KINDS))
+    heading = (
+        title
+        if report.changes() is None
+        else "%s: %s" % (title, ", ".join("%s %s" % (number(report.summary[kind]), kind) for kind in KINDS))
+    )
     text = part_of("page.html")
-    for mark, part in (("POLICY", policy), ("HEADING", escape(heading)), ("STYLE", style), ("OUTCOME", OUTCOMES[
-            report.summary["differences"]]), ("COUNTS", counts(report, contents.reasons)),
-                       ("REMARKS", remarks(report, more)), ("DATABASES", facts(report.summary) + databases(report)),
-                       ("TITLE", escape(title))):
+    for mark, part in (
+        ("POLICY", policy),
+        ("HEADING", escape(heading)),
+        ("STYLE", style),
+        ("OUTCOME", OUTCOMES[report.summary["differences"]]),
+        ("COUNTS", counts(report, contents.reasons)),
+        ("REMARKS", remarks(report, more)),
+        ("DATABASES", facts(report.summary) + databases(report)),
+        ("TITLE", escape(title)),
+    ):
         before, _, after = text.partition("<!-- %s -->" % mark)
         text = before + part + after
     return text.encode()

@@ -6,11 +6,15 @@ from aide_compare.page_items import entries, number
 from aide_compare.shown_text import date_of, shown, shown_note
 
 OUTCOMES = {True: "The two databases differ", False: "No differences between the two databases"}
-KNOWN = set("""record format differences total added removed changed levels grouped summarized base16 lines uncertain reasons
-    left_out host @timestamp old_time new_time old_digest new_digest""".split())
+KNOWN = set(
+    """record format differences total added removed changed levels grouped summarized base16 lines uncertain reasons
+    left_out host @timestamp old_time new_time old_digest new_digest""".split()
+)
 MOST_MEMBERS, MOST_LETTERS = 20, 5000
-HINT = ("Reasons are hints: they come from files of the host, such as dpkg's records, and whoever has taken over the host can "
-        "forge these. The evidence of an archive is kept elsewhere and is stronger.")
+HINT = (
+    "Reasons are hints: they come from files of the host, such as dpkg's records, and whoever has taken over the host can "
+    "forge these. The evidence of an archive is kept elsewhere and is stronger."
+)
 
 
 def member(summary, name):
@@ -42,8 +46,11 @@ def databases(report):
     for fields in report.databases:
         time = member(report.summary, fields["side"] + "_time")
         lines += "<dt>%s</dt><dd><code>%s</code>%s<small>SHA-256 <code>%s</code></small></dd>" % (
-            fields["side"].capitalize(), escape(shown(bytes_of(fields, "path")[:MOST_LETTERS])),
-            " <span>of %s</span>" % escape(time) if time else "", fields["sha256"])
+            fields["side"].capitalize(),
+            escape(shown(bytes_of(fields, "path")[:MOST_LETTERS])),
+            " <span>of %s</span>" % escape(time) if time else "",
+            fields["sha256"],
+        )
     return '<details class="databases"><summary>Databases</summary><dl>%s</dl></details>\n' % lines if lines else ""
 
 
@@ -56,11 +63,16 @@ def counts(report, reasons):
     cards = []
     if reasons.has_any:
         open_ones, not_verified, explained = reasons.standings
-        cards.append(card("unexplained", "Not explained", open_ones)
-                     + card("unverified", "Explained, not verified", not_verified) + card("explained", "Explained", explained))
+        cards.append(
+            card("unexplained", "Not explained", open_ones)
+            + card("unverified", "Explained, not verified", not_verified)
+            + card("explained", "Explained", explained)
+        )
     if report.changes() is not None:
-        cards.append("".join(card(kind, kind.capitalize(), report.summary[kind]) for kind in KINDS)
-                     + card("all", "All entries", report.summary["total"]))
+        cards.append(
+            "".join(card(kind, kind.capitalize(), report.summary[kind]) for kind in KINDS)
+            + card("all", "All entries", report.summary["total"])
+        )
     text = "".join('<dl class="counts">%s</dl>' % part for part in cards)
     return '<div class="cards">%s</div>\n%s' % (text, worth(reasons)) if cards else ""
 

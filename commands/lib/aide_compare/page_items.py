@@ -6,8 +6,13 @@ from aide_compare.page_streams import facts_of
 from aide_compare.page_view import DIGESTS_NAME
 
 SIGNS = ["+", "\N{MINUS SIGN}", "~"]
-GRADES = {"databases": "the databases say so", "dpkg": "dpkg says so", "rpm": "rpm says so", "archive": "the archive says so",
-          "rules": "a rule says so"}
+GRADES = {
+    "databases": "the databases say so",
+    "dpkg": "dpkg says so",
+    "rpm": "rpm says so",
+    "archive": "the archive says so",
+    "rules": "a rule says so",
+}
 HEADS = "<tr><th>Attribute<th>Old<th>New"
 
 
@@ -25,8 +30,11 @@ def entries(count):
 
 def counted(counts):
     """The counts of a folder: a number for each kind that it has."""
-    return " ".join('<span class="%s" title="%s">%s%s</span>' % (kind, kind, sign, number(count))
-                    for kind, sign, count in zip(KINDS, SIGNS, counts) if count)
+    return " ".join(
+        '<span class="%s" title="%s">%s%s</span>' % (kind, kind, sign, number(count))
+        for kind, sign, count in zip(KINDS, SIGNS, counts)
+        if count
+    )
 
 
 def bar(counts, whole):
@@ -61,7 +69,11 @@ def digest_lines(digests):
     inner = "".join(map(line_of, others))
     name = "1 other digest" if len(others) == 1 else "%d other digests" % len(others)
     return '%s<tr><td class="others" colspan="3"><details><summary>%s</summary><table>%s%s</table></details>' % (
-        line_of(first), name, HEADS, inner)
+        line_of(first),
+        name,
+        HEADS,
+        inner,
+    )
 
 
 def table(entry):

@@ -51,8 +51,10 @@ class FolderLists:
         """Leaves the open folders that are not around a folder, and opens what is missing."""
         if folder == self.names:
             return
-        common = next((depth for depth, pair in enumerate(zip(self.names, folder)) if pair[0] != pair[1]),
-                      min(len(self.names), len(folder)))
+        common = next(
+            (depth for depth, pair in enumerate(zip(self.names, folder)) if pair[0] != pair[1]),
+            min(len(self.names), len(folder)),
+        )
         self.leave(common)
         while len(self.names) < len(folder) and not self.room.is_full:
             self.open_folder(folder[len(self.names)])
@@ -102,9 +104,12 @@ class FolderLists:
                 if not self.own[place] and self.below[place] == 1:
                     opened.append((False, opened[-1][1]))
                     continue
-                counts = self.counts[3 * place:3 * place + 3]
+                counts = self.counts[3 * place : 3 * place + 3]
                 yield b"<li><details><summary><code>%s/</code> %s %s</summary><ul>\n" % (
-                    b"/".join(names), bar(counts, opened[-1][1]).encode(), counted(counts).encode())
+                    b"/".join(names),
+                    bar(counts, opened[-1][1]).encode(),
+                    counted(counts).encode(),
+                )
                 names = []
                 opened.append((True, sum(counts)))
             elif line != END or opened.pop()[0]:
@@ -158,8 +163,10 @@ class ReasonLists:
     def group_parts(self, key):
         standing, what = key
         if standing == 2:
-            yield ("<details><summary><code>%s</code>: %s, %s</summary>" % (
-                escape(what.text), files(self.counts[key]), GRADES[what.grade])).encode()
+            yield (
+                "<details><summary><code>%s</code>: %s, %s</summary>"
+                % (escape(what.text), files(self.counts[key]), GRADES[what.grade])
+            ).encode()
         elif what is not None:
             yield ("<h3>Severity %s: %s</h3>" % (SEVERITIES[what], entries(self.counts[key]))).encode()
         yield b'<ul class="plain">\n'
