@@ -139,8 +139,16 @@ class Stream:
         facts = facts_of(entry) if entry.kind < 2 and entry.rows else ""
         severity = 3 if entry.severity is None else entry.severity
         text = "%d\t%d%d%d\t%s\t%d\t%s\t%s\t%s" % (
-            place - self.last, entry.kind, entry.doubtful, severity, group, growth_of(entry), attributes_of(entry), facts,
-            entry.name)
+            place - self.last,
+            entry.kind,
+            entry.doubtful,
+            severity,
+            group,
+            growth_of(entry),
+            attributes_of(entry),
+            facts,
+            entry.name,
+        )
         self.last = place
         self.index.add(text, len(text))
         digests = entry.digests

@@ -54,21 +54,26 @@ class View:
 
     def text(self):
         """The view as an address has it."""
-        parts = [(name, ",".join(CHOICES[name][place] for place in sorted(places)))
-                 for name, places in self.choices.items() if places]
+        parts = [
+            (name, ",".join(CHOICES[name][place] for place in sorted(places)))
+            for name, places in self.choices.items()
+            if places
+        ]
         parts += [("reason", reason) for reason in sorted(self.reasons)]
         parts += [(name, getattr(self, name)) for name in ("path", "folder", "order") if getattr(self, name)]
         return "&".join("%s=%s" % (name, quoted(value)) for name, value in parts)
 
     def fits(self, seen):
         kinds, standings, severities, attributes = self.choices.values()
-        return ((not kinds or seen.kind in kinds)
-                and (not standings or seen.standing in standings)
-                and (not severities or seen.severity in severities)
-                and (not attributes or not attributes.isdisjoint(seen.attributes))
-                and (not self.reasons or seen.reason in self.reasons)
-                and self.path.lower() in seen.path.lower()
-                and (not self.folder or seen.path == self.folder or seen.path.startswith(self.folder + "/")))
+        return (
+            (not kinds or seen.kind in kinds)
+            and (not standings or seen.standing in standings)
+            and (not severities or seen.severity in severities)
+            and (not attributes or not attributes.isdisjoint(seen.attributes))
+            and (not self.reasons or seen.reason in self.reasons)
+            and self.path.lower() in seen.path.lower()
+            and (not self.folder or seen.path == self.folder or seen.path.startswith(self.folder + "/"))
+        )
 
     def ordered(self, entries):
         """The entries that fit, in the order that is asked for."""

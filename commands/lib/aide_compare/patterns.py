@@ -13,7 +13,7 @@ class BadPattern(ValueError):
 def _class_end(text, start):
     """Where the class that begins at `start` ends, or None: a `]` that comes first belongs to the class."""
     at = start + 1
-    if text[at:at + 1] in (b"!", b"^"):
+    if text[at : at + 1] in (b"!", b"^"):
         at += 1
     end = text.find(b"]", at + 1)
     return None if end < 0 else end
@@ -35,7 +35,7 @@ def _parts(piece):
     """The texts between the stars of a piece, each as a regular expression."""
     parts, at = [b""], 0
     while at < len(piece):
-        byte = piece[at:at + 1]
+        byte = piece[at : at + 1]
         if byte == b"*":
             parts.append(b"")
         elif byte == b"?":
@@ -44,13 +44,13 @@ def _parts(piece):
             end = _class_end(piece, at)
             if end is None:
                 raise BadPattern("a class has no end")
-            parts[-1] += _class(piece[at + 1:end])
+            parts[-1] += _class(piece[at + 1 : end])
             at = end
         elif byte == b"\\":
             at += 1
             if at == len(piece):
                 raise BadPattern("a backslash is the last byte of a piece")
-            parts[-1] += re.escape(piece[at:at + 1])
+            parts[-1] += re.escape(piece[at : at + 1])
         else:
             parts[-1] += re.escape(byte)
         at += 1
@@ -71,6 +71,7 @@ def _test(piece):
             found = found and part.search(name, found.end())
         end = len(name) - size
         return bool(found) and found.end() <= end and tail.fullmatch(name, end) is not None
+
     return test
 
 
@@ -78,13 +79,13 @@ def _length(piece):
     """How many bytes the text after the last star of a piece takes."""
     last, at, count = 0, 0, 0
     while at < len(piece):
-        if piece[at:at + 1] == b"*":
+        if piece[at : at + 1] == b"*":
             last = count
         else:
             count += 1
-            if piece[at:at + 1] == b"\\":
+            if piece[at : at + 1] == b"\\":
                 at += 1
-            elif piece[at:at + 1] == b"[":
+            elif piece[at : at + 1] == b"[":
                 at = _class_end(piece, at)
         at += 1
     return count - last

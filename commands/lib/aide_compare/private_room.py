@@ -28,6 +28,7 @@ class Stopped(BaseException):
 
 def _stop(number, _):
     """Raises Stopped, and again after some seconds: Python drops an exception that comes while it takes an object away."""
+
     def again(*_):
         raise Stopped(number)
 
@@ -89,8 +90,10 @@ class PrivateRoom:
                 while self.fd is None:
                     self._make()
             except OSError as error:
-                raise Fault(Status.DEVICE, "cannot make a private folder in %s: %s; name another folder by TMPDIR"
-                            % (shown(path), reason(error)))
+                raise Fault(
+                    Status.DEVICE,
+                    "cannot make a private folder in %s: %s; name another folder by TMPDIR" % (shown(path), reason(error)),
+                )
         return self
 
     def __exit__(self, *_):

@@ -10,8 +10,7 @@ from aide_compare.escapes import shown
 from aide_compare.files import nameless
 
 OLD_DESCRIPTOR, NEW_DESCRIPTOR, CONFIGURATION_DESCRIPTOR = 3, 4, 5
-DATABASES = ("database_in=file:/proc/self/fd/%d\ndatabase_new=file:/proc/self/fd/%d"
-             % (OLD_DESCRIPTOR, NEW_DESCRIPTOR))
+DATABASES = "database_in=file:/proc/self/fd/%d\ndatabase_new=file:/proc/self/fd/%d" % (OLD_DESCRIPTOR, NEW_DESCRIPTOR)
 FIRST_FREE = 10
 NOT_STARTED = 127
 KNOWN = tuple(range(8)) + (Status.USAGE, Status.CONFIGURATION, Status.DEVICE, Status.MEMORY, Status.DATABASE)

@@ -16,8 +16,9 @@ AHEAD = 300
 def parser(name, description, age="", epilog=None):
     """The options that the readers have in common; `age` is what --age means for one of them."""
     given = Parser(name, description, epilog=epilog)
-    given.add_argument("--state", type=some_text, default=STATE, metavar="FILE",
-                       help="what aide-compare-run has written (%s)" % STATE)
+    given.add_argument(
+        "--state", type=some_text, default=STATE, metavar="FILE", help="what aide-compare-run has written (%s)" % STATE
+    )
     if age:
         given.add_argument("--age", type=duration, default=AGE, metavar="TIME", help=age + " (26h)")
     return given

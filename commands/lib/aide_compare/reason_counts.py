@@ -38,7 +38,9 @@ class ReasonCounts(namedtuple("ReasonCounts", KEYS)):
 
     def line(self):
         """As in "unexplained=3 not_verified=0 explained=509 high=1 medium=0 low=2"."""
-        return " ".join("%s=%d" % (key, getattr(self, key)) for key in ("unexplained", "not_verified", "explained") + SEVERITIES)
+        return " ".join(
+            "%s=%d" % (key, getattr(self, key)) for key in ("unexplained", "not_verified", "explained") + SEVERITIES
+        )
 
 
 def counts_of_keys(values):

@@ -17,11 +17,11 @@ class Making:
     def attributes(self, entry, detail, summary):
         """The attributes that the details show of an entry. An entry of a doubtful kind that has both sides is changed."""
         attributes = {block.label: attribute_of(block, entry, self.digests) for block in detail.blocks}
-        other = 'old' if entry.kind == 'added' else 'new'
-        if entry.doubtful and any(sides[other] not in (None, '') for sides in attributes.values()):
+        other = "old" if entry.kind == "added" else "new"
+        if entry.doubtful and any(sides[other] not in (None, "") for sides in attributes.values()):
             raise Changed
-        if summary and entry.kind == 'changed' and misfit(summary, attributes):
-            raise Refused(detail.number, 'the list says something else of %s' % misfit(summary, attributes))
+        if summary and entry.kind == "changed" and misfit(summary, attributes):
+            raise Refused(detail.number, "the list says something else of %s" % misfit(summary, attributes))
         if self.values:
             self.values.begin(entry, detail.title)
             for label, fields in attributes.items():
@@ -46,29 +46,29 @@ class Changed(Exception):
 
 def object_of(entry, detail, making):
     """The object of an entry, with its attributes if the details show it."""
-    fields = {'record': 'entry', 'kind': entry.kind}
-    put_bytes(fields, 'path', entry.path)
+    fields = {"record": "entry", "kind": entry.kind}
+    put_bytes(fields, "path", entry.path)
     title = TYPES.get(entry.letters[:1]) if entry.letters else None
     if entry.letters:
-        fields['summary'] = entry.letters.decode()
+        fields["summary"] = entry.letters.decode()
     if detail:
         if title not in (None, detail.title):
-            raise Refused(detail.number, 'the list has another type for this entry')
+            raise Refused(detail.number, "the list has another type for this entry")
         title = detail.title
-    if title and title != b'Entry':
-        fields['type'] = title.decode()
+    if title and title != b"Entry":
+        fields["type"] = title.decode()
     if detail:
         try:
-            fields['attributes'] = making.shown(entry, detail, fields.get('summary'))
+            fields["attributes"] = making.shown(entry, detail, fields.get("summary"))
         except Changed:
-            return object_of(entry._replace(kind='changed', doubtful=False), detail, making)
+            return object_of(entry._replace(kind="changed", doubtful=False), detail, making)
     if entry.doubtful:
-        fields['uncertain'] = ['kind']
+        fields["uncertain"] = ["kind"]
     return fields
 
 
 def names_of(entry):
-    return entry.path.split(b'/')
+    return entry.path.split(b"/")
 
 
 def in_order(sections):
@@ -77,7 +77,7 @@ def in_order(sections):
     for entry in lists[0] if len(lists) == 1 else heapq.merge(*lists, key=names_of):
         names = names_of(entry)
         if not before < names:
-            raise Refused(entry.number, 'the entry is not in the order of paths')
+            raise Refused(entry.number, "the entry is not in the order of paths")
         before = names
         yield entry
 
@@ -91,4 +91,4 @@ def objects_of(sections, details, making):
         if is_shown:
             detail = next(details, None)
     if detail is not None:
-        raise Refused(detail.number, 'no list has this entry, or not in this order')
+        raise Refused(detail.number, "no list has this entry, or not in this order")

@@ -11,35 +11,51 @@ from aide_compare.report_shapes import Shapes
 from aide_compare.report_values import Digests
 
 FORMAT = 1
-LEVELS = ['minimal', 'summary', 'database_attributes', 'list_entries', 'changed_attributes',
-          'added_removed_attributes', 'added_removed_entries']
+LEVELS = [
+    "minimal",
+    "summary",
+    "database_attributes",
+    "list_entries",
+    "changed_attributes",
+    "added_removed_attributes",
+    "added_removed_entries",
+]
 
-HEADS = {b'AIDE found differences between the two databases.': True,
-         b'AIDE found NO differences between the two databases.': False}
-COUNTS = {'total': b'Total number of entries:', 'added': b'Added entries:', 'removed': b'Removed entries:',
-          'changed': b'Changed entries:'}
-KINDS = ['added', 'removed', 'changed']
-TOGETHER, DETAILS, DATABASES = (b'Added, removed and changed entries:', b'Detailed information about changes:',
-                                b'The attributes of the databases:')
+HEADS = {
+    b"AIDE found differences between the two databases.": True,
+    b"AIDE found NO differences between the two databases.": False,
+}
+COUNTS = {
+    "total": b"Total number of entries:",
+    "added": b"Added entries:",
+    "removed": b"Removed entries:",
+    "changed": b"Changed entries:",
+}
+KINDS = ["added", "removed", "changed"]
+TOGETHER, DETAILS, DATABASES = (
+    b"Added, removed and changed entries:",
+    b"Detailed information about changes:",
+    b"The attributes of the databases:",
+)
 
-LETTERS = b'[fdlcbps?!][l+:. -][<>+:= -]' + b''.join(b'[%c+:. -]' % letter for letter in b'bpugamcinHAXSEC')
-LISTED = re.compile(b'(?:(' + LETTERS + b')|(added|removed|changed)): (/.*)')
-ALL_ADDED, ALL_REMOVED = 17 * b'+', 17 * b'-'
-DIGEST_LINES = [re.compile(rb'  SHA256    : (.{32})'), re.compile(rb' {14}(.{1,32})')]
+LETTERS = b"[fdlcbps?!][l+:. -][<>+:= -]" + b"".join(b"[%c+:. -]" % letter for letter in b"bpugamcinHAXSEC")
+LISTED = re.compile(b"(?:(" + LETTERS + b")|(added|removed|changed)): (/.*)")
+ALL_ADDED, ALL_REMOVED = 17 * b"+", 17 * b"-"
+DIGEST_LINES = [re.compile(rb"  SHA256    : (.{32})"), re.compile(rb" {14}(.{1,32})")]
 
 # An entry of a list; it is doubtful if the text leaves open whether it is of this kind or changed.
-Entry = namedtuple('Entry', 'number kind doubtful letters path')
+Entry = namedtuple("Entry", "number kind doubtful letters path")
 
 
 def read_counts(lines):
-    lines.expect(b'')
-    lines.expect(b'Summary:')
+    lines.expect(b"")
+    lines.expect(b"Summary:")
     counts = {}
     for name, label in COUNTS.items():
-        pattern = re.compile(b'  %s(0|[1-9][0-9]{0,19})' % re.escape(label.ljust(25)))
+        pattern = re.compile(b"  %s(0|[1-9][0-9]{0,19})" % re.escape(label.ljust(25)))
         counts[name] = int(lines.match(pattern, 'the summary\'s line "%s"' % label.decode()).group(1))
-    if counts['total'] < counts['added'] + counts['changed']:
-        raise Refused(lines.number, 'the counts do not fit the total number of entries')
+    if counts["total"] < counts["added"] + counts["changed"]:
+        raise Refused(lines.number, "the counts do not fit the total number of entries")
     return counts
 
 
@@ -48,27 +64,27 @@ def kinds_of(letters, kind):
     if kind:
         return [kind.decode()]
     marks = letters[1:]
-    return ['added', 'changed'] if marks == ALL_ADDED else ['removed', 'changed'] if marks == ALL_REMOVED else ['changed']
+    return ["added", "changed"] if marks == ALL_ADDED else ["removed", "changed"] if marks == ALL_REMOVED else ["changed"]
 
 
 class Section:
     """A list of entries, in a private file; `counts` says how many of which kinds it has."""
 
     def __init__(self, lines, counts):
-        lines.expect(b'')
-        self.file, self.number, self.counts = open(nameless(), 'w+b'), lines.number, counts
+        lines.expect(b"")
+        self.file, self.number, self.counts = open(nameless(), "w+b"), lines.number, counts
         self.possible, self.summarized = dict.fromkeys(KINDS, 0), None
         for _ in range(sum(counts.values())):
-            letters, kind, _ = found = lines.match(LISTED, 'an entry of this list').groups()
+            letters, kind, _ = found = lines.match(LISTED, "an entry of this list").groups()
             kinds = [kind for kind in kinds_of(letters, kind) if kind in counts]
             if not kinds or self.summarized not in (None, bool(letters)):
-                lines.refuse(b'', 'an entry of this list')
+                lines.refuse(b"", "an entry of this list")
             self.summarized = bool(letters)
             for kind in kinds:
                 self.possible[kind] += 1
-            self.file.write(b': '.join((letters or found[1], found[2])) + b'\n')
+            self.file.write(b": ".join((letters or found[1], found[2])) + b"\n")
         if any(self.possible[kind] < count for kind, count in counts.items()):
-            raise Refused(lines.number, 'the list has not as many entries of each kind as the summary says')
+            raise Refused(lines.number, "the list has not as many entries of each kind as the summary says")
 
     def entries(self):
         self.file.seek(0)
@@ -89,10 +105,10 @@ def read_sections(lines, title, counts):
         if title != label:
             raise Refused(lines.number - 1, 'this is not the title "%s"' % label.decode())
         sections.append(Section(lines, part))
-        lines.expect(b'')
+        lines.expect(b"")
         title = lines.read_title()
     if len({section.summarized for section in sections}) > 1:
-        raise Refused(lines.number, 'only one of the lists before has summary strings')
+        raise Refused(lines.number, "only one of the lists before has summary strings")
     return sections, title
 
 
@@ -104,56 +120,56 @@ class Levels:
 
     def add(self, entry):
         """Takes out the levels at which this entry would be shown in another way."""
-        if 'uncertain' in entry or entry['kind'] == 'changed' and 'attributes' in entry:
+        if "uncertain" in entry or entry["kind"] == "changed" and "attributes" in entry:
             return
-        if entry['kind'] == 'changed':
+        if entry["kind"] == "changed":
             # A letter is an attribute that has changed, and so one that the details show.
-            out = LEVELS[4:] if re.search('[A-Za-z<>]', entry.get('summary', '')[1:]) else LEVELS[5:]
-        elif 'attributes' in entry:
+            out = LEVELS[4:] if re.search("[A-Za-z<>]", entry.get("summary", "")[1:]) else LEVELS[5:]
+        elif "attributes" in entry:
             out = LEVELS[4:6]
         else:
-            out = LEVELS[6:] if 'type' in entry else []
+            out = LEVELS[6:] if "type" in entry else []
         self.possible = [level for level in self.possible if level not in out] if out else self.possible
 
 
 def read_databases(lines, digests):
-    lines.expect(b'')
+    lines.expect(b"")
     objects = []
-    for side, label in (('old', b'Old'), ('new', b'New')):
-        found = lines.match(re.compile(label + b' database: (/.*)'), 'the line of the %s database' % side)
-        fields = {'record': 'database', 'side': side}
-        put_bytes(fields, 'path', unprinted(found.group(1), lines.number))
-        text = b''.join(lines.match(pattern, 'a digest').group(1) for pattern in DIGEST_LINES)
+    for side, label in (("old", b"Old"), ("new", b"New")):
+        found = lines.match(re.compile(label + b" database: (/.*)"), "the line of the %s database" % side)
+        fields = {"record": "database", "side": side}
+        put_bytes(fields, "path", unprinted(found.group(1), lines.number))
+        text = b"".join(lines.match(pattern, "a digest").group(1) for pattern in DIGEST_LINES)
         digests.take(text, 32, 32, lines.number)
-        fields['sha256'] = text.decode() if 16 in digests.bases else base64.b64decode(text).hex()
+        fields["sha256"] = text.decode() if 16 in digests.bases else base64.b64decode(text).hex()
         objects.append(fields)
     if lines.coming is not None:
-        raise Refused(lines.number + 1, 'this is after the end of the report')
+        raise Refused(lines.number + 1, "this is after the end of the report")
     return objects
 
 
 def read_parts(lines, counts, summary, making):
     """Yields the objects of the parts after the summary, and adds to its object what they say of the whole."""
     sections = []
-    lines.expect(b'')
+    lines.expect(b"")
     title, changes = lines.read_title(), any(counts[kind] for kind in KINDS)
-    summary['levels'] = LEVELS[2:3] if changes else LEVELS[2:]
+    summary["levels"] = LEVELS[2:3] if changes else LEVELS[2:]
     if changes and title != DATABASES:
-        summary['grouped'] = title != TOGETHER
+        summary["grouped"] = title != TOGETHER
         sections, title = read_sections(lines, title, counts)
         has_details = title == DETAILS
-        summary['summarized'], levels = sections[0].summarized, Levels(has_details)
+        summary["summarized"], levels = sections[0].summarized, Levels(has_details)
         for fields in objects_of(sections, read_details(lines, making.shapes) if has_details else iter(()), making):
             levels.add(fields)
             yield fields
         if not levels.possible:
-            raise Refused(lines.number, 'the entries of the details are not those of any level')
-        summary['levels'] = levels.possible
+            raise Refused(lines.number, "the entries of the details are not those of any level")
+        summary["levels"] = levels.possible
         title = lines.read_title() if has_details else title
     if title != DATABASES:
         raise Refused(lines.number - 1, 'this is not the title "%s"' % DATABASES.decode())
     yield from read_databases(lines, making.digests)
-    summary['base16'] = 16 in making.digests.bases
+    summary["base16"] = 16 in making.digests.bases
 
 
 def read_report(lines, values=None, by_shapes=False):
@@ -162,29 +178,40 @@ def read_report(lines, values=None, by_shapes=False):
     With `values` attributes have texts for people. `by_shapes` is fast: then most attributes are JSON that is written already.
     """
     making = Making(Digests(), values, Shapes(values) if by_shapes else None)
-    summary = {'record': 'summary', 'format': FORMAT, 'differences': False, **dict.fromkeys(COUNTS), 'levels': None,
-               'grouped': None, 'summarized': None, 'base16': None}
+    summary = {
+        "record": "summary",
+        "format": FORMAT,
+        "differences": False,
+        **dict.fromkeys(COUNTS),
+        "levels": None,
+        "grouped": None,
+        "summarized": None,
+        "base16": None,
+    }
     if lines.coming is not None:
         head = lines.take()
         if head not in HEADS:
-            lines.refuse(head, 'the first line of a report')
+            lines.refuse(head, "the first line of a report")
         summary.update(differences=HEADS[head], levels=LEVELS[:1])
     if lines.coming is not None:
         counts = read_counts(lines)
         if HEADS[head] != any(counts[kind] for kind in KINDS):
-            raise Refused(lines.number, 'the counts do not fit the first line')
+            raise Refused(lines.number, "the counts do not fit the first line")
         summary.update(counts, levels=LEVELS[1:2])
     if lines.coming is not None:
         yield from read_parts(lines, counts, summary, making)
     else:
-        summary['uncertain'] = ['end']
+        summary["uncertain"] = ["end"]
     yield summary
 
 
 def judge(summary, least, takes_empty):
     """Refuses a report that is less than what was asked for."""
-    if summary['levels'] is None and not takes_empty:
-        raise Refused(1, 'the report is empty: nothing was compared, or there is no difference and report_quiet is set '
-                         '(--empty accepts this)')
-    if least and summary['levels'] is not None and LEVELS.index(summary['levels'][-1]) < LEVELS.index(least):
-        raise Refused(1, 'the report is of a lower level than %s, or is cut' % least)
+    if summary["levels"] is None and not takes_empty:
+        raise Refused(
+            1,
+            "the report is empty: nothing was compared, or there is no difference and report_quiet is set "
+            "(--empty accepts this)",
+        )
+    if least and summary["levels"] is not None and LEVELS.index(summary["levels"][-1]) < LEVELS.index(least):
+        raise Refused(1, "the report is of a lower level than %s, or is cut" % least)

@@ -19,8 +19,8 @@ from aide_compare.report_values import FORMS, TYPES
 OFTEN, MOST_TRIED, MOST_COUNTED = 12, 8, 500
 # An entry of more bytes is read by lines, and so many answers are kept of a shape.
 LONGEST, MOST_KEPT = 1 << 16, 1000
-LABELS = re.compile(rb'\n  ([^ ].{9}): ')
-TITLE = rb'(' + b'|'.join(TYPES.values()) + rb'): (/.*)\n'
+LABELS = re.compile(rb"\n  ([^ ].{9}): ")
+TITLE = rb"(" + b"|".join(TYPES.values()) + rb"): (/.*)\n"
 
 
 class Written(bytes):
@@ -33,7 +33,7 @@ class Shape:
     def __init__(self, pieces, base):
         self.pieces, self.base, self.kept = pieces, base, {}
         self.has_old, self.has_new = (any(piece.has[side] for piece in pieces) for side in (0, 1))
-        self.pattern = re.compile(TITLE + b''.join(piece.pattern for piece in pieces) + rb'\n')
+        self.pattern = re.compile(TITLE + b"".join(piece.pattern for piece in pieces) + rb"\n")
         template, args, groups, self.later = [], [], 2, []
         total = 2 + sum(piece.groups for piece in pieces)
         self.olds, self.news, self.sizes = [], [], None
@@ -48,9 +48,9 @@ class Shape:
             if all(piece.has) and not piece.is_other:
                 self.olds += range(groups, groups + piece.groups, 2)
                 self.news += range(groups + 1, groups + piece.groups, 2)
-                self.sizes = picker((groups, groups + 1)) if piece.label == 'Size' else self.sizes
+                self.sizes = picker((groups, groups + 1)) if piece.label == "Size" else self.sizes
             groups += piece.groups
-        self.template, self.args = b'{' + b','.join(template) + b'}', picker(args)
+        self.template, self.args = b"{" + b",".join(template) + b"}", picker(args)
         self.olds, self.news = picker(self.olds), picker(self.news)
 
     def fits(self, letters, groups, sides):
@@ -72,10 +72,10 @@ class Shape:
                 old, new = next(sides)
             elif all(piece.has):
                 differs = any([next(changed) for _ in range(piece.groups // 2)])
-                old, new = (2, 1) if piece.label == 'Size' and fell else (1, 2 if differs else 1)
+                old, new = (2, 1) if piece.label == "Size" and fell else (1, 2 if differs else 1)
             else:
                 old, new = (1 if has else None for has in piece.has)
-            attributes[piece.label] = {'old': old, 'new': new}
+            attributes[piece.label] = {"old": old, "new": new}
         return attributes
 
 
@@ -93,15 +93,22 @@ class ShapedDetail:
     def written(self, entry, digests):
         """The attributes as JSON, None if they have to be read by lines, so that what does not fit is refused."""
         shape = self.shape
-        if entry.doubtful or shape.has_old and entry.kind == 'added' or shape.has_new and entry.kind == 'removed' \
-                or shape.base and digests.bases != {shape.base}:
+        if (
+            entry.doubtful
+            or shape.has_old
+            and entry.kind == "added"
+            or shape.has_new
+            and entry.kind == "removed"
+            or shape.base
+            and digests.bases != {shape.base}
+        ):
             return None
         self.values.begin(entry, self.title)
         try:
             texts = [self.values.written(piece, pick(self.groups), entry, shape.base) for piece, pick in shape.later]
         except Refused:
             return None
-        if entry.letters and entry.kind == 'changed' and not shape.fits(entry.letters, self.groups, tuple(self.values.alike)):
+        if entry.letters and entry.kind == "changed" and not shape.fits(entry.letters, self.groups, tuple(self.values.alike)):
             return None
         return Written(shape.template % shape.args(self.groups + tuple(texts)))
 
@@ -118,7 +125,7 @@ class Shapes:
             found = self.last.pattern.match(lines.block, lines.start)
             if found:
                 return found
-        end = lines.block.find(b'\n\n', lines.start)
+        end = lines.block.find(b"\n\n", lines.start)
         labels = tuple(LABELS.findall(lines.block, lines.start, end)) if end > 0 else ()
         for shape in self.by_labels.get(labels, ()):
             found = shape.pattern.match(lines.block, lines.start)
@@ -146,7 +153,7 @@ class Shapes:
         if is_open or len(self.seen) >= MOST_COUNTED:
             return
         pieces = [Piece(block, base) for block in blocks]
-        key = b''.join(piece.pattern for piece in pieces)
+        key = b"".join(piece.pattern for piece in pieces)
         self.seen[key] += 1
         if self.seen[key] == OFTEN:
             shape = Shape(pieces, base if any(piece.is_digest for piece in pieces) else None)

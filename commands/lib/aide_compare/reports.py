@@ -4,8 +4,10 @@ import re
 DIFFER = b"AIDE found differences between the two databases.\n"
 SAME = b"AIDE found NO differences between the two databases.\n"
 HEAD_BYTES = 1000
-COUNTS = re.compile(rb"\n\nSummary:\n  Total number of entries: +\d+\n  Added entries: +(\d+)\n  Removed entries: +(\d+)\n"
-                    rb"  Changed entries: +(\d+)\n")
+COUNTS = re.compile(
+    rb"\n\nSummary:\n  Total number of entries: +\d+\n  Added entries: +(\d+)\n  Removed entries: +(\d+)\n"
+    rb"  Changed entries: +(\d+)\n"
+)
 LISTS = re.compile(rb"\n-{51}\n(?:Added|Removed|Changed|Added, removed and changed) entries:\n-{51}\n")
 
 

@@ -12,6 +12,7 @@ MOST_RESULT = 1 << 20
 
 def name_of(uid):
     import pwd
+
     try:
         return "%s" % shown(pwd.getpwuid(uid).pw_name, 100)
     except KeyError:
@@ -20,6 +21,7 @@ def name_of(uid):
 
 def _group_of(uid):
     import pwd
+
     try:
         return pwd.getpwuid(uid).pw_gid
     except KeyError:
@@ -45,6 +47,7 @@ def _become(uid, gid, groups):
 def give_up(user):
     """This process becomes a user, by name, for good: what --user asks for."""
     import pwd
+
     try:
         entry = pwd.getpwnam(user)
     except KeyError:

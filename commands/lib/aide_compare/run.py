@@ -29,17 +29,38 @@ Status: that of aide-compare(1). 0 no difference, 1 to 7 differences, above 7 no
 def add_options(parser):
     """The options of a comparison, which aide-compare-mail has too."""
     add = parser.add_argument
-    add("databases", nargs="*", metavar="OLD NEW", type=some_text,
-        help="the databases; without them the configuration names both")
-    add("-c", "--config", metavar="CONF", type=some_text,
-        help="the configuration (/dev/null with OLD NEW, otherwise AIDE's, /etc/aide/aide.conf or /etc/aide.conf)")
+    add(
+        "databases",
+        nargs="*",
+        metavar="OLD NEW",
+        type=some_text,
+        help="the databases; without them the configuration names both",
+    )
+    add(
+        "-c",
+        "--config",
+        metavar="CONF",
+        type=some_text,
+        help="the configuration (/dev/null with OLD NEW, otherwise AIDE's, /etc/aide/aide.conf or /etc/aide.conf)",
+    )
     add("--state", metavar="FILE", type=some_text, help="write the status, the time, the counts and both SHA-256 to FILE")
     add("--most", metavar="BYTES", type=size, default=MOST, help="refuse a database that has more bytes unpacked")
     add("--most-report", metavar="BYTES", type=size, default=MOST_REPORT, help="refuse a longer report (1G)")
-    add("--age", metavar="TIME", type=duration, default=0,
-        help="refuse a new database that is older, as 50h, or from the future (0, the default: no limit)")
-    add("--without", metavar="FILE", action="append", default=[], type=some_text,
-        help="leave out the entries whose paths the lines of FILE name, as debian.without; it says how many")
+    add(
+        "--age",
+        metavar="TIME",
+        type=duration,
+        default=0,
+        help="refuse a new database that is older, as 50h, or from the future (0, the default: no limit)",
+    )
+    add(
+        "--without",
+        metavar="FILE",
+        action="append",
+        default=[],
+        type=some_text,
+        help="leave out the entries whose paths the lines of FILE name, as debian.without; it says how many",
+    )
     add("--without-path", metavar="PATTERN", action="append", default=[], type=some_text, help="the same for one line")
     add("--reasons", action="store_true", help="say which changes packages, logs and rules explain, and which nothing does")
     add("--lines", metavar="FILE", type=some_text, help="write the report to FILE as aide-compare-json does, with the reasons")
@@ -61,8 +82,9 @@ def texts_of(words):
         elif word[:2] in ("-A", "-B"):
             name, text = word[:2], word[3:] if word[2] == "=" else word[2:]
         elif name not in ("--after", "--before"):
-            raise Fault(Status.USAGE, "after -- only -A TEXT and -B TEXT are allowed: %s" % shown(word, 200),
-                        "try: %s --help" % NAME)
+            raise Fault(
+                Status.USAGE, "after -- only -A TEXT and -B TEXT are allowed: %s" % shown(word, 200), "try: %s --help" % NAME
+            )
         name = name.lstrip("-")[0].lower()
         if name in found:
             raise Fault(Status.USAGE, "-%s is given twice" % name.upper(), "try: %s --help" % NAME)
@@ -87,12 +109,28 @@ def rules_of(given):
 def request_of(given, words, beside):
     """The Request that options and the words after -- ask for."""
     if len(given.databases) not in (0, 2):
-        raise Fault(Status.USAGE, "name both databases, OLD and NEW, or none" if len(given.databases) < 2 else
-                    "more than two databases: %s" % shown(given.databases[2], 200), "try: %s --help" % NAME)
+        raise Fault(
+            Status.USAGE,
+            "name both databases, OLD and NEW, or none"
+            if len(given.databases) < 2
+            else "more than two databases: %s" % shown(given.databases[2], 200),
+            "try: %s --help" % NAME,
+        )
     before, after = texts_of(words)
     old, new = given.databases or (None, None)
-    return Request(beside, old, new, given.config, before, after, given.most, given.age, given.most_report,
-                   counts=given.state is not None or given.reasons, without=rules_of(given))
+    return Request(
+        beside,
+        old,
+        new,
+        given.config,
+        before,
+        after,
+        given.most,
+        given.age,
+        given.most_report,
+        counts=given.state is not None or given.reasons,
+        without=rules_of(given),
+    )
 
 
 def introduce(outcome):
@@ -161,6 +199,6 @@ def main(arguments):
     check_reasons(given)
     if given.user:
         give_up(given.user)
-    request = request_of(given, arguments[cut + 1:], os.path.dirname(os.path.realpath(sys.argv[0])))
+    request = request_of(given, arguments[cut + 1 :], os.path.dirname(os.path.realpath(sys.argv[0])))
     wanted = Wanted(given.lines, given.brief, Sources(given) if given.reasons else None)
     return _run(request, Replacement(given.state, what="the state file").begin() if given.state else None, wanted)

@@ -36,8 +36,14 @@ class Sendmail:
         reading, out_of = os.pipe()
         try:
             actions = [(os.POSIX_SPAWN_DUP2, into, 0), (os.POSIX_SPAWN_DUP2, out_of, 1), (os.POSIX_SPAWN_DUP2, out_of, 2)]
-            child = os.posix_spawn(self.path, [self.path, "-oi", "-t"], os.environ, file_actions=actions, setpgroup=0,
-                                   setsigdef=[signal.SIGPIPE, signal.SIGXFSZ])
+            child = os.posix_spawn(
+                self.path,
+                [self.path, "-oi", "-t"],
+                os.environ,
+                file_actions=actions,
+                setpgroup=0,
+                setsigdef=[signal.SIGPIPE, signal.SIGXFSZ],
+            )
         except OSError as error:
             os.close(writing)
             os.close(reading)
@@ -92,7 +98,7 @@ def _exchange(message, writing, reading, limit, is_over):
             break
         if ready[1]:
             try:
-                left = left[os.write(writing, left[:65536]):]
+                left = left[os.write(writing, left[:65536]) :]
             except BrokenPipeError:  # Its status says why it does not read on.
                 left = left[:0]
     for descriptor in (writing, reading):
@@ -115,6 +121,7 @@ class Smtp:
 
     def send(self, message):
         import smtplib
+
         head = message.partition(b"\n\n")[0].decode("ascii", "replace")
         to = next(line[4:] for line in head.split("\n") if line.startswith("To: "))
         sender = "aide-compare@" + (os.uname().nodename or "localhost")
@@ -130,8 +137,10 @@ class Smtp:
 def alert(text):
     """One line in the system log at the priority `alert`; False if there is no log either."""
     line = "aide-compare-mail: " + shown(text, 800)
-    for path, data in ((LOG, "<%d>%s" % (AUTH_ALERT, line)),
-                       (JOURNAL, "PRIORITY=1\nSYSLOG_FACILITY=4\nSYSLOG_IDENTIFIER=aide-compare-mail\nMESSAGE=%s\n" % line)):
+    for path, data in (
+        (LOG, "<%d>%s" % (AUTH_ALERT, line)),
+        (JOURNAL, "PRIORITY=1\nSYSLOG_FACILITY=4\nSYSLOG_IDENTIFIER=aide-compare-mail\nMESSAGE=%s\n" % line),
+    ):
         try:
             with socket.socket(socket.AF_UNIX, socket.SOCK_DGRAM) as log:
                 log.settimeout(5)
@@ -158,5 +167,8 @@ def deliver(way, message):
     if second is None:
         return "only a short mail was sent: %s" % why
     is_logged = alert("no mail could be sent (%s): %s" % (why, subject_of(message)))
-    raise Fault(Status.DEVICE, "cannot send the mail: %s%s" % (why, "; the system log has a line at priority alert" if is_logged
-                                                              else "; there is no system log either"))
+    raise Fault(
+        Status.DEVICE,
+        "cannot send the mail: %s%s"
+        % (why, "; the system log has a line at priority alert" if is_logged else "; there is no system log either"),
+    )

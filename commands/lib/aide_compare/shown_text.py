@@ -21,8 +21,9 @@ def seen(text):
     """A text in which every character is seen."""
     if text.isprintable() and not any(letter in text for letter in BLANK_LETTERS):
         return text
-    return "".join(character if character.isprintable() and character not in BLANK_LETTERS else octal(character)
-                   for character in text)
+    return "".join(
+        character if character.isprintable() and character not in BLANK_LETTERS else octal(character) for character in text
+    )
 
 
 def shown(value):
@@ -58,7 +59,7 @@ def letters_of(perm):
 
 def shown_note(text, most=200):
     """A text for people that a command of ours has written, such as a reason, in which names are escaped already."""
-    guarded = seen(escapes.guarded(text[:most + 1]))
+    guarded = seen(escapes.guarded(text[: most + 1]))
     return guarded[:most] + "..." if len(guarded) > most else guarded
 
 

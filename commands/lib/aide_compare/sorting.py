@@ -23,8 +23,10 @@ DESCRIPTION = """Writes a database in path order, as aide-compare wants it, to s
 
 AIDE itself always writes path order. A database straight from AIDE that is out of order is damaged, for example by
 a full disk: make it anew. Sort only what another tool wrote or merged."""
-ADVICE = ("AIDE itself writes path order: if this database is straight from AIDE, it is damaged (was the disk full?), so make "
-          "it anew; sort only what another tool wrote or merged")
+ADVICE = (
+    "AIDE itself writes path order: if this database is straight from AIDE, it is damaged (was the disk full?), so make "
+    "it anew; sort only what another tool wrote or merged"
+)
 
 
 def no_database(number, text):
@@ -184,11 +186,24 @@ def sort_database(name, most):
 
 
 def main(arguments):
-    parser = Parser("aide-compare-sort", DESCRIPTION, epilog="Status: 0 sorted; 24 a path stands twice, or this is no "
-                    "database; 15, 18, 22: see aide-compare-sort(1).")
-    parser.add_argument("file", nargs="?", default="/dev/stdin", type=some_text,
-                        help="the database, plain or compressed with gzip; standard input if it is left out")
-    parser.add_argument("--most", type=size, default=MOST_BYTES, metavar="SIZE",
-                        help="refuse a database that has more bytes unpacked (default 64G)")
+    parser = Parser(
+        "aide-compare-sort",
+        DESCRIPTION,
+        epilog="Status: 0 sorted; 24 a path stands twice, or this is no " "database; 15, 18, 22: see aide-compare-sort(1).",
+    )
+    parser.add_argument(
+        "file",
+        nargs="?",
+        default="/dev/stdin",
+        type=some_text,
+        help="the database, plain or compressed with gzip; standard input if it is left out",
+    )
+    parser.add_argument(
+        "--most",
+        type=size,
+        default=MOST_BYTES,
+        metavar="SIZE",
+        help="refuse a database that has more bytes unpacked (default 64G)",
+    )
     given = parser.parse(arguments)
     return stoppable(lambda: sort_database("/dev/stdin" if given.file == "-" else given.file, given.most))

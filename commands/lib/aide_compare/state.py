@@ -20,8 +20,22 @@ class State:
     names, when each file was written (None if unknown), the first error line, and `more`, further keys with their texts.
     Names and the error line are texts that may be shown: `shown` and `guarded` have been over them."""
 
-    def __init__(self, status, time, added=None, removed=None, changed=None, old_sha256="", new_sha256="", old="", new="",
-                 old_written=None, new_written=None, error="", more=None):
+    def __init__(
+        self,
+        status,
+        time,
+        added=None,
+        removed=None,
+        changed=None,
+        old_sha256="",
+        new_sha256="",
+        old="",
+        new="",
+        old_written=None,
+        new_written=None,
+        error="",
+        more=None,
+    ):
         self.status, self.time, self.added, self.removed, self.changed = status, time, added, removed, changed
         self.old_sha256, self.new_sha256, self.old, self.new = old_sha256, new_sha256, old, new
         self.old_written, self.new_written, self.error, self.more = old_written, new_written, error, dict(more or {})

@@ -36,7 +36,7 @@ def given_descriptor(path):
     """The number of the descriptor that a path means, such as /dev/stdin, and None for all other paths."""
     if path == "/dev/stdin":
         return 0
-    number = next((path[len(head):] for head in DESCRIPTORS if path.startswith(head)), "")
+    number = next((path[len(head) :] for head in DESCRIPTORS if path.startswith(head)), "")
     return int(number) if number.isascii() and number.isdigit() and len(number) < 8 else None
 
 
@@ -134,8 +134,9 @@ def _fill(target, opened, most):
     try:
         _unzip(first, blocks, target)
     except zlib.error as error:
-        raise Fault(Status.DEVICE, "%s is compressed by gzip and is cut short or damaged: %s"
-                    % (opened.words, shown(str(error), 100)))
+        raise Fault(
+            Status.DEVICE, "%s is compressed by gzip and is cut short or damaged: %s" % (opened.words, shown(str(error), 100))
+        )
 
 
 def copy_opened(opened, most):

@@ -15,7 +15,7 @@ STREAMS = ("-", "/dev/stdin")
 
 def parser_of(name, what, does, more):
     parser = Parser(name, does, epilog=more)
-    parser.add_argument("file", nargs="?", default="-", help="%s; standard input if it is left out or \"-\"" % what)
+    parser.add_argument("file", nargs="?", default="-", help='%s; standard input if it is left out or "-"' % what)
     return parser
 
 
@@ -45,6 +45,7 @@ def run(path, work):
 def _write_page(source, target, given):
     import gc
     from aide_compare.page import page
+
     gc.disable()  # Entries have no cycles, and looking for cycles takes a tenth of the time.
     for part in page(source, given.title, given.plain, given.only):
         target.write(part)
@@ -52,12 +53,21 @@ def _write_page(source, target, given):
 
 def html_main(arguments):
     from aide_compare.page_view import fault_of
-    parser = parser_of("aide-compare-html", "the lines", "Makes a page to look at from the lines of aide-compare-json.",
-                       "Example: aide-compare-run old.gz new.gz | aide-compare-json | aide-compare-html > page.html")
+
+    parser = parser_of(
+        "aide-compare-html",
+        "the lines",
+        "Makes a page to look at from the lines of aide-compare-json.",
+        "Example: aide-compare-run old.gz new.gz | aide-compare-json | aide-compare-html > page.html",
+    )
     parser.add_argument("--title", metavar="TEXT", help="the heading of the page, such as the name of the host")
     parser.add_argument("--plain", action="store_true", help="no script: the lists only, as for mail")
-    parser.add_argument("--only", metavar="FILTER", default="",
-                        help="what the page shows at first, and with --plain all that it lists, such as standing=unexplained")
+    parser.add_argument(
+        "--only",
+        metavar="FILTER",
+        default="",
+        help="what the page shows at first, and with --plain all that it lists, such as standing=unexplained",
+    )
     given = parser.parse(arguments)
     fault = fault_of(given.only)
     if fault is not None:

@@ -21,11 +21,16 @@ def _write(source, target, databases, given):
 
 
 def main(arguments):
-    parser = parser_of(NAME, "the lines", "Adds a severity to each entry of aide-compare-json, and a reason where evidence explains it.",
-                       "Example: aide-compare-run old.gz new.gz | aide-compare-json | %s --databases old.gz new.gz" % NAME)
+    parser = parser_of(
+        NAME,
+        "the lines",
+        "Adds a severity to each entry of aide-compare-json, and a reason where evidence explains it.",
+        "Example: aide-compare-run old.gz new.gz | aide-compare-json | %s --databases old.gz new.gz" % NAME,
+    )
     parser.add_argument("--databases", nargs=2, metavar=("OLD", "NEW"), required=True, help="the databases that were compared")
-    parser.add_argument("--most", type=size, default=MOST_DATABASE, metavar="BYTES",
-                        help="refuse a database that has more bytes unpacked (4G)")
+    parser.add_argument(
+        "--most", type=size, default=MOST_DATABASE, metavar="BYTES", help="refuse a database that has more bytes unpacked (4G)"
+    )
     add_evidence_options(parser)
     given = parser.parse(arguments)
     copies = [copy_database(side, path, given.most) for side, path in zip(("old", "new"), given.databases)]

@@ -6,8 +6,14 @@ from aide_compare.ending import Fault
 from aide_compare.files import open_regular
 
 # The columns of digests that are computed here, by the names that Python has for them.
-COMPUTED = {"md5": "md5", "sha1": "sha1", "sha256": "sha256", "sha512": "sha512", "sha3_256": "sha3_256",
-            "sha3_512": "sha3_512"}
+COMPUTED = {
+    "md5": "md5",
+    "sha1": "sha1",
+    "sha256": "sha256",
+    "sha512": "sha512",
+    "sha3_256": "sha3_256",
+    "sha3_512": "sha3_512",
+}
 BLOCK = 1 << 18
 
 

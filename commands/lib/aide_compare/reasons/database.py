@@ -26,7 +26,7 @@ class Database:
     def _key_of(self, line):
         """The key of the path of an entry, and None if the line is no entry."""
         if line[:1] == b"/" and self.name_at == 0 and b"\t" not in line:
-            return key_of(line[:line.find(b" ")] if b" " in line else line.rstrip(b"\n"))
+            return key_of(line[: line.find(b" ")] if b" " in line else line.rstrip(b"\n"))
         fields = fields_of(line)
         if not fields or fields[0].startswith(b"#"):
             return None

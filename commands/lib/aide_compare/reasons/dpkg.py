@@ -32,8 +32,13 @@ def packages_of(status):
         if b"Package" in fields:
             conffiles = (CONFFILE.fullmatch(line) for line in fields.get(b"Conffiles", b"").split(b"\n"))
             name, arch = fields[b"Package"], fields.get(b"Architecture", b"")
-            found[name, arch] = Package(name, arch, fields.get(b"Version", b""), fields.get(b"Status", b""),
-                                        {match.group(1): match.group(2) for match in conffiles if match})
+            found[name, arch] = Package(
+                name,
+                arch,
+                fields.get(b"Version", b""),
+                fields.get(b"Status", b""),
+                {match.group(1): match.group(2) for match in conffiles if match},
+            )
     return found
 
 
@@ -65,7 +70,7 @@ class Night:
         """A path as it is with the links of /bin and the others followed."""
         end = path.find(b"/", 1)
         head = path if end < 0 else path[:end]
-        return self.merged[head] + path[len(head):] if head in self.merged else path
+        return self.merged[head] + path[len(head) :] if head in self.merged else path
 
     def place_of(self, path, package):
         """Where a file of a package is: a diversion moves it, unless it is of the package that diverts."""
@@ -101,5 +106,8 @@ def changed_packages(old, new):
     not there, or is not."""
     keys = old.packages.keys() | new.packages.keys()
     pairs = ((old.packages.get(key), new.packages.get(key)) for key in sorted(keys))
-    return [(before, after) for before, after in pairs
-            if before is None or after is None or (before.version, before.state) != (after.version, after.state)]
+    return [
+        (before, after)
+        for before, after in pairs
+        if before is None or after is None or (before.version, before.state) != (after.version, after.state)
+    ]

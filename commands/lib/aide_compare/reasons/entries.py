@@ -13,9 +13,26 @@ ABSENT = b"0"
 SIZE_ONLY_GROWS, SAME_INODE, NEW_FILES, REMOVED_FILES, GROWING, COMPRESSED = (1 << bit for bit in (26, 27, 28, 29, 40, 41))
 SPECIAL = SIZE_ONLY_GROWS | SAME_INODE | NEW_FILES | REMOVED_FILES | GROWING | COMPRESSED
 
-DIGESTS = frozenset((
-    "md5", "sha1", "sha256", "sha512", "rmd160", "tiger", "crc32", "crc32b", "haval", "gost", "whirlpool", "stribog256",
-    "stribog512", "sha512_256", "sha3_256", "sha3_512"))
+DIGESTS = frozenset(
+    (
+        "md5",
+        "sha1",
+        "sha256",
+        "sha512",
+        "rmd160",
+        "tiger",
+        "crc32",
+        "crc32b",
+        "haval",
+        "gost",
+        "whirlpool",
+        "stribog256",
+        "stribog512",
+        "sha512_256",
+        "sha3_256",
+        "sha3_512",
+    )
+)
 TIMES = frozenset(("mtime", "ctime", "atime"))
 # What a file gets anew when the same or other content is written under its name.
 CONTENT = DIGESTS | TIMES | {"size", "bcount", "inode"}
@@ -101,8 +118,13 @@ def _is_base_acl(field):
     """Whether an access list says no more than a mode: `POSIX,` and two lists, the second one for new files in a folder."""
     kind, *lists = field.split(b",")
     texts = [b"" if part == ABSENT else _unpacked(part) for part in lists]
-    return kind == b"POSIX" and len(texts) == 2 and texts[0] is not None and texts[1] == b"" and (
-        not texts[0] or BASE_ACL.fullmatch(texts[0]) is not None)
+    return (
+        kind == b"POSIX"
+        and len(texts) == 2
+        and texts[0] is not None
+        and texts[1] == b""
+        and (not texts[0] or BASE_ACL.fullmatch(texts[0]) is not None)
+    )
 
 
 def digest_of(field):

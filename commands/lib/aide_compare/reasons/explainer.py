@@ -75,18 +75,24 @@ class Explainer:
         change = Change(path, self.old.find(key), self.new.find(key))
         present = (change.old_at is not None, change.new_at is not None)
         if present != PRESENT[fields["kind"]] and ("uncertain" not in fields or not any(present)):
-            raise Fault(Status.DATABASE, "the databases are not those of the report: %s is not %s there"
-                        % (shown(path, 300), fields["kind"]))
+            raise Fault(
+                Status.DATABASE,
+                "the databases are not those of the report: %s is not %s there" % (shown(path, 300), fields["kind"]),
+            )
         old, new = self.read(change)
-        change.old_mode, change.new_mode = (self.modes.setdefault(entry.mode, entry.mode) if entry else 0 for entry in (old, new))
+        change.old_mode, change.new_mode = (
+            self.modes.setdefault(entry.mode, entry.mode) if entry else 0 for entry in (old, new)
+        )
         change.is_replaced = not (old and new) or old.field("inode") != new.field("inode")
         change.is_never = is_never_explained(path, change.old_mode, change.new_mode)
         return change
 
     def read(self, change):
         """What the databases say of a change: the old entry and the new one, None for one that is not there."""
-        return (None if change.old_at is None else self.old.at(change.old_at),
-                None if change.new_at is None else self.new.at(change.new_at))
+        return (
+            None if change.old_at is None else self.old.at(change.old_at),
+            None if change.new_at is None else self.new.at(change.new_at),
+        )
 
     def _explain_each(self, changes, explain):
         for change in changes:

@@ -54,7 +54,7 @@ class ArchiveFolder:
         """The signed files: of a mirror, of apt's lists, or of a folder of packages. Each with what its indexes' names begin
         with, and what stands in place of a slash in them."""
         names = os.listdir(self.fd)[:MOST_NAMES]
-        yield from ((name, name[:-len(RELEASE)], "_") for name in sorted(names) if name.endswith("_" + RELEASE))
+        yield from ((name, name[: -len(RELEASE)], "_") for name in sorted(names) if name.endswith("_" + RELEASE))
         yield RELEASE, "", "/"
         if "dists" in names:
             suites = os.open("dists", PIECE | os.O_DIRECTORY, dir_fd=self.fd)
@@ -74,8 +74,15 @@ def signed_text(descriptor, keyrings):
     rings = [word for ring in keyrings for word in ("--keyring", "/proc/self/fd/%d" % ring)]
     words = [program, "--homedir", "/nonexistent", "--status-fd", str(writing)] + rings + ["--output", "-", "-"]
     try:
-        done = subprocess.run(words, stdin=descriptor, stdout=subprocess.PIPE, stderr=subprocess.DEVNULL, timeout=SECONDS,
-                              pass_fds=tuple(keyrings) + (writing,), env={"LC_ALL": "C"})
+        done = subprocess.run(
+            words,
+            stdin=descriptor,
+            stdout=subprocess.PIPE,
+            stderr=subprocess.DEVNULL,
+            timeout=SECONDS,
+            pass_fds=tuple(keyrings) + (writing,),
+            env={"LC_ALL": "C"},
+        )
     except (OSError, subprocess.TimeoutExpired):
         os.close(reading)
         return None

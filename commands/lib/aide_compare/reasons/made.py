@@ -10,27 +10,46 @@ from aide_compare.reasons.table import Table, pattern_of
 ANY = b"/"
 # What is made, and which path a package has that has it made. A row counts only if a package with such a path changed.
 ROWS = (
-    (b"/etc/ld.so.cache", b"/usr/lib/"), (b"/var/cache/ldconfig/**", b"/usr/lib/"),
-    (b"/usr/share/mime", b"/usr/share/mime/packages"), (b"/usr/share/mime/**", b"/usr/share/mime/packages"),
+    (b"/etc/ld.so.cache", b"/usr/lib/"),
+    (b"/var/cache/ldconfig/**", b"/usr/lib/"),
+    (b"/usr/share/mime", b"/usr/share/mime/packages"),
+    (b"/usr/share/mime/**", b"/usr/share/mime/packages"),
     (b"/usr/share/applications/mimeinfo.cache", b"/usr/share/applications"),
     (b"/usr/share/icons/*/icon-theme.cache", b"/usr/share/icons"),
     (b"/usr/share/glib-2.0/schemas/gschemas.compiled", b"/usr/share/glib-2.0/schemas"),
-    (b"/usr/share/info/dir*", b"/usr/share/info"), (b"/var/cache/man/**", b"/usr/share/man"),
-    (b"/var/cache/fontconfig/**", b"/usr/share/fonts"), (b"/var/cache/fontconfig/**", b"/etc/fonts"),
+    (b"/usr/share/info/dir*", b"/usr/share/info"),
+    (b"/var/cache/man/**", b"/usr/share/man"),
+    (b"/var/cache/fontconfig/**", b"/usr/share/fonts"),
+    (b"/var/cache/fontconfig/**", b"/etc/fonts"),
     (b"/usr/lib/locale/locale-archive", b"/usr/share/i18n"),
-    (b"/etc/alternatives/*", ANY), (b"/etc/rc?.d/*", b"/etc/init.d/"),
-    (b"/etc/ssl/certs/*", b"/usr/share/ca-certificates"), (b"/etc/ca-certificates.conf*", b"/usr/share/ca-certificates"),
+    (b"/etc/alternatives/*", ANY),
+    (b"/etc/rc?.d/*", b"/etc/init.d/"),
+    (b"/etc/ssl/certs/*", b"/usr/share/ca-certificates"),
+    (b"/etc/ca-certificates.conf*", b"/usr/share/ca-certificates"),
     (b"/usr/local/share/ca-certificates", b"/usr/share/ca-certificates"),
-    (b"/etc/shells", b"/usr/share/debianutils/shells.d"), (b"/var/lib/shells.state", b"/usr/share/debianutils/shells.d"),
-    (b"/etc/timezone", b"/usr/share/zoneinfo"), (b"/etc/localtime", b"/usr/share/zoneinfo"),
-    (b"/etc/python3/debian_config", b"/usr/share/python3"), (b"/etc/apparmor.d/local/*", b"/etc/apparmor.d"),
-    (b"/boot/initrd.img-*", b"/boot/"), (b"/boot/initrd.img-*", b"/usr/share/initramfs-tools"),
-    (b"/initrd.img*", b"/boot/"), (b"/vmlinuz*", b"/boot/"), (b"/boot/grub/grub.cfg", b"/boot/"),
+    (b"/etc/shells", b"/usr/share/debianutils/shells.d"),
+    (b"/var/lib/shells.state", b"/usr/share/debianutils/shells.d"),
+    (b"/etc/timezone", b"/usr/share/zoneinfo"),
+    (b"/etc/localtime", b"/usr/share/zoneinfo"),
+    (b"/etc/python3/debian_config", b"/usr/share/python3"),
+    (b"/etc/apparmor.d/local/*", b"/etc/apparmor.d"),
+    (b"/boot/initrd.img-*", b"/boot/"),
+    (b"/boot/initrd.img-*", b"/usr/share/initramfs-tools"),
+    (b"/initrd.img*", b"/boot/"),
+    (b"/vmlinuz*", b"/boot/"),
+    (b"/boot/grub/grub.cfg", b"/boot/"),
     (b"/usr/lib/modules/*/modules.*", b"/usr/lib/modules"),
-    (b"/var/lib/dpkg/*", ANY), (b"/var/lib/dpkg/alternatives/*", ANY), (b"/var/lib/dpkg/triggers/*", ANY),
-    (b"/var/lib/apt/**", ANY), (b"/var/cache/apt/**", ANY), (b"/var/cache/debconf/*", ANY), (b"/var/lib/ucf/**", ANY),
-    (b"/var/log/apt/*", ANY), (b"/var/log/dpkg.log", ANY),
-    (b"/var/lib/systemd/deb-systemd-helper-enabled/**", ANY), (b"/var/lib/systemd/deb-systemd-user-helper-enabled/**", ANY),
+    (b"/var/lib/dpkg/*", ANY),
+    (b"/var/lib/dpkg/alternatives/*", ANY),
+    (b"/var/lib/dpkg/triggers/*", ANY),
+    (b"/var/lib/apt/**", ANY),
+    (b"/var/cache/apt/**", ANY),
+    (b"/var/cache/debconf/*", ANY),
+    (b"/var/lib/ucf/**", ANY),
+    (b"/var/log/apt/*", ANY),
+    (b"/var/log/dpkg.log", ANY),
+    (b"/var/lib/systemd/deb-systemd-helper-enabled/**", ANY),
+    (b"/var/lib/systemd/deb-systemd-user-helper-enabled/**", ANY),
 )
 COMPILED = re.compile(rb"(/.*)/__pycache__/([^/]+)\.cpython-[0-9]+(?:\.opt-[12])?\.pyc")
 CACHE = b"/__pycache__"
@@ -48,7 +67,7 @@ def source_of(path):
     found = COMPILED.fullmatch(path)
     if found:
         return found.group(1) + b"/" + found.group(2) + b".py"
-    return path[:-len(CACHE)] if path.endswith(CACHE) else None
+    return path[: -len(CACHE)] if path.endswith(CACHE) else None
 
 
 def made_by(why):

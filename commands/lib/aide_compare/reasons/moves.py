@@ -68,8 +68,9 @@ class Moves:
             return None
         for source in self.by_stem.get((change.folder(), stem), ()):
             if source is not change and self._is_packed(self.read(source)[0], new):
-                change.reason = Reason("moved", "compressed from %s, content not verified" % shown(name_of(source.path), 200),
-                                       False, "databases")
+                change.reason = Reason(
+                    "moved", "compressed from %s, content not verified" % shown(name_of(source.path), 200), False, "databases"
+                )
                 return source
         return None
 
@@ -86,4 +87,6 @@ class Moves:
             return None
         if not differences(old, new) <= GROWS | {"inode"}:
             return None
-        return Reason("moved", "rotated to %s; the new file is not verified" % shown(name_of(change.path), 200), False, "databases")
+        return Reason(
+            "moved", "rotated to %s; the new file is not verified" % shown(name_of(change.path), 200), False, "databases"
+        )

@@ -90,7 +90,7 @@ class Packages:
     def _by_records(self, path, new):
         """The reason if the digest is one that dpkg's records of the changed packages have for this path."""
         found = self.known.digests.get(path, b"")
-        digests = (found[begin:begin + MD5_SIZE] for begin in range(0, len(found), MD5_SIZE))
+        digests = (found[begin : begin + MD5_SIZE] for begin in range(0, len(found), MD5_SIZE))
         return self._package(path) if any(self._agrees(path, new, {"md5": digest}) for digest in digests) else None
 
     def _agrees(self, path, entry, wanted):
@@ -137,5 +137,8 @@ class Packages:
     def owner_of(self, change):
         """The reason for a folder of a changed package in which no name changed: dpkg writes new files beside the old ones."""
         owners = self.known.now.get(change.path)
-        return Reason("folder", "a folder of %s, only its times or size changed" % words_of(owners[-1]), False, "dpkg") \
-            if owners else None
+        return (
+            Reason("folder", "a folder of %s, only its times or size changed" % words_of(owners[-1]), False, "dpkg")
+            if owners
+            else None
+        )

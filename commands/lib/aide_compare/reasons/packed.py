@@ -66,8 +66,12 @@ class _Zlib:
         return not self.rest
 
 
-DECODERS = {"gz": _Zlib, "bz2": bz2.BZ2Decompressor, "xz": lambda: lzma.LZMADecompressor(memlimit=MOST_MEMORY),
-            "lzma": lambda: lzma.LZMADecompressor(memlimit=MOST_MEMORY)}
+DECODERS = {
+    "gz": _Zlib,
+    "bz2": bz2.BZ2Decompressor,
+    "xz": lambda: lzma.LZMADecompressor(memlimit=MOST_MEMORY),
+    "lzma": lambda: lzma.LZMADecompressor(memlimit=MOST_MEMORY),
+}
 
 
 def _decoded(source, kind):
@@ -89,8 +93,9 @@ def _by_program(source, kind):
     program = shutil.which(name)
     if not program:
         raise Refuted("there is no program %s" % name)
-    with subprocess.Popen([program, options], stdin=source, stdout=subprocess.PIPE, stderr=subprocess.DEVNULL,
-                          env={"LC_ALL": "C"}) as process:
+    with subprocess.Popen(
+        [program, options], stdin=source, stdout=subprocess.PIPE, stderr=subprocess.DEVNULL, env={"LC_ALL": "C"}
+    ) as process:
         try:
             yield from iter(lambda: process.stdout.read(BLOCK), b"")
             if process.wait():

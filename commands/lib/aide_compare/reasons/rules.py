@@ -14,10 +14,25 @@ from aide_compare.reasons.trusted import lines_of
 MOST_TEXT = 200
 # The columns that each word stands for, beside `added` and `removed`.
 COLUMNS = {
-    "size": {"size"}, "bcount": {"bcount"}, "mtime": {"mtime"}, "ctime": {"ctime"}, "atime": {"atime"}, "inode": {"inode"},
-    "linkcount": {"lcount"}, "lname": {"lname"}, "digests": DIGESTS, "perm": {"perm"}, "uid": {"uid"}, "gid": {"gid"},
-    "acl": {"acl"}, "xattrs": {"xattrs"}, "selinux": {"selinux"}, "e2fsattrs": {"e2fsattrs"}, "caps": {"capabilities"},
-    "times": {"mtime", "ctime", "atime"}, "content": DIGESTS | {"size", "bcount", "mtime", "ctime", "atime"},
+    "size": {"size"},
+    "bcount": {"bcount"},
+    "mtime": {"mtime"},
+    "ctime": {"ctime"},
+    "atime": {"atime"},
+    "inode": {"inode"},
+    "linkcount": {"lcount"},
+    "lname": {"lname"},
+    "digests": DIGESTS,
+    "perm": {"perm"},
+    "uid": {"uid"},
+    "gid": {"gid"},
+    "acl": {"acl"},
+    "xattrs": {"xattrs"},
+    "selinux": {"selinux"},
+    "e2fsattrs": {"e2fsattrs"},
+    "caps": {"capabilities"},
+    "times": {"mtime", "ctime", "atime"},
+    "content": DIGESTS | {"size", "bcount", "mtime", "ctime", "atime"},
 }
 KINDS, GROWS = ("added", "removed"), "grows"
 

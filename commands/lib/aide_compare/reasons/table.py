@@ -22,7 +22,7 @@ class _Placed:
     at most, and one piece that it has somewhere. `is_all` says that nothing else is to be tested."""
 
     def __init__(self, number, row):
-        rest = row.pattern.text[1:].split(b"/")[len(row.pattern.fixed):]
+        rest = row.pattern.text[1:].split(b"/")[len(row.pattern.fixed) :]
         self.number, self.row, self.is_all = number, row, rest in ([], [b"**"])
         self.least = len(row.pattern.fixed) + sum(piece != b"**" for piece in rest) + (rest[-1:] == [b"**"])
         self.most = MOST_PATH if b"**" in rest else self.least

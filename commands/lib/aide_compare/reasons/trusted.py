@@ -46,8 +46,9 @@ def lines_of(path, what):
         text = read_whole(descriptor, MOST_BYTES, "%s %s" % (what, shown(path)))
     finally:
         os.close(descriptor)
-    lines = [(line.strip(b" \t\r"), "%s, line %d" % (shown(path, 200), number))
-             for number, line in enumerate(text.split(b"\n"), 1)]
+    lines = [
+        (line.strip(b" \t\r"), "%s, line %d" % (shown(path, 200), number)) for number, line in enumerate(text.split(b"\n"), 1)
+    ]
     lines = [(line, place) for line, place in lines if line and not line.startswith(b"#")]
     if len(lines) > MOST_LINES:
         raise Fault(Status.USAGE, "%s %s has more than %d lines" % (what, shown(path), MOST_LINES))
