@@ -11,8 +11,10 @@ from .accepting import BASE, OLDER, accept, contents, fresh, is_tried
 from .sandbox import AS_NOBODY, NEW, NOBODY, OLD, UMASK, sha256
 
 TOOL = "aide-compare-accept"
-STATE = "format=2\nstatus=7\ntime=1764000000\ndate=x\nadded=1\nremoved=1\nchanged=2\nold_sha256=%s\nnew_sha256=%s\n" \
-        "old=o\nnew=n\nold_written=\nnew_written=\nerror=\n"
+STATE = (
+    "format=2\nstatus=7\ntime=1764000000\ndate=x\nadded=1\nremoved=1\nchanged=2\nold_sha256=%s\nnew_sha256=%s\n"
+    "old=o\nnew=n\nold_written=\nnew_written=\nerror=\n"
+)
 
 
 def try_accept(sandbox):
@@ -73,9 +75,17 @@ def try_refusals(sandbox):
     sandbox.write("odd", "format=1\nstatus=0\nnew_sha256=%s\n" % sha256(NEW))
     whole = sha256(NEW)
     for digest, words, status in (
-        (whole, ["--state", "odd"], 18), (whole, ["--state", "missing"], 18), (whole, ["--odd"], 15),
-        (whole[:15], [], 15), ("x" * 64, [], 15), ("", [], 15), (whole + "0", [], 15), ("A" * 42 + "B=", [], 15),
-        (whole, ["--most", "20"], 18), (whole, ["--most", "x"], 15), (whole, ["--keep", "kept"], 15),
+        (whole, ["--state", "odd"], 18),
+        (whole, ["--state", "missing"], 18),
+        (whole, ["--odd"], 15),
+        (whole[:15], [], 15),
+        ("x" * 64, [], 15),
+        ("", [], 15),
+        (whole + "0", [], 15),
+        ("A" * 42 + "B=", [], 15),
+        (whole, ["--most", "20"], 18),
+        (whole, ["--most", "x"], 15),
+        (whole, ["--keep", "kept"], 15),
     ):
         answer = accept(sandbox, digest, *words)
         sandbox.expect("the arguments %r %r" % (digest, words), answer, status, b"", b"aide-compare-accept: ")

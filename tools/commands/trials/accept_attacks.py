@@ -18,8 +18,14 @@ def try_accept_attacks(sandbox):
     try_swapped_database(sandbox)
     if os.getuid() != 0:
         return print("skipped: attacks on aide-compare-accept by another user (they need root)")
-    for trial in (try_baseline_at_calls, try_folder_at_calls, try_moved_folder, try_baseline_in_a_loop,
-                  try_folder_in_a_loop, try_names_taken):
+    for trial in (
+        try_baseline_at_calls,
+        try_folder_at_calls,
+        try_moved_folder,
+        try_baseline_in_a_loop,
+        try_folder_in_a_loop,
+        try_names_taken,
+    ):
         trial(sandbox)
 
 
@@ -29,8 +35,7 @@ def at_call(sandbox, kind, settings, number, way, child):
     before, mark = roots(sandbox), sandbox.path("marks/swapped")
     if os.path.isdir(mark):
         os.rmdir(mark)
-    done = call(sandbox, **settings, AT_NUMBER=number, AT_WAY=way, AT_CHILD=child, AT_ONE=one, AT_OTHER=other,
-                AT_MARK=mark)
+    done = call(sandbox, **settings, AT_NUMBER=number, AT_WAY=way, AT_CHILD=child, AT_ONE=one, AT_OTHER=other, AT_MARK=mark)
     return done, harm(sandbox, before), os.path.isdir(mark)
 
 
@@ -90,7 +95,14 @@ def in_a_loop(sandbox, kind):
     name = "the %s swapped by another user" % kind
     sandbox.holds("%s, %d rounds" % (name, ROUNDS), not harmed, harmed)
     told = "%d swaps by the user %s, some in %d of %d rounds, done %d, refused %d, %.0f seconds" % (
-        count, user, busy, len(statuses), statuses.count(0), statuses.count(18), time.time() - begun)
+        count,
+        user,
+        busy,
+        len(statuses),
+        statuses.count(0),
+        statuses.count(18),
+        time.time() - begun,
+    )
     print("%s: %s" % (name, told), flush=True)
     is_busy = count > 20 * len(statuses) and busy > 0.9 * len(statuses)
     sandbox.holds(name + ", again and again", user == NOBODY and is_busy, told)

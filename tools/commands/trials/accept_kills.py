@@ -52,8 +52,9 @@ def try_kills(sandbox):
 def try_kills_of_records(sandbox):
     """On a machine with dpkg: at no moment records of another baseline are beside the one that is there."""
     small_dpkg(sandbox)
-    kill_everywhere(sandbox, [("with records", None, 0, 0)] + ([("with records in the child", NOBODY, 1, 0)]
-                                                                if os.getuid() == 0 else []))
+    kill_everywhere(
+        sandbox, [("with records", None, 0, 0)] + ([("with records in the child", NOBODY, 1, 0)] if os.getuid() == 0 else [])
+    )
     shutil.rmtree(sandbox.path("dpkg"))
 
 
@@ -86,6 +87,9 @@ def kill_at(sandbox, settings, number, form, owner, child, old):
     again = accept_at(sandbox, settings, AT_NUMBER=0)
     wanted = sha256(NEW) if os.path.isdir(sandbox.path("dpkg")) else None
     good = contents(sandbox) == (NEW, OLD, NEW, 3) and records_of(sandbox) == wanted
-    sandbox.holds("the next run, killed %s before call %d" % (form, number), again.status == 0 and good,
-                  (again, contents(sandbox), records_of(sandbox)))
+    sandbox.holds(
+        "the next run, killed %s before call %d" % (form, number),
+        again.status == 0 and good,
+        (again, contents(sandbox), records_of(sandbox)),
+    )
     return ended and whole

@@ -61,8 +61,12 @@ def contents(sandbox):
         found = sandbox.read(BASE + name)
         return gzip.decompress(found) if found[:2] == b"\x1f\x8b" else found
 
-    return text("aide.db"), text("aide.db.previous"), text("aide.db.new"), len(
-        set(os.listdir(sandbox.path("base"))) - {"aide.db.packages"})
+    return (
+        text("aide.db"),
+        text("aide.db.previous"),
+        text("aide.db.new"),
+        len(set(os.listdir(sandbox.path("base"))) - {"aide.db.packages"}),
+    )
 
 
 def accept(sandbox, digest, *words, **more):

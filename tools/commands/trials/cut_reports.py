@@ -17,6 +17,7 @@ def cuts(text, counts, whole, step):
     from aide_compare.cut_reports import CUT_WORDS, KeptReport
     from aide_compare.hosts_read import Host, entries_of
     from aide_compare.state import State
+
     before = -1
     details = text.find(b"\nDetailed information about changes:\n")
     for size in range(0, len(text), step):
@@ -42,10 +43,17 @@ def try_every_cut(sandbox):
     """A report that is cut at any byte gives all that is whole in it: the entries of the lists first, then their values."""
     hosts, program = four_hosts(sandbox), sandbox.path("bin/aide-compare")
     folder = sandbox.path("store/hosts/www1/")
-    for option, step in (("report_grouped=yes", 1), ("report_grouped=no", 5), ("report_summarize_changes=no", 5),
-                         ("report_grouped=no\nreport_summarize_changes=no", 5)):
+    for option, step in (
+        ("report_grouped=yes", 1),
+        ("report_grouped=no", 5),
+        ("report_summarize_changes=no", 5),
+        ("report_grouped=no\nreport_summarize_changes=no", 5),
+    ):
         lines = "database_in=file:%saide.db\ndatabase_new=file:%saide.db.new\nreport_level=added_removed_entries\n%s" % (
-            folder, folder, option)
+            folder,
+            folder,
+            option,
+        )
         text = subprocess.run([program, "-E", "-c", "/dev/null", "-A", lines], stdout=subprocess.PIPE).stdout
         done = sandbox.call("aide-compare-json", text=text)
         whole = [each for each in map(json.loads, done.output.splitlines()) if each["record"] == "entry"]
@@ -73,8 +81,10 @@ def try_cut_stream(sandbox):
     valued = sum("attributes" in each for each in changes if "long" in each["names"])
     sandbox.holds("and the first of its values", 5 < valued < 200, valued)
     status, output, _ = hosts.report()
-    parts = ("long: its report was cut (--most-report of compare-hosts); 201 of 201 changes are listed below, not all with ",
-             "listless: its report has no list of them; 0 of 201 changes are listed below")
+    parts = (
+        "long: its report was cut (--most-report of compare-hosts); 201 of 201 changes are listed below, not all with ",
+        "listless: its report has no list of them; 0 of 201 changes are listed below",
+    )
     sandbox.holds("the text says so", status == 4 and all(part in output for part in parts), output[:800])
     sandbox.write("store/hosts/listless/report", sandbox.read("store/hosts/short/report"), 0o600)
     sandbox.write("store/hosts/short/report", sandbox.read("store/hosts/short/report")[:-90], 0o600)

@@ -11,17 +11,24 @@ TOOL = "aide-compare-run"
 HEAD = b"@@begin_db\n@@db_spec name attr perm uid gid size\n"
 ALL, GROWING, GOES = 60, 1 << 40, 1 << 29
 # A removed file and a grown one whose rules allow that, a file with another mode, and a new set-user-ID program.
-OLD = HEAD + b"/etc/gone %d 100644 0 0 5\n/etc/plain %d 100644 0 0 5\n/srv/log %d 100644 0 33 5\n" % (
-    ALL | GOES, ALL, ALL | GROWING) + END
-NEW = HEAD + b"/etc/plain %d 100600 0 0 5\n/srv/log %d 100644 0 33 9\n/usr/.x%%20y %d 104755 0 0 7\n" % (
-    ALL, ALL | GROWING, ALL) + END
+OLD = (
+    HEAD
+    + b"/etc/gone %d 100644 0 0 5\n/etc/plain %d 100644 0 0 5\n/srv/log %d 100644 0 33 5\n" % (ALL | GOES, ALL, ALL | GROWING)
+    + END
+)
+NEW = (
+    HEAD
+    + b"/etc/plain %d 100600 0 0 5\n/srv/log %d 100644 0 33 9\n/usr/.x%%20y %d 104755 0 0 7\n" % (ALL, ALL | GROWING, ALL)
+    + END
+)
 # The same without what nothing explains.
 GREW = OLD.replace(b"33 5", b"33 9")
 GONE = HEAD + OLD.partition(b"\n/etc/plain")[2].join([b"/etc/plain", b""])
 TABLE = b"high new-set-id /**\nmedium any /etc/**\nlow any /**\n"
 COUNTS = {"explained": "1", "not_verified": "1", "unexplained": "2", "high": "1", "medium": "1", "low": "1"}
 WORDS = "2 unexplained, 1 not verified of 4 changes, 1 high, 1 medium"
-BRIEF = """%s
+BRIEF = (
+    """%s
 
 Unexplained:
   high    added    /usr/.x y: -rwsr-xr-x root:root 7 bytes
@@ -33,7 +40,9 @@ Not verified:
 Explained:
   gone, as its rule allows (ARF): 1 change
 
-""" % WORDS
+"""
+    % WORDS
+)
 REASONS = ["--reasons", "--severity", "table"]
 
 
@@ -43,7 +52,17 @@ def prepare(sandbox):
 
 
 def try_explained(sandbox):
-    for trial in (try_places, try_levels, try_outputs, try_lines, try_many, try_hostile, try_records, try_misuse, try_no_reasons):
+    for trial in (
+        try_places,
+        try_levels,
+        try_outputs,
+        try_lines,
+        try_many,
+        try_hostile,
+        try_records,
+        try_misuse,
+        try_no_reasons,
+    ):
         trial(sandbox)
 
 
@@ -67,8 +86,9 @@ def try_places(sandbox):
     state = sandbox.state()
     sandbox.holds("the state has the counts", COUNTS.items() <= state.items() and state["status"] == "7", state)
     sandbox.holds("what people read first", read(sandbox, "brief").decode() == BRIEF, read(sandbox, "brief"))
-    sandbox.holds("who may read it", os.path.exists(sandbox.path("brief"))
-                  and os.stat(sandbox.path("brief")).st_mode & 0o777 == 0o600)
+    sandbox.holds(
+        "who may read it", os.path.exists(sandbox.path("brief")) and os.stat(sandbox.path("brief")).st_mode & 0o777 == 0o600
+    )
     sandbox.call(TOOL, "--state", "state", "o.db", "n.db")
     sandbox.holds("a state without reasons", not COUNTS.keys() & sandbox.state().keys(), sandbox.state())
     answer = run(sandbox, "--state", "state", "--brief", "brief", "o.db", "o.db")
@@ -84,7 +104,10 @@ def try_levels(sandbox):
     """A report of each level has the same reasons, also one that lists no entry, and one for which the configuration is fixed."""
     prepare(sandbox)
     levels = ["minimal", "summary", "database_attributes", "list_entries", "added_removed_entries"]
-    texts = ["report_level=%s" % level for level in levels] + ["report_grouped=no\nreport_summarize_changes=no", "report_quiet=yes"]
+    texts = ["report_level=%s" % level for level in levels] + [
+        "report_grouped=no\nreport_summarize_changes=no",
+        "report_quiet=yes",
+    ]
     for text in texts:
         plain = sandbox.call(TOOL, "o.db", "n.db", "--", "-A", text)
         answer = run(sandbox, "--brief", "brief", "--lines", "lines", "o.db", "n.db", "--", "-A", text)
@@ -115,14 +138,18 @@ def try_outputs(sandbox):
     sandbox.expect("to one that is only read", done, 18, b"", b"has not opened it for writing")
     os.symlink("there", sandbox.path("link"))
     for name, status in (("link", 18), ("bin", 15), ("table/x", 18)):
-        sandbox.expect("to " + name, run(sandbox, "--lines", name, "o.db", "n.db"), status, b"", b"cannot write" if status == 18 else None)
+        sandbox.expect(
+            "to " + name, run(sandbox, "--lines", name, "o.db", "n.db"), status, b"", b"cannot write" if status == 18 else None
+        )
     with open("/dev/full", "wb") as full:
         done = run(sandbox, "--brief", "/dev/stderr", "o.db", "n.db", stderr=full)
     sandbox.holds("to a full device", done.status == 18 and b"Added entries:" in done.output, done)
     for name in ("lines", "brief"):
         sandbox.write(name, "of an earlier run")
     done = run(sandbox, "--lines", "lines", "--brief", "brief", "o.db", "missing.db")
-    sandbox.holds("nothing is left of an earlier run", done.status == 18 and read(sandbox, "lines") == read(sandbox, "brief") == b"")
+    sandbox.holds(
+        "nothing is left of an earlier run", done.status == 18 and read(sandbox, "lines") == read(sandbox, "brief") == b""
+    )
 
 
 def try_lines(sandbox):
@@ -130,19 +157,28 @@ def try_lines(sandbox):
     prepare(sandbox)
     report = run(sandbox, "--state", "state", "--lines", "lines", "o.db", "n.db").output
     json_lines = sandbox.call("aide-compare-json", "--full", "--state", "state", text=report).output
-    reasons = sandbox.call("aide-compare-reasons", "--databases", "o.db", "n.db", "--severity", "table", text=json_lines).output
+    reasons = sandbox.call(
+        "aide-compare-reasons", "--databases", "o.db", "n.db", "--severity", "table", text=json_lines
+    ).output
     sandbox.holds("the lines with reasons", reasons and read(sandbox, "lines") == reasons, (read(sandbox, "lines"), reasons))
     answer = sandbox.call(TOOL, "--state", "state", "--lines", "lines", "o.db", "n.db")
     json_lines = sandbox.call("aide-compare-json", "--full", "--state", "state", text=report).output
     sandbox.expect("the lines alone", answer, 7, report, b"SHA-256")
-    sandbox.holds("they are those of aide-compare-json", read(sandbox, "lines") == json_lines and b"unexplained" not in answer.errors)
+    sandbox.holds(
+        "they are those of aide-compare-json", read(sandbox, "lines") == json_lines and b"unexplained" not in answer.errors
+    )
     answer = sandbox.call(TOOL, "--state", "state", "--lines", "lines", "--without-path", "/etc/*", "o.db", "n.db")
     json_lines = sandbox.call("aide-compare-json", "--full", "--state", "state", text=answer.output).output
     sandbox.holds("they are so if entries are left out", json_lines and read(sandbox, "lines") == json_lines, json_lines)
     summary = json.loads(read(sandbox, "lines").split(b"\n")[0] or b"{}")
-    sandbox.holds("they say where and when", summary.get("host") and summary.get("status") == answer.status and summary.get("@timestamp"),
-                  summary)
-    sandbox.holds("what was left out", summary.get("left_out") == {"old": 2, "new": 1} and len(entries(sandbox, "lines")) == 2, summary)
+    sandbox.holds(
+        "they say where and when",
+        summary.get("host") and summary.get("status") == answer.status and summary.get("@timestamp"),
+        summary,
+    )
+    sandbox.holds(
+        "what was left out", summary.get("left_out") == {"old": 2, "new": 1} and len(entries(sandbox, "lines")) == 2, summary
+    )
     page = sandbox.call("aide-compare-html", "--plain", "lines")
     sandbox.holds("a page of them", page.status == 0 and b">log<" in page.output, page.output[-2000:])
     sandbox.call(TOOL, "--lines", "lines", "o.db", "o.db")
@@ -157,10 +193,24 @@ def try_many(sandbox):
     sandbox.write("many.db", NEW.replace(b"/srv", new + b"/srv"))
     run(sandbox, "--brief", "brief", "o.db", "many.db")
     text = read(sandbox, "brief").decode()
-    places = [text.find(part) for part in ("3002 unexplained, 1 not verified of 3004", "/usr/.x y", "/etc/plain", "/m/0000",
-                                           "  low     and 2800 more\n", "Not verified:", "Explained:")]
-    sandbox.holds("many entries", -1 not in places and places == sorted(places) and text.count("/m/") == 200, (places, text[:500]))
-    sandbox.write("large.db", HEAD + b"".join(b"/g/%05d %d 100644 0 0 1\n" % (number, ALL | GOES) for number in range(30000)) + END)
+    places = [
+        text.find(part)
+        for part in (
+            "3002 unexplained, 1 not verified of 3004",
+            "/usr/.x y",
+            "/etc/plain",
+            "/m/0000",
+            "  low     and 2800 more\n",
+            "Not verified:",
+            "Explained:",
+        )
+    ]
+    sandbox.holds(
+        "many entries", -1 not in places and places == sorted(places) and text.count("/m/") == 200, (places, text[:500])
+    )
+    sandbox.write(
+        "large.db", HEAD + b"".join(b"/g/%05d %d 100644 0 0 1\n" % (number, ALL | GOES) for number in range(30000)) + END
+    )
     sandbox.write("none.db", HEAD + END)
     answer = run(sandbox, "--brief", "brief", "large.db", "none.db", "--", "-A", "report_level=summary")
     sandbox.expect("30,000 explained entries", answer, 2, None, b"30000 changes, all explained")
@@ -188,19 +238,25 @@ def try_records(sandbox):
     again = sandbox.call("aide-compare-accept", "--only-packages", "o.db")
     sandbox.expect("they are kept once", again, 0, b"packages: they are kept already\n", b"")
     answer = run(sandbox, "o.db", "n.db")
-    sandbox.holds("the records are taken", b"no package explains" not in answer.errors and WORDS.encode() in answer.errors, answer)
+    sandbox.holds(
+        "the records are taken", b"no package explains" not in answer.errors and WORDS.encode() in answer.errors, answer
+    )
     kept = sandbox.read("o.db.packages")
-    end = kept[kept.rindex(b"\x1f\x8b"):]
+    end = kept[kept.rindex(b"\x1f\x8b") :]
     sandbox.holds("the records end with the digest", gzip.decompress(end) == gzip.decompress(marked(OLD)), end)
-    for label, text, said in (("of another baseline", kept[:-len(end)] + marked(NEW), b"they belong to another baseline"),
-                              ("that are damaged", b"x" * 50, b"no package explains a change: o.db.packages: "),
-                              ("that others can write", kept, b"other users can write")):
+    for label, text, said in (
+        ("of another baseline", kept[: -len(end)] + marked(NEW), b"they belong to another baseline"),
+        ("that are damaged", b"x" * 50, b"no package explains a change: o.db.packages: "),
+        ("that others can write", kept, b"other users can write"),
+    ):
         sandbox.write("o.db.packages", text, 0o666 if b"others" in said + b"others" * ("others" in label) else 0o600)
         answer = run(sandbox, "o.db", "n.db")
         sandbox.expect("records " + label, answer, 7, b"Added entries:", [said, WORDS.encode()])
-    sandbox.write("o.db.packages", kept[:-len(end)] + marked(NEW), 0o600)
+    sandbox.write("o.db.packages", kept[: -len(end)] + marked(NEW), 0o600)
     answer = run(sandbox, "--packages", "o.db.packages", "o.db", "n.db")
-    sandbox.expect("records of another baseline by name", answer, 7, None, [b"they belong to another baseline", WORDS.encode()])
+    sandbox.expect(
+        "records of another baseline by name", answer, 7, None, [b"they belong to another baseline", WORDS.encode()]
+    )
     os.remove(sandbox.path("o.db.packages"))
     answer = run(sandbox, "--packages", "missing", "o.db", "n.db")
     sandbox.expect("records that are missing", answer, 7, None, [b"missing: cannot open", WORDS.encode()])
@@ -222,9 +278,12 @@ def try_no_reasons(sandbox):
     name = "lib/aide_compare/reasons/explainer.py"
     text = sandbox.read(name)
     line = "        changes = [self._found(fields) for fields in objects]\n"
-    for fault, said in (("raise KeyError('x')", b"a fault of this command: KeyError"), ("raise MemoryError", b"out of memory"),
-                        ("raise OSError(28, 'no room')", b"no room"),
-                        ("objects = list(objects)[:1]", b"the counts of the reasons")):
+    for fault, said in (
+        ("raise KeyError('x')", b"a fault of this command: KeyError"),
+        ("raise MemoryError", b"out of memory"),
+        ("raise OSError(28, 'no room')", b"no room"),
+        ("objects = list(objects)[:1]", b"the counts of the reasons"),
+    ):
         sandbox.write("state", "")
         for each in ("brief", "lines"):
             sandbox.write(each, "of an earlier run")

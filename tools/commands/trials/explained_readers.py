@@ -12,15 +12,25 @@ QUIET = ["--alarm", "unexplained"]
 
 
 def try_explained_readers(sandbox):
-    for trial in (try_mails, try_alarm, try_sign_of_life, try_cut, try_pages, try_false_counts, try_state, try_check, try_limits,
-                  try_metrics_and_log):
+    for trial in (
+        try_mails,
+        try_alarm,
+        try_sign_of_life,
+        try_cut,
+        try_pages,
+        try_false_counts,
+        try_state,
+        try_check,
+        try_limits,
+        try_metrics_and_log,
+    ):
         trial(sandbox)
 
 
 def prepare(sandbox):
     mail.prepare(sandbox)
     explained.prepare(sandbox)
-    sandbox.edit("lib/aide_compare/reasons/records.py", 'DPKG = "/var/lib/dpkg"', 'DPKG = %r' % sandbox.path("dpkg"))
+    sandbox.edit("lib/aide_compare/reasons/records.py", 'DPKG = "/var/lib/dpkg"', "DPKG = %r" % sandbox.path("dpkg"))
 
 
 def call(sandbox, *words):
@@ -42,7 +52,9 @@ def try_mails(sandbox):
     sandbox.holds("the order of a mail", places[0] == 0 and -1 not in places and places == sorted(places), text)
     sandbox.holds("the counts are told once", text.count("unexplained") == 1, text)
     status, subject, text = call(sandbox, "o.db", "n.db")
-    sandbox.holds("without reasons all is as before", subject == mail.SUBJECT + "differences (1 added, 1 removed, 2 changed)", subject)
+    sandbox.holds(
+        "without reasons all is as before", subject == mail.SUBJECT + "differences (1 added, 1 removed, 2 changed)", subject
+    )
 
 
 def try_alarm(sandbox):
@@ -59,8 +71,12 @@ def try_alarm(sandbox):
     sandbox.holds("no comparison is an alarm", found[0] == 18 and "no comparison" in (found[1] or ""), found)
     answer = mail.call(sandbox, *QUIET, "o.db", "gone.db")
     sandbox.expect("it needs reasons", answer, 15, b"", b"--alarm unexplained needs --reasons")
-    sandbox.write("lib/aide_compare/reasons/explainer.py", sandbox.read("lib/aide_compare/reasons/explainer.py").replace(
-        b"        tally = Tally()\n", b"        raise KeyError\n"))
+    sandbox.write(
+        "lib/aide_compare/reasons/explainer.py",
+        sandbox.read("lib/aide_compare/reasons/explainer.py").replace(
+            b"        tally = Tally()\n", b"        raise KeyError\n"
+        ),
+    )
     found = call(sandbox, *REASONS, *QUIET, "o.db", "gone.db")
     good = found[:2] == (2, mail.SUBJECT + "differences (1 removed)") and "the changes are not explained" in (found[2] or "")
     sandbox.holds("without reasons every change is an alarm", good, found)
@@ -74,11 +90,15 @@ def try_sign_of_life(sandbox):
     for new in ("gone.db", "o.db", "gone.db"):
         found = call(sandbox, *words, other, "o.db", new)
         sandbox.holds("another day is quiet", found[1] is None, found)
-    sandbox.holds("the numbers that are kept", sandbox.read("quiet.state.quiet") == b"7 0 2\n", sandbox.read("quiet.state.quiet"))
+    sandbox.holds(
+        "the numbers that are kept", sandbox.read("quiet.state.quiet") == b"7 0 2\n", sandbox.read("quiet.state.quiet")
+    )
     found = call(sandbox, *words, day, "o.db", "gone.db")
     sandbox.holds("the sign of life", found[:2] == (2, mail.SUBJECT + "8 quiet runs, 3 changes explained"), found)
     found = call(sandbox, *words, other, "o.db", "gone.db")
-    sandbox.holds("it begins anew", sandbox.read("quiet.state.quiet").split()[::2] == [b"1", b"1"], sandbox.read("quiet.state.quiet"))
+    sandbox.holds(
+        "it begins anew", sandbox.read("quiet.state.quiet").split()[::2] == [b"1", b"1"], sandbox.read("quiet.state.quiet")
+    )
 
 
 def try_cut(sandbox):
@@ -89,11 +109,17 @@ def try_cut(sandbox):
     sandbox.write("none.db", explained.HEAD + b"@@end_db\n")
     for size in ("1M", "20k", "4k"):
         status, subject, text = call(sandbox, *REASONS, "--most-mail", size, "none.db", "many.db")
-        good = subject == mail.SUBJECT + "3000 unexplained of 3000 changes" and text.startswith(subject[len(mail.SUBJECT):] + "\n\n")
+        good = subject == mail.SUBJECT + "3000 unexplained of 3000 changes" and text.startswith(
+            subject[len(mail.SUBJECT) :] + "\n\n"
+        )
         most = {"1M": 1 << 20, "20k": 20 << 10, "4k": 4 << 10}[size]
-        sandbox.holds("a mail of " + size, good and len(text) <= most and "aide-compare-accept --sha256" in text, (len(text), text[:300]))
+        sandbox.holds(
+            "a mail of " + size, good and len(text) <= most and "aide-compare-accept --sha256" in text, (len(text), text[:300])
+        )
         listed = [line for line in text.split("\n") if line.startswith("  low     added")]
-        sandbox.holds("whole lines of " + size, all(line.endswith(": -rw-r--r-- root:root 1 bytes") for line in listed), listed[-1:])
+        sandbox.holds(
+            "whole lines of " + size, all(line.endswith(": -rw-r--r-- root:root 1 bytes") for line in listed), listed[-1:]
+        )
 
 
 def try_pages(sandbox):
@@ -132,7 +158,14 @@ def check(sandbox, label, status, *parts, words=()):
 
 def try_state(sandbox):
     """Counts that contradict each other or the changes are no state."""
-    for counts in ((1, 1, 2, 1, 1, 0), (1, 1, 2, 1, 1, 2), (2, 1, 2, 1, 1, 1), (1, 1, 2, 1, 1), (1, 1, "x", 1, 1, 1), (5, -1, 0, 0, 0, -1)):
+    for counts in (
+        (1, 1, 2, 1, 1, 0),
+        (1, 1, 2, 1, 1, 2),
+        (2, 1, 2, 1, 1, 1),
+        (1, 1, 2, 1, 1),
+        (1, 1, "x", 1, 1, 1),
+        (5, -1, 0, 0, 0, -1),
+    ):
         write_state(sandbox, counts)
         answer = sandbox.call("check_aide_compare", "--state", "state")
         sandbox.holds("the counts %s" % (counts,), answer.status == 3 and b"no state file" in answer.output, answer)
@@ -141,10 +174,11 @@ def try_state(sandbox):
 def try_check(sandbox):
     numbers = "|added=1 removed=1 changed=2 unexplained=%d not_verified=%d explained=%d high=%d medium=%d low=%d age="
     for counts, status, quiet, words in (
-            ((4, 0, 0, 0, 0, 0), 2, 0, "4 changes, all explained: 1 added, 1 removed, 2 changed|"),
-            ((3, 1, 0, 0, 0, 1), 2, 1, "1 not verified of 4 changes: 1 added"),
-            ((3, 0, 1, 0, 1, 0), 2, 2, "1 unexplained of 4 changes, 1 medium: 1 added"),
-            ((1, 1, 2, 1, 1, 1), 2, 2, WORDS + ": 1 added")):
+        ((4, 0, 0, 0, 0, 0), 2, 0, "4 changes, all explained: 1 added, 1 removed, 2 changed|"),
+        ((3, 1, 0, 0, 0, 1), 2, 1, "1 not verified of 4 changes: 1 added"),
+        ((3, 0, 1, 0, 1, 0), 2, 2, "1 unexplained of 4 changes, 1 medium: 1 added"),
+        ((1, 1, 2, 1, 1, 1), 2, 2, WORDS + ": 1 added"),
+    ):
         explained_, not_verified, unexplained, high, medium, low = counts
         graph = numbers % (unexplained, not_verified, explained_, high, medium, low)
         write_state(sandbox, counts)
@@ -160,9 +194,17 @@ def try_check(sandbox):
 
 def try_limits(sandbox):
     write_state(sandbox, (1, 1, 2, 0, 1, 2))
-    for words, status in ((["--critical", "high"], 1), (["--critical", "medium"], 2), (["--critical", "low"], 2), (["--critical", "3"], 2),
-                          (["--critical", "4"], 1), (["--critical=4", "--warning=4"], 0), (["--critical=high", "--warning=high"], 0),
-                          (["--critical", "high", "--warning", "medium"], 1), (["--warning", "4"], 2)):
+    for words, status in (
+        (["--critical", "high"], 1),
+        (["--critical", "medium"], 2),
+        (["--critical", "low"], 2),
+        (["--critical", "3"], 2),
+        (["--critical", "4"], 1),
+        (["--critical=4", "--warning=4"], 0),
+        (["--critical=high", "--warning=high"], 0),
+        (["--critical", "high", "--warning", "medium"], 1),
+        (["--warning", "4"], 2),
+    ):
         check(sandbox, "the limits %s" % words, status, words=words)
     write_state(sandbox, (3, 0, 1, 1, 0, 0))
     for name in ("low", "medium", "high"):

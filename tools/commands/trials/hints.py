@@ -3,55 +3,66 @@ import gzip
 
 from .sandbox import END, HEAD, NEW
 
-TOOL = 'aide-compare-run'
+TOOL = "aide-compare-run"
 
 
 def try_database_hints(sandbox):
-    name = 'hints é\n.db'
-    shown = 'the new database is hints é\\012.db\n'.encode()
+    name = "hints é\n.db"
+    shown = "the new database is hints é\\012.db\n".encode()
     for label, text, errors in (
         (
-            'a number',
-            NEW.replace(b'644 5', b'644 5x'),
-            [b'aide: new database:3: bad number in column 4\n', shown, b'line 3: /a 36 100644 5x\n', b'column 4 is size: 5x\n'],
+            "a number",
+            NEW.replace(b"644 5", b"644 5x"),
+            [
+                b"aide: new database:3: bad number in column 4\n",
+                shown,
+                b"line 3: /a 36 100644 5x\n",
+                b"column 4 is size: 5x\n",
+            ],
         ),
         (
-            'blanks and tabs',
-            NEW.replace(b'644 5', b'644\t \t5x'),
-            [b'line 3: /a 36 100644\\011 \\0115x\n', b'column 4 is size: 5x\n'],
+            "blanks and tabs",
+            NEW.replace(b"644 5", b"644\t \t5x"),
+            [b"line 3: /a 36 100644\\011 \\0115x\n", b"column 4 is size: 5x\n"],
         ),
-        ('a control byte', NEW.replace(b'644 5', b'644 \x1b[31m\\\x7f'), [b'line 3: /a 36 100644 \\033[31m\\134\\177\n']),
-        ('a long line', NEW.replace(b'644 5', b'644 ' + b'x' * 5000), [b'line 3: /a 36 100644 ' + b'x' * 187 + b'...\n']),
+        ("a control byte", NEW.replace(b"644 5", b"644 \x1b[31m\\\x7f"), [b"line 3: /a 36 100644 \\033[31m\\134\\177\n"]),
+        ("a long line", NEW.replace(b"644 5", b"644 " + b"x" * 5000), [b"line 3: /a 36 100644 " + b"x" * 187 + b"...\n"]),
         (
-            'a long line of letters',
-            NEW.replace(b'644 5', b'644 ' + 'é'.encode() * 900),
-            ['0644 '.encode() + 'é'.encode() * 187 + b'...\n'],
+            "a long line of letters",
+            NEW.replace(b"644 5", b"644 " + "é".encode() * 900),
+            ["0644 ".encode() + "é".encode() * 187 + b"...\n"],
         ),
-        ('two tables of columns', HEAD + b'@@db_spec name size\n/a x\n' + END, [b'line ']),
+        ("two tables of columns", HEAD + b"@@db_spec name size\n/a x\n" + END, [b"line "]),
         (
-            'the order',
-            NEW.replace(b'/a ', b'/x '),
-            [b'aide: new database:4: entry out of path order\n', shown, b'line 4: /c', b'damaged: make it anew', b'aide-compare-sort'],
+            "the order",
+            NEW.replace(b"/a ", b"/x "),
+            [
+                b"aide: new database:4: entry out of path order\n",
+                shown,
+                b"line 4: /c",
+                b"damaged: make it anew",
+                b"aide-compare-sort",
+            ],
         ),
-        ('no end', NEW[:-9], [b'no @@end_db\n', shown, b'ends too early']),
-        ('nothing', b'', [b'no @@begin_db\n', b'it is empty']),
-        ('xz', b'\xfd7zXZ\0' + NEW, [b'compressed by xz']),
-        ('zstd', b'\x28\xb5\x2f\xfd' + NEW, [b'compressed by zstd']),
-        ('bzip2', b'BZh9' + NEW, [b'compressed by bzip2']),
-        ('gzip twice', gzip.compress(gzip.compress(NEW)), [b'compressed twice']),
-        ('a byte order mark', b'\xef\xbb\xbf' + NEW, [b'byte order mark']),
-        ('UTF-16', NEW.decode().encode('utf-16'), [b'UTF-16']),
-        ('another file', b'root:x:0:0\n', [b'no @@begin_db\n', b'line 1: root:x:0:0\n', b'no database of AIDE']),
+        ("no end", NEW[:-9], [b"no @@end_db\n", shown, b"ends too early"]),
+        ("nothing", b"", [b"no @@begin_db\n", b"it is empty"]),
+        ("xz", b"\xfd7zXZ\0" + NEW, [b"compressed by xz"]),
+        ("zstd", b"\x28\xb5\x2f\xfd" + NEW, [b"compressed by zstd"]),
+        ("bzip2", b"BZh9" + NEW, [b"compressed by bzip2"]),
+        ("gzip twice", gzip.compress(gzip.compress(NEW)), [b"compressed twice"]),
+        ("a byte order mark", b"\xef\xbb\xbf" + NEW, [b"byte order mark"]),
+        ("UTF-16", NEW.decode().encode("utf-16"), [b"UTF-16"]),
+        ("another file", b"root:x:0:0\n", [b"no @@begin_db\n", b"line 1: root:x:0:0\n", b"no database of AIDE"]),
     ):
         sandbox.write(name, text)
-        answer = sandbox.call(TOOL, 'old.db', name)
-        sandbox.expect('a hint on %s' % label, answer, 24, b'', errors)
-        lines = answer.errors.split(b'\n')
+        answer = sandbox.call(TOOL, "old.db", name)
+        sandbox.expect("a hint on %s" % label, answer, 24, b"", errors)
+        lines = answer.errors.split(b"\n")
         sandbox.holds(
-            'lines of %s' % label,
-            lines[0].startswith(b'aide: ')
-            and lines[-1] == b''
-            and all(line.startswith(b'aide-compare-run: ') for line in lines[1:-1]),
+            "lines of %s" % label,
+            lines[0].startswith(b"aide: ")
+            and lines[-1] == b""
+            and all(line.startswith(b"aide-compare-run: ") for line in lines[1:-1]),
             answer,
         )
 
@@ -59,35 +70,38 @@ def try_database_hints(sandbox):
 def try_configuration_hints(sandbox):
     for text, errors in (
         (
-            '\n report_lvel=minimal',
+            "\n report_lvel=minimal",
             [
-                b'aide: config:2: unknown attribute\n',
-                b'the configuration is odd conf\n',
-                b'line 2:  report_lvel=minimal\n',
-                b'report_lvel is no option',
+                b"aide: config:2: unknown attribute\n",
+                b"the configuration is odd conf\n",
+                b"line 2:  report_lvel=minimal\n",
+                b"report_lvel is no option",
             ],
         ),
-        ('report_level=minmal', [b'aide: config:1: bad value\n', b'a level is minimal, summary']),
-        ('report_ignore_changed_attrs=xyz', [b'line 1: report_ignore_changed_attrs=xyz\n']),
-        ('@@ifhost x', [b'aide: config:1: left out of this profile\n', b"leave AIDE's own configuration as it is"]),
-        ('@@include /etc/x\n@@x_include /x\n@@odd', [b'aide: config:3: unknown directive\n', b'line 3: @@odd\n', b'AIDE may know it']),
-        ('a\x1b[1m\x80', [b'line 1: a\\033[1m']),
+        ("report_level=minmal", [b"aide: config:1: bad value\n", b"a level is minimal, summary"]),
+        ("report_ignore_changed_attrs=xyz", [b"line 1: report_ignore_changed_attrs=xyz\n"]),
+        ("@@ifhost x", [b"aide: config:1: left out of this profile\n", b"leave AIDE's own configuration as it is"]),
+        (
+            "@@include /etc/x\n@@x_include /x\n@@odd",
+            [b"aide: config:3: unknown directive\n", b"line 3: @@odd\n", b"AIDE may know it"],
+        ),
+        ("a\x1b[1m\x80", [b"line 1: a\\033[1m"]),
     ):
-        sandbox.write('odd conf', text)
-        answer = sandbox.call(TOOL, '-c', 'odd conf', 'old.db', 'new.db')
-        sandbox.expect('a hint on %r' % text, answer, 17, b'', errors)
-        if 'lvel' not in text:
+        sandbox.write("odd conf", text)
+        answer = sandbox.call(TOOL, "-c", "odd conf", "old.db", "new.db")
+        sandbox.expect("a hint on %r" % text, answer, 17, b"", errors)
+        if "lvel" not in text:
             sandbox.holds(
-                'no more than a hint on %r' % text,
-                b'lvel is no option' not in answer.errors and b'attrs is no option' not in answer.errors,
+                "no more than a hint on %r" % text,
+                b"lvel is no option" not in answer.errors and b"attrs is no option" not in answer.errors,
                 answer,
             )
-    for option, name in (('-A', b'after'), ('-B', b'before')):
-        answer = sandbox.call(TOOL, 'old.db', 'new.db', '--', option, '\nreport_level=x')
+    for option, name in (("-A", b"after"), ("-B", b"before")):
+        answer = sandbox.call(TOOL, "old.db", "new.db", "--", option, "\nreport_level=x")
         sandbox.expect(
-            'a hint on ' + option,
+            "a hint on " + option,
             answer,
             17,
-            b'',
-            [b'aide: ' + name + b':2: bad value\n', b'the text of ' + option.encode(), b'line 2: report_level=x\n'],
+            b"",
+            [b"aide: " + name + b":2: bad value\n", b"the text of " + option.encode(), b"line 2: report_level=x\n"],
         )

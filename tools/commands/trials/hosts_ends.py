@@ -44,7 +44,7 @@ def try_many_hosts(sandbox):
     for count in (30, 300):
         hosts.copies("first", ["h%d-%d" % (count, number) for number in range(count)])
         words = hosts.words("report-hosts", "--json", sandbox.path("hosts"))
-        run = hosts.start(["sh", "-c", "ulimit -n 40; exec \"$@\"", "sh", sys.executable, "-c", MEASURE] + words)
+        run = hosts.start(["sh", "-c", 'ulimit -n 40; exec "$@"', "sh", sys.executable, "-c", MEASURE] + words)
         output, errors = run.communicate()
         sizes.append(int(errors.split()[-1]))
         lines = output.splitlines()
@@ -67,7 +67,7 @@ def try_ends(sandbox):
         lock.wait()
         got = run.returncode, sandbox.leftovers()
         sandbox.holds("signal %d" % number, got == (-number, []), got)
-    status, output, errors = hosts.report(before=["sh", "-c", "ulimit -f 0; exec \"$@\"", "sh"])
+    status, output, errors = hosts.report(before=["sh", "-c", 'ulimit -f 0; exec "$@"', "sh"])
     sandbox.holds("no room", status == 18 and not output and errors and not sandbox.leftovers(), (status, output, errors))
     run = hosts.start(hosts.words("report-hosts", sandbox.path("hosts")), preexec_fn=None)
     run.stdout.close()

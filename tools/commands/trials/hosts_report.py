@@ -13,8 +13,21 @@ from .fleet import Fleet, wait_for
 from .sandbox import END, NEW, OLD
 
 SPEC = b"@@begin_db\n@@db_spec name perm uid gid size mtime inode lcount attr sha256\n"
-HOSTILE = (b"/a%0Aadded%20on%209%20of%209%20hosts:%20File%20/b", b"/a%1B[31m", b"/a%E2%80%AEb", b"/a%FFb", b"/a%09b",
-           b"/a%00b", b"/a%2541", b"/a%20%20", b"/a%20b", b"/a/b", b"/a%01b", b"/a-b", b"/" + b"n" * 6000)
+HOSTILE = (
+    b"/a%0Aadded%20on%209%20of%209%20hosts:%20File%20/b",
+    b"/a%1B[31m",
+    b"/a%E2%80%AEb",
+    b"/a%FFb",
+    b"/a%09b",
+    b"/a%00b",
+    b"/a%2541",
+    b"/a%20%20",
+    b"/a%20b",
+    b"/a/b",
+    b"/a%01b",
+    b"/a-b",
+    b"/" + b"n" * 6000,
+)
 
 
 def line(path, text=b"", inode=1, perm=b"100644", when=1700000000):
@@ -56,8 +69,12 @@ class Hosts(Fleet):
         """The objects of a report in JSON: the summary, the hosts by their names, and the changes."""
         status, output, errors = self.report("--json", *words)
         found = [json.loads(each) for each in output.splitlines()]
-        good = bool(found) and found[0]["lines"] == len(found) and [each["record"] for each in found] == (
-            ["summary"] + ["host"] * found[0]["hosts"] + ["change"] * found[0]["changes"])
+        good = (
+            bool(found)
+            and found[0]["lines"] == len(found)
+            and [each["record"] for each in found]
+            == (["summary"] + ["host"] * found[0]["hosts"] + ["change"] * found[0]["changes"])
+        )
         self.sandbox.holds("JSON of %s" % (words,), good and output.isascii(), (status, output[-300:], errors))
         hosts = {each["host"]: each for each in found if each["record"] == "host"}
         return found[0] if found else {}, hosts, [each for each in found if each["record"] == "change"]
@@ -77,8 +94,12 @@ def four_hosts(sandbox):
     hosts, old = Hosts(sandbox), [line(b"/etc/p", b"1"), line(b"/gone", b"1"), line(b"/d", b"", 5, b"40755")]
 
     def new(text, number):
-        return database(line(b"/etc/p", b"2", number, b"100600"), line(b"/d", b"x" * number, 5, b"40700"),
-                        line(b"/usr/.x", text, number, b"104755", 1700000000 + number))
+        return database(
+            line(b"/etc/p", b"2", number, b"100600"),
+            line(b"/d", b"x" * number, 5, b"40700"),
+            line(b"/usr/.x", text, number, b"104755", 1700000000 + number),
+        )
+
     texts = {"www%d" % number: (database(*old), new(b"evil", number)) for number in (1, 2, 3)}
     texts["www4"] = (database(line(b"/etc/p", b"0"), *old[1:]), new(b"other", 4))
     texts["calm"] = (database(*old), database(*old))
@@ -96,12 +117,18 @@ def try_same(sandbox):
     sandbox.holds("a host", found["www1"]["listed"] == 4 and found["www1"]["report"] == "whole", found)
     got = [(each["kind"], each["path"], each["hosts"], each["names"]) for each in changes]
     most, all_of_them = ["www1", "www2", "www3"], ["www1", "www2", "www3", "www4"]
-    sandbox.holds("the changes", got[:2] == [("changed", "/d", 4, all_of_them), ("changed", "/etc/p", 4, all_of_them)]
-                  and got[2] == ("removed", "/gone", 4, all_of_them)
-                  and sorted(got[3:]) == [("added", "/usr/.x", 1, ["www4"]), ("added", "/usr/.x", 3, most)], got)
+    sandbox.holds(
+        "the changes",
+        got[:2] == [("changed", "/d", 4, all_of_them), ("changed", "/etc/p", 4, all_of_them)]
+        and got[2] == ("removed", "/gone", 4, all_of_them)
+        and sorted(got[3:]) == [("added", "/usr/.x", 1, ["www4"]), ("added", "/usr/.x", 3, most)],
+        got,
+    )
     found = {(each["path"], each["hosts"]): {"attributes": {}, "per_host": [], **each} for each in changes}
-    folder, file, same, other = (found.get(key, {"attributes": {}, "per_host": []})
-                                 for key in (("/d", 4), ("/etc/p", 4), ("/usr/.x", 3), ("/usr/.x", 1)))
+    folder, file, same, other = (
+        found.get(key, {"attributes": {}, "per_host": []})
+        for key in (("/d", 4), ("/etc/p", 4), ("/usr/.x", 3), ("/usr/.x", 1))
+    )
     good = folder["per_host"] == ["Size"] and list(folder["attributes"]) == ["Perm"]
     sandbox.holds("a folder's size is its own", good, folder)
     values = list(file["attributes"].values())
@@ -127,13 +154,25 @@ def try_orders(sandbox):
     status, output, errors = hosts.report("--most-hosts", "2")
     good = output.startswith("aide on 5 hosts: 4 differ, 0 not compared, 1 without differences\n") and status == 7
     sandbox.holds("the text", good and not errors, (status, output, errors))
-    parts = ("added on 3 of 5 hosts: File /usr/.x\n    on www1, www2 and 1 more\n    Size 4, Perm 4755 rwsr-xr-x, UID 0",
-             "added on 1 of 5 hosts: File /usr/.x\n    on www4\n", "changed on 4 of 5 hosts: File /etc/p\n",
-             "\n    Perm (various) -> 0600 rw-------, ", "\n  www4: added 1, removed 1, changed 2\n")
+    parts = (
+        "added on 3 of 5 hosts: File /usr/.x\n    on www1, www2 and 1 more\n    Size 4, Perm 4755 rwsr-xr-x, UID 0",
+        "added on 1 of 5 hosts: File /usr/.x\n    on www4\n",
+        "changed on 4 of 5 hosts: File /etc/p\n",
+        "\n    Perm (various) -> 0600 rw-------, ",
+        "\n  www4: added 1, removed 1, changed 2\n",
+    )
     for part in parts:
         sandbox.holds("the text has %r" % part, part in output, output)
-    for words in (["--most-hosts", "0"], ["--order", "x"], ["--only-path", "x"], ["--age", "31d"], ["--json", "--to", "root"],
-                  ["--most-mail", "1k"], ["--to", "-x"], ["x"]):
+    for words in (
+        ["--most-hosts", "0"],
+        ["--order", "x"],
+        ["--only-path", "x"],
+        ["--age", "31d"],
+        ["--json", "--to", "root"],
+        ["--most-mail", "1k"],
+        ["--to", "-x"],
+        ["x"],
+    ):
         status, output, errors = hosts.report(*words)
         sandbox.holds("the words %r" % words, status == 15 and not output and errors, (status, output, errors))
 
@@ -159,9 +198,15 @@ def try_not_compared(sandbox):
         os.killpg(lock.pid, signal.SIGKILL)
         lock.wait()
     sandbox.holds("how many", summary["not_compared"] == 7 and summary["differ"] == 2 and status == 18, (status, summary))
-    for name, want in (("unknown", "Host key verification failed"), ("stale", "was compared 27 hours ago and not since"),
-                       ("ahead", "in the future"), ("odd", "is no state file"), ("busy", "another run is at work on it"),
-                       ("never", "was never compared"), ("a..b", "the name of a host")):
+    for name, want in (
+        ("unknown", "Host key verification failed"),
+        ("stale", "was compared 27 hours ago and not since"),
+        ("ahead", "in the future"),
+        ("odd", "is no state file"),
+        ("busy", "another run is at work on it"),
+        ("never", "was never compared"),
+        ("a..b", "the name of a host"),
+    ):
         good = found[name]["status"] in (15, 18) and want in found[name]["error"]
         sandbox.holds("the host " + name, good and "\n  %s: " % name in output and want in output, (found[name], output))
     sandbox.holds("only those of today", all(set(each["names"]) <= {"good1", "linked"} for each in changes), changes)

@@ -17,8 +17,18 @@ COUNTS = "differences (1 added, 1 removed, 2 changed)"
 def try_mail(sandbox):
     if sandbox.shell != ["sh"]:  # The command is no script of a shell, so once is enough.
         return
-    for trial in (try_texts, try_hostile, try_bounds, try_refusals, try_journal, try_room, try_queue, try_test_and_weekly,
-                  try_pages, try_units):
+    for trial in (
+        try_texts,
+        try_hostile,
+        try_bounds,
+        try_refusals,
+        try_journal,
+        try_room,
+        try_queue,
+        try_test_and_weekly,
+        try_pages,
+        try_units,
+    ):
         trial(sandbox)
 
 
@@ -26,7 +36,7 @@ def prepare(sandbox):
     """The modules as they are, but for the places of the logs; a sendmail that keeps the mail; and an empty database."""
     shutil.rmtree(sandbox.path("lib"), ignore_errors=True)
     shutil.copytree(os.path.join(HERE, "commands", "lib"), sandbox.path("lib"))
-    for name in ("LOG, JOURNAL = \"/dev/log\", \"/run/systemd/journal/socket\"",):
+    for name in ('LOG, JOURNAL = "/dev/log", "/run/systemd/journal/socket"',):
         edit(sandbox, "sending", name, "LOG, JOURNAL = %r, %r" % (sandbox.path("log"), sandbox.path("journal")))
     take_mail(sandbox)
     sandbox.write("empty.db", HEAD + END)
@@ -41,14 +51,24 @@ def edit(sandbox, module, old, new):
 
 
 def take_mail(sandbox, before=""):
-    sandbox.stub("sendmail", '%s echo "$*" > "%s"; cat > "%s.part" && mv "%s.part" "%s"' % (
-        (before, sandbox.path("words")) + (sandbox.path("sent"),) * 3))
+    sandbox.stub(
+        "sendmail",
+        '%s echo "$*" > "%s"; cat > "%s.part" && mv "%s.part" "%s"'
+        % ((before, sandbox.path("words")) + (sandbox.path("sent"),) * 3),
+    )
 
 
 def call(sandbox, *words, environment=None):
     more = sandbox.environment(**(environment or {}))
-    done = subprocess.run([sandbox.path("bin/" + TOOL)] + list(words), cwd=sandbox.root, env=more, stdin=subprocess.DEVNULL,
-                          stdout=subprocess.PIPE, stderr=subprocess.PIPE, timeout=120)
+    done = subprocess.run(
+        [sandbox.path("bin/" + TOOL)] + list(words),
+        cwd=sandbox.root,
+        env=more,
+        stdin=subprocess.DEVNULL,
+        stdout=subprocess.PIPE,
+        stderr=subprocess.PIPE,
+        timeout=120,
+    )
     return Answer(done.stdout, done.stderr, done.returncode)
 
 
@@ -75,16 +95,26 @@ def subject(message):
 
 def try_texts(sandbox):
     prepare(sandbox)
-    report = subprocess.run([sandbox.path("bin/aide-compare-run"), "old.db", "new.db"], cwd=sandbox.root,
-                            stdout=subprocess.PIPE, stderr=subprocess.DEVNULL).stdout
+    report = subprocess.run(
+        [sandbox.path("bin/aide-compare-run"), "old.db", "new.db"],
+        cwd=sandbox.root,
+        stdout=subprocess.PIPE,
+        stderr=subprocess.DEVNULL,
+    ).stdout
     accept = "aide-compare-accept --sha256 %s %s %s\n" % (sha256(NEW), sandbox.path("new.db"), sandbox.path("old.db"))
     written = time.strftime("%Y-%m-%dT%H:%M:%SZ", time.gmtime(os.stat(sandbox.path("new.db")).st_mtime))
     for words, to in (([], "root"), (["--to", "a@b.example"], "a@b.example"), (["--to=x, y"], "x, y")):
         sandbox.expect("a mail to " + to, call(sandbox, "old.db", "new.db", *words), 7, b"", b"")
         message = sent(sandbox)
         sandbox.holds("the head of a mail to " + to, message and (message["To"], subject(message)) == (to, SUBJECT + COUNTS))
-        sandbox.holds("the form of a mail", message and message.get_content_type() == "text/plain" and message["MIME-Version"]
-                      == "1.0" and message["Auto-Submitted"] == "auto-generated" and message["Date"])
+        sandbox.holds(
+            "the form of a mail",
+            message
+            and message.get_content_type() == "text/plain"
+            and message["MIME-Version"] == "1.0"
+            and message["Auto-Submitted"] == "auto-generated"
+            and message["Date"],
+        )
         text = body(message)
         sandbox.holds("the report of a mail", report in text and len(report) > 500, text)
         sandbox.holds("the command that accepts", accept.encode() in text.partition(b"\n\n")[0] + b"\n", text)
@@ -92,14 +122,28 @@ def try_texts(sandbox):
         sandbox.holds("how sendmail is called", sandbox.read("words") == b"-oi -t\n")
     sandbox.expect("no mail", call(sandbox, "old.db", "old.db", "--state", "state"), 0, b"", b"")
     sandbox.holds("no mail without a difference", sent(sandbox) is None and sandbox.state()["status"] == "0")
-    for words, status in ((["old.db", "missing"], 18), (["old.db", "/dev/null"], 18), (["--odd"], 15),
-                          (["old.db", "new.db", "--age", "x"], 15)):
+    for words, status in (
+        (["old.db", "missing"], 18),
+        (["old.db", "/dev/null"], 18),
+        (["--odd"], 15),
+        (["old.db", "new.db", "--age", "x"], 15),
+    ):
         sandbox.expect("an error of %s" % words, call(sandbox, *words), status, b"", b"")
         message = sent(sandbox)
-        good = subject(message) == SUBJECT + "no comparison (status %d)" % status and body(message).startswith(b"aide-compare-run")
+        good = subject(message) == SUBJECT + "no comparison (status %d)" % status and body(message).startswith(
+            b"aide-compare-run"
+        )
         sandbox.holds("a mail of an error of %s" % words, good, message)
-    for words in (["--to"], ["--to", ""], ["--to", "a\nBcc: b"], ["--to", "-x"], ["--to", "é"], ["--most-mail", "x"],
-                  ["--weekly", "--", "x"], ["--weekly=Foo"]):
+    for words in (
+        ["--to"],
+        ["--to", ""],
+        ["--to", "a\nBcc: b"],
+        ["--to", "-x"],
+        ["--to", "é"],
+        ["--most-mail", "x"],
+        ["--weekly", "--", "x"],
+        ["--weekly=Foo"],
+    ):
         answer = call(sandbox, "old.db", "new.db", *words)
         sandbox.holds("the arguments %r" % words, answer.status == 15 and sent(sandbox) is None, answer)
     sandbox.expect("after --", call(sandbox, "--to", "x", "old.db", "new.db", "--", "-A", "report_level=minimal"), 7, b"", b"")
@@ -116,8 +160,14 @@ def try_hostile(sandbox):
         sandbox.write("hostile.db", HEAD + name + b" 36 100644 1\n" + END)
         sandbox.expect("a hostile name", call(sandbox, "empty.db", "hostile.db"), 1, b"", b"")
         text = body(sent(sandbox)).decode("utf-8", "surrogateescape")
-        bad = [letter for letter in text if ord(letter) in range(0x7F, 0xA0) or ord(letter) in range(0x202A, 0x202F)
-               or ord(letter) > 0xDC7F and ord(letter) < 0xDD00]
+        bad = [
+            letter
+            for letter in text
+            if ord(letter) in range(0x7F, 0xA0)
+            or ord(letter) in range(0x202A, 0x202F)
+            or ord(letter) > 0xDC7F
+            and ord(letter) < 0xDD00
+        ]
         sandbox.holds("the mail of a hostile name", not bad and "Added entries" in text and "\nBcc" not in text, text[:900])
 
 
@@ -146,7 +196,8 @@ def try_refusals(sandbox):
     """sendmail that refuses, refuses only large mails, hangs, or is missing."""
     prepare(sandbox)
     refuse = 'cat > "%s"; [ "$(wc -c < "%s")" -lt 3000 ] || { echo "message file too big" >&2; exit 75; };' % (
-        (sandbox.path("got"),) * 2)
+        (sandbox.path("got"),) * 2
+    )
     sandbox.write("many.db", HEAD + b"".join(b"/f%04d 36 100644 1\n" % number for number in range(500)) + END)
     sandbox.stub("sendmail", refuse + ' mv "%s" "%s"' % (sandbox.path("got"), sandbox.path("sent")))
     answer = call(sandbox, "empty.db", "many.db")
@@ -155,21 +206,29 @@ def try_refusals(sandbox):
     good = subject(message) == SUBJECT + "differences (500 added)" and b"message file too big" in body(message)
     sandbox.holds("what a short mail says", good and b"aide-compare-accept --sha256" in body(message), message)
     sandbox.stub("sendmail", 'cat > /dev/null; echo "no route" >&2; exit 75')
-    sandbox.expect("a mailer that fails", call(sandbox, "old.db", "new.db"), 18, b"",
-                   [b"cannot send the mail", b"status 75", b"no route"])
+    sandbox.expect(
+        "a mailer that fails", call(sandbox, "old.db", "new.db"), 18, b"", [b"cannot send the mail", b"status 75", b"no route"]
+    )
     sandbox.stub("sendmail", "exit 1")
     sandbox.expect("a mailer without a reason", call(sandbox, "empty.db", "many.db"), 18, b"", [b"it gave no reason"])
     sandbox.stub("sendmail", 'echo "warning: retrying" >&2; sleep 50 & sleep 50')
     start = time.monotonic()
-    sandbox.expect("a mailer that hangs", call(sandbox, "old.db", "new.db", "--mail-time", "1s"), 18, b"",
-                   [b"did not end within 1 seconds"])
+    sandbox.expect(
+        "a mailer that hangs",
+        call(sandbox, "old.db", "new.db", "--mail-time", "1s"),
+        18,
+        b"",
+        [b"did not end within 1 seconds"],
+    )
     sandbox.holds("the time limit", time.monotonic() - start < 20, time.monotonic() - start)
     os.remove(sandbox.path("stubs/sendmail"))
     edit(sandbox, "sending", '("/usr/sbin/sendmail", "/usr/lib/sendmail")', "()")
     path = {"PATH": sandbox.path("stubs") + ":/usr/bin:/bin"}
     for new, status in (("new.db", "7"), ("old.db", "0")):
         answer = call(sandbox, "old.db", new, "--state", "state", environment=path)
-        sandbox.expect("no mailer, " + new, answer, 18, b"", [b"cannot find sendmail", b"ended with status " + status.encode()])
+        sandbox.expect(
+            "no mailer, " + new, answer, 18, b"", [b"cannot find sendmail", b"ended with status " + status.encode()]
+        )
         sandbox.holds("the state without a mailer", sandbox.state()["status"] == status)
     take_mail(sandbox)
 
@@ -202,12 +261,18 @@ def try_room(sandbox):
     os.mkdir(folder)
     sandbox.write("half.db", HEAD + b"".join(b"/f%05d 36 100644 1\n" % number for number in range(4000)) + END)
     for size in range(16, 1000, 96):
-        if subprocess.run(["mount", "-t", "tmpfs", "-o", "size=%dk" % size, "none", folder], stderr=subprocess.PIPE).returncode:
+        if subprocess.run(
+            ["mount", "-t", "tmpfs", "-o", "size=%dk" % size, "none", folder], stderr=subprocess.PIPE
+        ).returncode:
             return print("skipped: a small TMPDIR (nothing can be mounted here)")
         try:
             answer, message = call(sandbox, "empty.db", "half.db", environment={"TMPDIR": folder}), sent(sandbox)
-            good = message is not None and (answer.status == 1 and "differences (4000 added)" in subject(message)
-                                            or answer.status == 18 and "no comparison (status 18)" in subject(message))
+            good = message is not None and (
+                answer.status == 1
+                and "differences (4000 added)" in subject(message)
+                or answer.status == 18
+                and "no comparison (status 18)" in subject(message)
+            )
             sandbox.holds("a mail with %d kB" % size, good and not os.listdir(folder), (answer, message))
         finally:
             subprocess.run(["umount", folder])
@@ -264,7 +329,9 @@ def try_pages(sandbox):
     parts = message.get_payload() if message is not None and message.is_multipart() else []
     kinds = [each.get_content_type() for each in parts]
     sandbox.holds("the parts", kinds == ["text/plain", "text/html"], message)
-    sandbox.holds("a plain page with the host", len(parts) == 2 and b"--plain --title File changes on " in body(parts[1]), parts)
+    sandbox.holds(
+        "a plain page with the host", len(parts) == 2 and b"--plain --title File changes on " in body(parts[1]), parts
+    )
     sandbox.stub("aide-compare-html", 'echo "an odd report" >&2; exit 3', "bin")
     sandbox.expect("a page that fails", call(sandbox, "--html", "old.db", "new.db"), 7, b"", b"")
     sandbox.holds("a mail without a page", body(sent(sandbox)).endswith(note + b"an odd report\n"))
@@ -275,14 +342,32 @@ def try_units(sandbox):
     folder = os.path.join(HERE, "contrib", "systemd")
     text = {name: open(os.path.join(folder, name)).read() for name in os.listdir(folder)}
     plain = [line for line in text["aide-compare-mail.service"].splitlines() if not line.startswith("#")]
-    for word in ("NoNewPrivileges", "RestrictAddressFamilies", "SystemCall", "PrivateDevices", "ProtectKernel", "ProtectClock",
-                 "RestrictNamespaces", "RestrictSUIDSGID", "LockPersonality", "MemoryDeny", "ProtectHostname", "DynamicUser",
-                 "RestrictRealtime"):
+    for word in (
+        "NoNewPrivileges",
+        "RestrictAddressFamilies",
+        "SystemCall",
+        "PrivateDevices",
+        "ProtectKernel",
+        "ProtectClock",
+        "RestrictNamespaces",
+        "RestrictSUIDSGID",
+        "LockPersonality",
+        "MemoryDeny",
+        "ProtectHostname",
+        "DynamicUser",
+        "RestrictRealtime",
+    ):
         sandbox.holds("the sending unit without " + word, not any(line.startswith(word) for line in plain))
     for line in ("KillMode=process", "ReadWritePaths=-/var/mail -/var/spool -/var/log", "User=_aide", "Type=oneshot"):
         sandbox.holds("the sending unit: " + line, line in plain)
     daily = text["aide-compare.service"].splitlines()
-    for line in ("NoNewPrivileges=yes", "CapabilityBoundingSet=", "User=_aide", "After=dailyaidecheck.service",
-                 "OnSuccess=aide-compare-mail.service", "OnFailure=aide-compare-failed.service"):
+    for line in (
+        "NoNewPrivileges=yes",
+        "CapabilityBoundingSet=",
+        "User=_aide",
+        "After=dailyaidecheck.service",
+        "OnSuccess=aide-compare-mail.service",
+        "OnFailure=aide-compare-failed.service",
+    ):
         sandbox.holds("the daily unit: " + line, line in daily)
     sandbox.holds("no status of differences is a success", not any(line.startswith("SuccessExitStatus") for line in daily))

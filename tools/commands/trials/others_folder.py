@@ -11,11 +11,15 @@ TOOL = "aide-compare-accept"
 BASELINE = "theirs/base/aide.db"
 SECRET = b"what only root may read and write\n"
 # For each kind of attack two names in theirs/ that change places, and where the second one leads if it is a link.
-KINDS = {"baseline": ("base/aide.db", "base/trap", "root/secret"), "folder": ("base", "trap", "root"),
-         "moved folder": ("base", "second", None)}
+KINDS = {
+    "baseline": ("base/aide.db", "base/trap", "root/secret"),
+    "folder": ("base", "trap", "root"),
+    "moved folder": ("base", "second", None),
+}
 # The other user: as long as the process lives that started him, he lets the names change places, and counts how often.
 # Now and then he pauses, so that some runs get far.
-SWAPPING = """import ctypes, os, random, sys, time
+SWAPPING = (
+    """import ctypes, os, random, sys, time
 parent, (one, other, spare, target) = os.getppid(), sys.argv[1:]
 exchange = ctypes.CDLL(None).renameat2
 %s
@@ -28,15 +32,22 @@ while os.getppid() == parent != 1:
     os.pwrite(1, b"%%12d" %% count, 0)
     if random.random() < 0.005:
         time.sleep(random.choice((0.001, 0.01)))
-""" % AS_NOBODY
+"""
+    % AS_NOBODY
+)
 
 
 def put(sandbox, kind):
     """Makes the folders anew. Returns the two names of an attack, and the target of the link."""
     for name in ("root", "theirs"):
         shutil.rmtree(sandbox.path(name), ignore_errors=True)
-    for name, data in (("root/secret", SECRET), ("root/aide.db", SECRET), (BASELINE, OLD),
-                       ("theirs/second/aide.db", OLD), ("new", NEW)):
+    for name, data in (
+        ("root/secret", SECRET),
+        ("root/aide.db", SECRET),
+        (BASELINE, OLD),
+        ("theirs/second/aide.db", OLD),
+        ("new", NEW),
+    ):
         sandbox.write(name, data, 0o600)
     one, other, target = KINDS[kind]
     if target:

@@ -4,20 +4,43 @@ from .reasons_nights import try_nights
 
 
 def try_reasons(sandbox):
-    for trial in (reasons_logs.try_growing, reasons_logs.try_added, reasons_logs.try_rotated, reasons_logs.try_packed,
-                  reasons_places.try_made, reasons_places.try_folders, reasons_places.try_rules, reasons_places.try_never,
-                  reasons_places.try_severity, reasons_places.try_shipped_rules):
+    for trial in (
+        reasons_logs.try_growing,
+        reasons_logs.try_added,
+        reasons_logs.try_rotated,
+        reasons_logs.try_packed,
+        reasons_places.try_made,
+        reasons_places.try_folders,
+        reasons_places.try_rules,
+        reasons_places.try_never,
+        reasons_places.try_severity,
+        reasons_places.try_shipped_rules,
+    ):
         trial(sandbox)
 
 
 def try_reasons_packages(sandbox):
-    for trial in (reasons_packages.try_content, reasons_packages.try_unchanged, reasons_packages.try_names,
-                  reasons_packages.try_links, reasons_packages.try_removed, reasons_packages.try_read,
-                  reasons_archive.try_signed, reasons_archive.try_forged, reasons_archive.try_forms):
+    for trial in (
+        reasons_packages.try_content,
+        reasons_packages.try_unchanged,
+        reasons_packages.try_names,
+        reasons_packages.try_links,
+        reasons_packages.try_removed,
+        reasons_packages.try_read,
+        reasons_archive.try_signed,
+        reasons_archive.try_forged,
+        reasons_archive.try_forms,
+    ):
         trial(sandbox)
 
 
 def try_reasons_lines(sandbox):
-    for trial in (reasons_lines.try_same, reasons_lines.try_damage, reasons_lines.try_refused, reasons_lines.try_records,
-                  reasons_lines.try_interface, try_nights):
+    for trial in (
+        reasons_lines.try_same,
+        reasons_lines.try_damage,
+        reasons_lines.try_refused,
+        reasons_lines.try_records,
+        reasons_lines.try_interface,
+        try_nights,
+    ):
         trial(sandbox)

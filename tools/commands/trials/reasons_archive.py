@@ -17,7 +17,14 @@ from .sandbox import HERE
 BY_ARCHIVE, BY_DPKG, MADE = "package archive!", "package dpkg!", "package_made dpkg"
 TRUE, FORGED = b"as built", b"forged"
 INFO = b"/var/lib/dpkg/info/"
-FILES = {"usr/bin/a": TRUE, "usr/bin/b": TRUE, "usr/bin/set-id": TRUE, "bin/merged": TRUE, "etc/conf": TRUE, "usr/bin/missing": TRUE}
+FILES = {
+    "usr/bin/a": TRUE,
+    "usr/bin/b": TRUE,
+    "usr/bin/set-id": TRUE,
+    "bin/merged": TRUE,
+    "etc/conf": TRUE,
+    "usr/bin/missing": TRUE,
+}
 LINKS = {"usr/lib/good": "../bin/a", "usr/lib/bad": "../bin/a"}
 HARD_LINKS = {"usr/bin/a2": "usr/bin/a"}
 CONTROL = {"control": b"Package: tool\n", "md5sums": b"sums\n", "postinst": b"true script\n"}
@@ -51,7 +58,9 @@ def deb(data, control, form=""):
     """A Debian package, the same bytes each time. `form` is the end of the names of its parts."""
     text = b"!<arch>\n"
     for name, part in (("debian-binary", b"2.0\n"), ("control.tar" + form, control), ("data.tar" + form, data)):
-        text += ("%-16s%-12d%-6d%-6d%-8s%-10d`\n" % (name, 0, 0, 0, "100644", len(part))).encode() + part + b"\n" * (len(part) % 2)
+        text += (
+            ("%-16s%-12d%-6d%-6d%-8s%-10d`\n" % (name, 0, 0, 0, "100644", len(part))).encode() + part + b"\n" * (len(part) % 2)
+        )
     return text
 
 
@@ -61,16 +70,19 @@ def tool():
 
 def index():
     package = tool()
-    return ("Package: alien\nVersion: 2\nArchitecture: all\nFilename: x.deb\nSize: 1\nSHA256: %s\n\nPackage: tool\nVersion: 1:2\n"
-            "Architecture: amd64\nDescription: a\n tool\nFilename: pool/tool_2_amd64.deb\nSize: %d\nSHA256: %s\n\n"
-            % ("0" * 64, len(package), hashlib.sha256(package).hexdigest())).encode()
+    return (
+        "Package: alien\nVersion: 2\nArchitecture: all\nFilename: x.deb\nSize: 1\nSHA256: %s\n\nPackage: tool\nVersion: 1:2\n"
+        "Architecture: amd64\nDescription: a\n tool\nFilename: pool/tool_2_amd64.deb\nSize: %d\nSHA256: %s\n\n"
+        % ("0" * 64, len(package), hashlib.sha256(package).hexdigest())
+    ).encode()
 
 
 def release():
     """The text that is signed."""
     text = index()
-    return "Suite: trial\nSHA256:\n" + "".join(" %s %d %sPackages\n" % (hashlib.sha256(text).hexdigest(), len(text), folder)
-                                               for folder in ("", "main/binary-amd64/"))
+    return "Suite: trial\nSHA256:\n" + "".join(
+        " %s %d %sPackages\n" % (hashlib.sha256(text).hexdigest(), len(text), folder) for folder in ("", "main/binary-amd64/")
+    )
 
 
 def write_archive(sandbox, folder="archive", name="tool_2_amd64.deb", lists="", **more):
@@ -87,7 +99,11 @@ def host_of():
     host = Host()
     host.both(lambda night: night.link(b"/bin", b"usr/bin").folder(b"/usr/lib").folder(b"/usr/bin"))
     content = {b"/usr/bin/b": FORGED, b"/usr/lib/hook.py": FORGED}
-    said = {b"/" + name.encode(): content.get(b"/" + name.encode(), text) for name, text in FILES.items() if name != "usr/bin/missing"}
+    said = {
+        b"/" + name.encode(): content.get(b"/" + name.encode(), text)
+        for name, text in FILES.items()
+        if name != "usr/bin/missing"
+    }
     said[b"/usr/lib/hook.py"], said[b"/usr/bin/a2"] = FORGED, TRUE
     for path, text in said.items():
         place = b"/usr" + path if path.startswith(b"/bin/") else path
@@ -95,19 +111,39 @@ def host_of():
         host.new.file(place, text, mode=0o104755 if path.endswith(b"set-id") else 0o100755, **more)
     host.old.file(b"/usr/bin/missing", TRUE).package("tool", "1", {b"/usr/bin/missing": TRUE}).package("plain", "1")
     host.new.link(b"/usr/lib/good", b"../bin/a").link(b"/usr/lib/bad", b"../bin/b").file(b"/usr/bin/plain", TRUE)
-    host.new.package("tool", "1:2", said, listed=[b"/usr/lib/good", b"/usr/lib/bad"]).package("plain", "2", {b"/usr/bin/plain": TRUE})
+    host.new.package("tool", "1:2", said, listed=[b"/usr/lib/good", b"/usr/lib/bad"]).package(
+        "plain", "2", {b"/usr/bin/plain": TRUE}
+    )
     for name, text in (("md5sums", b"sums\n"), ("postinst", b"forged"), ("list", b"any"), ("preinst", b"planted")):
         host.new.file(INFO + b"tool." + name.encode(), text)
     return host
 
 
 ARCHIVED = {
-    b"/usr/bin/a": BY_ARCHIVE, b"/usr/bin/a2": BY_ARCHIVE, b"/usr/bin/b": "-", b"/usr/bin/set-id": "-", b"/usr/bin/merged": BY_ARCHIVE,
-    b"/etc/conf": BY_ARCHIVE, b"/usr/lib/hook.py": "-", b"/usr/bin/missing": "-", b"/usr/lib/good": BY_ARCHIVE, b"/usr/lib/bad": "-",
-    b"/usr/bin/plain": BY_DPKG, INFO + b"tool.md5sums": BY_ARCHIVE, INFO + b"tool.postinst": "-", INFO + b"tool.list": MADE,
-    INFO + b"tool.preinst": "-"}
-BELIEVED = {b"/usr/bin/a": BY_DPKG, b"/usr/bin/b": BY_DPKG, b"/usr/bin/set-id": "-", b"/usr/lib/hook.py": BY_DPKG,
-            b"/usr/bin/missing": BY_DPKG, INFO + b"tool.postinst": MADE}
+    b"/usr/bin/a": BY_ARCHIVE,
+    b"/usr/bin/a2": BY_ARCHIVE,
+    b"/usr/bin/b": "-",
+    b"/usr/bin/set-id": "-",
+    b"/usr/bin/merged": BY_ARCHIVE,
+    b"/etc/conf": BY_ARCHIVE,
+    b"/usr/lib/hook.py": "-",
+    b"/usr/bin/missing": "-",
+    b"/usr/lib/good": BY_ARCHIVE,
+    b"/usr/lib/bad": "-",
+    b"/usr/bin/plain": BY_DPKG,
+    INFO + b"tool.md5sums": BY_ARCHIVE,
+    INFO + b"tool.postinst": "-",
+    INFO + b"tool.list": MADE,
+    INFO + b"tool.preinst": "-",
+}
+BELIEVED = {
+    b"/usr/bin/a": BY_DPKG,
+    b"/usr/bin/b": BY_DPKG,
+    b"/usr/bin/set-id": "-",
+    b"/usr/lib/hook.py": BY_DPKG,
+    b"/usr/bin/missing": BY_DPKG,
+    INFO + b"tool.postinst": MADE,
+}
 
 
 def expect(sandbox, label, wanted, *words):
@@ -127,8 +163,13 @@ def prepare(sandbox):
 def try_signed(sandbox):
     """The archive decides, in three layouts."""
     prepare(sandbox)
-    for number, (name, lists) in enumerate((("tool_2_amd64.deb", ""), ("pool/tool_2_amd64.deb", "dists/trial/"),
-                                               ("tool_1%3a2_amd64.deb", "deb.example_dists_trial_"))):
+    for number, (name, lists) in enumerate(
+        (
+            ("tool_2_amd64.deb", ""),
+            ("pool/tool_2_amd64.deb", "dists/trial/"),
+            ("tool_1%3a2_amd64.deb", "deb.example_dists_trial_"),
+        )
+    ):
         write_archive(sandbox, "archive%d" % number, name, lists)
         expect(sandbox, "signed, layout %d" % number, ARCHIVED, "--archive", "archive%d" % number, "--keyring", "archive.gpg")
 
@@ -137,11 +178,20 @@ def try_forged(sandbox):
     """What is not signed, or not what was signed, is no evidence; dpkg's own is still told apart by its grade."""
     prepare(sandbox)
     index_of_another = index().replace(hashlib.sha256(tool()).hexdigest().encode(), hashlib.sha256(b"x").hexdigest().encode())
-    forged = {"release": {"release": RELEASE.replace("Suite: trial", "Suite: triaL")}, "index": {"index": index() + b"\n"},
-              "package": {"package": tool()[:-1] + b"x"}, "cut": {"package": tool()[:-9]}, "another": {"index": index_of_another},
-              "unsigned text before": {"release": release().replace(hashlib.sha256(index()).hexdigest(), hashlib.sha256(
-                  index_of_another).hexdigest()) + RELEASE, "index": index_of_another},
-              "no signature": {"release": release()}, "nothing": {"release": ""}}
+    forged = {
+        "release": {"release": RELEASE.replace("Suite: trial", "Suite: triaL")},
+        "index": {"index": index() + b"\n"},
+        "package": {"package": tool()[:-1] + b"x"},
+        "cut": {"package": tool()[:-9]},
+        "another": {"index": index_of_another},
+        "unsigned text before": {
+            "release": release().replace(hashlib.sha256(index()).hexdigest(), hashlib.sha256(index_of_another).hexdigest())
+            + RELEASE,
+            "index": index_of_another,
+        },
+        "no signature": {"release": release()},
+        "nothing": {"release": ""},
+    }
     for label, more in forged.items():
         write_archive(sandbox, "forged", **more)
         expect(sandbox, "forged " + label, BELIEVED, "--archive", "forged", "--keyring", "archive.gpg")
@@ -152,8 +202,11 @@ def try_forged(sandbox):
     sandbox.write("elsewhere.deb", tool())
     os.symlink("../elsewhere.deb", sandbox.path("archive/tool_2_amd64.deb"))
     expect(sandbox, "a link in place of the package", BELIEVED, "--archive", "archive", "--keyring", "archive.gpg")
-    for label, words, status in (("no packages", ("--archive", "archive"), 15), ("no such folder", ("--archive", "none"), 18),
-                                 ("no keyring", ("--archive", "archive", "--keyring", "none.gpg"), 18)):
+    for label, words, status in (
+        ("no packages", ("--archive", "archive"), 15),
+        ("no such folder", ("--archive", "none"), 18),
+        ("no keyring", ("--archive", "archive", "--keyring", "none.gpg"), 18),
+    ):
         answer, _ = host_of().ask(sandbox, *words, records=label != "no packages")
         sandbox.expect(label, answer, status, b"")
 
@@ -165,20 +218,33 @@ def try_forms(sandbox):
         sys.path.append(path)
     from aide_compare.reasons.deb import read_deb
     from aide_compare.reasons.packed import Refuted
-    forms = {"": bytes, ".gz": gzip.compress, ".xz": lzma.compress, ".bz2": bz2.compress,
-             ".lzma": lambda text: lzma.compress(text, lzma.FORMAT_ALONE)}
+
+    forms = {
+        "": bytes,
+        ".gz": gzip.compress,
+        ".xz": lzma.compress,
+        ".bz2": bz2.compress,
+        ".lzma": lambda text: lzma.compress(text, lzma.FORMAT_ALONE),
+    }
     data = tar({**FILES, "usr/share/large": bytes(range(256)) * 5000}, LINKS, HARD_LINKS)
     for form, pack in forms.items():
         text = deb(pack(data), pack(tar(CONTROL)), form)
-        for label, packed, good in (("whole", text, True), ("cut", text[:-2000 if not form else -20], False),
-                                    ("no package", b"x" + text, False)):
+        for label, packed, good in (
+            ("whole", text, True),
+            ("cut", text[: -2000 if not form else -20], False),
+            ("no package", b"x" + text, False),
+        ):
             with open(sandbox.write("form.deb", packed), "rb") as file:
                 try:
                     found = read_deb(file.fileno(), lambda name: name.startswith(b"/usr/"), {"md5", "sha256"})
-                    got = (found.digests[b"/usr/bin/a"]["md5"] == hashlib.md5(TRUE).digest() and b"/etc/conf" not in found.digests
-                           and found.digests[b"/usr/bin/a2"] == found.digests[b"/usr/bin/a"] and b"postinst" in found.control
-                           and found.digests[b"/usr/share/large"]["sha256"] == hashlib.sha256(bytes(range(256)) * 5000).digest()
-                           and found.links == {b"/" + name.encode(): to.encode() for name, to in LINKS.items()})
+                    got = (
+                        found.digests[b"/usr/bin/a"]["md5"] == hashlib.md5(TRUE).digest()
+                        and b"/etc/conf" not in found.digests
+                        and found.digests[b"/usr/bin/a2"] == found.digests[b"/usr/bin/a"]
+                        and b"postinst" in found.control
+                        and found.digests[b"/usr/share/large"]["sha256"] == hashlib.sha256(bytes(range(256)) * 5000).digest()
+                        and found.links == {b"/" + name.encode(): to.encode() for name, to in LINKS.items()}
+                    )
                 except Refuted as refuted:
                     got = str(refuted) == ""
             sandbox.holds("a package packed as %r, %s" % (form, label), got == good, got)

@@ -6,8 +6,9 @@ import io
 import json
 import tarfile
 
-COLUMNS = ("name lname perm uid gid size ctime mtime inode bcount lcount md5 attr acl sha256 selinux xattrs e2fsattrs "
-           "capabilities").split()
+COLUMNS = (
+    "name lname perm uid gid size ctime mtime inode bcount lcount md5 attr acl sha256 selinux xattrs e2fsattrs " "capabilities"
+).split()
 FILE_BITS, FOLDER_BITS, LINK_BITS = 112744996797, 111671250877, 42949676991
 I, ANF, ARF, GROWING, COMPRESSED = (1 << bit for bit in (27, 28, 29, 40, 41))
 LOG = GROWING | ANF | I
@@ -37,10 +38,27 @@ class Entry:
             digests = {name: base64_of(hashlib.new(name, content).digest()) for name in digests}
         number = int(hashlib.md5(path).hexdigest()[:7], 16) if inode is None else inode
         self.path = path
-        self.values = {"name": encoded(path), "lname": encoded(link) if link else "0", "perm": "%o" % mode, "uid": 0, "gid": 0,
-                       "size": len(content or b""), "ctime": self.time(1000), "mtime": self.time(1000), "inode": number,
-                       "bcount": 8, "lcount": 1, "attr": own | bits, "acl": "0" if link else self.acl(ACL), "selinux": "0",
-                       "xattrs": "0", "e2fsattrs": "0" if link else "524288", "capabilities": "0", **digests, **more}
+        self.values = {
+            "name": encoded(path),
+            "lname": encoded(link) if link else "0",
+            "perm": "%o" % mode,
+            "uid": 0,
+            "gid": 0,
+            "size": len(content or b""),
+            "ctime": self.time(1000),
+            "mtime": self.time(1000),
+            "inode": number,
+            "bcount": 8,
+            "lcount": 1,
+            "attr": own | bits,
+            "acl": "0" if link else self.acl(ACL),
+            "selinux": "0",
+            "xattrs": "0",
+            "e2fsattrs": "0" if link else "524288",
+            "capabilities": "0",
+            **digests,
+            **more,
+        }
 
     @staticmethod
     def time(seconds):
@@ -89,15 +107,21 @@ class Night:
         """dpkg's records, as a tar archive packed by gzip."""
         files, status = {"diversions": "\n".join(part for each in self.diversions for part in each).encode() + b"\n"}, []
         for name, (version, contents, conffiles, arch, listed, state, base) in self.packages.items():
-            lines = b"".join(b" %s %s\n" % (path, hashlib.md5(content).hexdigest().encode())
-                             for path, content in conffiles.items())
-            status.append(b"Package: %s\nStatus: %s\nArchitecture: %s\nVersion: %s\n" % tuple(
-                text.encode() for text in (name, state, arch, version)) + (b"Conffiles:\n" + lines if lines else b""))
+            lines = b"".join(
+                b" %s %s\n" % (path, hashlib.md5(content).hexdigest().encode()) for path, content in conffiles.items()
+            )
+            status.append(
+                b"Package: %s\nStatus: %s\nArchitecture: %s\nVersion: %s\n"
+                % tuple(text.encode() for text in (name, state, arch, version))
+                + (b"Conffiles:\n" + lines if lines else b"")
+            )
             paths = [b"/."] + sorted(list(contents) + list(conffiles) + listed)
             files["info/%s.list" % base] = b"\n".join(paths) + b"\n"
             files["info/%s.md5sums" % base] = b"".join(
                 b"%s  %s\n" % (hashlib.md5(content).hexdigest().encode(), path[1:])
-                for path, content in contents.items() if content is not None)
+                for path, content in contents.items()
+                if content is not None
+            )
         files["status"] = b"\n".join(status)
         return packed(files)
 
@@ -132,8 +156,15 @@ def lines_of(old, new):
         kinds[kind] += 1
         objects.append(put_path({"record": "entry", "kind": kind}, path))
     ends = [{"record": "database", "side": side, "path": "/" + side, "sha256": "0" * 64} for side in ("old", "new")]
-    summary = {"record": "summary", "format": 1, "differences": bool(objects), "total": 9, **kinds, "levels": ["list_entries"],
-               "lines": len(objects) + 3}
+    summary = {
+        "record": "summary",
+        "format": 1,
+        "differences": bool(objects),
+        "total": 9,
+        **kinds,
+        "levels": ["list_entries"],
+        "lines": len(objects) + 3,
+    }
     return b"".join(json.dumps(fields, separators=(",", ":")).encode() + b"\n" for fields in [summary] + objects + ends)
 
 
@@ -154,7 +185,9 @@ class Host:
             sandbox.write("host-%s.db" % side, night.database())
             sandbox.write("host-%s.packages" % side, night.records())
         given = ["--packages", "host-old.packages", "--packages-now", "host-new.packages"] if records else []
-        answer = sandbox.call(NAME, "--databases", "host-old.db", "host-new.db", *given, *words, text=lines_of(self.old, self.new))
+        answer = sandbox.call(
+            NAME, "--databases", "host-old.db", "host-new.db", *given, *words, text=lines_of(self.old, self.new)
+        )
         try:
             return answer, [json.loads(line) for line in answer.output.splitlines()]
         except ValueError:
@@ -171,8 +204,11 @@ class Host:
                 path = bytes.fromhex(fields["path_hex"]) if "path_hex" in fields else fields["path"].encode()
                 found[path] = in_short(fields.get("reason"))
         for (label, path), want in wanted.items():
-            sandbox.holds("%s: %s" % (label, path.decode("utf-8", "replace")), found.get(path, "no change") == want,
-                          (found.get(path, "no change"), want))
+            sandbox.holds(
+                "%s: %s" % (label, path.decode("utf-8", "replace")),
+                found.get(path, "no change") == want,
+                (found.get(path, "no change"), want),
+            )
         return objects
 
 

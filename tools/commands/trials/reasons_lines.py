@@ -21,7 +21,7 @@ def without_ours(line):
     fields = json.loads(line)
     added = {name: fields[name] for name in OURS if name in fields}
     tail = json.dumps(added, separators=(",", ":")).encode()[1:]
-    return line[:-len(tail) - 2] + b"}\n" if added and line.endswith(b"," + tail + b"\n") else line
+    return line[: -len(tail) - 2] + b"}\n" if added and line.endswith(b"," + tail + b"\n") else line
 
 
 def random_database(numbers, paths):
@@ -29,8 +29,12 @@ def random_database(numbers, paths):
     lines = []
     for path in sorted(paths, key=lambda path: path.split(b"/")):
         if numbers.random() < 0.9:
-            values = ["%o" % numbers.choice([0o100644, 0o104755, 0o100666, 0o40755]), str(numbers.choice([1, 1, 1, 2])),
-                      str(numbers.choice([7, 7, 8])), "%d" % (36 | numbers.choice([0, LOG]) | 1 << 9)]
+            values = [
+                "%o" % numbers.choice([0o100644, 0o104755, 0o100666, 0o40755]),
+                str(numbers.choice([1, 1, 1, 2])),
+                str(numbers.choice([7, 7, 8])),
+                "%d" % (36 | numbers.choice([0, LOG]) | 1 << 9),
+            ]
             name = "".join(chr(byte) if 48 <= byte < 123 and byte != 92 or byte == 47 else "%%%02X" % byte for byte in path)
             lines.append(" ".join([name] + values))
     return ("@@begin_db\n@@db_spec name perm size inode attr\n" + "\n".join(lines) + "\n@@end_db\n").encode()
@@ -40,8 +44,13 @@ def try_same(sandbox):
     """Random reports of each level: the lines are the same, but for the members that are added at their ends."""
     numbers = random.Random(20261126)
     for number in range(24):
-        paths = {b"/" + b"/".join(bytes(numbers.choices(b"ab%\xff\n \x01", k=numbers.randint(1, 2)))
-                                  for _ in range(numbers.randint(1, 3))) for _ in range(40)}
+        paths = {
+            b"/"
+            + b"/".join(
+                bytes(numbers.choices(b"ab%\xff\n \x01", k=numbers.randint(1, 2))) for _ in range(numbers.randint(1, 3))
+            )
+            for _ in range(40)
+        }
         for name in ("o.db", "n.db"):
             sandbox.write(name, random_database(numbers, paths))
         level = LEVELS[number % len(LEVELS)]
@@ -55,8 +64,11 @@ def try_same(sandbox):
         same = b"".join(without_ours(line) for line in lines) == before.output
         sandbox.holds("its lines are the same", same and len(objects) > 10, (before.output[:300], answer.output[:300]))
         counts = counts_of(objects)
-        sandbox.holds("its counts", objects[0]["reasons"] == counts and counts["not_verified"] == sum(
-            "reason" in fields for fields in objects[1:]), (objects[0], counts))
+        sandbox.holds(
+            "its counts",
+            objects[0]["reasons"] == counts and counts["not_verified"] == sum("reason" in fields for fields in objects[1:]),
+            (objects[0], counts),
+        )
     answer = sandbox.call(NAME, *GIVEN, text=before.output.replace(b'"kind":"', b'"kind": "'))
     same = b"".join(map(without_ours, answer.output.splitlines(True))) == before.output.replace(b'"kind":"', b'"kind": "')
     sandbox.holds("lines with other blanks", same and answer.status == 0, answer)
@@ -85,20 +97,38 @@ def try_damage(sandbox):
     lines = sandbox.call("aide-compare-json", text=sandbox.call("aide-compare-run", "o.db", "n.db").output).output
     parts = lines.splitlines(True)
     sandbox.expect("a whole report", sandbox.call(NAME, *GIVEN, text=lines), 0, [b'"severity":"medium"'])
-    cases = {"cut": lines[:-1], "an entry too few": b"".join(parts[:1] + parts[2:]), "two entries in another order":
-             b"".join(parts[:1] + parts[2:3] + parts[1:2] + parts[3:]), "no summary": b"".join(parts[1:]), "nothing": b"",
-             "no JSON": b"x\n" + lines, "an array": b"[]\n" + lines, "a list after the end": lines + parts[1],
-             "an unknown kind": lines.replace(b'"added",', b'"odd",'), "a path without a slash": lines.replace(b'"/a"', b'"a"'),
-             "no path": lines.replace(b'"path":"/a"', b'"pat":"/a"'), "a severity already":
-             sandbox.call(NAME, *GIVEN, text=lines).output, "an entry after the databases": b"".join(parts[:1] + parts[2:] + parts[1:2])}
+    cases = {
+        "cut": lines[:-1],
+        "an entry too few": b"".join(parts[:1] + parts[2:]),
+        "two entries in another order": b"".join(parts[:1] + parts[2:3] + parts[1:2] + parts[3:]),
+        "no summary": b"".join(parts[1:]),
+        "nothing": b"",
+        "no JSON": b"x\n" + lines,
+        "an array": b"[]\n" + lines,
+        "a list after the end": lines + parts[1],
+        "an unknown kind": lines.replace(b'"added",', b'"odd",'),
+        "a path without a slash": lines.replace(b'"/a"', b'"a"'),
+        "no path": lines.replace(b'"path":"/a"', b'"pat":"/a"'),
+        "a severity already": sandbox.call(NAME, *GIVEN, text=lines).output,
+        "an entry after the databases": b"".join(parts[:1] + parts[2:] + parts[1:2]),
+    }
     for label, text in cases.items():
         sandbox.expect(label, sandbox.call(NAME, *GIVEN, text=text), 65, b"", [b"line "])
-    for label, words in (("databases of another report", ("--databases", "n.db", "n.db")), ("swapped", ("--databases", "n.db", "o.db"))):
+    for label, words in (
+        ("databases of another report", ("--databases", "n.db", "n.db")),
+        ("swapped", ("--databases", "n.db", "o.db")),
+    ):
         sandbox.expect(label, sandbox.call(NAME, *words, text=lines), 24, b"", [b"not those of the report"])
     sandbox.write("short.db", NEW.replace(b"/a 36 100644 5", b"/a 36 100644"))
-    sandbox.expect("a line that lacks a field", sandbox.call(NAME, "--databases", "o.db", "short.db", text=lines), 24, b"", [b"fields"])
-    for label, words, status in (("no databases", (), 15), ("one database", ("--databases", "o.db"), 15),
-                                 ("a missing database", ("--databases", "o.db", "none"), 18), ("too large", GIVEN + ("--most", "20"), 18)):
+    sandbox.expect(
+        "a line that lacks a field", sandbox.call(NAME, "--databases", "o.db", "short.db", text=lines), 24, b"", [b"fields"]
+    )
+    for label, words, status in (
+        ("no databases", (), 15),
+        ("one database", ("--databases", "o.db"), 15),
+        ("a missing database", ("--databases", "o.db", "none"), 18),
+        ("too large", GIVEN + ("--most", "20"), 18),
+    ):
         sandbox.expect(label, sandbox.call(NAME, *words, text=lines), status, b"")
     sandbox.write("n.db.gz", gzip.compress(NEW))
     sandbox.expect("a packed database", sandbox.call(NAME, "--databases", "o.db", "n.db.gz", text=lines), 0, [b'"severity"'])
@@ -112,11 +142,20 @@ def try_refused(sandbox):
     host.ask(sandbox)
     sandbox.write("rules", b"content /a text\n")
     sandbox.write("severity", b"high any /a\n")
-    options = {"--packages": "host-old.packages", "--packages-now": "host-new.packages", "--rules": "rules", "--severity": "severity"}
+    options = {
+        "--packages": "host-old.packages",
+        "--packages-now": "host-new.packages",
+        "--rules": "rules",
+        "--severity": "severity",
+    }
     words = [word for pair in options.items() for word in pair]
     sandbox.expect("evidence of the caller", host.ask(sandbox, *words, records=False)[0], 0, [b'"reason"'])
     for option, name in options.items():
-        for label, mode, owner in (("a group can write", 0o664, 0), ("all can write", 0o646, 0), ("of another user", 0o644, 65534)):
+        for label, mode, owner in (
+            ("a group can write", 0o664, 0),
+            ("all can write", 0o646, 0),
+            ("of another user", 0o644, 65534),
+        ):
             if owner and os.getuid() != 0:
                 continue
             os.rename(sandbox.path(name), sandbox.path("kept"))
@@ -124,11 +163,17 @@ def try_refused(sandbox):
             os.chown(sandbox.path("theirs"), owner or os.getuid(), -1)
             changed = ["theirs" if word == name else word for word in words]
             os.rename(sandbox.path("kept"), sandbox.path(name))
-            answer = sandbox.call(NAME, "--databases", "host-old.db", "host-new.db", *changed, text=lines_of(host.old, host.new))
+            answer = sandbox.call(
+                NAME, "--databases", "host-old.db", "host-new.db", *changed, text=lines_of(host.old, host.new)
+            )
             sandbox.expect("%s, %s" % (option, label), answer, 18, b"", [b"other users can write"])
             os.remove(sandbox.path("theirs"))
-    for label, text in (("no archive", b"x" * 600), ("cut", sandbox.read("host-old.packages")[:-20]), ("no status", gzip.compress(
-            b"\0" * 10240)), ("a large member", gzip.compress(large_member()))):
+    for label, text in (
+        ("no archive", b"x" * 600),
+        ("cut", sandbox.read("host-old.packages")[:-20]),
+        ("no status", gzip.compress(b"\0" * 10240)),
+        ("a large member", gzip.compress(large_member())),
+    ):
         sandbox.write("damaged", text)
         answer, _ = host.ask(sandbox, "--packages", "damaged", "--packages-now", "host-new.packages", records=False)
         sandbox.expect("records, " + label, answer, 18, b"", [b"damaged"])
@@ -149,6 +194,7 @@ def modules():
         sys.path.append(path)
     from aide_compare.ending import Fault
     from aide_compare.reasons import records
+
     return records, Fault
 
 
@@ -156,8 +202,14 @@ def try_records(sandbox):
     """dpkg's records are kept whole, twice the same, and not read from where others can write."""
     records, fault = modules()
     status = b"Package: tool\nStatus: install ok installed\nArchitecture: all\nVersion: 2\n"
-    files = {"status": status, "diversions": b"", "info/tool.list": b"/.\n/a\n", "info/x:amd64.md5sums": b"sums",
-             "info/tool.postinst": b"no", "status-old": b"no"}
+    files = {
+        "status": status,
+        "diversions": b"",
+        "info/tool.list": b"/.\n/a\n",
+        "info/x:amd64.md5sums": b"sums",
+        "info/tool.postinst": b"no",
+        "status-old": b"no",
+    }
     for name, text in files.items():
         sandbox.write("dpkg/" + name, text)
     for name in ("dpkg", "dpkg/info"):
@@ -174,7 +226,9 @@ def try_records(sandbox):
     found = {name: read.read(name) for name in read.names}
     sandbox.holds("records are kept whole", found == {name: text for name, text in files.items() if text != b"no"}, found)
     sandbox.holds("twice the same", kept() == text)
-    sandbox.holds("there are records", records.has_records(sandbox.path("dpkg")) and not records.has_records(sandbox.path("bin")))
+    sandbox.holds(
+        "there are records", records.has_records(sandbox.path("dpkg")) and not records.has_records(sandbox.path("bin"))
+    )
     for label, name, mode in (("a file", "dpkg/info/tool.list", 0o666), ("the folder", "dpkg", 0o777)):
         before = os.stat(sandbox.path(name)).st_mode & 0o7777
         os.chmod(sandbox.path(name), mode)
@@ -198,6 +252,7 @@ def try_interface(sandbox):
     records, _ = modules()
     from types import SimpleNamespace
     from aide_compare.reasons import Counts, Explainer, evidence_of
+
     host = Host()
     host.old.file(b"/var/log/a", b"1", bits=LOG).file(b"/b", b"1")
     host.new.file(b"/var/log/a", b"12", bits=LOG, mtime=Entry.time(2000))
@@ -206,9 +261,22 @@ def try_interface(sandbox):
     none = dict.fromkeys(("packages", "packages_now", "rules", "severity"))
     with open(sandbox.path("old.host"), "rb") as old, open(sandbox.path("new.host"), "rb") as new:
         explainer = Explainer(old.fileno(), new.fileno(), evidence_of(SimpleNamespace(archive=[], keyring=[], **none)))
-        given = [{"record": "entry", "kind": "removed", "path": "/b"}, {"record": "entry", "kind": "changed", "path": "/var/log/a"}]
+        given = [
+            {"record": "entry", "kind": "removed", "path": "/b"},
+            {"record": "entry", "kind": "changed", "path": "/var/log/a"},
+        ]
         found = list(explainer.explain(iter(given)))
-    sandbox.holds("the objects", found == [
-        {**given[0], "severity": "medium"}, {**given[1], "severity": "low", "reason": {
-            "class": "growing", "text": "grew, content not verified", "verified": False, "grade": "databases"}}], found)
+    sandbox.holds(
+        "the objects",
+        found
+        == [
+            {**given[0], "severity": "medium"},
+            {
+                **given[1],
+                "severity": "low",
+                "reason": {"class": "growing", "text": "grew, content not verified", "verified": False, "grade": "databases"},
+            },
+        ],
+        found,
+    )
     sandbox.holds("the counts", explainer.counts == Counts(0, 1, 1, 0, 1, 1), explainer.counts)

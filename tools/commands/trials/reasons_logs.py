@@ -1,8 +1,13 @@
 """Forged logs, and true ones beside them: what AIDE's special attributes explain, and what they must not."""
 from .reasons_host import ANF, ARF, COMPRESSED, GROWING, I, LOG, MORE_ACL, Entry, Host
 
-GREW, MOVED, MOVED_SAME, ADDED, REMOVED = ("growing databases", "moved databases", "moved databases!", "added_log databases",
-                                           "removed_log databases!")
+GREW, MOVED, MOVED_SAME, ADDED, REMOVED = (
+    "growing databases",
+    "moved databases",
+    "moved databases!",
+    "added_log databases",
+    "removed_log databases!",
+)
 LATER = Entry.time(2000)
 
 
@@ -33,8 +38,10 @@ class Logs:
         self.host.old.file(log(self.number, source), **{"mode": 0o100640, "inode": inode, "bits": LOG, **old})
         self.host.new.file(log(self.number, to), **{"mode": 0o100640, "inode": inode, **new})
         if left is not None:
-            self.host.new.file(log(self.number, source), **{"mode": 0o100640, "inode": inode + 50000, "bits": LOG, "mtime": LATER,
-                                                            "ctime": LATER, **left})
+            self.host.new.file(
+                log(self.number, source),
+                **{"mode": 0o100640, "inode": inode + 50000, "bits": LOG, "mtime": LATER, "ctime": LATER, **left},
+            )
             self.wanted["the name that was left, " + label, log(self.number, source)] = want_left
         self.wanted[label, log(self.number, to)] = want
 
@@ -56,8 +63,13 @@ def try_growing(sandbox):
     case("growing in the new database only", "-", {"content": b"one"}, {**grown, "bits": LOG})
     case("growing in the old database only", GREW, {"content": b"one", "bits": GROWING}, grown)
     case("other attributes asked for", "-", {"content": b"one"}, {**grown, "attr": 36 | LOG}, bits=LOG)
-    case("no digest in the rule", "growing databases", {"md5": "0", "sha256": "0"},
-         {"md5": "0", "sha256": "0", "mtime": LATER}, bits=LOG)
+    case(
+        "no digest in the rule",
+        "growing databases",
+        {"md5": "0", "sha256": "0"},
+        {"md5": "0", "sha256": "0", "mtime": LATER},
+        bits=LOG,
+    )
     logs.host.both(lambda night: night.folder(b"/var/log/folder", bits=LOG, size=4096 if night is logs.host.old else 8192))
     logs.wanted["a folder does not grow", b"/var/log/folder"] = "-"
     logs.host.expect(sandbox, logs.wanted, records=False)
@@ -88,18 +100,42 @@ def try_rotated(sandbox):
     case("renamed, and the old name is gone", MOVED_SAME, {"content": b"one"}, {"content": b"one"})
     case("renamed and grown", MOVED, {"content": b"one"}, {"content": b"one two", "mtime": LATER}, fresh)
     case("renamed and smaller", "-", {"content": b"one two"}, {"content": b"one", "mtime": LATER}, fresh, want_left="-")
-    case("renamed, other content of that size", "-", {"content": b"one"}, {"content": b"two", "mtime": LATER}, fresh,
-         want_left="-")
+    case(
+        "renamed, other content of that size",
+        "-",
+        {"content": b"one"},
+        {"content": b"two", "mtime": LATER},
+        fresh,
+        want_left="-",
+    )
     case("renamed and grown, without growing", "-", {"content": b"one", "bits": I}, {"content": b"one two", "mtime": LATER})
     case("renamed without I", "-", {"content": b"one", "bits": GROWING}, {"content": b"one"}, fresh, want_left="-")
     case("renamed, another mode", "-", {"content": b"one"}, {"content": b"one", "mode": 0o100600}, fresh, want_left="-")
     case("renamed into a folder", "-", {"content": b"one"}, {"content": b"one"}, to=b"log.d/log.1")
-    case("renamed, a program in its place", MOVED_SAME, {"content": b"one"}, {"content": b"one"}, {"mode": 0o100750},
-         want_left="-")
-    case("renamed, its place is another user's", MOVED_SAME, {"content": b"one"}, {"content": b"one"}, {**fresh, "uid": 1000},
-         want_left="-")
-    case("renamed, its place is not one of new files", MOVED_SAME, {"content": b"one"}, {"content": b"one"},
-         {**fresh, "bits": GROWING | I}, want_left="-")
+    case(
+        "renamed, a program in its place",
+        MOVED_SAME,
+        {"content": b"one"},
+        {"content": b"one"},
+        {"mode": 0o100750},
+        want_left="-",
+    )
+    case(
+        "renamed, its place is another user's",
+        MOVED_SAME,
+        {"content": b"one"},
+        {"content": b"one"},
+        {**fresh, "uid": 1000},
+        want_left="-",
+    )
+    case(
+        "renamed, its place is not one of new files",
+        MOVED_SAME,
+        {"content": b"one"},
+        {"content": b"one"},
+        {**fresh, "bits": GROWING | I},
+        want_left="-",
+    )
     logs.host.expect(sandbox, logs.wanted, records=False)
 
 
@@ -109,8 +145,14 @@ def try_packed(sandbox):
     small = {"content": b"packed", "bits": I | COMPRESSED, "mtime": LATER}
 
     def case(label, want, new, **more):
-        logs.rotation(label, want, source, {**small, "inode": 900000 + logs.number, **new}, to=more.get("to", b"log.2.gz"),
-                      source=more.get("source", b"log.1"))
+        logs.rotation(
+            label,
+            want,
+            source,
+            {**small, "inode": 900000 + logs.number, **new},
+            to=more.get("to", b"log.2.gz"),
+            source=more.get("source", b"log.1"),
+        )
 
     case("compressed", MOVED, {})
     case("compressed with a date", MOVED, {}, to=b"log-20261125.xz", source=b"log")

@@ -11,15 +11,32 @@ from .sandbox import HERE
 
 FOLDER = os.path.join(HERE, "tools", "commands", "nights")
 # What the intruder did in each of his nights.
-ALWAYS = ("/usr/local/sbin/.x", "/usr/bin/ls", "/usr/bin/pgrep", "/var/lib/dpkg/info/procps.md5sums", "/usr/local/lib/libprocess.so",
-          "/etc/ld.so.preload", "/root/.ssh/authorized_keys", "/etc/cron.d/sysstat", "/var/log/syslog.5.gz", "/etc/passwd",
-          "/usr/local/bin/p", "/usr/bin/passwd", "/etc/cron.d")
+ALWAYS = (
+    "/usr/local/sbin/.x",
+    "/usr/bin/ls",
+    "/usr/bin/pgrep",
+    "/var/lib/dpkg/info/procps.md5sums",
+    "/usr/local/lib/libprocess.so",
+    "/etc/ld.so.preload",
+    "/root/.ssh/authorized_keys",
+    "/etc/cron.d/sysstat",
+    "/var/log/syslog.5.gz",
+    "/etc/passwd",
+    "/usr/local/bin/p",
+    "/usr/bin/passwd",
+    "/etc/cron.d",
+)
 MARKS = {
     "n5-idle-intruder": ("/etc/cron.d/e2scrub_all", "/var/log/syslog"),
     "n6-install-intruder": ("/usr/bin/git", "/usr/lib/python3/dist-packages/yaml/__pycache__/loader.cpython-311.pyc"),
-    "n7-upgrade-intruder": ("/usr/bin/openssl", "/usr/sbin/sshd", "/usr/bin/xz", "/etc/nginx/nginx.conf",
-                            "/usr/lib/python3.11/__pycache__/os.cpython-311.pyc",
-                            "/usr/lib/x86_64-linux-gnu/libdns-9.18.49-1~deb12u4-Debian.so"),
+    "n7-upgrade-intruder": (
+        "/usr/bin/openssl",
+        "/usr/sbin/sshd",
+        "/usr/bin/xz",
+        "/etc/nginx/nginx.conf",
+        "/usr/lib/python3.11/__pycache__/os.cpython-311.pyc",
+        "/usr/lib/x86_64-linux-gnu/libdns-9.18.49-1~deb12u4-Debian.so",
+    ),
     "n8-repack-intruder": ("/usr/bin/tree", "/etc/logrotate.conf", "/usr/share/at/batch-job"),
     "n10-kernel-intruder": ("/boot/initrd.img-6.1.0-50-cloud-amd64", "/usr/lib/modules/6.1.0-50-cloud-amd64/kernel/net/x.ko"),
     "n11-rotate-intruder": ("/var/log/auth.log.1", "/var/log/syslog.2.gz", "/var/log/auth.log"),
@@ -51,8 +68,9 @@ def explained(sandbox, name, parts):
         sandbox.write("%s.packages" % side, packed(records))
     report = sandbox.call("aide-compare-run", "old.db", "new.db", "--", "-B", "report_level=changed_attributes")
     lines = sandbox.call("aide-compare-json", text=report.output).output
-    answer = sandbox.call(NAME, "--databases", "old.db", "new.db", "--packages", "old.packages", "--packages-now", "new.packages",
-                          text=lines)
+    answer = sandbox.call(
+        NAME, "--databases", "old.db", "new.db", "--packages", "old.packages", "--packages-now", "new.packages", text=lines
+    )
     sandbox.holds("%s is explained" % name, answer.status == 0, answer)
     return [json.loads(line) for line in answer.output.splitlines()]
 
@@ -63,8 +81,11 @@ def try_nights(sandbox):
     for name in names:
         parts = read_night(name)
         objects = explained(sandbox, name, parts)
-        found = {fields["path"]: "%s %s" % (in_short(fields.get("reason")), fields["severity"])
-                 for fields in objects if fields["record"] == "entry"}
+        found = {
+            fields["path"]: "%s %s" % (in_short(fields.get("reason")), fields["severity"])
+            for fields in objects
+            if fields["record"] == "entry"
+        }
         wanted = dict(reversed(line.split("\t")) for line in parts["wanted"].splitlines())
         for path in sorted(found.keys() | wanted.keys()):
             sandbox.holds("%s, %s" % (name, path), found.get(path) == wanted.get(path), (found.get(path), wanted.get(path)))

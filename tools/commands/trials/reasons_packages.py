@@ -32,8 +32,13 @@ class Upgrade:
     def expect(self, sandbox, *words, conffiles=(), **more):
         for night, version in ((self.host.old, "1"), (self.host.new, "1:2")):
             side = "old" if night is self.host.old else "new"
-            night.package("tool", version, self.contents[side], dict(conffiles) if side == "new" else (),
-                          listed=[path for path in more.get("listed", ())])
+            night.package(
+                "tool",
+                version,
+                self.contents[side],
+                dict(conffiles) if side == "new" else (),
+                listed=[path for path in more.get("listed", ())],
+            )
             night.package("other", "3", more.get("other", {}).get(side, {}))
         return self.host.expect(sandbox, self.wanted, *words)
 
@@ -52,14 +57,26 @@ def try_content(sandbox):
     case("no digest in the databases", "-", b"/usr/bin/h", said=None, md5="0", sha256="0")
     case("new, without a digest anywhere", "-", b"/usr/bin/i", old=None, said=None, md5="0", sha256="0")
     case("set-user-ID before and after", BY_DPKG, b"/usr/bin/j", mode=0o104755)
-    for label, after in (("set-user-ID", {"mode": 0o104644}), ("its mode", {"mode": 0o100755}), ("its owner", {"uid": 1}),
-                         ("its group", {"gid": 1}), ("its access list", {"acl": Entry.acl(MORE_ACL)}), ("a capability", {
-                             "capabilities": base64_of(b"cap_net_raw=ep")}), ("extended attributes", {"xattrs": "1,x,eA=="}),
-                         ("a flag of the file system", {"e2fsattrs": "524304"}), ("its hard links", {"lcount": 2}),
-                         ("the attributes asked for", {"attr": 36})):
+    for label, after in (
+        ("set-user-ID", {"mode": 0o104644}),
+        ("its mode", {"mode": 0o100755}),
+        ("its owner", {"uid": 1}),
+        ("its group", {"gid": 1}),
+        ("its access list", {"acl": Entry.acl(MORE_ACL)}),
+        ("a capability", {"capabilities": base64_of(b"cap_net_raw=ep")}),
+        ("extended attributes", {"xattrs": "1,x,eA=="}),
+        ("a flag of the file system", {"e2fsattrs": "524304"}),
+        ("its hard links", {"lcount": 2}),
+        ("the attributes asked for", {"attr": 36}),
+    ):
         case("right content, but " + label, "-", b"/usr/bin/changed " + label.encode(), after=after)
-        case("new, right content, but " + label, BY_DPKG if label in NEW_MAY_HAVE else "-",
-             b"/usr/bin/new " + label.encode(), old=None, after=after)
+        case(
+            "new, right content, but " + label,
+            BY_DPKG if label in NEW_MAY_HAVE else "-",
+            b"/usr/bin/new " + label.encode(),
+            old=None,
+            after=after,
+        )
     upgrade.host.old.file(b"/usr/bin/type", ONE)
     upgrade.host.new.link(b"/usr/bin/type", b"/usr/local/sbin/.x")
     upgrade.contents["new"][b"/usr/bin/type"] = TWO
@@ -87,11 +104,15 @@ def try_unchanged(sandbox):
         host.old.file(INFO + name, b"sums", mode=0o100755)
         host.new.file(INFO + name, b"other", mode=0o100755)
     host.new.file(INFO + b"evil.preinst", b"x").file(INFO + b"tool.prerm", b"x", mode=0o100755)
-    wanted = {("forged md5sums of a package that did not change", b"/usr/bin/p"): "-",
-              ("of the package that did", b"/usr/bin/t"): BY_DPKG,
-              ("records of a package that did not change", INFO + b"procps.md5sums"): "-",
-              ("records of one that did", INFO + b"tool.md5sums"): MADE, ("its script", INFO + b"tool.postinst"): MADE,
-              ("its new script", INFO + b"tool.prerm"): MADE, ("a script of no package", INFO + b"evil.preinst"): "-"}
+    wanted = {
+        ("forged md5sums of a package that did not change", b"/usr/bin/p"): "-",
+        ("of the package that did", b"/usr/bin/t"): BY_DPKG,
+        ("records of a package that did not change", INFO + b"procps.md5sums"): "-",
+        ("records of one that did", INFO + b"tool.md5sums"): MADE,
+        ("its script", INFO + b"tool.postinst"): MADE,
+        ("its new script", INFO + b"tool.prerm"): MADE,
+        ("a script of no package", INFO + b"evil.preinst"): "-",
+    }
     host.expect(sandbox, wanted)
     host.expect(sandbox, {key: "-" for key in wanted}, records=False)
     host.new.package("procps", "1", forged, state="deinstall ok config-files")
@@ -115,8 +136,14 @@ def try_names(sandbox):
             place = path if usual else b"/usr" + path
             host.new.file(place, TWO)
             wanted["merged %d" % merged, place] = BY_DPKG if usual else want
-        for path, expected in ((b"/usr/lib/guard/halt", want), (b"/usr/sbin/halt", "-"), (b"/usr/bin/e", BY_DPKG), (b"/usr/bin/e.tool", "-"),
-                               (b"/etc/c", BY_DPKG), (b"/usr/lib/conf", want)):
+        for path, expected in (
+            (b"/usr/lib/guard/halt", want),
+            (b"/usr/sbin/halt", "-"),
+            (b"/usr/bin/e", BY_DPKG),
+            (b"/usr/bin/e.tool", "-"),
+            (b"/etc/c", BY_DPKG),
+            (b"/usr/lib/conf", want),
+        ):
             host.new.file(path, TWO)
             wanted["merged %d, diverted or a conffile" % merged, path] = expected
         host.expect(sandbox, wanted)
@@ -131,9 +158,14 @@ def try_links(sandbox):
     upgrade = Upgrade()
     host, wanted = upgrade.host, upgrade.wanted
     upgrade.case("a library", BY_DPKG, b"/usr/lib/lib.so.2", old=None)
-    targets = {b"/usr/lib/same.so": (b"lib.so.2", b"lib.so.2", BY_DPKG), b"/usr/lib/lib.so": (b"lib.so.1", b"lib.so.2", BY_DPKG),
-               b"/usr/lib/new.so": (None, b"../lib/lib.so.2", BY_DPKG), b"/usr/lib/away.so": (b"lib.so.1", b"/tmp/x.so", MADE),
-               b"/usr/lib/none.so": (None, b"/tmp/x.so", MADE), b"/usr/lib/users.so": (None, b"lib.so.2", "-")}
+    targets = {
+        b"/usr/lib/same.so": (b"lib.so.2", b"lib.so.2", BY_DPKG),
+        b"/usr/lib/lib.so": (b"lib.so.1", b"lib.so.2", BY_DPKG),
+        b"/usr/lib/new.so": (None, b"../lib/lib.so.2", BY_DPKG),
+        b"/usr/lib/away.so": (b"lib.so.1", b"/tmp/x.so", MADE),
+        b"/usr/lib/none.so": (None, b"/tmp/x.so", MADE),
+        b"/usr/lib/users.so": (None, b"lib.so.2", "-"),
+    }
     for path, (before, after, want) in targets.items():
         upgrade.contents["new"][path] = None
         if before:
@@ -159,11 +191,18 @@ def try_removed(sandbox):
     for path in (b"/usr/gone", b"/usr/shared", b"/usr/tool", b"/usr/still", b"/usr/kept", b"/etc/alien"):
         host.old.file(path, ONE)
     host.old.folder(b"/usr/folder")
-    host.expect(sandbox, {
-        ("removed with its package", b"/usr/gone"): BY_DPKG, ("a folder of it", b"/usr/folder"): BY_DPKG,
-        ("another package has it still", b"/usr/shared"): "-", ("gone with the upgrade", b"/usr/tool"): BY_DPKG,
-        ("removed, though the upgraded package has it", b"/usr/still"): "-", ("of a package that stays", b"/usr/kept"): "-",
-        ("of no package", b"/etc/alien"): "-"})
+    host.expect(
+        sandbox,
+        {
+            ("removed with its package", b"/usr/gone"): BY_DPKG,
+            ("a folder of it", b"/usr/folder"): BY_DPKG,
+            ("another package has it still", b"/usr/shared"): "-",
+            ("gone with the upgrade", b"/usr/tool"): BY_DPKG,
+            ("removed, though the upgraded package has it", b"/usr/still"): "-",
+            ("of a package that stays", b"/usr/kept"): "-",
+            ("of no package", b"/etc/alien"): "-",
+        },
+    )
 
 
 def try_read(sandbox):
@@ -175,8 +214,12 @@ def try_read(sandbox):
     os.mkdir(folder)
     files = {}
     for name, there, in_database, said, want in (
-            (b"good", TWO, TWO, TWO, BY_DPKG), (b"altered", b"altered since", TWO, TWO, "-"), (b"forged", TWO, TWO, ONE, "-"),
-            (b"missing", None, TWO, TWO, "-"), (b"swapped", TWO, b"other", TWO, "-")):
+        (b"good", TWO, TWO, TWO, BY_DPKG),
+        (b"altered", b"altered since", TWO, TWO, "-"),
+        (b"forged", TWO, TWO, ONE, "-"),
+        (b"missing", None, TWO, TWO, "-"),
+        (b"swapped", TWO, b"other", TWO, "-"),
+    ):
         path = folder + b"/" + name
         if there is not None:
             sandbox.write("files/" + name.decode(), there)

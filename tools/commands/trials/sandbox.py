@@ -12,9 +12,9 @@ TIME_LIMIT = 60
 NOBODY = 65534
 
 # What a child does before it becomes the tool: it gives up the rights of root, has another umask, or cannot write much.
-AS_NOBODY = 'os.setgroups([]); os.setgid(%d); os.setuid(%d)' % (NOBODY, NOBODY)
-UMASK = 'os.umask(0o%o)'
-SMALL_FILES = 'resource.setrlimit(resource.RLIMIT_FSIZE, (%d, %d))'
+AS_NOBODY = "os.setgroups([]); os.setgid(%d); os.setuid(%d)" % (NOBODY, NOBODY)
+UMASK = "os.umask(0o%o)"
+SMALL_FILES = "resource.setrlimit(resource.RLIMIT_FSIZE, (%d, %d))"
 BECOME = """import os, resource, signal, sys
 signal.signal(signal.SIGPIPE, signal.SIG_DFL)
 %s
@@ -23,14 +23,15 @@ os.execvp(sys.argv[1], sys.argv[1:])"""
 
 def after(before, command):
     """A command that does something else before it starts. (`preexec_fn` is not safe in a process with threads.)"""
-    return [sys.executable, '-c', BECOME % before] + command if before else command
+    return [sys.executable, "-c", BECOME % before] + command if before else command
 
-HEAD = b'@@begin_db\n@@db_spec name attr perm size\n'
-END = b'@@end_db\n'
-OLD = HEAD + b'/b 36 40755 4096\n/c 36 100644 10\n/d 36 100644 1\n' + END
-NEW = HEAD + b'/a 36 100644 5\n/c 36 100600 7\n/d 36 100644 2\n' + END
-DIFFER = [b'aide-compare-run: old database: ', b'aide-compare-run: new database: ']
-COUNTS = {'added': '1', 'removed': '1', 'changed': '2'}
+
+HEAD = b"@@begin_db\n@@db_spec name attr perm size\n"
+END = b"@@end_db\n"
+OLD = HEAD + b"/b 36 40755 4096\n/c 36 100644 10\n/d 36 100644 1\n" + END
+NEW = HEAD + b"/a 36 100644 5\n/c 36 100600 7\n/d 36 100644 2\n" + END
+DIFFER = [b"aide-compare-run: old database: ", b"aide-compare-run: new database: "]
+COUNTS = {"added": "1", "removed": "1", "changed": "2"}
 
 
 def sha256(text):
@@ -39,11 +40,11 @@ def sha256(text):
 
 def shells():
     """The shells of this machine that the tools are for, each as the words that start it."""
-    found = [['sh']]
-    if shutil.which('dash') and os.path.realpath(shutil.which('dash')) != os.path.realpath(shutil.which('sh')):
-        found.append(['dash'])
-    if shutil.which('busybox'):
-        found.append(['busybox', 'sh'])
+    found = [["sh"]]
+    if shutil.which("dash") and os.path.realpath(shutil.which("dash")) != os.path.realpath(shutil.which("sh")):
+        found.append(["dash"])
+    if shutil.which("busybox"):
+        found.append(["busybox", "sh"])
     return found
 
 
@@ -54,7 +55,7 @@ class Answer:
         self.output, self.errors, self.status = output, errors, status
 
     def __repr__(self):
-        return 'status %d, output %.400r, errors %.600r' % (self.status, self.output, self.errors)
+        return "status %d, output %.400r, errors %.600r" % (self.status, self.output, self.errors)
 
 
 class Sandbox:
@@ -62,23 +63,24 @@ class Sandbox:
 
     def __init__(self, program, shell, tally):
         self.shell, self.tally = shell, tally
-        self.root = tempfile.mkdtemp(prefix='try-tools-')
+        self.root = tempfile.mkdtemp(prefix="try-tools-")
         os.chmod(self.root, 0o755)
-        self.room = self.path('room')
-        for name in ('bin', 'stubs', 'room', 'empty'):
+        self.room = self.path("room")
+        for name in ("bin", "stubs", "room", "empty"):
             os.mkdir(self.path(name))
         os.chmod(self.room, 0o1777)
-        shutil.copy(os.fsdecode(program), self.path('bin/aide-compare'))
-        for folder in ('bin', 'nagios'):
-            for name in os.listdir(os.path.join(HERE, 'commands', folder)):
-                shutil.copy(os.path.join(HERE, 'commands', folder, name), self.path('bin/' + name))
-        for folder in ('lib', 'share'):
-            shutil.copytree(os.path.join(HERE, 'commands', folder), self.path(folder),
-                            ignore=shutil.ignore_patterns('__pycache__'))
-        self.edit('lib/aide_compare/reasons/records.py', 'DPKG = "/var/lib/dpkg"', 'DPKG = %r' % self.path('dpkg'))
-        for name, text in (('old', OLD), ('new', NEW)):
-            self.write(name + '.db', text)
-            self.write(name + '.db.gz', gzip.compress(text))
+        shutil.copy(os.fsdecode(program), self.path("bin/aide-compare"))
+        for folder in ("bin", "nagios"):
+            for name in os.listdir(os.path.join(HERE, "commands", folder)):
+                shutil.copy(os.path.join(HERE, "commands", folder, name), self.path("bin/" + name))
+        for folder in ("lib", "share"):
+            shutil.copytree(
+                os.path.join(HERE, "commands", folder), self.path(folder), ignore=shutil.ignore_patterns("__pycache__")
+            )
+        self.edit("lib/aide_compare/reasons/records.py", 'DPKG = "/var/lib/dpkg"', "DPKG = %r" % self.path("dpkg"))
+        for name, text in (("old", OLD), ("new", NEW)):
+            self.write(name + ".db", text)
+            self.write(name + ".db.gz", gzip.compress(text))
 
     def path(self, name):
         return os.path.join(self.root, name)
@@ -86,58 +88,58 @@ class Sandbox:
     def write(self, name, text, mode=0o644):
         path = self.path(name)
         os.makedirs(os.path.dirname(path), exist_ok=True)
-        with open(path, 'wb') as file:
+        with open(path, "wb") as file:
             file.write(text if isinstance(text, bytes) else text.encode())
         os.chmod(path, mode)
         return path
 
     def read(self, name):
-        with open(self.path(name), 'rb') as file:
+        with open(self.path(name), "rb") as file:
             return file.read()
 
     def edit(self, name, old, new):
         """A file of the sandbox with one text replaced."""
         text = self.read(name).decode()
-        self.holds('a text of ' + name, text.count(old) == 1, old)
+        self.holds("a text of " + name, text.count(old) == 1, old)
         self.write(name, text.replace(old, new))
 
-    def stub(self, name, body, folder='stubs'):
+    def stub(self, name, body, folder="stubs"):
         """A command of the trials, found before that of the machine."""
-        return self.write(os.path.join(folder, name), '#!/bin/sh\n%s\n' % body, 0o755)
+        return self.write(os.path.join(folder, name), "#!/bin/sh\n%s\n" % body, 0o755)
 
     def command(self, tool, *words):
-        path = self.path('bin/' + tool)
-        with open(path, 'rb') as file:
-            in_shell = file.readline().startswith(b'#!/bin/sh')
+        path = self.path("bin/" + tool)
+        with open(path, "rb") as file:
+            in_shell = file.readline().startswith(b"#!/bin/sh")
         return (self.shell if in_shell else []) + [path] + list(words)
 
     def environment(self, **more):
-        return {**os.environ, 'TMPDIR': self.room, 'PATH': self.path('stubs') + ':' + os.environ['PATH'], **more}
+        return {**os.environ, "TMPDIR": self.room, "PATH": self.path("stubs") + ":" + os.environ["PATH"], **more}
 
     def start(self, tool, *words, environment=None, before=None, **more):
         """Starts a tool in this folder, without waiting for it."""
-        more = {'stdin': subprocess.DEVNULL, 'stdout': subprocess.PIPE, 'stderr': subprocess.PIPE, **more}
+        more = {"stdin": subprocess.DEVNULL, "stdout": subprocess.PIPE, "stderr": subprocess.PIPE, **more}
         command = after(before, self.command(tool, *words))
         return subprocess.Popen(command, cwd=self.root, env=self.environment(**(environment or {})), **more)
 
     def call(self, tool, *words, text=None, environment=None, **more):
         """What a tool answers in this folder. `text` is its standard input."""
         if text is not None:
-            more['stdin'] = subprocess.PIPE
+            more["stdin"] = subprocess.PIPE
         process = self.start(tool, *words, environment=environment, **more)
         try:
             output, errors = process.communicate(text, timeout=TIME_LIMIT)
         except subprocess.TimeoutExpired:
             process.kill()
             output, errors = process.communicate()
-            errors = (errors or b'') + b'\nit did not end\n'
-        return Answer(output or b'', errors or b'', process.returncode)
+            errors = (errors or b"") + b"\nit did not end\n"
+        return Answer(output or b"", errors or b"", process.returncode)
 
     def leftovers(self):
         return os.listdir(self.room)
 
-    def holds(self, label, good, got=''):
-        self.tally.add('%s, %s' % (' '.join(self.shell), label), [] if good else [repr(got)])
+    def holds(self, label, good, got=""):
+        self.tally.add("%s, %s" % (" ".join(self.shell), label), [] if good else [repr(got)])
 
     def expect(self, label, answer, status, output=None, errors=None):
         """An answer has a status, these texts where they are given (a list: each is in it), and leaves nothing behind."""
@@ -145,17 +147,15 @@ class Sandbox:
         for text, want in ((answer.output, output), (answer.errors, errors)):
             for part in [want] if isinstance(want, bytes) else want or []:
                 good = good and part in text
-            good = good and (want != b'' or text == b'')
+            good = good and (want != b"" or text == b"")
         self.holds(label, good, (answer, self.leftovers()))
 
-    def state(self, name='state'):
+    def state(self, name="state"):
         """A state file as a map, which keeps the order of its lines; nothing where there is none."""
         if not os.path.exists(self.path(name)):
             return {}
-        lines = self.read(name).decode('utf-8', 'surrogateescape').split('\n')
-        return dict(line.split('=', 1) for line in lines if '=' in line)
+        lines = self.read(name).decode("utf-8", "surrogateescape").split("\n")
+        return dict(line.split("=", 1) for line in lines if "=" in line)
 
     def remove(self):
         shutil.rmtree(self.root, ignore_errors=True)
-
-

@@ -12,21 +12,47 @@ from tools.commands.trials.sandbox import HERE
 
 COMMAND = os.path.join(HERE, "commands", "bin", "aide-compare-sort")
 BEGIN, END = b"# c\n@@begin_db\n@@db_spec attr name size\n", b"@@end_db\nrest\n\nmore"
-PIECES = [b"a", b"b", b"%2f", b"%2F", b"%00", b"%01", b"%02", b"%0a", b"%09", b"%20", b"%", b"%4", b"\x01", b"\x02", b"\x0b", b"\r",
-          b"\x00", b"!", b".", b"-", b"0", b"\\", b"\x7f", b"\xff", b"\xc3\xa9", b"A"]
+PIECES = [
+    b"a",
+    b"b",
+    b"%2f",
+    b"%2F",
+    b"%00",
+    b"%01",
+    b"%02",
+    b"%0a",
+    b"%09",
+    b"%20",
+    b"%",
+    b"%4",
+    b"\x01",
+    b"\x02",
+    b"\x0b",
+    b"\r",
+    b"\x00",
+    b"!",
+    b".",
+    b"-",
+    b"0",
+    b"\\",
+    b"\x7f",
+    b"\xff",
+    b"\xc3\xa9",
+    b"A",
+]
 # It prints the most memory, in kB, of a command and of what that has started.
 MEASURE = """import os, resource, subprocess, sys
 status = subprocess.call(sys.argv[1:])
 sys.stderr.write("memory %d\\n" % resource.getrusage(resource.RUSAGE_CHILDREN).ru_maxrss)
 sys.exit(status)"""
-BUSYBOX = "#!/bin/sh\necho \"sort: unrecognized option: version\" >&2\nexit 1\n"
+BUSYBOX = '#!/bin/sh\necho "sort: unrecognized option: version" >&2\nexit 1\n'
 
 
 def decoded(field):
     """A path by its definition: from the left, `%` and two digits in base 16 are a byte."""
     out, place = [], 0
     while place < len(field):
-        digits = field[place + 1:place + 3]
+        digits = field[place + 1 : place + 3]
         is_escape = field[place] == 37 and len(digits) == 2 and all(digit in b"0123456789abcdefABCDEF" for digit in digits)
         out.append(int(digits, 16) if is_escape else field[place])
         place += 3 if is_escape else 1
@@ -46,7 +72,7 @@ def sorted_text(lines):
     ends = []
     for place in ordered:
         where = bisect_left(ends, place)
-        ends[where:where + 1] = [place]
+        ends[where : where + 1] = [place]
     text = BEGIN + b"".join(line + b"\n" for line in rest + [entries[place] for place in ordered]) + END
     return text, len(entries) - len(ends)
 
@@ -67,8 +93,14 @@ def random_lines(pick, count):
 
 
 def call(words, text, room, environment=None):
-    done = subprocess.run(words, input=text, stdout=subprocess.PIPE, stderr=subprocess.PIPE, timeout=120,
-                          env={**os.environ, "TMPDIR": room, **(environment or {})})
+    done = subprocess.run(
+        words,
+        input=text,
+        stdout=subprocess.PIPE,
+        stderr=subprocess.PIPE,
+        timeout=120,
+        env={**os.environ, "TMPDIR": room, **(environment or {})},
+    )
     return done.returncode, done.stdout, done.stderr
 
 
@@ -88,8 +120,14 @@ def try_order(sandbox):
         expect(sandbox, "order %d" % number, done, 0, wanted, [b"moved %d of " % moved])
     lines = [b"36 /%05d 1" % number for number in range(13257)]
     lines = lines[:100] + lines[101:9000] + [lines[100]] + lines[9000:]
-    expect(sandbox, "one line moved", call([COMMAND], text_of(lines), sandbox.room), 0, sorted_text(lines)[0],
-           [b": moved 1 of 13,257 lines\n", b"straight from AIDE, it is damaged", b"make it anew"])
+    expect(
+        sandbox,
+        "one line moved",
+        call([COMMAND], text_of(lines), sandbox.room),
+        0,
+        sorted_text(lines)[0],
+        [b": moved 1 of 13,257 lines\n", b"straight from AIDE, it is damaged", b"make it anew"],
+    )
     whole = sorted_text(lines)[0]
     done = call([COMMAND], whole, sandbox.room)
     expect(sandbox, "nothing moved", done, 0, whole, [b"moved 0 of 13,257 lines\n"])
@@ -98,25 +136,37 @@ def try_order(sandbox):
 
 def try_refused(sandbox):
     twice = [b"1 /b\\ 1", b"2 /a 2", b"3 /b%5C 3", b"4 /b\\ 4"]
-    expect(sandbox, "a path twice", call([COMMAND], text_of(twice), sandbox.room), 24,
-           text_of([twice[1], twice[0]] + twice[2:]), [b"aide-compare-sort: stands twice: /b\\134\n"])
+    expect(
+        sandbox,
+        "a path twice",
+        call([COMMAND], text_of(twice), sandbox.room),
+        24,
+        text_of([twice[1], twice[0]] + twice[2:]),
+        [b"aide-compare-sort: stands twice: /b\\134\n"],
+    )
     many = [b"1 /%04d 1" % (number // 2) for number in range(400)]
     done = call([COMMAND], text_of(many), sandbox.room)
     expect(sandbox, "200 paths twice", done, 24, None, [b"/0099\n", b"more paths that stand twice: 100\n"])
     whole = text_of([b"1 /%x 1" % number for number in range(5000)])
     packed = gzip.compress(whole)
     for label, text, words, status, errors in (
-            ("a cut gzip file", packed[:-20], [], 18, b"cut short or damaged"), ("another sum", packed[:-8] + bytes(8), [], 18, b"damaged"),
-            ("no end", whole[:whole.index(b"@@end")], [], 24, b"no @@end_db"), ("nothing", b"", [], 24, b"no @@end_db"),
-            ("no names", b"@@begin_db\n/a 1\n" + END, [], 24, b"line 2: an entry before @@db_spec"),
-            ("no path", BEGIN + b"36\n" + END, [], 24, b"line 4: no path"),
-            ("a long line", BEGIN + b"36 /" + b"x" * (1 << 20) + b"\n" + END, [], 24, b"line 4: more than 1048576 bytes"),
-            ("too many bytes", whole, ["--most", "9k"], 18, b"more than 9216 bytes unpacked"),
-            ("no such option", whole, ["--other"], 15, b"try: aide-compare-sort --help"),
-            ("no such file", whole, ["/nowhere"], 18, b"cannot open"), ("a folder", whole, ["/"], 18, b"cannot open")):
+        ("a cut gzip file", packed[:-20], [], 18, b"cut short or damaged"),
+        ("another sum", packed[:-8] + bytes(8), [], 18, b"damaged"),
+        ("no end", whole[: whole.index(b"@@end")], [], 24, b"no @@end_db"),
+        ("nothing", b"", [], 24, b"no @@end_db"),
+        ("no names", b"@@begin_db\n/a 1\n" + END, [], 24, b"line 2: an entry before @@db_spec"),
+        ("no path", BEGIN + b"36\n" + END, [], 24, b"line 4: no path"),
+        ("a long line", BEGIN + b"36 /" + b"x" * (1 << 20) + b"\n" + END, [], 24, b"line 4: more than 1048576 bytes"),
+        ("too many bytes", whole, ["--most", "9k"], 18, b"more than 9216 bytes unpacked"),
+        ("no such option", whole, ["--other"], 15, b"try: aide-compare-sort --help"),
+        ("no such file", whole, ["/nowhere"], 18, b"cannot open"),
+        ("a folder", whole, ["/"], 18, b"cannot open"),
+    ):
         expect(sandbox, label, call([COMMAND] + words, text, sandbox.room), status, b"", [errors])
     with open("/dev/full", "wb") as full:
-        done = subprocess.run([COMMAND], input=whole, stdout=full, stderr=subprocess.PIPE, env={**os.environ, "TMPDIR": sandbox.room})
+        done = subprocess.run(
+            [COMMAND], input=whole, stdout=full, stderr=subprocess.PIPE, env={**os.environ, "TMPDIR": sandbox.room}
+        )
     expect(sandbox, "a full device", (done.returncode, b"", done.stderr), 18, b"", [b"cannot write: No space left"])
     sandbox.stub("sort", BUSYBOX[10:], "other")
     done = call([sys.executable, "-I", COMMAND], whole, sandbox.room, {"PATH": sandbox.path("other")})
@@ -153,8 +203,9 @@ def try_bounds(sandbox):
 
 
 def try_signal(sandbox, path, number, left):
-    process = subprocess.Popen([COMMAND, path], stdout=subprocess.PIPE, stderr=subprocess.DEVNULL,
-                               env={**os.environ, "TMPDIR": sandbox.room})
+    process = subprocess.Popen(
+        [COMMAND, path], stdout=subprocess.PIPE, stderr=subprocess.DEVNULL, env={**os.environ, "TMPDIR": sandbox.room}
+    )
     folder, limit = [], time.monotonic() + 60
     while time.monotonic() < limit and not any(os.listdir(sandbox.path("room/" + name)) for name in folder):
         time.sleep(0.01)
@@ -164,8 +215,11 @@ def try_signal(sandbox, path, number, left):
     status = process.wait(60)
     # What sort itself has left may go later than the command, after KILL only.
     time.sleep(1 if left else 0)
-    sandbox.holds("sort: signal %d" % number, status == -number and len(folder) == 1 and len(os.listdir(sandbox.room)) == left,
-                  (status, folder, os.listdir(sandbox.room)))
+    sandbox.holds(
+        "sort: signal %d" % number,
+        status == -number and len(folder) == 1 and len(os.listdir(sandbox.room)) == left,
+        (status, folder, os.listdir(sandbox.room)),
+    )
 
 
 def try_sorting(sandbox):

@@ -13,17 +13,46 @@ NEW = HEAD + b"/etc/a 36 100644 2\n/etc/a.bak 36 100644 1\n/var/log 36 40755 1\n
 
 # A pattern, a path, and whether the one means the other.
 PATTERNS = [
-    (b"/a", b"/a", True), (b"/a", b"/a/b", False), (b"/a", b"/ab", False),
-    (b"/a/*", b"/a/b", True), (b"/a/*", b"/a/b/c", False), (b"/a/*", b"/a", False), (b"/a*", b"/a", True),
-    (b"/a/**", b"/a/b", True), (b"/a/**", b"/a/b/c", True), (b"/a/**", b"/a", False), (b"/a/**", b"/ab/c", False),
-    (b"/**", b"/a", True), (b"/**/x", b"/x", True), (b"/**/x", b"/a/b/x", True), (b"/**/x", b"/a/b/xy", False),
-    (b"/a/**/b", b"/a/b", True), (b"/a/**/b", b"/a/x/b/y/b", True), (b"/a/**/b", b"/a/x/bb", False),
-    (b"/**/b/**", b"/b/c", True), (b"/**/b/**", b"/b", False), (b"/**/b/**", b"/a/b/b", True),
-    (b"/?", b"/a", True), (b"/?", b"/ab", False), (b"/a?b", b"/a/b", False), (b"/a\\*", b"/a*", True), (b"/a\\*", b"/ab", False),
-    (b"/[a-c]x", b"/bx", True), (b"/[!a-c]x", b"/bx", False), (b"/[^a-c]x", b"/dx", True), (b"/[]]", b"/]", True),
-    (b"/[a]b]", b"/ab]", True), (b"/x.[0-9]*.gz", b"/x.1.gz", True), (b"/x.[0-9]*.gz", b"/xx1.gz", False),
-    (b"/*ab*ab", b"/ab", False), (b"/*ab*ab", b"/abab", True), (b"/ab*ba", b"/aba", False), (b"/a.b", b"/acb", False),
-    (b"/\xff*", b"/\xff\n", True), (b"/a b", b"/a b", True), (b"/A", b"/a", False),
+    (b"/a", b"/a", True),
+    (b"/a", b"/a/b", False),
+    (b"/a", b"/ab", False),
+    (b"/a/*", b"/a/b", True),
+    (b"/a/*", b"/a/b/c", False),
+    (b"/a/*", b"/a", False),
+    (b"/a*", b"/a", True),
+    (b"/a/**", b"/a/b", True),
+    (b"/a/**", b"/a/b/c", True),
+    (b"/a/**", b"/a", False),
+    (b"/a/**", b"/ab/c", False),
+    (b"/**", b"/a", True),
+    (b"/**/x", b"/x", True),
+    (b"/**/x", b"/a/b/x", True),
+    (b"/**/x", b"/a/b/xy", False),
+    (b"/a/**/b", b"/a/b", True),
+    (b"/a/**/b", b"/a/x/b/y/b", True),
+    (b"/a/**/b", b"/a/x/bb", False),
+    (b"/**/b/**", b"/b/c", True),
+    (b"/**/b/**", b"/b", False),
+    (b"/**/b/**", b"/a/b/b", True),
+    (b"/?", b"/a", True),
+    (b"/?", b"/ab", False),
+    (b"/a?b", b"/a/b", False),
+    (b"/a\\*", b"/a*", True),
+    (b"/a\\*", b"/ab", False),
+    (b"/[a-c]x", b"/bx", True),
+    (b"/[!a-c]x", b"/bx", False),
+    (b"/[^a-c]x", b"/dx", True),
+    (b"/[]]", b"/]", True),
+    (b"/[a]b]", b"/ab]", True),
+    (b"/x.[0-9]*.gz", b"/x.1.gz", True),
+    (b"/x.[0-9]*.gz", b"/xx1.gz", False),
+    (b"/*ab*ab", b"/ab", False),
+    (b"/*ab*ab", b"/abab", True),
+    (b"/ab*ba", b"/aba", False),
+    (b"/a.b", b"/acb", False),
+    (b"/\xff*", b"/\xff\n", True),
+    (b"/a b", b"/a b", True),
+    (b"/A", b"/a", False),
 ]
 NO_PATTERNS = [b"", b"a", b"*", b"/a**", b"/a/**b", b"/[a", b"/a\\", b"/[b-a]"]
 
@@ -43,6 +72,7 @@ def modules():
     if path not in sys.path:
         sys.path.append(path)
     from aide_compare import patterns
+
     return patterns
 
 
@@ -87,7 +117,7 @@ def piece_fits(pattern, name):
         return pattern[1:2] == name[:1] and piece_fits(pattern[2:], name[1:])
     if pattern[:1] == b"[":
         end = pattern.index(b"]", 3 if pattern[1:2] in (b"!", b"^") else 2)
-        return class_has(pattern[1:end], name[0]) and piece_fits(pattern[end + 1:], name[1:])
+        return class_has(pattern[1:end], name[0]) and piece_fits(pattern[end + 1 :], name[1:])
     return pattern[:1] == name[:1] and piece_fits(pattern[1:], name[1:])
 
 
@@ -110,9 +140,12 @@ def try_random(sandbox):
     patterns, numbers = modules(), random.Random(20261125)
     fits = wrong = 0
     for _ in range(20000):
-        text = b"/" + b"/".join(b"".join(numbers.choices([b"a", b"b", b"*", b"?", b"[ab]", b"[!b]"], [6, 6, 3, 1, 1, 1],
-                                                         k=numbers.randint(1, 5))) if numbers.random() < 0.7 else b"**"
-                                for _ in range(numbers.randint(1, 4)))
+        text = b"/" + b"/".join(
+            b"".join(numbers.choices([b"a", b"b", b"*", b"?", b"[ab]", b"[!b]"], [6, 6, 3, 1, 1, 1], k=numbers.randint(1, 5)))
+            if numbers.random() < 0.7
+            else b"**"
+            for _ in range(numbers.randint(1, 4))
+        )
         if any(b"**" in piece and piece != b"**" for piece in text.split(b"/")):
             continue
         path = b"/" + b"/".join(bytes(numbers.choices(b"ab", k=numbers.randint(1, 4))) for _ in range(numbers.randint(1, 5)))
@@ -134,9 +167,18 @@ def try_left_out(sandbox):
     write_databases(sandbox)
     sandbox.write("logs", LOGS)
     answer = sandbox.call(TOOL, "--state", "state", "--without", "logs", "o.db", "n.db")
-    sandbox.expect("logs are left out", answer, 4, [b"Added entries:           0", b"Changed entries:         1"], [
-        b"left out of the old database: 2 entries", b"2 by /var/log/** (logs, line 3)",
-        b"left out of the new database: 2 entries", b"1 by /etc/*.bak (logs, line 4)"])
+    sandbox.expect(
+        "logs are left out",
+        answer,
+        4,
+        [b"Added entries:           0", b"Changed entries:         1"],
+        [
+            b"left out of the old database: 2 entries",
+            b"2 by /var/log/** (logs, line 3)",
+            b"left out of the new database: 2 entries",
+            b"1 by /etc/*.bak (logs, line 4)",
+        ],
+    )
     state = sandbox.state()
     want = {"left_out_old": "2", "left_out_new": "2", "changed": "1", "old_sha256": sha256(OLD), "new_sha256": sha256(NEW)}
     sandbox.holds("the state has both, and the digests of the whole databases", want.items() <= state.items(), state)
@@ -180,8 +222,12 @@ def try_names(sandbox):
 
 def try_refused(sandbox):
     write_databases(sandbox)
-    cases = [("missing", ["--without", "none"], 18), ("a folder", ["--without", "bin"], 18), ("no file", ["--without", ""], 15),
-             ("no pattern", ["--without-path", "var"], 15)]
+    cases = [
+        ("missing", ["--without", "none"], 18),
+        ("a folder", ["--without", "bin"], 18),
+        ("no file", ["--without", ""], 15),
+        ("no pattern", ["--without-path", "var"], 15),
+    ]
     for label, words, status in cases:
         sandbox.expect(label, sandbox.call(TOOL, *words, "o.db", "n.db"), status, b"")
     sandbox.write("bad", b"/a\n/b**\n")
@@ -208,13 +254,35 @@ def try_shipped(sandbox):
     name = os.path.join(HERE, "contrib", "aide", "debian.without")
     with open(name, "rb") as file:
         sandbox.write("debian.without", file.read())
-    hidden = [b"/var/log/syslog", b"/var/log/apt/history.log", b"/var/log/nginx/access.log.1", b"/var/log/syslog.2.gz",
-              b"/var/lib/aide/aide.db", b"/var/cache/man/index.db", b"/run/crond.pid", b"/var/lib/aide-compare/daily/state"]
-    seen = [b"/etc/passwd", b"/etc/cron.d/x", b"/usr/bin/ls", b"/var/lib/dpkg/status", b"/var/spool/cron/crontabs/root",
-            b"/var/log", b"/root/.ssh/authorized_keys", b"/var/lib/aide-compare", b"/boot/vmlinuz"]
+    hidden = [
+        b"/var/log/syslog",
+        b"/var/log/apt/history.log",
+        b"/var/log/nginx/access.log.1",
+        b"/var/log/syslog.2.gz",
+        b"/var/lib/aide/aide.db",
+        b"/var/cache/man/index.db",
+        b"/run/crond.pid",
+        b"/var/lib/aide-compare/daily/state",
+    ]
+    seen = [
+        b"/etc/passwd",
+        b"/etc/cron.d/x",
+        b"/usr/bin/ls",
+        b"/var/lib/dpkg/status",
+        b"/var/spool/cron/crontabs/root",
+        b"/var/log",
+        b"/root/.ssh/authorized_keys",
+        b"/var/lib/aide-compare",
+        b"/boot/vmlinuz",
+    ]
     entries = b"".join(path + b" 36 100644 1\n" for path in sorted(hidden + seen, key=lambda path: path.split(b"/")))
     sandbox.write("empty.db", HEAD + END)
     sandbox.write("full.db", HEAD + entries + END)
     answer = sandbox.call(TOOL, "--without", "debian.without", "empty.db", "full.db")
-    sandbox.expect("the shipped file", answer, 1, [b": " + path + b"\n" for path in seen],
-                   [b"left out of the new database: %d entries" % len(hidden)])
+    sandbox.expect(
+        "the shipped file",
+        answer,
+        1,
+        [b": " + path + b"\n" for path in seen],
+        [b"left out of the new database: %d entries" % len(hidden)],
+    )

@@ -13,80 +13,89 @@ from tools.oracle.configuration import LEVELS
 
 from . import COMMANDS, JSON
 
-HERE = os.path.join(os.path.dirname(os.path.abspath(__file__)), 'aide_objects')
-EXAMPLES = os.path.abspath(os.path.join(COMMANDS, '..', 'examples', 'small_tree'))
-PAIRS = {'small_tree': [os.path.join(EXAMPLES, name) for name in ('old.db', 'new.db')],
-         'values': [os.path.join(HERE, name) for name in ('values_old.db', 'values_new.db')]}
-CONFIGURATION = 'database_in=file:%s\ndatabase_new=file:%s\nreport_level=%s\n%s\n'
+HERE = os.path.join(os.path.dirname(os.path.abspath(__file__)), "aide_objects")
+EXAMPLES = os.path.abspath(os.path.join(COMMANDS, "..", "examples", "small_tree"))
+PAIRS = {
+    "small_tree": [os.path.join(EXAMPLES, name) for name in ("old.db", "new.db")],
+    "values": [os.path.join(HERE, name) for name in ("values_old.db", "values_new.db")],
+}
+CONFIGURATION = "database_in=file:%s\ndatabase_new=file:%s\nreport_level=%s\n%s\n"
 
 
-def report(program, pair, level='added_removed_entries', more=''):
-    words = [program, '-E', '-c', '/dev/null', '-A', CONFIGURATION % (pair[0], pair[1], level, more)]
+def report(program, pair, level="added_removed_entries", more=""):
+    words = [program, "-E", "-c", "/dev/null", "-A", CONFIGURATION % (pair[0], pair[1], level, more)]
     return subprocess.run(words, stdout=subprocess.PIPE).stdout
 
 
 def aide_object(text, *words):
-    done = subprocess.run([JSON, '--format', 'aide', '--old', 'old.db', '--new', 'new.db'] + list(words), input=text,
-                          stdout=subprocess.PIPE, stderr=subprocess.PIPE, env={**os.environ, 'TZ': 'UTC'})
+    done = subprocess.run(
+        [JSON, "--format", "aide", "--old", "old.db", "--new", "new.db"] + list(words),
+        input=text,
+        stdout=subprocess.PIPE,
+        stderr=subprocess.PIPE,
+        env={**os.environ, "TZ": "UTC"},
+    )
     return done.returncode, json.loads(done.stdout) if done.returncode == 0 else done.stderr
 
 
 def comparable(whole, is_aides):
     """An object without what the manual page says that is other: the summary strings of changed entries, and "num=0"."""
-    whole = dict(whole, changed=sorted(whole['changed']))
-    whole['databases'] = {name.replace('values_', ''): digests for name, digests in whole['databases'].items()}
-    for attributes in whole['details'].values():
-        sides = attributes.get('xattrs', {})
-        for side in [side for side, value in sides.items() if value == 'num=0' and is_aides]:
+    whole = dict(whole, changed=sorted(whole["changed"]))
+    whole["databases"] = {name.replace("values_", ""): digests for name, digests in whole["databases"].items()}
+    for attributes in whole["details"].values():
+        sides = attributes.get("xattrs", {})
+        for side in [side for side, value in sides.items() if value == "num=0" and is_aides]:
             del sides[side]
         if not sides:
-            attributes.pop('xattrs', None)
-    whole.pop('aide_version', None)
+            attributes.pop("xattrs", None)
+    whole.pop("aide_version", None)
     return whole
 
 
 def try_pair(program, name, tally):
-    with open(os.path.join(HERE, name + '.json'), encoding='utf-8') as file:
+    with open(os.path.join(HERE, name + ".json"), encoding="utf-8") as file:
         wanted = comparable(json.load(file), True)
     status, given = aide_object(report(program, PAIRS[name]))
     given = comparable(given, False) if status == 0 else {}
     for member in sorted(set(wanted) | set(given)):
         good = given.get(member) == wanted.get(member)
-        tally.add('%s: %s' % (name, member), [] if good else ['%r\n  and not %r' % (given.get(member), wanted.get(member))])
-    orders = [list(given.get(member, ())) == list(wanted[member]) for member in ('added', 'removed', 'details')]
-    tally.add(name + ': order', [] if all(orders) else ['%r' % orders])
+        tally.add("%s: %s" % (name, member), [] if good else ["%r\n  and not %r" % (given.get(member), wanted.get(member))])
+    orders = [list(given.get(member, ())) == list(wanted[member]) for member in ("added", "removed", "details")]
+    tally.add(name + ": order", [] if all(orders) else ["%r" % orders])
 
 
 def try_forms(program, tally):
     """What other levels and report options leave, as AIDE does."""
-    pair = PAIRS['values']
+    pair = PAIRS["values"]
     for level, more, members in (
-            ('minimal', '', ['outline']), ('summary', '', ['outline', 'report_level', 'number_of_entries']),
-            ('changed_attributes', '', ['outline', 'number_of_entries', 'added', 'removed', 'changed', 'details', 'databases']),
-            (LEVELS[3], 'report_grouped=no', ['outline', 'report_level', 'number_of_entries', 'entries', 'databases'])):
+        ("minimal", "", ["outline"]),
+        ("summary", "", ["outline", "report_level", "number_of_entries"]),
+        ("changed_attributes", "", ["outline", "number_of_entries", "added", "removed", "changed", "details", "databases"]),
+        (LEVELS[3], "report_grouped=no", ["outline", "report_level", "number_of_entries", "entries", "databases"]),
+    ):
         status, given = aide_object(report(program, pair, level, more))
-        tally.add('%s %s' % (level, more), [] if status == 0 and list(given) == members else ['%r' % (given,)])
-    status, given = aide_object(report(program, pair, more='report_summarize_changes=no'), '--with', 'site=berlin')
-    good = status == 0 and given['added'] == ['/srv/values/acl/d'] and given['site'] == 'berlin'
-    tally.add('lists of paths, and a member more', [] if good else ['%r' % (given,)])
+        tally.add("%s %s" % (level, more), [] if status == 0 and list(given) == members else ["%r" % (given,)])
+    status, given = aide_object(report(program, pair, more="report_summarize_changes=no"), "--with", "site=berlin")
+    good = status == 0 and given["added"] == ["/srv/values/acl/d"] and given["site"] == "berlin"
+    tally.add("lists of paths, and a member more", [] if good else ["%r" % (given,)])
     status, given = aide_object(report(program, pair[:1] * 2))
-    good = status == 0 and 'Looks okay' in given['outline'] and given['number_of_entries'] == {'total': 7}
-    tally.add('no differences', [] if good else ['%r' % (given,)])
+    good = status == 0 and "Looks okay" in given["outline"] and given["number_of_entries"] == {"total": 7}
+    tally.add("no differences", [] if good else ["%r" % (given,)])
 
 
 def try_bytes(program, tally):
     """Two names that are not UTF-8 stay two, and so do their targets."""
-    entry = '/%%%02X %%%02X 120777\n'
+    entry = "/%%%02X %%%02X 120777\n"
     with tempfile.TemporaryDirectory() as folder:
-        pair = [os.path.join(folder, name) for name in ('old', 'new')]
+        pair = [os.path.join(folder, name) for name in ("old", "new")]
         for path, step in zip(pair, (0, 2)):
-            with open(path, 'w') as file:
-                lines = ''.join(entry % (byte, byte - step) for byte in (0xFE, 0xFF))
-                file.write('@@begin_db\n@@db_spec name lname perm\n%s@@end_db\n' % lines)
+            with open(path, "w") as file:
+                lines = "".join(entry % (byte, byte - step) for byte in (0xFE, 0xFF))
+                file.write("@@begin_db\n@@db_spec name lname perm\n%s@@end_db\n" % lines)
         status, given = aide_object(report(program, pair))
     lone = {byte: chr(0xDC00 + byte) for byte in (0xFC, 0xFD, 0xFE, 0xFF)}
-    wanted = {'/' + lone[byte]: {'link_name': {'old': lone[byte], 'new': lone[byte - 2]}} for byte in (0xFE, 0xFF)}
-    tally.add('bytes that are not UTF-8', [] if status == 0 and given['details'] == wanted else ['%r' % (given,)])
+    wanted = {"/" + lone[byte]: {"link_name": {"old": lone[byte], "new": lone[byte - 2]}} for byte in (0xFE, 0xFF)}
+    tally.add("bytes that are not UTF-8", [] if status == 0 and given["details"] == wanted else ["%r" % (given,)])
 
 
 def try_aide_form(program, tally):

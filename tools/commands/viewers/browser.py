@@ -8,7 +8,7 @@ import subprocess
 import tempfile
 import time
 
-NAMES = ['chromium', 'chromium-browser', 'google-chrome']
+NAMES = ["chromium", "chromium-browser", "google-chrome"]
 SECONDS = 120
 
 
@@ -16,99 +16,114 @@ class Browser:
     """A browser with one page. `faults` has what it has complained of: errors, and breaches of the content policy."""
 
     def __init__(self, command=None):
-        self.folder, self.faults, self.count, self.rest = tempfile.mkdtemp(prefix='page-'), [], 0, b''
+        self.folder, self.faults, self.count, self.rest = tempfile.mkdtemp(prefix="page-"), [], 0, b""
         command = command or next(filter(None, map(shutil.which, NAMES)), None)
         if not command:
-            raise SystemExit('there is no Chromium (%s)' % ', '.join(NAMES))
+            raise SystemExit("there is no Chromium (%s)" % ", ".join(NAMES))
         inner_read, write = os.pipe()
         read, inner_write = os.pipe()
         # The browser reads its orders from 3 and answers on 4.
         inner = [fcntl.fcntl(end, fcntl.F_DUPFD_CLOEXEC, 10) for end in (inner_read, inner_write)]
         self.process = subprocess.Popen(
-            [command, '--headless=new', '--no-sandbox', '--disable-gpu', '--hide-scrollbars', '--remote-debugging-pipe',
-             '--no-first-run', '--user-data-dir=' + self.folder, 'about:blank'], stdin=subprocess.DEVNULL,
-            stdout=subprocess.DEVNULL, stderr=subprocess.DEVNULL, close_fds=False,
-            preexec_fn=lambda: [os.dup2(end, number) for number, end in enumerate(inner, 3)])
+            [
+                command,
+                "--headless=new",
+                "--no-sandbox",
+                "--disable-gpu",
+                "--hide-scrollbars",
+                "--remote-debugging-pipe",
+                "--no-first-run",
+                "--user-data-dir=" + self.folder,
+                "about:blank",
+            ],
+            stdin=subprocess.DEVNULL,
+            stdout=subprocess.DEVNULL,
+            stderr=subprocess.DEVNULL,
+            close_fds=False,
+            preexec_fn=lambda: [os.dup2(end, number) for number, end in enumerate(inner, 3)],
+        )
         for end in [inner_read, inner_write] + inner:
             os.close(end)
         self.write, self.read, self.session = write, read, None
-        target = next(target for target in self.ask('Target.getTargets')['targetInfos'] if target['type'] == 'page')
-        self.session = self.ask('Target.attachToTarget', targetId=target['targetId'], flatten=True)['sessionId']
-        for domain in ('Page', 'Runtime', 'Log', 'DOM'):
-            self.ask(domain + '.enable')
-        self.ask('Performance.enable', timeDomain='threadTicks')
+        target = next(target for target in self.ask("Target.getTargets")["targetInfos"] if target["type"] == "page")
+        self.session = self.ask("Target.attachToTarget", targetId=target["targetId"], flatten=True)["sessionId"]
+        for domain in ("Page", "Runtime", "Log", "DOM"):
+            self.ask(domain + ".enable")
+        self.ask("Performance.enable", timeDomain="threadTicks")
 
     def receive(self):
         """The next message of the browser."""
-        while b'\0' not in self.rest:
+        while b"\0" not in self.rest:
             self.rest += os.read(self.read, 1 << 20)
-        text, self.rest = self.rest.split(b'\0', 1)
+        text, self.rest = self.rest.split(b"\0", 1)
         message = json.loads(text)
-        if message.get('method') in ('Log.entryAdded', 'Runtime.exceptionThrown', 'Page.javascriptDialogOpening'):
-            self.faults.append(json.dumps(message['params'])[:400])
+        if message.get("method") in ("Log.entryAdded", "Runtime.exceptionThrown", "Page.javascriptDialogOpening"):
+            self.faults.append(json.dumps(message["params"])[:400])
         return message
 
     def ask(self, method, **parameters):
         """The answer to an order."""
         self.count += 1
-        message = {'id': self.count, 'method': method, 'params': parameters}
+        message = {"id": self.count, "method": method, "params": parameters}
         if self.session:
-            message['sessionId'] = self.session
-        os.write(self.write, json.dumps(message).encode() + b'\0')
+            message["sessionId"] = self.session
+        os.write(self.write, json.dumps(message).encode() + b"\0")
         while True:
             answer = self.receive()
-            if answer.get('id') == self.count:
-                if 'error' in answer:
-                    raise SystemExit('%s: %s' % (method, answer['error']))
-                return answer['result']
+            if answer.get("id") == self.count:
+                if "error" in answer:
+                    raise SystemExit("%s: %s" % (method, answer["error"]))
+                return answer["result"]
 
     def open(self, path):
         """Opens a page. Returns the seconds until it is loaded and its script has run."""
         began = time.time()
-        self.ask('Page.navigate', url='file://' + path)
-        while self.receive().get('method') != 'Page.loadEventFired':
+        self.ask("Page.navigate", url="file://" + path)
+        while self.receive().get("method") != "Page.loadEventFired":
             if time.time() - began > SECONDS:
-                raise SystemExit('the page was not loaded')
+                raise SystemExit("the page was not loaded")
         return time.time() - began
 
     def value(self, expression):
         """What an expression of the page's language comes to."""
-        answer = self.ask('Runtime.evaluate', expression=expression, returnByValue=True, awaitPromise=True)
-        if 'exceptionDetails' in answer:
-            raise SystemExit('%s: %s' % (expression, json.dumps(answer['exceptionDetails'])[:300]))
-        return answer['result'].get('value')
+        answer = self.ask("Runtime.evaluate", expression=expression, returnByValue=True, awaitPromise=True)
+        if "exceptionDetails" in answer:
+            raise SystemExit("%s: %s" % (expression, json.dumps(answer["exceptionDetails"])[:300]))
+        return answer["result"].get("value")
 
     def worked(self):
         """Seconds of the processor that the page's thread has worked."""
-        metrics = {metric['name']: metric['value'] for metric in self.ask('Performance.getMetrics')['metrics']}
-        return metrics['TaskDuration']
+        metrics = {metric["name"]: metric["value"] for metric in self.ask("Performance.getMetrics")["metrics"]}
+        return metrics["TaskDuration"]
 
     def count_of(self, selector):
         """How many elements there are; this asks no script of the page."""
-        root = self.ask('DOM.getDocument', depth=0)['root']['nodeId']
-        return len(self.ask('DOM.querySelectorAll', nodeId=root, selector=selector)['nodeIds'])
+        root = self.ask("DOM.getDocument", depth=0)["root"]["nodeId"]
+        return len(self.ask("DOM.querySelectorAll", nodeId=root, selector=selector)["nodeIds"])
 
     def press(self, key, code):
-        for kind in ('rawKeyDown', 'keyUp'):
-            self.ask('Input.dispatchKeyEvent', type=kind, key=key, code=key, windowsVirtualKeyCode=code)
-        if key == 'Enter':
-            self.ask('Input.dispatchKeyEvent', type='char', key=key, text='\r')
+        for kind in ("rawKeyDown", "keyUp"):
+            self.ask("Input.dispatchKeyEvent", type=kind, key=key, code=key, windowsVirtualKeyCode=code)
+        if key == "Enter":
+            self.ask("Input.dispatchKeyEvent", type="char", key=key, text="\r")
 
     def picture(self, path, width, height, dark=False):
-        self.ask('Emulation.setDeviceMetricsOverride', width=width, height=height, deviceScaleFactor=1, mobile=False)
-        self.ask('Emulation.setEmulatedMedia', features=[{'name': 'prefers-color-scheme', 'value': 'dark' if dark else 'light'}])
-        self.ask('Runtime.evaluate', expression='scrollTo(0, 0)')
-        with open(path, 'wb') as file:
-            file.write(base64.b64decode(self.ask('Page.captureScreenshot', format='png')['data']))
+        self.ask("Emulation.setDeviceMetricsOverride", width=width, height=height, deviceScaleFactor=1, mobile=False)
+        self.ask(
+            "Emulation.setEmulatedMedia", features=[{"name": "prefers-color-scheme", "value": "dark" if dark else "light"}]
+        )
+        self.ask("Runtime.evaluate", expression="scrollTo(0, 0)")
+        with open(path, "wb") as file:
+            file.write(base64.b64decode(self.ask("Page.captureScreenshot", format="png")["data"]))
 
     def version(self):
         session, self.session = self.session, None
-        name = self.ask('Browser.getVersion')['product']
+        name = self.ask("Browser.getVersion")["product"]
         self.session = session
         return name
 
     def close(self):
         self.session = None
-        self.ask('Browser.close')
+        self.ask("Browser.close")
         self.process.wait(30)
         shutil.rmtree(self.folder, ignore_errors=True)

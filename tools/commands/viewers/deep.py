@@ -19,6 +19,8 @@ MOST_BYTES = 20000000
 LONG = 100000
 # What a page says if it has not all.
 CUT = re.compile(b'<p class="remark">(?:This page has room for|Values are on this page of|These lists have room for)')
+
+
 def report_over(old, new):
     settings = {**DEFAULTS, "database_in": b"/a", "database_new": b"/b", "report_level": "added_removed_entries"}
     return report_of(Database(old), Database(new), [b"old", b"new"], settings)[0]
@@ -47,9 +49,11 @@ def lines_of(report):
 
 def pages_over(report_over_size):
     """The work of both pages by the size of a report, and how long its lines are. They are made before the work begins."""
+
     def given_of(size):
         lines = lines_of(report_over_size(size))
         return pages_of(lines), len(lines)
+
     return given_of
 
 
@@ -57,6 +61,7 @@ def readers_over(report_over_size):
     def given_of(size):
         report = report_over_size(size)
         return objects_of(report), len(report)
+
     return given_of
 
 
@@ -71,12 +76,13 @@ def neighbours(pieces):
 def try_work(tally):
     """The lines of code that run, and the pieces of paths that are looked at, grow as the input does."""
     for label, given_of, size in (
-            ("pages of a path of so many pieces", pages_over(deep_path), 1500),
-            ("pages of nested folders", pages_over(nested), 150),
-            ("pages of many folders", pages_over(many), 300),
-            ("a report with a path of so many pieces", readers_over(deep_path), 3000),
-            ("a report with nested folders", readers_over(nested), 150),
-            ("a report with many folders", readers_over(many), 300)):
+        ("pages of a path of so many pieces", pages_over(deep_path), 1500),
+        ("pages of nested folders", pages_over(nested), 150),
+        ("pages of many folders", pages_over(many), 300),
+        ("a report with a path of so many pieces", readers_over(deep_path), 3000),
+        ("a report with nested folders", readers_over(nested), 150),
+        ("a report with many folders", readers_over(many), 300),
+    ):
         tally.add("work for " + label, growth_faults(lines_run, given_of, size))
     tally.add("pieces of deep paths", growth_faults(pieces_looked_at, neighbours, 1000))
 
@@ -85,8 +91,10 @@ def try_memory(tally):
     """The bytes that are held at once are a few copies of the longest line, and do not grow with the number of entries."""
     for byte, copies in ((b"\x01", 12), (b"a", 12), (b"\xff", 12)):
         report = long_value(byte, LONG)
-        for label, work, length in (("the report", objects_of(report), len(report)),
-                                    ("pages", pages_of(lines_of(report)), len(lines_of(report)))):
+        for label, work, length in (
+            ("the report", objects_of(report), len(report)),
+            ("pages", pages_of(lines_of(report)), len(lines_of(report))),
+        ):
             held, most = bytes_held(work), copies * length + 3000000
             tally.add("memory for %s of the byte %r" % (label, byte), [] if held < most else ["%d of %d bytes" % (held, most)])
     for label, given_of in (("pages", pages_over(many)), ("the report", readers_over(many))):
@@ -97,26 +105,46 @@ def try_memory(tally):
 def long_lines(count, letters):
     """Lines of entries with long names and with values that cannot be packed."""
     pick = random.Random(count)
-    summary = {"record": "summary", "format": 1, "differences": True, "total": count, "added": 0, "removed": 0,
-               "changed": count, "lines": count + 1}
+    summary = {
+        "record": "summary",
+        "format": 1,
+        "differences": True,
+        "total": count,
+        "added": 0,
+        "removed": 0,
+        "changed": count,
+        "lines": count + 1,
+    }
 
     def value():
         return "%0*x" % (letters, pick.getrandbits(4 * letters))
-    entries = [{"record": "entry", "kind": "changed", "path": "/%06d-%s" % (number, "n" * letters),
-                "attributes": {"XAttrs": {"old": value(), "new": value()}}} for number in range(count)]
+
+    entries = [
+        {
+            "record": "entry",
+            "kind": "changed",
+            "path": "/%06d-%s" % (number, "n" * letters),
+            "attributes": {"XAttrs": {"old": value(), "new": value()}},
+        }
+        for number in range(count)
+    ]
     return b"".join(json.dumps(fields).encode() + b"\n" for fields in [summary] + entries)
 
 
 def try_sizes(tally):
     """No page is longer than it may be, and a page that has not all says so."""
-    for label, lines, is_cut in (("a path of 200,000 pieces", lines_of(deep_path(200000)), False),
-                                 ("1,000 nested folders", lines_of(nested(1000)), False),
-                                 ("2,200 long entries", long_lines(2200, 9000), True)):
+    for label, lines, is_cut in (
+        ("a path of 200,000 pieces", lines_of(deep_path(200000)), False),
+        ("1,000 nested folders", lines_of(nested(1000)), False),
+        ("2,200 long entries", long_lines(2200, 9000), True),
+    ):
         for words in ([HTML], [HTML, "--plain"]):
             done = subprocess.run(words, input=lines, stdout=subprocess.PIPE, stderr=subprocess.PIPE)
             good = not done.returncode and 1000 < len(done.stdout) <= MOST_BYTES
-            tally.add("size for %s %s" % (label, words[1:]),
-                      [] if good else ["status %d, %d bytes" % (done.returncode, len(done.stdout))])
+            tally.add(
+                "size for %s %s" % (label, words[1:]),
+                [] if good else ["status %d, %d bytes" % (done.returncode, len(done.stdout))],
+            )
             says = bool(CUT.search(done.stdout))
             tally.add("%s %s is said to be cut" % (label, words[1:]), [] if says == is_cut else ["it is %s" % says])
 
@@ -129,10 +157,11 @@ def try_deep(tally):
 
 def try_script(script, tally):
     """The script of the page has no function that calls itself as deep as folders are nested."""
-    body = script[script.index("function fillOne("):script.index("function toggle(")]
-    item = script[script.index("function folderItem("):script.index("// Folders that are open are filled")]
-    calls = [line for line in (item + body).splitlines()
-             if "fill(" in line and "function" not in line and "CHILDREN" not in line]
+    body = script[script.index("function fillOne(") : script.index("function toggle(")]
+    item = script[script.index("function folderItem(") : script.index("// Folders that are open are filled")]
+    calls = [
+        line for line in (item + body).splitlines() if "fill(" in line and "function" not in line and "CHILDREN" not in line
+    ]
     tally.add("the script fills folders in a loop", ["it calls itself in: %s" % line.strip() for line in calls])
     tally.add("few folders are open at first", [] if "opened.size < DEEP" in script else ["there is no bound"])
     for word in ("innerHTML", "outerHTML", "insertAdjacentHTML", "document.write", "eval(", "setTimeout('", ".href", ".src"):
@@ -142,8 +171,11 @@ def try_script(script, tally):
 def try_times(tally):
     """A text in place of a time is refused, and a note is escaped even if it were not."""
     from aide_compare.page_items import cell
+
     tally.add("a note is text", [] if "<b>" not in cell("1", "<b>", "<b>") + cell("<b>", "1") else ["it is markup"])
-    lines = [json.loads(line) for line in subprocess.run([JSON], input=rich_report({}), stdout=subprocess.PIPE).stdout.splitlines()]
+    lines = [
+        json.loads(line) for line in subprocess.run([JSON], input=rich_report({}), stdout=subprocess.PIPE).stdout.splitlines()
+    ]
     entry = next(fields for fields in lines if "Mtime" in fields.get("attributes", ()))
     for value in ("</noscript><meta http-equiv=refresh>", "2026-11-25T12:00:00Z<b>", "soon", 7, "٢٠٢٦-11-25T12:00:00Z"):
         entry["attributes"]["Mtime"]["new_time"] = value

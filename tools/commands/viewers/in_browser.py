@@ -29,7 +29,9 @@ FACTS = """[...document.querySelectorAll('#list li')].find((one) => one.textCont
   '.facts').textContent"""
 NARROW = """Math.min(...[...document.querySelectorAll('#tree > li > .folder code')].map(
   (one) => one.clientWidth || one.offsetWidth))"""
-ORDER = """{ const order = document.getElementById('order'); order.value = 'size'; order.dispatchEvent(new Event('change')); }"""
+ORDER = (
+    """{ const order = document.getElementById('order'); order.value = 'size'; order.dispatchEvent(new Event('change')); }"""
+)
 
 
 def wait_for(browser, expression, wanted):
@@ -50,27 +52,41 @@ def opened(browser, path, address=""):
 
 def click(browser, selector, text=""):
     """Presses the first element that a selector finds, with a text in it."""
-    browser.value("[...document.querySelectorAll(%s)].find((one) => one.textContent.includes(%s)).click()"
-                  % (json.dumps(selector), json.dumps(text)))
+    browser.value(
+        "[...document.querySelectorAll(%s)].find((one) => one.textContent.includes(%s)).click()"
+        % (json.dumps(selector), json.dumps(text))
+    )
 
 
 def search(browser, text):
-    browser.value("{ const field = document.getElementById('search'); field.value = %s; "
-                  "field.dispatchEvent(new Event('input')); }" % json.dumps(text))
+    browser.value(
+        "{ const field = document.getElementById('search'); field.value = %s; "
+        "field.dispatchEvent(new Event('input')); }" % json.dumps(text)
+    )
 
 
 def try_views(browser, tally):
     """The table of views, by the functions of the page's script."""
     table = cases()
-    entries = [{"path": one["path"], "folded": one["path"].lower(), "kind": KINDS.index(one["kind"]),
-                "severity": SEVERITIES.index(one["severity"]) if "severity" in one else 3, "group": one.get("group", 0),
-                "standing": STANDINGS.index(one.get("standing", "unexplained")), "reason": one.get("reason", ""),
-                "attributes": sum(1 << table["attributes"].index(name) for name in one["attributes"]),
-                "growth": one.get("growth", 0)} for one in table["entries"]]
+    entries = [
+        {
+            "path": one["path"],
+            "folded": one["path"].lower(),
+            "kind": KINDS.index(one["kind"]),
+            "severity": SEVERITIES.index(one["severity"]) if "severity" in one else 3,
+            "group": one.get("group", 0),
+            "standing": STANDINGS.index(one.get("standing", "unexplained")),
+            "reason": one.get("reason", ""),
+            "attributes": sum(1 << table["attributes"].index(name) for name in one["attributes"]),
+            "growth": one.get("growth", 0),
+        }
+        for one in table["entries"]
+    ]
     browser.open("/proc/version")
     for case in table["cases"]:
-        found, text = browser.value(VIEWED % (part_of("page_logic.js"), json.dumps(entries), json.dumps(table["attributes"]),
-                                              json.dumps(case["view"])))
+        found, text = browser.value(
+            VIEWED % (part_of("page_logic.js"), json.dumps(entries), json.dumps(table["attributes"]), json.dumps(case["view"]))
+        )
         tally.add("view %s" % case["view"], [] if found == case["found"] else ["it finds %r" % found])
         wanted = case.get("text", case["view"])
         tally.add("text of %s" % case["view"], [] if text == wanted else ["it is %r" % text])
@@ -84,12 +100,21 @@ def try_filters(browser, path, tally):
     click(browser, "#kind button", "removed")
     removed = "document.querySelectorAll('#list b.removed').length"
     count = browser.value("Number(document.querySelector('#kind button.removed small').textContent)")
-    tally.add("removed ones", wait_for(browser, FOUND, "%d of %d entries" % (count, total)) + wait_for(browser, removed, count))
+    tally.add(
+        "removed ones", wait_for(browser, FOUND, "%d of %d entries" % (count, total)) + wait_for(browser, removed, count)
+    )
     tally.add("all of them are removed", wait_for(browser, "document.querySelectorAll('#list b:not(.removed)').length", 0))
     click(browser, "#kind button", "removed")
     click(browser, "#attribute button", "Digests")
-    tally.add("an attribute", wait_for(browser, "[...document.querySelectorAll('#list b.changed ~ .names')].every((one) => "
-                                                "one.textContent.includes('Digests'))", True))
+    tally.add(
+        "an attribute",
+        wait_for(
+            browser,
+            "[...document.querySelectorAll('#list b.changed ~ .names')].every((one) => "
+            "one.textContent.includes('Digests'))",
+            True,
+        ),
+    )
     click(browser, "#clear")
     search(browser, "ETC/")
     tally.add("a path", wait_for(browser, FOUND, "%d of %d entries" % (len(DEMO) - 1, total)))
@@ -139,8 +164,15 @@ def try_address(browser, path, tally):
     tally.add("the order in the address", wait_for(browser, HASH, "#severity=high&path=sshd&order=size"))
     opened(browser, path, "#kind=added&order=size&standing=unexplained")
     tally.add("a page of an address", wait_for(browser, PATHS, ["/usr/local/sbin/.x", "/etc/cron.d/backup"]))
-    tally.add("its buttons", wait_for(browser, "[...document.querySelectorAll('.choices [aria-pressed=true]')].map((one) => "
-                                               "one.firstChild.textContent.trim())", ["not explained", "added"]))
+    tally.add(
+        "its buttons",
+        wait_for(
+            browser,
+            "[...document.querySelectorAll('.choices [aria-pressed=true]')].map((one) => "
+            "one.firstChild.textContent.trim())",
+            ["not explained", "added"],
+        ),
+    )
     browser.value("location.hash = 'folder=/etc&page=1'")
     tally.add("another address", wait_for(browser, FOUND.replace(".textContent", ".textContent.slice(0, 2)"), "4 "))
 
@@ -183,8 +215,10 @@ def try_printing(browser, path, tally):
     total = int(browser.value(FOUND).split()[0])
     browser.value("window.dispatchEvent(new Event('beforeprint'))")
     tally.add("all are printed", wait_for(browser, SHOWN, total) if total > 200 else ["only %d" % total])
-    tally.add("what is printed is said", wait_for(browser, "document.getElementById('asked').textContent",
-                                                 "Only entries with: kind changed."))
+    tally.add(
+        "what is printed is said",
+        wait_for(browser, "document.getElementById('asked').textContent", "Only entries with: kind changed."),
+    )
     browser.value("window.dispatchEvent(new Event('afterprint'))")
     tally.add("then a page again", wait_for(browser, SHOWN, 100))
     pages = browser.ask("Page.printToPDF", transferMode="ReturnAsBase64")["data"]
@@ -197,8 +231,15 @@ def try_hostile(browser, path, pictures, tally):
     tally.add("they are shown", wait_for(browser, SHOWN, min(total, 100)) if total > 50 else ["only %d" % total])
     click(browser, "#unfold")
     tally.add("their values", wait_for(browser, "document.querySelectorAll('#list .values').length > 50", True))
-    for selector in ("img", "body script:not([id]) ~ script", "#list script", "#tree b", "iframe", "noscript *",
-                     "header script"):
+    for selector in (
+        "img",
+        "body script:not([id]) ~ script",
+        "#list script",
+        "#tree b",
+        "iframe",
+        "noscript *",
+        "header script",
+    ):
         tally.add("no " + selector, wait_for(browser, "document.querySelectorAll(%s).length" % json.dumps(selector), 0))
     direction = r"/[\u202a-\u202e\u2066-\u2069]/.test(document.documentElement.outerHTML)"
     tally.add("no direction", wait_for(browser, direction, False))
@@ -211,8 +252,14 @@ def try_policy(browser, path, write, tally):
     """A script or a style that somebody added does not run."""
     with open(path, "rb") as file:
         text = file.read()
-    other = write(path + ".html", text.replace(b"</header>", b'</header><script>document.title = "ran"</script><p id="loud" '
-                                               b'style="color: red" onclick="1"><img src="file:///etc/hostname">'))
+    other = write(
+        path + ".html",
+        text.replace(
+            b"</header>",
+            b'</header><script>document.title = "ran"</script><p id="loud" '
+            b'style="color: red" onclick="1"><img src="file:///etc/hostname">',
+        ),
+    )
     browser.open(other)
     tally.add("another script", wait_for(browser, "document.title === 'ran'", False))
     red = "getComputedStyle(document.getElementById('loud')).color === 'rgb(255, 0, 0)'"

@@ -10,8 +10,19 @@ import time
 from tools.commands.viewers import HTML
 from tools.commands.viewers.large import paths_of
 
-DIGESTS = (("MD5", 16), ("SHA1", 20), ("SHA256", 32), ("SHA512", 64), ("RMD160", 20), ("TIGER", 24), ("CRC32", 4),
-           ("HAVAL", 32), ("GOST", 32), ("WHIRLPOOL", 64), ("STRIBOG512", 64))
+DIGESTS = (
+    ("MD5", 16),
+    ("SHA1", 20),
+    ("SHA256", 32),
+    ("SHA512", 64),
+    ("RMD160", 20),
+    ("TIGER", 24),
+    ("CRC32", 4),
+    ("HAVAL", 32),
+    ("GOST", 32),
+    ("WHIRLPOOL", 64),
+    ("STRIBOG512", 64),
+)
 MOST_BYTES, MOST_SECONDS, MOST_ANSWER = 20000000, 3, 0.2
 FIRST = 1700000000
 # The memory of a command that a large process starts would be counted with that of the large one.
@@ -40,13 +51,26 @@ def entry_of(pick, number, path):
     if kind == "changed":
         times = [FIRST + number, FIRST + number + 86400]
         stamped = {"old": times[0], "old_time": date(times[0]), "new": times[1], "new_time": date(times[1])}
-        digests = {name: {side: base64.b64encode(pick.getrandbits(8 * size).to_bytes(size, "big")).decode()
-                          for side in ("old", "new")} for name, size in DIGESTS}
-        fields["attributes"] = {"Size": {"old": 4096 + number, "new": 4096 + 2 * number}, "Mtime": stamped, "Ctime": stamped,
-                                "Inode": {"old": number, "new": number + 100}, **digests}
+        digests = {
+            name: {
+                side: base64.b64encode(pick.getrandbits(8 * size).to_bytes(size, "big")).decode() for side in ("old", "new")
+            }
+            for name, size in DIGESTS
+        }
+        fields["attributes"] = {
+            "Size": {"old": 4096 + number, "new": 4096 + 2 * number},
+            "Mtime": stamped,
+            "Ctime": stamped,
+            "Inode": {"old": number, "new": number + 100},
+            **digests,
+        }
     if number % 50:
-        fields["reason"] = {"class": "package", "text": "package-%04d 1.%d-1" % (number // 200, number % 3),
-                            "verified": number % 9 != 0, "grade": "archive" if number % 3 else "dpkg"}
+        fields["reason"] = {
+            "class": "package",
+            "text": "package-%04d 1.%d-1" % (number // 200, number % 3),
+            "verified": number % 9 != 0,
+            "grade": "archive" if number % 3 else "dpkg",
+        }
     return fields
 
 
@@ -77,8 +101,11 @@ def try_large(browser, count, folder, tally):
     write_lines(lines, count)
     for words in (["--plain"], []):
         status, seconds, megabytes, size = made(lines, path, *words)
-        print("%d changes%s: %.1f s of the processor, %.0f MB of memory, a page of %.1f MB" % (
-            count, " ".join([""] + words), seconds, megabytes, size / 1e6), flush=True)
+        print(
+            "%d changes%s: %.1f s of the processor, %.0f MB of memory, a page of %.1f MB"
+            % (count, " ".join([""] + words), seconds, megabytes, size / 1e6),
+            flush=True,
+        )
         good = not status and size <= MOST_BYTES
         tally.add("a large page %s" % words, [] if good else ["status %d, %d bytes" % (status, size)])
     browser.open("/proc/version")
@@ -92,9 +119,18 @@ def try_large(browser, count, folder, tally):
         browser.value(what)
         answers.append(browser.worked() - before)
     memory = browser.value("performance.memory.usedJSHeapSize")
-    print("shown with %.1f s of the processor (%.1f s by the clock, load %.1f), %.0f MB of the script, searches answer with "
-          "%s ms, a filter with %.0f ms" % (work, seconds, os.getloadavg()[0], memory / 1e6, ", ".join(
-              "%.0f" % (1000 * answer) for answer in answers[:-1]), 1000 * answers[-1]))
+    print(
+        "shown with %.1f s of the processor (%.1f s by the clock, load %.1f), %.0f MB of the script, searches answer with "
+        "%s ms, a filter with %.0f ms"
+        % (
+            work,
+            seconds,
+            os.getloadavg()[0],
+            memory / 1e6,
+            ", ".join("%.0f" % (1000 * answer) for answer in answers[:-1]),
+            1000 * answers[-1],
+        )
+    )
     tally.add("it is shown soon", [] if work < MOST_SECONDS else ["%.1f s" % work])
     tally.add("a search answers soon", [] if max(answers) < MOST_ANSWER else ["%r s" % answers])
     tally.add("no fault of a large page", browser.faults)

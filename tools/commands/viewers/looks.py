@@ -29,9 +29,17 @@ def cases():
 def seen_of(place, fields, attributes):
     """An entry of the table of cases as filters see it."""
     severity = SEVERITIES.index(fields["severity"]) if "severity" in fields else 3
-    return Seen(place, KINDS.index(fields["kind"]), STANDINGS.index(fields.get("standing", "unexplained")), severity,
-                [attributes.index(name) for name in fields["attributes"]], fields.get("reason", ""), fields.get("group", 0),
-                fields.get("growth", 0), fields["path"])
+    return Seen(
+        place,
+        KINDS.index(fields["kind"]),
+        STANDINGS.index(fields.get("standing", "unexplained")),
+        severity,
+        [attributes.index(name) for name in fields["attributes"]],
+        fields.get("reason", ""),
+        fields.get("group", 0),
+        fields.get("growth", 0),
+        fields["path"],
+    )
 
 
 def try_views(tally):
@@ -58,8 +66,12 @@ def with_reasons(objects, pick):
             continue
         fields["severity"] = pick.choice(SEVERITIES)
         if pick.random() < 0.6:
-            fields["reason"] = {"class": "package", "text": pick.choice(texts), "verified": pick.random() < 0.6,
-                                "grade": pick.choice(GRADES)}
+            fields["reason"] = {
+                "class": "package",
+                "text": pick.choice(texts),
+                "verified": pick.random() < 0.6,
+                "grade": pick.choice(GRADES),
+            }
         for sides in fields.get("attributes", {}).values():
             if pick.random() < 0.3:
                 sides["new_text"] = pick.choice(NAMES).decode("utf-8", "surrogateescape")
@@ -77,11 +89,13 @@ def standing_of(fields):
 
 def order_faults(text, entries):
     """What is wrong with the order of the plain lists: first what is not explained, the severe of it at the front."""
-    lists = text[text.index("<noscript>") if "<noscript>" in text else text.index('id="content"'):]
+    lists = text[text.index("<noscript>") if "<noscript>" in text else text.index('id="content"') :]
     found = LISTED.findall(lists)
-    wanted = sorted((fields for fields in entries if standing_of(fields) < 2),
-                    key=lambda fields: (standing_of(fields), SEVERITIES.index(fields["severity"])))
-    if [severity for severity, _ in found[:len(wanted)]] != [fields["severity"] for fields in wanted]:
+    wanted = sorted(
+        (fields for fields in entries if standing_of(fields) < 2),
+        key=lambda fields: (standing_of(fields), SEVERITIES.index(fields["severity"])),
+    )
+    if [severity for severity, _ in found[: len(wanted)]] != [fields["severity"] for fields in wanted]:
         return ["the order is %r" % found]
     groups = {}
     for fields in entries:
@@ -94,12 +108,16 @@ def order_faults(text, entries):
 
 def card_faults(text, counts):
     """What is wrong with the counts of reasons at the top of a page."""
-    told = [int(count.replace(",", "")) for count in re.findall(
-        r'<div class="(?:unexplained|unverified|explained)"><dt>[^<]*</dt><dd>([0-9,]+)</dd>', text)]
+    told = [
+        int(count.replace(",", ""))
+        for count in re.findall(r'<div class="(?:unexplained|unverified|explained)"><dt>[^<]*</dt><dd>([0-9,]+)</dd>', text)
+    ]
     wanted = [counts[name] for name in ("unexplained", "not_verified", "explained")]
     faults = [] if told == wanted else ["the cards have %r, and not %r" % (told, wanted)]
-    severe = dict((name, int(count)) for count, name in re.findall(r"([0-9]+) (high|medium|low)", "".join(
-        re.findall(r'<p class="severities">[^<]*', text))))
+    severe = dict(
+        (name, int(count))
+        for count, name in re.findall(r"([0-9]+) (high|medium|low)", "".join(re.findall(r'<p class="severities">[^<]*', text)))
+    )
     if severe != {name: counts[name] for name in SEVERITIES if counts[name]}:
         faults.append("the severities are %r" % severe)
     return faults + ([] if "Reasons are hints" in text else ["it does not say what reasons are worth"])
@@ -127,20 +145,35 @@ def try_reasons(seed, tally):
 def try_heading(tally):
     """The host, the times, further members, and what was left out: each is there if the summary has it, and is text."""
     objects = objects_of(rich_report({}))
-    more = {"host": "www<b>", "@timestamp": "2026-11-25T05:23:11Z", "old_time": "2026-11-24T05:20:00Z", "<i>": "a\u202eb",
-            "left_out": {"old": 1, "new": 2300}, "status": 7}
+    more = {
+        "host": "www<b>",
+        "@timestamp": "2026-11-25T05:23:11Z",
+        "old_time": "2026-11-24T05:20:00Z",
+        "<i>": "a\u202eb",
+        "left_out": {"old": 1, "new": 2300},
+        "status": 7,
+    }
     text = page_of([{**objects[0], **more}] + objects[1:])
-    for part in ("<h1>File changes on www&lt;b&gt;</h1>", "<dd>www&lt;b&gt;</dd>", "<dd>2026-11-25 05:23:11 UTC</dd>",
-                 "<span>of 2026-11-24 05:20:00 UTC</span>", "<dt>&lt;i&gt;</dt><dd>a\\342\\200\\256b</dd>",
-                 '<p class="remark">The comparison left out 1 entry of the old database and 2,300 entries of the new '
-                 'database, by the rules of --without.</p>'):
+    for part in (
+        "<h1>File changes on www&lt;b&gt;</h1>",
+        "<dd>www&lt;b&gt;</dd>",
+        "<dd>2026-11-25 05:23:11 UTC</dd>",
+        "<span>of 2026-11-24 05:20:00 UTC</span>",
+        "<dt>&lt;i&gt;</dt><dd>a\\342\\200\\256b</dd>",
+        '<p class="remark">The comparison left out 1 entry of the old database and 2,300 entries of the new '
+        "database, by the rules of --without.</p>",
+    ):
         tally.add("the heading has " + part, [] if part in text.partition("</header>")[0] else ["it has not"])
     plain = page_of(objects, True)
     for part in ('class="facts"', "left out", "<span>of ", 'class="hint"', "<script"):
         tally.add("an ordinary page has no " + part, ["it has"] if part in plain else [])
-    both = {"Size": {"old": None, "new": 18344}, "Perm": {"old": None, "new": "4755", "new_text": "-rwsr-xr-x"},
-            "UID": {"old": None, "new": 0}, "GID": {"old": None, "new": 50},
-            "ACL": {"old": None, "new": "POSIX,dXNl", "new_text": "user::rw-<"}}
+    both = {
+        "Size": {"old": None, "new": 18344},
+        "Perm": {"old": None, "new": "4755", "new_text": "-rwsr-xr-x"},
+        "UID": {"old": None, "new": 0},
+        "GID": {"old": None, "new": 50},
+        "ACL": {"old": None, "new": "POSIX,dXNl", "new_text": "user::rw-<"},
+    }
     entry = next(fields for fields in objects if fields.get("kind") == "added")
     entry["attributes"] = both
     for is_plain in (False, True):
@@ -154,10 +187,11 @@ def try_only(tally):
     objects = with_reasons(objects_of(rich_report({})), random.Random(3))
     lines = lines_of(objects)
     entries = [fields for fields in objects if fields["record"] == "entry"]
-    for words, wanted in (("standing=unexplained", [fields for fields in entries if standing_of(fields) == 0]),
-                          ("kind=added,removed", [fields for fields in entries if fields["kind"] != "changed"]),
-                          ("severity=high&path=ETC", [fields for fields in entries
-                                                      if fields["severity"] == "high" and "etc" in fields["path"]])):
+    for words, wanted in (
+        ("standing=unexplained", [fields for fields in entries if standing_of(fields) == 0]),
+        ("kind=added,removed", [fields for fields in entries if fields["kind"] != "changed"]),
+        ("severity=high&path=ETC", [fields for fields in entries if fields["severity"] == "high" and "etc" in fields["path"]]),
+    ):
         status, output, errors = run([HTML, "--plain", "--only", words], lines)
         names = [name for _, name in LISTED.findall(output.decode())]
         good = not status and sorted(names) == sorted(fields["path"] for fields in wanted)

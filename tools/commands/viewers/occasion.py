@@ -10,10 +10,10 @@ from . import JSON
 from .aide_form import PAIRS, report
 from .schema import Validator, schema_of_lines
 
-RUN = os.path.join(os.path.dirname(JSON), 'aide-compare-run')
-DATE = re.compile('[0-9]{4}-[0-9]{2}-[0-9]{2}T[0-9]{2}:[0-9]{2}:[0-9]{2}Z')
+RUN = os.path.join(os.path.dirname(JSON), "aide-compare-run")
+DATE = re.compile("[0-9]{4}-[0-9]{2}-[0-9]{2}T[0-9]{2}:[0-9]{2}:[0-9]{2}Z")
 REFUSED, USAGE, DEVICE = 65, 15, 18
-OCCASION = ['host', '@timestamp', 'status', 'old_time', 'new_time', 'old_digest', 'new_digest']
+OCCASION = ["host", "@timestamp", "status", "old_time", "new_time", "old_digest", "new_digest"]
 
 
 def lines(text, *words):
@@ -22,18 +22,22 @@ def lines(text, *words):
 
 
 def state_of(text):
-    return dict(line.split('=', 1) for line in text.splitlines())
+    return dict(line.split("=", 1) for line in text.splitlines())
 
 
 class Kept:
     """A report of aide-compare-run, and its state file."""
 
     def __init__(self, program, folder):
-        self.path, (self.old, self.new) = os.path.join(folder, 'state'), PAIRS['values']
-        os.symlink(os.fsdecode(program), os.path.join(folder, 'aide-compare'))
-        search = folder + os.pathsep + os.environ['PATH']
-        done = subprocess.run([RUN, '--state', self.path, self.old, self.new], stdout=subprocess.PIPE, stderr=subprocess.PIPE,
-                              env={**os.environ, 'PATH': search})
+        self.path, (self.old, self.new) = os.path.join(folder, "state"), PAIRS["values"]
+        os.symlink(os.fsdecode(program), os.path.join(folder, "aide-compare"))
+        search = folder + os.pathsep + os.environ["PATH"]
+        done = subprocess.run(
+            [RUN, "--state", self.path, self.old, self.new],
+            stdout=subprocess.PIPE,
+            stderr=subprocess.PIPE,
+            env={**os.environ, "PATH": search},
+        )
         self.report = done.stdout
         with open(self.path) as file:
             self.text = file.read()
@@ -41,113 +45,150 @@ class Kept:
 
     def changed(self, folder, **values):
         """A state file in which some values are others."""
-        path = os.path.join(folder, 'other')
-        with open(path, 'w') as file:
-            file.write(''.join('%s=%s\n' % (key, values.get(key, value)) for key, value in self.values.items()))
+        path = os.path.join(folder, "other")
+        with open(path, "w") as file:
+            file.write("".join("%s=%s\n" % (key, values.get(key, value)) for key, value in self.values.items()))
         return path
 
 
 def try_full(kept, tally):
-    status, objects, errors = lines(kept.report, '--full', '--state', kept.path, '--with', 'site=berlin', '--with', 'a.b=\u00e9')
-    tally.add('full', [] if status == 0 and objects else ['%d %r' % (status, errors)])
+    status, objects, errors = lines(
+        kept.report, "--full", "--state", kept.path, "--with", "site=berlin", "--with", "a.b=\u00e9"
+    )
+    tally.add("full", [] if status == 0 and objects else ["%d %r" % (status, errors)])
     values = kept.values
-    wanted = {'host': socket.gethostname(), '@timestamp': values['date'], 'status': int(values['status']), 'site': 'berlin',
-              'old_digest': values['old_sha256'][:16], 'new_digest': values['new_sha256'][:16], 'a.b': '\u00e9'}
+    wanted = {
+        "host": socket.gethostname(),
+        "@timestamp": values["date"],
+        "status": int(values["status"]),
+        "site": "berlin",
+        "old_digest": values["old_sha256"][:16],
+        "new_digest": values["new_sha256"][:16],
+        "a.b": "\u00e9",
+    }
     for fields in objects:
         given = {name: fields.get(name) for name in wanted}
-        times = [DATE.fullmatch(fields.get(side + '_time') or '') for side in ('old', 'new')]
-        tally.add('full, %s' % fields.get('path', 'summary'), [] if given == wanted and all(times) else ['%r' % given])
-    paths = [fields['path'] for fields in objects if fields['record'] == 'database']
-    tally.add('names by the state', [] if paths == [kept.old, kept.new] else ['%r' % paths])
+        times = [DATE.fullmatch(fields.get(side + "_time") or "") for side in ("old", "new")]
+        tally.add("full, %s" % fields.get("path", "summary"), [] if given == wanted and all(times) else ["%r" % given])
+    paths = [fields["path"] for fields in objects if fields["record"] == "database"]
+    tally.add("names by the state", [] if paths == [kept.old, kept.new] else ["%r" % paths])
     plain = lines(kept.report)[1]
-    bare = [{name: value for name, value in fields.items() if name not in wanted and name[4:] != 'time'} for fields in objects]
+    bare = [{name: value for name, value in fields.items() if name not in wanted and name[4:] != "time"} for fields in objects]
     for fields in plain + bare:
-        fields.pop('path' if fields['record'] == 'database' else '', None)
-    tally.add('nothing else is other', [] if bare == plain else ['%r' % bare])
-    status, objects, _ = lines(kept.report, '--full', '--with', 'host=www')
-    good = status == 0 and all(fields['host'] == 'www' and fields['status'] == 7 and fields['old_time'] is None
-                               and DATE.fullmatch(fields['@timestamp']) for fields in objects)
-    tally.add('full without a state', [] if good else ['%r' % objects[:1]])
+        fields.pop("path" if fields["record"] == "database" else "", None)
+    tally.add("nothing else is other", [] if bare == plain else ["%r" % bare])
+    status, objects, _ = lines(kept.report, "--full", "--with", "host=www")
+    good = status == 0 and all(
+        fields["host"] == "www"
+        and fields["status"] == 7
+        and fields["old_time"] is None
+        and DATE.fullmatch(fields["@timestamp"])
+        for fields in objects
+    )
+    tally.add("full without a state", [] if good else ["%r" % objects[:1]])
 
 
 def try_names(kept, tally):
-    for words, wanted in ((['--old', '/a b', '--new', b'/\xff'], [('/a b', None), ('/\ufffd', '2fff')]),
-                          (['--state', kept.path, '--new', 'new'], [(kept.old, None), ('new', None)])):
+    for words, wanted in (
+        (["--old", "/a b", "--new", b"/\xff"], [("/a b", None), ("/\ufffd", "2fff")]),
+        (["--state", kept.path, "--new", "new"], [(kept.old, None), ("new", None)]),
+    ):
         _, objects, _ = lines(kept.report, *words)
-        given = [(fields['path'], fields.get('path_hex')) for fields in objects if fields['record'] == 'database']
-        tally.add('names %r' % words, [] if given == wanted else ['%r' % given])
-    database = b'@@begin_db\n@@db_spec name uid gid size\n/a %s 0\n@@end_db\n'
+        given = [(fields["path"], fields.get("path_hex")) for fields in objects if fields["record"] == "database"]
+        tally.add("names %r" % words, [] if given == wanted else ["%r" % given])
+    database = b"@@begin_db\n@@db_spec name uid gid size\n/a %s 0\n@@end_db\n"
     with tempfile.TemporaryDirectory() as folder:
-        pair = [os.path.join(folder, name) for name in ('old', 'new')]
-        for path, number in zip(pair, (b'0 0', b'4000000000 1')):
-            with open(path, 'wb') as file:
+        pair = [os.path.join(folder, name) for name in ("old", "new")]
+        for path, number in zip(pair, (b"0 0", b"4000000000 1")):
+            with open(path, "wb") as file:
                 file.write(database % number)
         text = report(kept.program, pair)
-    for words, wanted in ((['--names'], {'old': 0, 'new': 4000000000, 'old_text': 'root'}), ([], {'old': 0, 'new': 4000000000}),
-                          (['--names', '--no-text'], {'old': 0, 'new': 4000000000})):
+    for words, wanted in (
+        (["--names"], {"old": 0, "new": 4000000000, "old_text": "root"}),
+        ([], {"old": 0, "new": 4000000000}),
+        (["--names", "--no-text"], {"old": 0, "new": 4000000000}),
+    ):
         _, objects, _ = lines(text, *words)
-        given = objects[1]['attributes']['UID']
-        tally.add('users %r' % words, [] if given == wanted else ['%r' % given])
-    texts = json.dumps(lines(kept.report, '--no-text')[1])
-    tally.add('no texts', [] if '_text' not in texts and '_text' in json.dumps(lines(kept.report)[1]) else ['there are some'])
+        given = objects[1]["attributes"]["UID"]
+        tally.add("users %r" % words, [] if given == wanted else ["%r" % given])
+    texts = json.dumps(lines(kept.report, "--no-text")[1])
+    tally.add("no texts", [] if "_text" not in texts and "_text" in json.dumps(lines(kept.report)[1]) else ["there are some"])
 
 
 def try_one_text(kept, tally):
     """Two values with one text, such as a list with and without its last newline: the text would hide the change."""
-    database = '@@begin_db\n@@db_spec name acl e2fsattrs\n/a POSIX,%s,0 %s\n@@end_db\n'
+    database = "@@begin_db\n@@db_spec name acl e2fsattrs\n/a POSIX,%s,0 %s\n@@end_db\n"
     with tempfile.TemporaryDirectory() as folder:
-        pair = [os.path.join(folder, name) for name in ('old', 'new')]
-        for path, values in zip(pair, (('dXNlcjo6cnctCg==', '16'), ('dXNlcjo6cnct', '0016'))):
-            with open(path, 'w') as file:
+        pair = [os.path.join(folder, name) for name in ("old", "new")]
+        for path, values in zip(pair, (("dXNlcjo6cnctCg==", "16"), ("dXNlcjo6cnct", "0016"))):
+            with open(path, "w") as file:
                 file.write(database % values)
         _, objects, _ = lines(report(kept.program, pair))
-    attributes = objects[1]['attributes']
-    good = set(attributes) == {'ACL', 'E2FSAttrs'} and all(set(fields) == {'old', 'new'} for fields in attributes.values())
-    tally.add('one text for two values', [] if good else ['%r' % attributes])
+    attributes = objects[1]["attributes"]
+    good = set(attributes) == {"ACL", "E2FSAttrs"} and all(set(fields) == {"old", "new"} for fields in attributes.values())
+    tally.add("one text for two values", [] if good else ["%r" % attributes])
 
 
 def try_types(kept, tally):
     """A mode has the letter of the type where the report tells the type of both sides."""
     with tempfile.TemporaryDirectory() as folder:
-        pair = [os.path.join(folder, name) for name in ('old', 'new')]
-        for path, mode in zip(pair, ('100644', '41777')):
-            with open(path, 'w') as file:
-                file.write('@@begin_db\n@@db_spec name perm\n/a %s\n/b 10%s\n@@end_db\n' % (mode, mode[-4:]))
-        hidden = 'report_ignore_changed_attrs=ftype'
-        for more, wanted in (('', ('-rw-r--r--', 'drwxrwxrwt')), (hidden, ('rw-r--r--', 'rwxrwxrwt')),
-                             (hidden + '\nreport_summarize_changes=no', ('rw-r--r--', 'rwxrwxrwt'))):
+        pair = [os.path.join(folder, name) for name in ("old", "new")]
+        for path, mode in zip(pair, ("100644", "41777")):
+            with open(path, "w") as file:
+                file.write("@@begin_db\n@@db_spec name perm\n/a %s\n/b 10%s\n@@end_db\n" % (mode, mode[-4:]))
+        hidden = "report_ignore_changed_attrs=ftype"
+        for more, wanted in (
+            ("", ("-rw-r--r--", "drwxrwxrwt")),
+            (hidden, ("rw-r--r--", "rwxrwxrwt")),
+            (hidden + "\nreport_summarize_changes=no", ("rw-r--r--", "rwxrwxrwt")),
+        ):
             _, objects, _ = lines(report(kept.program, pair, more=more))
-            fields = next(fields for fields in objects if fields.get('path') == '/a')['attributes']['Perm']
-            given = (fields.get('old_text'), fields.get('new_text'))
-            tally.add('types %r' % more, [] if given == wanted else ['%r' % (given,)])
+            fields = next(fields for fields in objects if fields.get("path") == "/a")["attributes"]["Perm"]
+            given = (fields.get("old_text"), fields.get("new_text"))
+            tally.add("types %r" % more, [] if given == wanted else ["%r" % (given,)])
 
 
 def try_left_out(kept, tally, folder):
-    path = kept.changed(folder, error='\nleft_out_old=3\nleft_out_new=5')
-    status, objects, errors = lines(kept.report, '--state', path)
-    good = status == 0 and objects[0]['left_out'] == {'old': 3, 'new': 5} and 'left_out' not in objects[1]
-    tally.add('left out', [] if good else ['%d %r %r' % (status, errors, objects[:1])])
+    path = kept.changed(folder, error="\nleft_out_old=3\nleft_out_new=5")
+    status, objects, errors = lines(kept.report, "--state", path)
+    good = status == 0 and objects[0]["left_out"] == {"old": 3, "new": 5} and "left_out" not in objects[1]
+    tally.add("left out", [] if good else ["%d %r %r" % (status, errors, objects[:1])])
 
 
 def try_other_states(kept, tally, folder):
     """A state file that is of another comparison, or none, is refused, and nothing is written."""
-    for label, values in (('digest', {'new_sha256': 64 * '0'}), ('no digest', {'old_sha256': ''}),
-                          ('counts', {'added': '9'}), ('a failure', {'status': '18', 'added': '', 'removed': '', 'changed': ''}),
-                          ('no difference', {'status': '0', 'added': '0', 'removed': '0', 'changed': '0'})):
-        status, objects, errors = lines(kept.report, '--state', kept.changed(folder, **values))
-        good = status == REFUSED and not objects and b'another comparison' in errors
-        tally.add('state of %s' % label, [] if good else ['%d %r' % (status, errors)])
-    status, objects, _ = lines(kept.report, '--state', kept.changed(folder, status='x'))
-    tally.add('no state', [] if status == DEVICE and not objects else ['%d' % status])
+    for label, values in (
+        ("digest", {"new_sha256": 64 * "0"}),
+        ("no digest", {"old_sha256": ""}),
+        ("counts", {"added": "9"}),
+        ("a failure", {"status": "18", "added": "", "removed": "", "changed": ""}),
+        ("no difference", {"status": "0", "added": "0", "removed": "0", "changed": "0"}),
+    ):
+        status, objects, errors = lines(kept.report, "--state", kept.changed(folder, **values))
+        good = status == REFUSED and not objects and b"another comparison" in errors
+        tally.add("state of %s" % label, [] if good else ["%d %r" % (status, errors)])
+    status, objects, _ = lines(kept.report, "--state", kept.changed(folder, status="x"))
+    tally.add("no state", [] if status == DEVICE and not objects else ["%d" % status])
 
 
 def try_members(kept, tally):
     """Members that lines have already, or that are none."""
-    for words in (['--with', 'path=/x'], ['--with', 'record=x'], ['--with', 'reason=x'], ['--with', 'a'], ['--with', '=x'],
-                  ['--with', 'a b=x'], ['--with', 'a=x', '--with', 'a=y'], ['--with', 'a=' + 5000 * 'x'], ['--with', b'a=\xff'],
-                  ['--with', 'a"=x'], ['--format', 'xml'], ['--state', '']):
+    for words in (
+        ["--with", "path=/x"],
+        ["--with", "record=x"],
+        ["--with", "reason=x"],
+        ["--with", "a"],
+        ["--with", "=x"],
+        ["--with", "a b=x"],
+        ["--with", "a=x", "--with", "a=y"],
+        ["--with", "a=" + 5000 * "x"],
+        ["--with", b"a=\xff"],
+        ["--with", 'a"=x'],
+        ["--format", "xml"],
+        ["--state", ""],
+    ):
         status, objects, errors = lines(kept.report, *words)
-        tally.add('%r' % words[-1][:40], [] if status == USAGE and not objects and errors else ['%d %r' % (status, errors)])
+        tally.add("%r" % words[-1][:40], [] if status == USAGE and not objects and errors else ["%d %r" % (status, errors)])
 
 
 def changed(fields, **values):
@@ -158,28 +199,50 @@ def changed(fields, **values):
 def try_schema(kept, tally):
     """Good lines fit the schema, and lines with one fault each do not."""
     validator = Validator(schema_of_lines())
-    _, objects, _ = lines(kept.report, '--full', '--state', kept.path, '--with', 'site=x')
-    reason = {'class': 'package', 'text': 'openssl 3.0.15', 'verified': True, 'grade': 'dpkg'}
+    _, objects, _ = lines(kept.report, "--full", "--state", kept.path, "--with", "site=x")
+    reason = {"class": "package", "text": "openssl 3.0.15", "verified": True, "grade": "dpkg"}
     summary, entry, database = objects[0], objects[1], objects[-1]
-    counts = dict.fromkeys(('explained', 'not_verified', 'unexplained', 'high', 'medium', 'low'), 0)
-    good = objects + [changed(entry, severity='high', reason=reason), changed(summary, reasons=counts, left_out={'old': 1})]
-    tally.add('good lines', [fault for fields in good for fault in validator.faults(fields)])
-    attributes = entry['attributes']
-    bad = [changed(summary, format=2), changed(summary, lines=...), changed(summary, added='1'), changed(summary, levels=[]),
-           changed(summary, differences=1), changed(summary, reasons={'high': 1}), changed(summary, left_out={'old': -1}),
-           changed(entry, kind='other'), changed(entry, path='a'), changed(entry, path=...), changed(entry, severity='huge'),
-           changed(entry, reason=changed(reason, grade='hope')), changed(entry, reason='x'), changed(entry, summary='f'),
-           changed(entry, attributes={'Sise': {'old': 1, 'new': 2}}), changed(entry, more=3), changed(entry, status=8),
-           changed(entry, **{'@timestamp': 'today'}), changed(database, sha256='00'), changed(database, side='left'),
-           changed(entry, attributes={'Size': {'old': '1', 'new': 2}}), changed(entry, attributes={'Size': {'new': 2}}),
-           changed(entry, attributes={'Perm': {'old': '644', 'new': '0644'}}), changed(entry, old_digest='0'), [], 'summary',
-           changed(entry, attributes={'Mtime': {'old': 1, 'new': 2, 'old_time': 'x'}}), changed(entry, record='database'),
-           changed(entry, attributes={'SHA256': {'old': '<b>', 'new': None}}), changed(entry, uncertain=['end']),
-           changed(entry, attributes={**attributes, 'ACL': {'old': None, 'new': 'x', 'new_hex': '0'}})]
+    counts = dict.fromkeys(("explained", "not_verified", "unexplained", "high", "medium", "low"), 0)
+    good = objects + [changed(entry, severity="high", reason=reason), changed(summary, reasons=counts, left_out={"old": 1})]
+    tally.add("good lines", [fault for fields in good for fault in validator.faults(fields)])
+    attributes = entry["attributes"]
+    bad = [
+        changed(summary, format=2),
+        changed(summary, lines=...),
+        changed(summary, added="1"),
+        changed(summary, levels=[]),
+        changed(summary, differences=1),
+        changed(summary, reasons={"high": 1}),
+        changed(summary, left_out={"old": -1}),
+        changed(entry, kind="other"),
+        changed(entry, path="a"),
+        changed(entry, path=...),
+        changed(entry, severity="huge"),
+        changed(entry, reason=changed(reason, grade="hope")),
+        changed(entry, reason="x"),
+        changed(entry, summary="f"),
+        changed(entry, attributes={"Sise": {"old": 1, "new": 2}}),
+        changed(entry, more=3),
+        changed(entry, status=8),
+        changed(entry, **{"@timestamp": "today"}),
+        changed(database, sha256="00"),
+        changed(database, side="left"),
+        changed(entry, attributes={"Size": {"old": "1", "new": 2}}),
+        changed(entry, attributes={"Size": {"new": 2}}),
+        changed(entry, attributes={"Perm": {"old": "644", "new": "0644"}}),
+        changed(entry, old_digest="0"),
+        [],
+        "summary",
+        changed(entry, attributes={"Mtime": {"old": 1, "new": 2, "old_time": "x"}}),
+        changed(entry, record="database"),
+        changed(entry, attributes={"SHA256": {"old": "<b>", "new": None}}),
+        changed(entry, uncertain=["end"]),
+        changed(entry, attributes={**attributes, "ACL": {"old": None, "new": "x", "new_hex": "0"}}),
+    ]
     for number, fields in enumerate(bad):
-        tally.add('bad line %d' % number, [] if validator.faults(fields) else ['%r fits' % (fields,)])
-    known = Validator({'type': 'string', 'minLength': 3})
-    tally.add('unknown keyword', [] if any('minLength' in fault for fault in known.faults('x')) else ['it is passed over'])
+        tally.add("bad line %d" % number, [] if validator.faults(fields) else ["%r fits" % (fields,)])
+    known = Validator({"type": "string", "minLength": 3})
+    tally.add("unknown keyword", [] if any("minLength" in fault for fault in known.faults("x")) else ["it is passed over"])
 
 
 def attempt(trial, tally, kept, *more):
@@ -187,7 +250,7 @@ def attempt(trial, tally, kept, *more):
     try:
         trial(kept, tally, *more)
     except (LookupError, ValueError, TypeError, StopIteration) as error:
-        tally.add(trial.__name__, ['%s: %s' % (type(error).__name__, error)])
+        tally.add(trial.__name__, ["%s: %s" % (type(error).__name__, error)])
 
 
 def try_occasion(program, tally):

@@ -30,9 +30,21 @@ def entries_of(layers):
         for slot, line in enumerate(index):
             gap, marks, group, growth, attributes, facts, path = line.split("\t")
             place += int(gap)
-            entries.append(Packed(place, int(marks[0]), marks[1] == "1", int(marks[2]), int(group) if group else None,
-                                  int(growth), attributes, facts, path, values[slot] if slot < len(values) else None,
-                                  digests[slot] if slot < len(digests) else None))
+            entries.append(
+                Packed(
+                    place,
+                    int(marks[0]),
+                    marks[1] == "1",
+                    int(marks[2]),
+                    int(group) if group else None,
+                    int(growth),
+                    attributes,
+                    facts,
+                    path,
+                    values[slot] if slot < len(values) else None,
+                    digests[slot] if slot < len(digests) else None,
+                )
+            )
     return sorted(entries, key=lambda entry: entry.place)
 
 

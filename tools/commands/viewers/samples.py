@@ -7,24 +7,38 @@ from tools.commands.viewers import HTML, JSON, hostile
 from tools.oracle.configuration import DEFAULTS
 from tools.oracle.report import report_of
 
-HOST = {"host": "www.example.org", "@timestamp": "2026-11-25T05:23:11Z", "old_time": "2026-11-24T05:20:00Z",
-        "new_time": "2026-11-25T05:20:00Z"}
-FOLDERS = {"usr/bin": "openssl 3.0.17-1~deb12u3", "usr/lib/x86_64-linux-gnu": "libssl3 3.0.17-1~deb12u3",
-           "usr/share/doc/openssl": "openssl 3.0.17-1~deb12u3", "usr/share/man/man1": "openssl 3.0.17-1~deb12u3",
-           "usr/lib/python3/dist-packages/apt": "python3-apt 2.6.0", "var/lib/dpkg/info": None,
-           "usr/sbin": "openssh-server 1:9.2p1-2"}
+HOST = {
+    "host": "www.example.org",
+    "@timestamp": "2026-11-25T05:23:11Z",
+    "old_time": "2026-11-24T05:20:00Z",
+    "new_time": "2026-11-25T05:20:00Z",
+}
+FOLDERS = {
+    "usr/bin": "openssl 3.0.17-1~deb12u3",
+    "usr/lib/x86_64-linux-gnu": "libssl3 3.0.17-1~deb12u3",
+    "usr/share/doc/openssl": "openssl 3.0.17-1~deb12u3",
+    "usr/share/man/man1": "openssl 3.0.17-1~deb12u3",
+    "usr/lib/python3/dist-packages/apt": "python3-apt 2.6.0",
+    "var/lib/dpkg/info": None,
+    "usr/sbin": "openssh-server 1:9.2p1-2",
+}
 DIGESTS = (("md5", 16), ("sha1", 20), ("sha256", 32), ("sha512", 64), ("rmd160", 20))
 DEMO = [
     ("etc/passwd", {"s": 2811, "m": 1767225600}, {"s": 2874, "m": 1795500000}, "high"),
     ("etc/ssh/sshd_config", {"s": 3223, "p": 0o600}, {"s": 3241, "p": 0o644}, "high"),
     ("etc/cron.d/backup", None, {"s": 97, "p": 0o644, "u": 0, "g": 0, "m": 1795500123}, "medium"),
     ("etc/motd", {"s": 286, "p": 0o644, "m": 1767225600}, None, "low"),
-    ("usr/local/sbin/.x", None, {"s": 18344, "p": 0o4755, "u": 0, "g": 0, "m": 1795500456}, "high")]
+    ("usr/local/sbin/.x", None, {"s": 18344, "p": 0o4755, "u": 0, "g": 0, "m": 1795500456}, "high"),
+]
 
 
 def report_over(old, new):
-    settings = {**DEFAULTS, "database_in": b"/var/lib/aide/aide.db", "database_new": b"/var/lib/aide/aide.db.new",
-                "report_level": "added_removed_entries"}
+    settings = {
+        **DEFAULTS,
+        "database_in": b"/var/lib/aide/aide.db",
+        "database_new": b"/var/lib/aide/aide.db.new",
+        "report_level": "added_removed_entries",
+    }
     return report_of(hostile.Database(old), hostile.Database(new), [b"old", b"new"], settings)[0]
 
 
@@ -40,8 +54,15 @@ def demo_report():
         path, kind = b"/%s/item-%03d" % (pick.choice(list(FOLDERS)).encode(), number), pick.random()
         for side, entries in enumerate(sides):
             if kind > 0.12 or (kind > 0.05) == side:
-                entries[path] = {"ftype": 0o100000, "s": 4000 + number * 37 + side * 120, "p": 0o755, "u": 0, "g": 0,
-                                 "m": 1767225600 + side * 28000000, **digests_of("%d %d" % (number, side))}
+                entries[path] = {
+                    "ftype": 0o100000,
+                    "s": 4000 + number * 37 + side * 120,
+                    "p": 0o755,
+                    "u": 0,
+                    "g": 0,
+                    "m": 1767225600 + side * 28000000,
+                    **digests_of("%d %d" % (number, side)),
+                }
     for path, *values, _ in DEMO:
         for side, (entries, value) in enumerate(zip(sides, values)):
             if value:

@@ -73,20 +73,30 @@ class Validator:
 
     def _items(self, value, rule, place, _):
         members = value if isinstance(value, list) else []
-        return [fault for number, other in enumerate(members) for fault in self.faults(other, rule, "%s[%d]" % (place, number))]
+        return [
+            fault for number, other in enumerate(members) for fault in self.faults(other, rule, "%s[%d]" % (place, number))
+        ]
 
     def _required(self, value, rule, place, _):
         return ["%s: has no %s" % (place, name) for name in rule if isinstance(value, dict) and name not in value]
 
     def _properties(self, value, rule, place, _):
         members = value if isinstance(value, dict) else {}
-        return [fault for name, other in rule.items() if name in members
-                for fault in self.faults(members[name], other, "%s.%s" % (place, name))]
+        return [
+            fault
+            for name, other in rule.items()
+            if name in members
+            for fault in self.faults(members[name], other, "%s.%s" % (place, name))
+        ]
 
     def _additionalProperties(self, value, rule, place, schema):
         members = value if isinstance(value, dict) else {}
-        return [fault for name in members if name not in schema.get("properties", {})
-                for fault in self.faults(members[name], rule, "%s.%s" % (place, name))]
+        return [
+            fault
+            for name in members
+            if name not in schema.get("properties", {})
+            for fault in self.faults(members[name], rule, "%s.%s" % (place, name))
+        ]
 
     def _oneOf(self, value, rule, place, _):
         tried = [self.faults(value, other, place) for other in rule]

@@ -8,92 +8,145 @@ from datetime import datetime, timedelta
 from aide_compare import decoded_times
 from aide_compare.decoded import decoded
 
-TYPES = {'File': stat.S_IFREG, 'Directory': stat.S_IFDIR, 'Link': stat.S_IFLNK, 'Character device': stat.S_IFCHR,
-         'Block device': stat.S_IFBLK, 'FIFO': stat.S_IFIFO, 'Socket': stat.S_IFSOCK}
-DECODED = ('ACL', 'XAttrs', 'SELinux', 'E2FSAttrs', 'Caps')
+TYPES = {
+    "File": stat.S_IFREG,
+    "Directory": stat.S_IFDIR,
+    "Link": stat.S_IFLNK,
+    "Character device": stat.S_IFCHR,
+    "Block device": stat.S_IFBLK,
+    "FIFO": stat.S_IFIFO,
+    "Socket": stat.S_IFSOCK,
+}
+DECODED = ("ACL", "XAttrs", "SELinux", "E2FSAttrs", "Caps")
 
 # What AIDE 0.18.3 kept of files on ext4 (Debian 12, 2026-11-25), and what these printed of the same files: getfacl 2.3.1,
 # getfattr 2.5.1, getcap of libcap 2.66, lsattr of e2fsprogs 1.47.0, ls -Z's label as it was set.
 TABLE = [
-    ('ACL', b'POSIX,dXNlcjo6cnctCmdyb3VwOjpyLS0Kb3RoZXI6OnItLQo=,0', 'user::rw-, group::r--, other::r--'),
-    ('ACL', b'POSIX,dXNlcjo6cnctCnVzZXI6NDI0Mjpyd3gJI2VmZmVjdGl2ZTpyLS0KZ3JvdXA6OnItLQptYXNrOjpyLS0Kb3RoZXI6OnItLQo=,0',
-     'user::rw-, user:4242:rwx #effective:r--, group::r--, mask::r--, other::r--'),
-    ('ACL', b'POSIX,dXNlcjo6cnctCnVzZXI6cm9vdDpyd3gKZ3JvdXA6OnItLQpncm91cDpkYWVtb246cnd4Cm1hc2s6OnJ3eApvdGhlcjo6ci0tCg==,0',
-     'user::rw-, user:root:rwx, group::r--, group:daemon:rwx, mask::rwx, other::r--'),
-    ('ACL', b'POSIX,dXNlcjo6cnd4Cmdyb3VwOjpyLXgKb3RoZXI6OnIteAo=,dXNlcjo6cnd4CnVzZXI6NDM0Mzpyd3gJI2VmZmVjdGl2ZTpyLS0KZ3JvdXA6'
-     b'OnIteAkjZWZmZWN0aXZlOnItLQptYXNrOjpyLS0Kb3RoZXI6OnIteAo=',
-     'user::rwx, group::r-x, other::r-x, default:user::rwx, default:user:4343:rwx #effective:r--, '
-     'default:group::r-x #effective:r--, default:mask::r--, default:other::r-x'),
-    ('XAttrs', b'3,user.a%20b,eCB5,user.c%2Cd,cQ==,user.%2541,0', 'user.a\\040b: "x y"; user.c,d: "q"; user.%41: ""'),
-    ('XAttrs', b'5,user.empty,0,user.nl,YQpi,user.nul,YWJjAA==,trusted.t,dHQ=,security.selinux,'
-     b'c3lzdGVtX3U6b2JqZWN0X3I6ZXRjX3Q6czA=',
-     'user.empty: ""; user.nl: "a\\012b"; user.nul: "abc\\000"; trusted.t: "tt"; security.selinux: system_u:object_r:etc_t:s0'),
-    ('XAttrs', b'2,user.demo,dHdv,user.bin,AAECAwQFBgcICQoLDA0ODxAREhM=',
-     'user.demo: "two"; user.bin: 0sAAECAwQFBgcICQoLDA0ODxAREhM='),
-    ('XAttrs', b'1,security.capability,AQAAAgAgAAAAAAAAAAAAAAAAAAA=', 'security.capability: cap_net_raw=ep'),
-    ('XAttrs', b'1,security.capability,AAAAAgAgAAAAAAAAAAAAAAAAAAA=', 'security.capability: cap_net_raw=p'),
-    ('XAttrs', b'1,security.capability,AQAAAv////8AAAAA/wEAgAAAAAA=', 'security.capability: =ep 63+ep'),
-    ('XAttrs', b'1,security.capability,AQAAAwEAAAAGAAAAAAEAAAAAAADoAwAA',
-     'security.capability: cap_dac_override,cap_dac_read_search=ei cap_chown,cap_checkpoint_restore+ep [rootid=1000]'),
-    ('XAttrs', b'1,security.capability,AQAAAgAwAAABAAAAAAAAAAAAAAA=',
-     'security.capability: cap_chown=ei cap_net_admin,cap_net_raw+ep'),
-    ('XAttrs', b'1,security.capability,AQAAAv//3/8AAAAA/wEAAAAAAAA=', 'security.capability: =ep cap_sys_admin-ep'),
-    ('XAttrs', b'1,security.capability,AAAAAgAAAAAAAAAAAAAAAAAAAAA=', 'security.capability: ='),
-    ('XAttrs', b'1,security.capability,AQAAAgAAAAAAAAAAACAAAAAAAAA=', 'security.capability: = 45+ep'),
-    ('SELinux', b'c3lzdGVtX3U6b2JqZWN0X3I6ZXRjX3Q6czA=', 'system_u:object_r:etc_t:s0'),
-    ('SELinux', b'c3lzdGVtX3U6b2JqZWN0X3I6ZXRjX3Q6czAA', 'system_u:object_r:etc_t:s0'),
-    ('E2FSAttrs', b'524288', '--------------e-------'),
-    ('E2FSAttrs', b'524304', '----i---------e-------'),
-    ('E2FSAttrs', b'524448', '-----a-A------e-------'),
-    ('E2FSAttrs', b'524352', '------d-------e-------'),
-    ('E2FSAttrs', b'0', '----------------------'),
-    ('E2FSAttrs', b'786432', '--------------e------- +0x40000'),
-    ('Caps', b'Y2FwX25ldF9yYXc9ZXA=', 'cap_net_raw=ep'),
-    ('Perm', '4755', '-rwsr-xr-x'), ('Perm', '6644', '-rwSr-Sr--'), ('Perm', '1777', '-rwxrwxrwt'),
+    ("ACL", b"POSIX,dXNlcjo6cnctCmdyb3VwOjpyLS0Kb3RoZXI6OnItLQo=,0", "user::rw-, group::r--, other::r--"),
+    (
+        "ACL",
+        b"POSIX,dXNlcjo6cnctCnVzZXI6NDI0Mjpyd3gJI2VmZmVjdGl2ZTpyLS0KZ3JvdXA6OnItLQptYXNrOjpyLS0Kb3RoZXI6OnItLQo=,0",
+        "user::rw-, user:4242:rwx #effective:r--, group::r--, mask::r--, other::r--",
+    ),
+    (
+        "ACL",
+        b"POSIX,dXNlcjo6cnctCnVzZXI6cm9vdDpyd3gKZ3JvdXA6OnItLQpncm91cDpkYWVtb246cnd4Cm1hc2s6OnJ3eApvdGhlcjo6ci0tCg==,0",
+        "user::rw-, user:root:rwx, group::r--, group:daemon:rwx, mask::rwx, other::r--",
+    ),
+    (
+        "ACL",
+        b"POSIX,dXNlcjo6cnd4Cmdyb3VwOjpyLXgKb3RoZXI6OnIteAo=,dXNlcjo6cnd4CnVzZXI6NDM0Mzpyd3gJI2VmZmVjdGl2ZTpyLS0KZ3JvdXA6"
+        b"OnIteAkjZWZmZWN0aXZlOnItLQptYXNrOjpyLS0Kb3RoZXI6OnIteAo=",
+        "user::rwx, group::r-x, other::r-x, default:user::rwx, default:user:4343:rwx #effective:r--, "
+        "default:group::r-x #effective:r--, default:mask::r--, default:other::r-x",
+    ),
+    ("XAttrs", b"3,user.a%20b,eCB5,user.c%2Cd,cQ==,user.%2541,0", 'user.a\\040b: "x y"; user.c,d: "q"; user.%41: ""'),
+    (
+        "XAttrs",
+        b"5,user.empty,0,user.nl,YQpi,user.nul,YWJjAA==,trusted.t,dHQ=,security.selinux,"
+        b"c3lzdGVtX3U6b2JqZWN0X3I6ZXRjX3Q6czA=",
+        'user.empty: ""; user.nl: "a\\012b"; user.nul: "abc\\000"; trusted.t: "tt"; security.selinux: system_u:object_r:etc_t:s0',
+    ),
+    (
+        "XAttrs",
+        b"2,user.demo,dHdv,user.bin,AAECAwQFBgcICQoLDA0ODxAREhM=",
+        'user.demo: "two"; user.bin: 0sAAECAwQFBgcICQoLDA0ODxAREhM=',
+    ),
+    ("XAttrs", b"1,security.capability,AQAAAgAgAAAAAAAAAAAAAAAAAAA=", "security.capability: cap_net_raw=ep"),
+    ("XAttrs", b"1,security.capability,AAAAAgAgAAAAAAAAAAAAAAAAAAA=", "security.capability: cap_net_raw=p"),
+    ("XAttrs", b"1,security.capability,AQAAAv////8AAAAA/wEAgAAAAAA=", "security.capability: =ep 63+ep"),
+    (
+        "XAttrs",
+        b"1,security.capability,AQAAAwEAAAAGAAAAAAEAAAAAAADoAwAA",
+        "security.capability: cap_dac_override,cap_dac_read_search=ei cap_chown,cap_checkpoint_restore+ep [rootid=1000]",
+    ),
+    (
+        "XAttrs",
+        b"1,security.capability,AQAAAgAwAAABAAAAAAAAAAAAAAA=",
+        "security.capability: cap_chown=ei cap_net_admin,cap_net_raw+ep",
+    ),
+    ("XAttrs", b"1,security.capability,AQAAAv//3/8AAAAA/wEAAAAAAAA=", "security.capability: =ep cap_sys_admin-ep"),
+    ("XAttrs", b"1,security.capability,AAAAAgAAAAAAAAAAAAAAAAAAAAA=", "security.capability: ="),
+    ("XAttrs", b"1,security.capability,AQAAAgAAAAAAAAAAACAAAAAAAAA=", "security.capability: = 45+ep"),
+    ("SELinux", b"c3lzdGVtX3U6b2JqZWN0X3I6ZXRjX3Q6czA=", "system_u:object_r:etc_t:s0"),
+    ("SELinux", b"c3lzdGVtX3U6b2JqZWN0X3I6ZXRjX3Q6czAA", "system_u:object_r:etc_t:s0"),
+    ("E2FSAttrs", b"524288", "--------------e-------"),
+    ("E2FSAttrs", b"524304", "----i---------e-------"),
+    ("E2FSAttrs", b"524448", "-----a-A------e-------"),
+    ("E2FSAttrs", b"524352", "------d-------e-------"),
+    ("E2FSAttrs", b"0", "----------------------"),
+    ("E2FSAttrs", b"786432", "--------------e------- +0x40000"),
+    ("Caps", b"Y2FwX25ldF9yYXc9ZXA=", "cap_net_raw=ep"),
+    ("Perm", "4755", "-rwsr-xr-x"),
+    ("Perm", "6644", "-rwSr-Sr--"),
+    ("Perm", "1777", "-rwxrwxrwt"),
     # What has no text: it does not decode, or there is nothing in it.
-    ('ACL', b'0', None), ('ACL', b'', None), ('ACL', b'POSIX,0,0', None), ('ACL', b'POSIX,dXNlcjo6cnct', None),
-    ('ACL', b'POSIX,dXNlcjo6cn,0', None), ('ACL', b'POSIX,eA==,0', None), ('ACL', b'SUN,dXNlcjo6cnctCg==,0', None),
-    ('ACL', b'POSIX,dXNlcjphIGI6cnctCg==,0', None), ('XAttrs', b'0', None), ('XAttrs', b'2,user.a,YQ==', None),
-    ('XAttrs', b'1,user.a,YQ', None), ('XAttrs', b'x', None), ('XAttrs', b'1,,YQ==', None),
-    ('E2FSAttrs', b'-1', None), ('E2FSAttrs', b'0x10', None), ('E2FSAttrs', b'9' * 21, None), ('Caps', b'0', None),
-    ('Caps', b'PWVwGw==', None), ('SELinux', b'0', None), ('Size', 5, None), ('SHA256', 'AAAA', None), ('UID', 0, None),
+    ("ACL", b"0", None),
+    ("ACL", b"", None),
+    ("ACL", b"POSIX,0,0", None),
+    ("ACL", b"POSIX,dXNlcjo6cnct", None),
+    ("ACL", b"POSIX,dXNlcjo6cn,0", None),
+    ("ACL", b"POSIX,eA==,0", None),
+    ("ACL", b"SUN,dXNlcjo6cnctCg==,0", None),
+    ("ACL", b"POSIX,dXNlcjphIGI6cnctCg==,0", None),
+    ("XAttrs", b"0", None),
+    ("XAttrs", b"2,user.a,YQ==", None),
+    ("XAttrs", b"1,user.a,YQ", None),
+    ("XAttrs", b"x", None),
+    ("XAttrs", b"1,,YQ==", None),
+    ("E2FSAttrs", b"-1", None),
+    ("E2FSAttrs", b"0x10", None),
+    ("E2FSAttrs", b"9" * 21, None),
+    ("Caps", b"0", None),
+    ("Caps", b"PWVwGw==", None),
+    ("SELinux", b"0", None),
+    ("Size", 5, None),
+    ("SHA256", "AAAA", None),
+    ("UID", 0, None),
     # What could be taken for something else is escaped.
-    ('XAttrs', b'1,user.a,YSI7IHVzZXIuYjogIng=', 'user.a: "a\\042; user.b: \\042x"'),
-    ('XAttrs', b'1,user.a:%20%22x%22;%20user.b,YQ==', 'user.a:\\040\\042x\\042\\073\\040user.b: "a"'),
-    ('XAttrs', b'1,security.selinux,eDsgdXNlci5iOiAieCI=', 'security.selinux: "x; user.b: \\042x\\042"'),
-    ('XAttrs', b'1,user.a,G1sybQ==', 'user.a: 0sG1sybQ=='), ('XAttrs', b'1,user.a,4oCu', 'user.a: "\\342\\200\\256"'),
-    ('SELinux', b'4oCuG1sybQ==', '\\342\\200\\256\\033[2m'),
-    ('ACL', b'POSIX,dXNlcjr/OnJ3LQo=,0', 'user:\\377:rw-'),
+    ("XAttrs", b"1,user.a,YSI7IHVzZXIuYjogIng=", 'user.a: "a\\042; user.b: \\042x"'),
+    ("XAttrs", b"1,user.a:%20%22x%22;%20user.b,YQ==", 'user.a:\\040\\042x\\042\\073\\040user.b: "a"'),
+    ("XAttrs", b"1,security.selinux,eDsgdXNlci5iOiAieCI=", 'security.selinux: "x; user.b: \\042x\\042"'),
+    ("XAttrs", b"1,user.a,G1sybQ==", "user.a: 0sG1sybQ=="),
+    ("XAttrs", b"1,user.a,4oCu", 'user.a: "\\342\\200\\256"'),
+    ("SELinux", b"4oCuG1sybQ==", "\\342\\200\\256\\033[2m"),
+    ("ACL", b"POSIX,dXNlcjr/OnJ3LQo=,0", "user:\\377:rw-"),
 ]
 # Values that would take long or be large if something were not bounded, and the most characters that a text has.
-LONG = [('XAttrs', b'100000' + b',a,0' * 100000), ('XAttrs', b'1,user.a,' + b'YWFh' * 250000), ('SELinux', b'/////w==' * 100000),
-        ('ACL', b'POSIX,' + b'dXNlcjo6cnctCg==' * 60000 + b',0'), ('Caps', b'PT09' * 250000),
-        ('XAttrs', b'1,' + b'%41' * 300000 + b',0'), ('E2FSAttrs', b'1' * 1000000)]
+LONG = [
+    ("XAttrs", b"100000" + b",a,0" * 100000),
+    ("XAttrs", b"1,user.a," + b"YWFh" * 250000),
+    ("SELinux", b"/////w==" * 100000),
+    ("ACL", b"POSIX," + b"dXNlcjo6cnctCg==" * 60000 + b",0"),
+    ("Caps", b"PT09" * 250000),
+    ("XAttrs", b"1," + b"%41" * 300000 + b",0"),
+    ("E2FSAttrs", b"1" * 1000000),
+]
 MOST_CHARACTERS, MOST_SECONDS = 17000, 2
 
 
 def text_of(label, value):
     """The text, or in its place the fault that should not be."""
     try:
-        return decoded(label, value, 'File')
+        return decoded(label, value, "File")
     except Exception as error:
-        return '\n%s' % type(error).__name__
+        return "\n%s" % type(error).__name__
 
 
 def try_table(tally):
     """The table, and values of hostile sizes."""
     for label, value, text in TABLE:
         given = text_of(label, value)
-        tally.add('%s %r' % (label, value), [] if given == text else ['it is %r, and not %r' % (given, text)])
+        tally.add("%s %r" % (label, value), [] if given == text else ["it is %r, and not %r" % (given, text)])
     for label, value in LONG:
         began = time.process_time()
-        text = text_of(label, value) or ''
+        text = text_of(label, value) or ""
         seconds = time.process_time() - began
         good = len(text) <= MOST_CHARACTERS and seconds < MOST_SECONDS and text.isprintable()
-        tally.add('%s of %d bytes' % (label, len(value)), [] if good else ['%d characters, %.1f s' % (len(text), seconds)])
+        tally.add("%s of %d bytes" % (label, len(value)), [] if good else ["%d characters, %.1f s" % (len(text), seconds)])
 
 
-ZONES = ['UTC', 'Europe/Berlin', 'America/St_Johns', 'Asia/Kathmandu', 'Australia/Lord_Howe', 'Africa/Monrovia']
+ZONES = ["UTC", "Europe/Berlin", "America/St_Johns", "Asia/Kathmandu", "Australia/Lord_Howe", "Africa/Monrovia"]
 FIRST, LAST = -62135596800, 253402300799
 
 
@@ -102,34 +155,40 @@ def local_text(seconds):
     if not FIRST <= seconds <= LAST:
         return None
     local = time.localtime(seconds)
-    return '%04d-' % local.tm_year + time.strftime('%m-%d %H:%M:%S %z', local) if 1 <= local.tm_year <= 9999 else None
+    return "%04d-" % local.tm_year + time.strftime("%m-%d %H:%M:%S %z", local) if 1 <= local.tm_year <= 9999 else None
 
 
 def utc_date(seconds):
     try:
-        return (datetime(1970, 1, 1) + timedelta(seconds=seconds)).isoformat() + 'Z'
+        return (datetime(1970, 1, 1) + timedelta(seconds=seconds)).isoformat() + "Z"
     except OverflowError:
         return None
 
 
 def try_zones(seed, tally):
     """Times of all centuries, and around each change of the clock from 1800 to 2040, in zones with odd offsets."""
-    pick, before = random.Random('zones %d' % seed), os.environ.get('TZ')
+    pick, before = random.Random("zones %d" % seed), os.environ.get("TZ")
     times = [pick.randrange(FIRST - 10, LAST + 10) for _ in range(2000)] + [FIRST - 1, FIRST, -1, 0, LAST, LAST + 1, 2**63]
     for zone in ZONES:
-        os.environ['TZ'] = zone
+        os.environ["TZ"] = zone
         time.tzset()
         decoded_times._local_quarter.cache_clear()
         hours = [hour * 3600 for hour in range(-1490000, 620000, 6)]
         offsets = [time.localtime(seconds).tm_gmtoff for seconds in hours]
         changes = [seconds + pick.randrange(21600) for seconds, one, other in zip(hours, offsets, offsets[1:]) if one != other]
         around = [seconds + step for seconds in changes for step in range(-22000, 22000, 450)]
-        faults = ['%d is %r' % (seconds, decoded_times.time_text(seconds)) for seconds in times + around
-                  if decoded_times.time_text(seconds) != local_text(seconds)]
-        faults += ['%d is %r' % (seconds, decoded_times.date_of(seconds)) for seconds in times + around
-                   if decoded_times.date_of(seconds) != utc_date(seconds)]
-        tally.add('times in ' + zone, faults[:5])
-    os.environ.pop('TZ') if before is None else os.environ.update(TZ=before)
+        faults = [
+            "%d is %r" % (seconds, decoded_times.time_text(seconds))
+            for seconds in times + around
+            if decoded_times.time_text(seconds) != local_text(seconds)
+        ]
+        faults += [
+            "%d is %r" % (seconds, decoded_times.date_of(seconds))
+            for seconds in times + around
+            if decoded_times.date_of(seconds) != utc_date(seconds)
+        ]
+        tally.add("times in " + zone, faults[:5])
+    os.environ.pop("TZ") if before is None else os.environ.update(TZ=before)
     time.tzset()
     decoded_times._local_quarter.cache_clear()
 
@@ -145,9 +204,9 @@ def wanted_text(label, fields, side, kind):
     value = fields[side]
     if value is None:
         return None
-    if label == 'Perm':
+    if label == "Perm":
         return mode_of(value, kind)
-    if label in ('Atime', 'Mtime', 'Ctime'):
+    if label in ("Atime", "Mtime", "Ctime"):
         return local_text(value)
     return Ellipsis if label in DECODED else None
 
@@ -156,17 +215,17 @@ def text_faults(objects):
     """What is wrong with the texts of a report's objects, which are taken out of them."""
     faults = []
     for entry in objects:
-        attributes = entry.get('attributes', {})
-        is_known = entry.get('kind') != 'changed' or entry.get('summary', '!')[0] != '!'
+        attributes = entry.get("attributes", {})
+        is_known = entry.get("kind") != "changed" or entry.get("summary", "!")[0] != "!"
         for label, fields in attributes.items():
-            texts = {side: fields.pop(side + '_text', None) for side in ('old', 'new')}
+            texts = {side: fields.pop(side + "_text", None) for side in ("old", "new")}
             for side, text in texts.items():
-                kind = attributes.get('Type', {}).get(side) or (entry.get('type') if is_known else None)
+                kind = attributes.get("Type", {}).get(side) or (entry.get("type") if is_known else None)
                 wanted = wanted_text(label, fields, side, kind)
                 if wanted is not Ellipsis and text != wanted:
-                    faults.append('%s of %r has the text %r, and not %r' % (label, entry['path'], text, wanted))
+                    faults.append("%s of %r has the text %r, and not %r" % (label, entry["path"], text, wanted))
                 if text is not None and not text.isprintable():
-                    faults.append('%s of %r has the text %r' % (label, entry['path'], text))
-            if texts['old'] == texts['new'] is not None and fields['old'] != fields['new']:
-                faults.append('%s of %r has one text for two values' % (label, entry['path']))
+                    faults.append("%s of %r has the text %r" % (label, entry["path"], text))
+            if texts["old"] == texts["new"] is not None and fields["old"] != fields["new"]:
+                faults.append("%s of %r has one text for two values" % (label, entry["path"]))
     return faults

@@ -29,6 +29,7 @@ def lines_run(work):
 
     def see_call(frame, event, _):
         return see_line if frame.f_code.co_filename.startswith(OURS) else None
+
     before = sys.gettrace()
     sys.settrace(see_call)
     try:
@@ -50,18 +51,22 @@ def bytes_held(work):
 
 def pages_of(lines):
     """A call that makes both forms of a page."""
+
     def work():
         for is_plain in (False, True):
             for _ in page(io.BytesIO(lines), None, is_plain):
                 pass
+
     return work
 
 
 def objects_of(report):
     """A call that reads a report."""
+
     def work():
         for _ in read_report(Lines(io.BytesIO(report))):
             pass
+
     return work
 
 
