@@ -14,7 +14,16 @@ import tempfile
 
 from tools.commands.viewers.browser import Browser
 from tools.commands.viewers.in_browser import (
-    try_address, try_entries, try_filters, try_hostile, try_keyboard, try_policy, try_printing, try_views, try_without_script)
+    try_address,
+    try_entries,
+    try_filters,
+    try_hostile,
+    try_keyboard,
+    try_policy,
+    try_printing,
+    try_views,
+    try_without_script,
+)
 from tools.commands.viewers.large_page import try_large
 from tools.commands.viewers.samples import demo_lines, demo_report, hostile_lines, lines_of, page_of
 from tools.lib.tally import Tally

@@ -41,9 +41,30 @@ from tools.lib.tally import Tally, program_of, side_by_side
 
 BASE = [try_texts, try_files]
 # The longest come first, so that none of them is left at the end.
-TRIALS = [try_accept_attacks, try_accept_kills, try_sorting, try_readers, try_mail, try_run, try_attacks, try_fleet,
-          try_hosts_report, try_hosts_ends, try_cut_reports, try_faults, try_accept, try_reasons, try_reasons_lines,
-          try_reasons_packages, try_without, try_explained, try_explained_readers, try_age, try_signals, try_lost_modules]
+TRIALS = [
+    try_accept_attacks,
+    try_accept_kills,
+    try_sorting,
+    try_readers,
+    try_mail,
+    try_run,
+    try_attacks,
+    try_fleet,
+    try_hosts_report,
+    try_hosts_ends,
+    try_cut_reports,
+    try_faults,
+    try_accept,
+    try_reasons,
+    try_reasons_lines,
+    try_reasons_packages,
+    try_without,
+    try_explained,
+    try_explained_readers,
+    try_age,
+    try_signals,
+    try_lost_modules,
+]
 
 
 def try_base(trial, tally):

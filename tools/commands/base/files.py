@@ -19,7 +19,8 @@ def try_files(tally, folder):
     for name, mode in (("sticky", 0o1777), ("group", 0o775)):
         os.chmod(os.path.join(folder, name), mode)
     for part in (try_walks, try_links, try_replacements, try_nameless, try_copies, try_programs) + (
-            (try_rights,) if os.getuid() == 0 else ()):
+        (try_rights,) if os.getuid() == 0 else ()
+    ):
         part(tally, folder)
 
 
@@ -29,8 +30,13 @@ def others_of(path):
 
 
 def try_walks(tally, folder):
-    for name, want in (("own", ([], True)), ("own/../own/./inner", ([], True)), ("sticky", ([ANYBODY], True)), ("sticky/own", ([], True)),
-                       ("group", ([ANYBODY], False))):
+    for name, want in (
+        ("own", ([], True)),
+        ("own/../own/./inner", ([], True)),
+        ("sticky", ([ANYBODY], True)),
+        ("sticky/own", ([], True)),
+        ("group", ([ANYBODY], False)),
+    ):
         expect(tally, "the folder " + name, outcome(others_of, os.path.join(folder, name)), want)
     if os.getuid() == 0:
         os.chown(os.path.join(folder, "his"), OTHER, OTHER)
@@ -53,13 +59,28 @@ def try_links(tally, folder):
         with open(os.path.join(folder, name), "wb") as file:
             file.write(b"text")
     os.mkfifo(folder + "/own/fifo")
-    for name, target in (("own/short", "file"), ("own/whole", folder + "/own/file"), ("own/up", ".."), ("own/loop", "loop"),
-                         ("sticky/mine", "file"), ("group/link", "../own/file"), ("his/link", "../own/file"), ("sticky/his", "file")):
+    for name, target in (
+        ("own/short", "file"),
+        ("own/whole", folder + "/own/file"),
+        ("own/up", ".."),
+        ("own/loop", "loop"),
+        ("sticky/mine", "file"),
+        ("group/link", "../own/file"),
+        ("his/link", "../own/file"),
+        ("sticky/his", "file"),
+    ):
         os.symlink(target, os.path.join(folder, name))
     for name in ("own/file", "own/short", "own/whole", "own/up/own/up/own/short", "sticky/mine"):
         expect(tally, "the file " + name, outcome(text_of, os.path.join(folder, name)), b"text")
-    wrong = [("own/loop", "Too many"), ("own/file/", "Not a directory"), ("own/file/x", "Not a directory"), ("own/fifo", "a FIFO"),
-             ("own", "a folder"), ("none", "No such file"), ("group/link", "not followed")]
+    wrong = [
+        ("own/loop", "Too many"),
+        ("own/file/", "Not a directory"),
+        ("own/file/x", "Not a directory"),
+        ("own/fifo", "a FIFO"),
+        ("own", "a folder"),
+        ("none", "No such file"),
+        ("group/link", "not followed"),
+    ]
     if os.getuid() == 0:
         os.chown(folder + "/sticky/his", OTHER, OTHER, follow_symlinks=False)
         wrong += [("his/link", "not followed"), ("sticky/his", "not followed")]
@@ -82,14 +103,24 @@ def try_replacements(tally, folder):
     mask = os.umask(0o077)
     me = os.getuid()
     expect(tally, "a new file", outcome(replaced, folder + "/new/deep/state", b"one"), (b"one", 0o644, me, ["state"]))
-    expect(tally, "an old file", outcome(replaced, folder + "/new/deep/state", b"two", b"three"), (b"three", 0o644, me, ["state"]))
+    expect(
+        tally, "an old file", outcome(replaced, folder + "/new/deep/state", b"two", b"three"), (b"three", 0o644, me, ["state"])
+    )
     with open(folder + "/new/deep/.state.part", "w") as file:
         file.write("left by a killed command")
-    expect(tally, "after a killed one", outcome(replaced, folder + "/new/deep/state", b"four"), (b"four", 0o644, me, ["state"]))
+    expect(
+        tally, "after a killed one", outcome(replaced, folder + "/new/deep/state", b"four"), (b"four", 0o644, me, ["state"])
+    )
     os.umask(mask)
     expect(tally, "the modes of new folders", stat.S_IMODE(os.stat(folder + "/new").st_mode), 0o755)
-    for name, status, part in (("own", 15, "is a folder"), ("own/fifo", 18, "a FIFO"), ("own/short", 18, "a link"), ("group/state", 18, "other users"),
-                               ("own/file/state", 18, "Not a directory"), ("group/none/state", 18, "No such file")):
+    for name, status, part in (
+        ("own", 15, "is a folder"),
+        ("own/fifo", 18, "a FIFO"),
+        ("own/short", 18, "a link"),
+        ("group/state", 18, "other users"),
+        ("own/file/state", 18, "Not a directory"),
+        ("group/none/state", 18, "No such file"),
+    ):
         expect_fault(tally, "the replacement of " + name, outcome(replaced, os.path.join(folder, name), b""), status, part)
     late = files.Replacement(folder + "/own/late", what="the file").begin()
     os.mkfifo(folder + "/own/late")
@@ -99,7 +130,13 @@ def try_replacements(tally, folder):
     expect(tally, "a sticky folder", outcome(replaced, folder + "/sticky/state", b"x")[:3], (b"x", 0o644, me))
     if me == 0:
         expect(tally, "a folder of another user", outcome(replaced, folder + "/his/state", b"x")[:3], (b"x", 0o644, OTHER))
-        expect_fault(tally, "a folder of root in one of his", outcome(replaced, folder + "/his/roots/state", b"x"), 18, "Permission denied (with")
+        expect_fault(
+            tally,
+            "a folder of root in one of his",
+            outcome(replaced, folder + "/his/roots/state", b"x"),
+            18,
+            "Permission denied (with",
+        )
 
 
 def try_nameless(tally, folder):
@@ -132,8 +169,12 @@ def try_rights(tally, _):
     os.setgroups([0, 4])
     expect(tally, "the rights of another user", outcome(rights.with_rights_of, OTHER, look), want)
     os.setgroups(groups)
-    for label, work, part in (("a fault", lambda: files.open_regular("/etc/shadow"), "ermission denied"), ("an error", lambda: 1 // 0, "division"),
-                              ("no answer", lambda: os._exit(0), "without an answer"), ("no end", lambda: time.sleep(60), "more than 1 seconds")):
+    for label, work, part in (
+        ("a fault", lambda: files.open_regular("/etc/shadow"), "ermission denied"),
+        ("an error", lambda: 1 // 0, "division"),
+        ("no answer", lambda: os._exit(0), "without an answer"),
+        ("no end", lambda: time.sleep(60), "more than 1 seconds"),
+    ):
         begun = time.monotonic()
         expect_fault(tally, "work that ends by " + label, outcome(rights.with_rights_of, OTHER, work, 1), 18, part)
         tally.add("the time of " + label, [] if time.monotonic() - begun < 10 else ["too long"])
@@ -147,18 +188,27 @@ def copied(path, most=1 << 40):
 
 
 def try_copies(tally, folder):
-    path, text = os.path.join(folder, "db"), b"".join(b"/a/%d %d\n" % (number, number ** 3) for number in range(60000))
+    path, text = os.path.join(folder, "db"), b"".join(b"/a/%d %d\n" % (number, number**3) for number in range(60000))
     whole, half = gzip.compress(text), gzip.compress(text[:9999])
-    for label, packed in (("plain", text), ("gzip", whole), ("members", half + gzip.compress(text[9999:])), ("level 0", gzip.compress(text, 0)),
-                          ("zeros between", half + b"\0" * 600000 + gzip.compress(text[9999:]) + b"\0")):
+    for label, packed in (
+        ("plain", text),
+        ("gzip", whole),
+        ("members", half + gzip.compress(text[9999:])),
+        ("level 0", gzip.compress(text, 0)),
+        ("zeros between", half + b"\0" * 600000 + gzip.compress(text[9999:]) + b"\0"),
+    ):
         with open(path, "wb") as file:
             file.write(packed)
         expect(tally, "a copy, " + label, outcome(copied, path), text)
         expect(tally, "a copy of the allowed size, " + label, outcome(copied, path, len(text)), text)
         expect_fault(tally, "a copy that is too large, " + label, outcome(copied, path, len(text) - 1), 18, "has more than")
-    for label, packed, part in [("cut to %d" % size, whole[:size], "cut short") for size in (3, 18, 5000, len(whole) - 8, len(whole) - 1)] + [
-            ("text behind", whole + b"x", "cut short"), ("a wrong bit", whole[:-5] + bytes([whole[-5] ^ 1]) + whole[-4:], "damaged"),
-            (".Z", b"\x1f\x9d" + text, "compress")]:
+    for label, packed, part in [
+        ("cut to %d" % size, whole[:size], "cut short") for size in (3, 18, 5000, len(whole) - 8, len(whole) - 1)
+    ] + [
+        ("text behind", whole + b"x", "cut short"),
+        ("a wrong bit", whole[:-5] + bytes([whole[-5] ^ 1]) + whole[-4:], "damaged"),
+        (".Z", b"\x1f\x9d" + text, "compress"),
+    ]:
         with open(path, "wb") as file:
             file.write(packed)
         expect_fault(tally, "a copy, " + label, outcome(copied, path), 18, part)
@@ -187,7 +237,9 @@ def try_programs(tally, folder):
         os.lseek(output, 0, os.SEEK_SET)
         ended = program.run_program(path, ["a b"], databases, output, output)
         want = b"old\nnew\nC a b\n" if databases[0] == old else b"new\nold\nC a b\n"
-        expect(tally, "the descriptors of the program", (ended.status, ended.signal, os.pread(output, 100, 0)), (5, None, want))
+        expect(
+            tally, "the descriptors of the program", (ended.status, ended.signal, os.pread(output, 100, 0)), (5, None, want)
+        )
     for body, status, number in (("kill -9 $$", None, 9), ("exit 99", 99, None)):
         ended = program.run_program(stub(body), [], (old, new), output, output)
         expect(tally, "the end by " + body, (ended.status, ended.signal), (status, number))

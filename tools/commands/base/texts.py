@@ -8,11 +8,29 @@ from tools.commands.base.calls import expect, expect_fault, outcome
 
 from aide_compare import VERSION, ending, escapes, options, reports, state, times
 
-ESCAPED = ((b"a b", "a b"), (b"\n\x1b\x7f\\", r"\012\033\177\134"), (b"\x80\xff\xc3", r"\200\377\303"), ("é\U0001f600", "é\U0001f600"),
-           ("\x9b", r"\302\233"), ("\u202e\u2066\u200f\u061c", r"\342\200\256\342\201\246\342\200\217\330\234"),
-           ("\u2028\u2029", r"\342\200\250\342\200\251"), ("\udcff", r"\377"), ("\ud800\udcff", r"\355\240\200\377"),
-           ("\u200b\u00ad\ufeff\U000e0041", r"\342\200\213\302\255\357\273\277\363\240\201\201"))
-TIMES = (("0", 0), ("90", 90), ("08", 8), ("010", 10), ("90s", 90), ("15m", 900), ("26h", 93600), ("3d", 259200), ("30d", 2592000))
+ESCAPED = (
+    (b"a b", "a b"),
+    (b"\n\x1b\x7f\\", r"\012\033\177\134"),
+    (b"\x80\xff\xc3", r"\200\377\303"),
+    ("é\U0001f600", "é\U0001f600"),
+    ("\x9b", r"\302\233"),
+    ("\u202e\u2066\u200f\u061c", r"\342\200\256\342\201\246\342\200\217\330\234"),
+    ("\u2028\u2029", r"\342\200\250\342\200\251"),
+    ("\udcff", r"\377"),
+    ("\ud800\udcff", r"\355\240\200\377"),
+    ("\u200b\u00ad\ufeff\U000e0041", r"\342\200\213\302\255\357\273\277\363\240\201\201"),
+)
+TIMES = (
+    ("0", 0),
+    ("90", 90),
+    ("08", 8),
+    ("010", 10),
+    ("90s", 90),
+    ("15m", 900),
+    ("26h", 93600),
+    ("3d", 259200),
+    ("30d", 2592000),
+)
 NO_TIMES = ("", "x", "h", "1h2", "1.5h", "-1", "+1", " 1", "1 ", "1_0", "\u0663", "31d", "721h", "2592001", "9" * 10)
 
 
@@ -38,8 +56,14 @@ def try_times(tally, _):
         expect_fault(tally, "the time %r" % text, outcome(times.seconds_of, text), 15)
     expect(tally, "a date", times.date_of(1795602777), "2026-11-25T10:32:57Z")
     expect(tally, "no date", times.date_of(1 << 62), "@%d" % (1 << 62))
-    for seconds, want in ((119, "119 seconds"), (120, "2 minutes"), (7199, "119 minutes"), (7200, "2 hours"), (259199, "71 hours"),
-                          (259200, "3 days")):
+    for seconds, want in (
+        (119, "119 seconds"),
+        (120, "2 minutes"),
+        (7199, "119 minutes"),
+        (7200, "2 hours"),
+        (259199, "71 hours"),
+        (259200, "3 days"),
+    ):
         expect(tally, "the age %d" % seconds, times.age_in_words(seconds), want)
 
 
@@ -61,14 +85,32 @@ def try_state(tally, _):
     good = state.State(7, 1795602777, 1, 2, 3, "a" * 64, "b" * 64, "o\\012", "n", 5, None, "", {"weekly": "3"})
     text = good.text().decode()
     expect(tally, "a state read again", state.parse_state(text.encode()).text().decode(), text)
-    expect(tally, "the first lines", text.split("\n")[:4], ["format=2", "status=7", "time=1795602777", "date=2026-11-25T10:32:57Z"])
+    expect(
+        tally,
+        "the first lines",
+        text.split("\n")[:4],
+        ["format=2", "status=7", "time=1795602777", "date=2026-11-25T10:32:57Z"],
+    )
     expect(tally, "further keys", state.parse_state(text.encode()).more, {"weekly": "3"})
     expect(tally, "a newline in a value", state.State(18, 1, error="a\nb").text().count(b"\n"), 14)
     expect(tally, "a status by its name", b"\nstatus=18\n" in state.State(ending.Status.DEVICE, 1).text(), True)
-    for old, new in (("format=2", "format=3"), ("status=7", "status=5"), ("status=7", "status="), ("status=7", "status=0"), ("added=1", "added="),
-                     ("added=1", "added=x"), ("added=1", "added=-1"), ("error=", "error"), ("error=", "old=x\nerror="), ("removed=2\n", ""),
-                     ("a" * 64, "a" * 63), ("a" * 64, "A" * 64), ("time=1795602777", "time=" + "9" * 30), ("weekly=3\n", "weekly=3"),
-                     ("weekly=3", "weekly=" + "3" * 65536)):
+    for old, new in (
+        ("format=2", "format=3"),
+        ("status=7", "status=5"),
+        ("status=7", "status="),
+        ("status=7", "status=0"),
+        ("added=1", "added="),
+        ("added=1", "added=x"),
+        ("added=1", "added=-1"),
+        ("error=", "error"),
+        ("error=", "old=x\nerror="),
+        ("removed=2\n", ""),
+        ("a" * 64, "a" * 63),
+        ("a" * 64, "A" * 64),
+        ("time=1795602777", "time=" + "9" * 30),
+        ("weekly=3\n", "weekly=3"),
+        ("weekly=3", "weekly=" + "3" * 65536),
+    ):
         try:
             found = state.parse_state(text.replace(old, new, 1).encode()).text()
         except (ValueError, KeyError):
@@ -77,12 +119,19 @@ def try_state(tally, _):
 
 
 def try_reports(tally, _):
-    head = (b"AIDE found differences between the two databases.\n\nSummary:\n  Total number of entries: 3\n"
-            b"  Added entries:           1\n  Removed entries:         20\n  Changed entries:         300\n")
+    head = (
+        b"AIDE found differences between the two databases.\n\nSummary:\n  Total number of entries: 3\n"
+        b"  Added entries:           1\n  Removed entries:         20\n  Changed entries:         300\n"
+    )
     expect(tally, "counts", reports.counts_of(head), (1, 20, 300))
     for text in (b"", head[:60], head[:-1], head.replace(b"Added", b"added"), b"x" + head, head.replace(b"\n\nS", b"\nS")):
         expect(tally, "no counts in %.40r" % text, reports.counts_of(text), None)
-    expect(tally, "statuses", [reports.status_of(counts) for counts in ((0, 0, 0), (9, 0, 0), (0, 9, 0), (0, 0, 9), (1, 1, 1))], [0, 1, 2, 4, 7])
+    expect(
+        tally,
+        "statuses",
+        [reports.status_of(counts) for counts in ((0, 0, 0), (9, 0, 0), (0, 9, 0), (0, 0, 9), (1, 1, 1))],
+        [0, 1, 2, 4, 7],
+    )
 
 
 END = """import sys
@@ -96,12 +145,23 @@ os._exit(command("name", main))"""
 
 def try_ends(tally, _):
     for body, status, errors in (
-            ("return 7", 7, ""), ("raise Fault(15, 'a\\nb', 'c')", 15, "name: a\\012b\nname: c\n"), ("raise MemoryError", 22, "name: out of memory\n"),
-            ("raise Done", 0, ""), ("sys.exit(2)", 18, "name: a fault of this command: SystemExit: 2\n"), ("return None", 18, ""),
-            ("open('/no\\n')", 18, "name: a call of the system failed: /no\\012: No such file or directory\n"),
-            ("main(arguments)", 18, None), ("raise KeyboardInterrupt", 18, None), ("1 / 0", 18, None), ("os.kill(os.getpid(), 2)", -2, ""),
-            ("os.kill(os.getpid(), 15)", -15, ""), ("print('x'); os.close(1); return 0", 18, None)):
-        done = subprocess.run([sys.executable, "-I", "-S", "-c", END % (sys.path[0], body)], stdout=subprocess.PIPE, stderr=subprocess.PIPE)
+        ("return 7", 7, ""),
+        ("raise Fault(15, 'a\\nb', 'c')", 15, "name: a\\012b\nname: c\n"),
+        ("raise MemoryError", 22, "name: out of memory\n"),
+        ("raise Done", 0, ""),
+        ("sys.exit(2)", 18, "name: a fault of this command: SystemExit: 2\n"),
+        ("return None", 18, ""),
+        ("open('/no\\n')", 18, "name: a call of the system failed: /no\\012: No such file or directory\n"),
+        ("main(arguments)", 18, None),
+        ("raise KeyboardInterrupt", 18, None),
+        ("1 / 0", 18, None),
+        ("os.kill(os.getpid(), 2)", -2, ""),
+        ("os.kill(os.getpid(), 15)", -15, ""),
+        ("print('x'); os.close(1); return 0", 18, None),
+    ):
+        done = subprocess.run(
+            [sys.executable, "-I", "-S", "-c", END % (sys.path[0], body)], stdout=subprocess.PIPE, stderr=subprocess.PIPE
+        )
         given = done.stderr.decode()
         good = done.returncode == status and (given == errors if errors is not None else "Traceback" not in given)
         tally.add("the end by %r" % body, [] if good else [repr(done)])

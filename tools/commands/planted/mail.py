@@ -1,40 +1,69 @@
 """Bugs of aide-compare-mail."""
 from .plant import Plant
 
-MAIL, MESSAGE, SENDING, QUEUE, WEEKLY = ("commands/lib/aide_compare/%s.py" % name for name in (
-    "mail", "message", "sending", "queue", "weekly"))
+MAIL, MESSAGE, SENDING, QUEUE, WEEKLY = (
+    "commands/lib/aide_compare/%s.py" % name for name in ("mail", "message", "sending", "queue", "weekly")
+)
 PLANTED = [
     Plant(file=MESSAGE, old="MOST_PATHS = 1000", new="MOST_PATHS = 10**9", seen_by="mail.try_bounds"),
     Plant(file=MESSAGE, old="if not text or len(text) > most - most // 4:", new="if False:", seen_by="mail.try_bounds"),
     Plant(file=MESSAGE, old="            self.left_out += is_entry\n", new="", seen_by="mail.try_bounds"),
-    Plant(file=MESSAGE, old="shown_lines(data).encode(\"utf-8\", \"backslashreplace\")", new="data",
-          seen_by="mail.try_hostile"),
-    Plant(file=MESSAGE, old="body = data if is_short else binascii.b2a_qp(data)", new="body = data",
-          seen_by="mail.try_hostile"),
-    Plant(file=MESSAGE, old="(result.databases[\"new\"][2], shlex", new="(result.databases[\"old\"][2], shlex",
-          seen_by="mail.try_texts"),
+    Plant(file=MESSAGE, old='shown_lines(data).encode("utf-8", "backslashreplace")', new="data", seen_by="mail.try_hostile"),
+    Plant(
+        file=MESSAGE, old="body = data if is_short else binascii.b2a_qp(data)", new="body = data", seen_by="mail.try_hostile"
+    ),
+    Plant(
+        file=MESSAGE,
+        old='(result.databases["new"][2], shlex',
+        new='(result.databases["old"][2], shlex',
+        seen_by="mail.try_texts",
+    ),
     Plant(file=MESSAGE, old="if count)", new="if True)", seen_by="mail.try_refusals"),
     Plant(file=SENDING, old="AUTH_ALERT = 4 * 8 + 1", new="AUTH_ALERT = 4 * 8 + 6", seen_by="mail.try_journal"),
-    Plant(file=SENDING, old="    second = way.send(shortened(message, why))\n", new="    second = why\n",
-          seen_by="mail.try_refusals"),
-    Plant(file=SENDING, old="    raise Fault(Status.DEVICE, \"cannot send the mail:",
-          new="    return (\"cannot send the mail:",
-          seen_by="mail.try_refusals"),
-    Plant(file=SENDING, old="limit = time.monotonic() + self.seconds", new="limit = time.monotonic() + 60",
-          seen_by="mail.try_refusals"),
-    Plant(file=SENDING, old="        if status == 0:\n            return None\n", new="        return None\n",
-          seen_by="mail.try_refusals"),
-    Plant(file=SENDING, old="for path, data in ((LOG,", new="for path, data in ((LOG + \".x\",",
-          seen_by="mail.try_journal"),
+    Plant(
+        file=SENDING,
+        old="    second = way.send(shortened(message, why))\n",
+        new="    second = why\n",
+        seen_by="mail.try_refusals",
+    ),
+    Plant(
+        file=SENDING,
+        old='    raise Fault(\n        Status.DEVICE,\n        "cannot send the mail: %s%s"\n        % (why, "; the system log has a line at priority alert" if is_logged else "; there is no system log either"),\n',
+        new='    return "cannot send the mail: %s%s" % (\n        why,\n        "; the system log has a line at priority alert" if is_logged else "; there is no system log either",\n',
+        seen_by="mail.try_refusals",
+    ),
+    Plant(
+        file=SENDING,
+        old="limit = time.monotonic() + self.seconds",
+        new="limit = time.monotonic() + 60",
+        seen_by="mail.try_refusals",
+    ),
+    Plant(
+        file=SENDING,
+        old="        if status == 0:\n            return None\n",
+        new="        return None\n",
+        seen_by="mail.try_refusals",
+    ),
+    Plant(
+        file=SENDING,
+        old='        (LOG, "<%d>%s" % (AUTH_ALERT, line)),\n',
+        new='        (LOG + ".x", "<%d>%s" % (AUTH_ALERT, line)),\n',
+        seen_by="mail.try_journal",
+    ),
     Plant(file=QUEUE, old="                os.unlink(name, dir_fd=folder.fd)\n", new="", seen_by="mail.try_queue"),
     Plant(file=QUEUE, old="    if failed:\n        raise failed\n", new="", seen_by="mail.try_queue"),
     Plant(file=QUEUE, old=" | os.O_NOFOLLOW | os.O_NONBLOCK", new="", seen_by="mail.try_queue"),
     Plant(file=QUEUE, old=">= MOST_WAITING:", new=">= 10**9:", seen_by="mail.try_queue"),
     Plant(file=WEEKLY, old="    runs += 1\n", new="", seen_by="mail.try_test_and_weekly"),
-    Plant(file=WEEKLY, old=" and time.localtime(now)[:3] != time.localtime(sent)[:3]", new="",
-          seen_by="mail.try_test_and_weekly"),
-    Plant(file=MAIL, old="\"--plain\", ", new="", seen_by="mail.try_pages"),
-    Plant(file=MAIL, old="0 if given.alarm_sent_is_success else result.status", new="result.status",
-          seen_by="mail.try_texts"),
-    Plant(file=MAIL, old="if result != \"success\":", new="if False:", seen_by="mail.try_queue"),
+    Plant(
+        file=WEEKLY, old=" and time.localtime(now)[:3] != time.localtime(sent)[:3]", new="", seen_by="mail.try_test_and_weekly"
+    ),
+    Plant(file=MAIL, old='"--plain", ', new="", seen_by="mail.try_pages"),
+    Plant(
+        file=MAIL,
+        old="message_of(given, folder, comparison, result))\n    return 0 if given.alarm_sent_is_success else result.status",
+        new="message_of(given, folder, comparison, result))\n    return result.status",
+        seen_by="mail.try_texts",
+    ),
+    Plant(file=MAIL, old='if result != "success":', new="if False:", seen_by="mail.try_queue"),
 ]

@@ -3,10 +3,27 @@ from .plant import Plant
 
 LIB = "commands/lib/aide_compare/reasons/"
 GROWING, MOVES, ENTRIES, PACKAGES, MADE, PARENTS, PROTECTED, RULES, SEVERITY, DPKG, GATHERED, DEB, INDEXES, ARCHIVE = (
-    LIB + name + ".py" for name in ("growing", "moves", "entries", "packages", "made", "parents", "protected", "rules", "severity",
-                                    "dpkg", "gathered", "deb", "indexes", "archive"))
+    LIB + name + ".py"
+    for name in (
+        "growing",
+        "moves",
+        "entries",
+        "packages",
+        "made",
+        "parents",
+        "protected",
+        "rules",
+        "severity",
+        "dpkg",
+        "gathered",
+        "deb",
+        "indexes",
+        "archive",
+    )
+)
 CONTENT, TRUSTED, RECORDS, LINES, EXPLAINER, PACKED, TABLE = (
-    LIB + name + ".py" for name in ("content", "trusted", "records", "lines", "explainer", "packed", "table"))
+    LIB + name + ".py" for name in ("content", "trusted", "records", "lines", "explainer", "packed", "table")
+)
 
 
 def seen_by(trial, *edits):
@@ -23,28 +40,46 @@ PLANTED = (
         (GROWING, "return differ <= GROWS and _is_later", "return _is_later"),
         (GROWING, "    if not (old.bits & GROWING and old.is_file()", "    if not (new.bits & GROWING and old.is_file()"),
         (GROWING, "old.bits & GROWING and old.is_file() and new.is_file() and", "old.bits & GROWING and"),
-        (ENTRIES, "    if (old.bits ^ new.bits) & ~SPECIAL:\n        found.add(\"attributes\")\n", ""),
+        (ENTRIES, '    if (old.bits ^ new.bits) & ~SPECIAL:\n        found.add("attributes")\n', ""),
         (ENTRIES, "    if (old.bits ^ new.bits) & ~SPECIAL:\n", "    if old.bits ^ new.bits:\n"),
-        (GROWING, "    return UNCHANGED if old.digests() else LATER\n", "    return UNCHANGED\n"))
+        (GROWING, "    return UNCHANGED if old.digests() else LATER\n", "    return UNCHANGED\n"),
+    )
     + seen_by(
         "reasons_logs.try_added",
         (GROWING, "new.bits & NEW_FILES and new.is_file() and not", "new.is_file() and not"),
-        (GROWING, "new.bits & NEW_FILES and new.is_file() and not new.mode & 0o111", "new.bits & NEW_FILES and not new.mode & 0o111"),
+        (
+            GROWING,
+            "new.bits & NEW_FILES and new.is_file() and not new.mode & 0o111",
+            "new.bits & NEW_FILES and not new.mode & 0o111",
+        ),
         (GROWING, "new.bits & NEW_FILES and new.is_file() and not new.mode & 0o111", "new.bits & NEW_FILES and new.is_file()"),
         (GROWING, "old.bits & REMOVED_FILES and old.is_file()", "old.bits & NEW_FILES and old.is_file()"),
         (GROWING, "old.bits & REMOVED_FILES and old.is_file()", "old.bits & REMOVED_FILES"),
         (PROTECTED, "    return gains_set_id(old, new) or (", "    return ("),
-        (PROTECTED, " or (is_open(new) and not is_open(old))", ""))
+        (PROTECTED, " or (is_open(new) and not is_open(old))", ""),
+    )
     + seen_by(
         "reasons_logs.try_rotated",
         (GROWING, "    if not (old.bits & SAME_INODE and old.is_file() and new.is_file()):\n        return None\n", ""),
-        (GROWING, "    if old.bits & GROWING and has_grown(old, new, differ):\n        return Reason", "    if has_grown(old, new, differ):\n        return Reason"),
-        (GROWING, "    if old.bits & GROWING and has_grown(old, new, differ):\n        return Reason", "    if old.bits & GROWING:\n        return Reason"),
+        (
+            GROWING,
+            "    if old.bits & GROWING and has_grown(old, new, differ):\n        return Reason",
+            "    if has_grown(old, new, differ):\n        return Reason",
+        ),
+        (
+            GROWING,
+            "    if old.bits & GROWING and has_grown(old, new, differ):\n        return Reason",
+            "    if old.bits & GROWING:\n        return Reason",
+        ),
         (GROWING, 'if differ <= {"ctime"}:', 'if differ <= {"ctime", "perm"}:'),
-        (MOVES, 'self.by_inode.get((change.folder(), new.field("inode")))',
-         'next((value for (_, inode), value in self.by_inode.items() if inode == new.field("inode")), None)'),
+        (
+            MOVES,
+            'self.by_inode.get((change.folder(), new.field("inode")))',
+            'next((value for (_, inode), value in self.by_inode.items() if inode == new.field("inode")), None)',
+        ),
         (MOVES, "new.bits & NEW_FILES and new.is_file() and", "new.is_file() and"),
-        (MOVES, '        if not differences(old, new) <= GROWS | {"inode"}:\n            return None\n', ""))
+        (MOVES, '        if not differences(old, new) <= GROWS | {"inode"}:\n            return None\n', ""),
+    )
     + seen_by(
         "reasons_logs.try_packed",
         (MOVES, '"xattrs", "mtime"))', '"xattrs"))'),
@@ -52,7 +87,8 @@ PLANTED = (
         (MOVES, '("perm", "uid", "gid",', '("uid", "gid",'),
         (MOVES, " and sizes[1] <= sizes[0] + MOST_HEAD", ""),
         (MOVES, "not new.bits & COMPRESSED or ", ""),
-        (MOVES, "self.by_stem.get((change.folder(), stem), ())", "sum(self.by_stem.values(), [])"))
+        (MOVES, "self.by_stem.get((change.folder(), stem), ())", "sum(self.by_stem.values(), [])"),
+    )
     + seen_by(
         "reasons_packages.try_content",
         (PACKAGES, "        if old and not differ <= CONTENT:\n            return None\n", ""),
@@ -60,49 +96,80 @@ PLANTED = (
         (ENTRIES, 'self.number("uid") == 0 and (', "("),
         (ENTRIES, "self.is_link() or not (has_more or has_list)", "self.is_link() or not has_more"),
         (ENTRIES, "self.is_link() or not (has_more or has_list)", "self.is_link() or not has_list"),
-        (PACKAGES, "        count = new.number(\"lcount\") or 0\n", "        count = 0\n"),
+        (PACKAGES, '        count = new.number("lcount") or 0\n', "        count = 0\n"),
         (PROTECTED, "    return gains_set_id(old, new) or (", "    return ("),
-        (PROTECTED, " or (is_open(new) and not is_open(old))", ""))
+        (PROTECTED, " or (is_open(new) and not is_open(old))", ""),
+    )
     + seen_by(
         "reasons_packages.try_unchanged",
-        (DPKG, "(before.version, before.state) != (after.version, after.state)]", "True]"),
-        (DPKG, "(before.version, before.state) != (after.version, after.state)]", "before.version != after.version]"),
-        (MADE, "if info.group(1) in self.names else None", "if True else None"))
+        (DPKG, "(before.version, before.state) != (after.version, after.state)\n", "True\n"),
+        (DPKG, "(before.version, before.state) != (after.version, after.state)\n", "before.version != after.version\n"),
+        (MADE, "if info.group(1) in self.names else None", "if True else None"),
+    )
     + seen_by(
         "reasons_packages.try_names",
-        (DPKG, 'return self.merged[head] + path[len(head):] if head in self.merged else path', "return path"),
+        (DPKG, "return self.merged[head] + path[len(head) :] if head in self.merged else path", "return path"),
         (DPKG, "self.diverted[self.usr(source)] = (self.usr(target), package)", "self.diverted[source] = (target, package)"),
         (DPKG, "        return path if by == package.name else target\n", "        return target\n"),
         (DPKG, "        return path if by == package.name else target\n", "        return path\n"),
         (DPKG, "yield self.place_of(path, package), digest", "yield path, digest"),
-        (DPKG, "        for path in self._read(package, \"list\").split(b\"\\n\"):", "        for path in self._read(package, \"list\").split():"))
+        (
+            DPKG,
+            '        for path in self._read(package, "list").split(b"\\n"):',
+            '        for path in self._read(package, "list").split():',
+        ),
+    )
     + seen_by(
         "reasons_packages.try_links",
         (PACKAGES, "        if any(owner in self.known.now[path] for owner in owners):\n", "        if True:\n"),
-        (PACKAGES, "            if len(changes) < count:\n", "            if False:\n"))
+        (PACKAGES, "            if len(changes) < count:\n", "            if False:\n"),
+    )
     + seen_by(
         "reasons_packages.try_removed",
         (PACKAGES, "if not owners or change.path in self.known.listed or", "if not owners or"),
-        (PACKAGES, "        owners = self.known.before.get(change.path)\n", "        owners = self.known.now.get(change.path)\n"),
-        (GATHERED, "for package in night.packages.values() if self.others else ():", "for _, package in self.changed if package:"))
+        (
+            PACKAGES,
+            "        owners = self.known.before.get(change.path)\n",
+            "        owners = self.known.now.get(change.path)\n",
+        ),
+        (
+            GATHERED,
+            "for package in night.packages.values() if self.others else ():",
+            "for _, package in self.changed if package:",
+        ),
+    )
     + seen_by(
         "reasons_packages.try_read",
-        (CONTENT, "found is not None and do_agree(found, known) and do_agree(found, wanted)", "found is not None and do_agree(found, known)"),
-        (CONTENT, "found is not None and do_agree(found, known) and do_agree(found, wanted)", "found is not None and do_agree(found, wanted)"),
+        (
+            CONTENT,
+            "found is not None and do_agree(found, known) and do_agree(found, wanted)",
+            "found is not None and do_agree(found, known)",
+        ),
+        (
+            CONTENT,
+            "found is not None and do_agree(found, known) and do_agree(found, wanted)",
+            "found is not None and do_agree(found, wanted)",
+        ),
         (PACKAGES, "else self.contents.agrees(path, entry, wanted)", "else True"),
-        (PACKAGES, "else self.contents.agrees(path, entry, wanted)", "else False"))
+        (PACKAGES, "else self.contents.agrees(path, entry, wanted)", "else False"),
+    )
     + seen_by(
         "reasons_places.try_made",
         (MADE, "if prefix == ANY or prefix in known.prefixes]", "]"),
-        (MADE, 'made_by("from %s" % shown(source, 200)) if self.known.is_owned(source) else None', 'made_by("from %s" % shown(source, 200))'),
+        (
+            MADE,
+            'made_by("from %s" % shown(source, 200)) if self.known.is_owned(source) else None',
+            'made_by("from %s" % shown(source, 200))',
+        ),
         (MADE, "if self.known.is_owned(target) or is_script else None", ""),
-        (MADE, "path.startswith(b\"/etc/rc\") and self._is_listed(target)", "self._is_listed(target)"),
+        (MADE, 'path.startswith(b"/etc/rc") and self._is_listed(target)', "self._is_listed(target)"),
         (MADE, "row and (self._is_listed(target) or next(self.table.rows(target), None))", "row"),
         (MADE, "        if takes_no_pattern(path):\n            return None\n", ""),
         (MADE, "return new is None or (new.is_plain() and (may_run", "return new is None or ((may_run"),
         (MADE, "(may_run or not (new.is_file() and new.mode & 0o111))", "True"),
         (MADE, "return differ <= CONTENT or (new.is_link()", "return True or (new.is_link()"),
-        (MADE, "not self.names or ", ""))
+        (MADE, "not self.names or ", ""),
+    )
     + seen_by(
         "reasons_places.try_folders",
         (PARENTS, " or (names and names.unexplained)", ""),
@@ -110,7 +177,8 @@ PLANTED = (
         (PARENTS, "        if not _only_names(old, new, differ):\n            return None\n", ""),
         (PARENTS, "return None not in flags and flags[0] ^ flags[1] == INDEX", "return True"),
         (PARENTS, "            if change.is_replaced:\n", "            if True:\n"),
-        (PARENTS, "return ANEW if names and _only", "return VERIFIED if names and _only"))
+        (PARENTS, "return ANEW if names and _only", "return VERIFIED if names and _only"),
+    )
     + seen_by(
         "reasons_places.try_rules",
         (RULES, "return None if takes_no_pattern(change.path) else rule.reason", "return rule.reason"),
@@ -119,7 +187,12 @@ PLANTED = (
         (RULES, "old.is_file() and has_grown(old, new, differ))", "old.is_file())"),
         (RULES, 'Reason("rule", text, False, "rules")', 'Reason("rule", text, True, "rules")'),
         (RULES, "text = shown(parts[2], MOST_TEXT)", 'text = parts[2].decode("utf-8", "replace")'),
-        (TABLE, "            if (test is None or test(placed.row)) and placed.fits(pieces):", "            if test is None or test(placed.row):"))
+        (
+            TABLE,
+            "            if (test is None or test(placed.row)) and placed.fits(pieces):",
+            "            if test is None or test(placed.row):",
+        ),
+    )
     + seen_by("reasons_places.try_never", (PROTECTED, " or next(_NEVER.rows(path), None) is not None", ""))
     + seen_by(
         "reasons_places.try_severity",
@@ -127,47 +200,64 @@ PLANTED = (
         (SEVERITY, " and not stat.S_ISLNK(mode) and not (stat.S_ISDIR(mode) and mode & stat.S_ISVTX)", ""),
         (SEVERITY, "lambda row: all(test(old, new) for test in row.tests)", "lambda row: True"),
         ("commands/share/severity.conf", "high    any     /etc/sudoers.d/**\n", ""),
-        ("commands/share/severity.conf", "high    executable      /usr/bin/*\n", ""))
+        ("commands/share/severity.conf", "high    executable      /usr/bin/*\n", ""),
+    )
     + seen_by(
         "reasons_archive.try_signed",
-        (PACKAGES, "        elif reason is None:\n            reason = self._by_records", "        if reason is None:\n            reason = self._by_records"),
+        (
+            PACKAGES,
+            "        elif reason is None:\n            reason = self._by_records",
+            "        if reason is None:\n            reason = self._by_records",
+        ),
         (PACKAGES, "        if covering:\n            return None\n", ""),
         (PACKAGES, " or (self.archive and self.archive.has(change.path))", ""),
         (PACKAGES, "        self.refuted.add(path)\n", ""),
-        (DEB, "self.found.get(b\"/\" + (target[2:]", "self.found.get(b\"//\" + (target[2:]"),
+        (DEB, 'self.found.get(b"/" + (target[2:]', 'self.found.get(b"//" + (target[2:]'),
         (ARCHIVE, 'part.replace(b":", b"%3a")', "part"),
-        (INDEXES, 'path.replace("/", slash)', "path"))
+        (INDEXES, 'path.replace("/", slash)', "path"),
+    )
     + seen_by(
         "reasons_archive.try_forged",
         (ARCHIVE, "if digest == wanted.sha256:", "if True:"),
         (INDEXES, 'if digest == digests.get(ending) or plain_digest == digests.get(""):', "if True:"),
         (INDEXES, "return done.stdout if is_good and done.returncode in (0, 2) else None", "return done.stdout"),
-        (INDEXES, "PIECE = os.O_RDONLY | os.O_NOFOLLOW | ", "PIECE = os.O_RDONLY | "))
-    + seen_by(
-        "reasons_archive.try_forms",
-        (DEB, "begin + size + size % 2", "begin + size"))
+        (INDEXES, "PIECE = os.O_RDONLY | os.O_NOFOLLOW | ", "PIECE = os.O_RDONLY | "),
+    )
+    + seen_by("reasons_archive.try_forms", (DEB, "begin + size + size % 2", "begin + size"))
     + seen_by(
         "reasons_lines.try_same",
-        (LINES, "end = line.rindex(b\"}\")", "line, end = ENCODE(json.loads(line)).encode() + b\"\\n\", -2"),
-        (EXPLAINER, "tally.add(change.reason, change.severity)", "tally.add(None, change.severity)"))
+        (LINES, 'end = line.rindex(b"}")', 'line, end = ENCODE(json.loads(line)).encode() + b"\\n", -2'),
+        (EXPLAINER, "tally.add(change.reason, change.severity)", "tally.add(None, change.severity)"),
+    )
     + seen_by(
         "reasons_lines.try_damage",
         (LINES, "if any(name in fields for name in OURS):", "if False:"),
         (LINES, "if not good or not self.last < names:", "if not good:"),
-        (EXPLAINER, "if present != PRESENT[fields[\"kind\"]] and (", "if False and ("),
-        (LIB + "database.py", "if len(fields) != len(places):", "if False:"))
+        (EXPLAINER, 'if present != PRESENT[fields["kind"]] and (', "if False and ("),
+        (LIB + "database.py", "if len(fields) != len(places):", "if False:"),
+    )
     + seen_by(
         "reasons_lines.try_refused",
         (TRUSTED, "found.st_uid not in (0, os.geteuid()) or ", ""),
-        (TRUSTED, " or found.st_mode & 0o022", ""))
+        (TRUSTED, " or found.st_mode & 0o022", ""),
+    )
     + seen_by(
         "reasons_lines.try_records",
         (RECORDS, " or found.st_mode & 0o022", ""),
         (RECORDS, "            if folder.others:\n", "            if False:\n"),
-        (RECORDS, "os.O_RDONLY | os.O_NOFOLLOW | os.O_NONBLOCK", "os.O_RDONLY | os.O_NONBLOCK"))
-    + seen_by("reasons_lines.try_interface", (EXPLAINER, "yield {**json.loads(line), **members_of(change)}", "yield members_of(change)"))
+        (RECORDS, "os.O_RDONLY | os.O_NOFOLLOW | os.O_NONBLOCK", "os.O_RDONLY | os.O_NONBLOCK"),
+    )
+    + seen_by(
+        "reasons_lines.try_interface",
+        (EXPLAINER, "yield {**json.loads(line), **members_of(change)}", "yield members_of(change)"),
+    )
     + seen_by(
         "reasons_nights.try_nights",
-        (LIB + "database.py", "return key_of(line[:line.find(b\" \")]", "return key_of(line[:line.find(b\" \")].replace(b\"%\", b\"%25\")"),
-        (DPKG, 'for name in (package.name + b":" + package.arch, package.name):', "for name in (package.name,):"))
+        (
+            LIB + "database.py",
+            'return key_of(line[: line.find(b" ")]',
+            'return key_of(line[: line.find(b" ")].replace(b"%", b"%25")',
+        ),
+        (DPKG, 'for name in (package.name + b":" + package.arch, package.name):', "for name in (package.name,):"),
+    )
 )

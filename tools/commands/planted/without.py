@@ -3,24 +3,38 @@ from .plant import Plant
 
 WITHOUT, PATTERNS, RUN = ("commands/lib/aide_compare/%s.py" % name for name in ("without", "patterns", "run"))
 PLANTED = [
-    Plant(file=WITHOUT, old="self.rules.of(decoded(fields[self.column]))", new="self.rules.of(fields[self.column])",
-          seen_by="without.try_names"),
-    Plant(file=WITHOUT, old="cut.keeps(line) else b\"\\n\"", new="cut.keeps(line) else b\"\"",
-          seen_by="without.try_damage"),
-    Plant(file=WITHOUT, old="len(fields) != self.columns", new="len(fields) <= self.column",
-          seen_by="without.try_damage"),
+    Plant(
+        file=WITHOUT,
+        old="self.rules.of(decoded(fields[self.column]))",
+        new="self.rules.of(fields[self.column])",
+        seen_by="without.try_names",
+    ),
+    Plant(file=WITHOUT, old='cut.keeps(line) else b"\\n"', new='cut.keeps(line) else b""', seen_by="without.try_damage"),
+    Plant(file=WITHOUT, old="len(fields) != self.columns", new="len(fields) <= self.column", seen_by="without.try_damage"),
     Plant(file=WITHOUT, old="not folder.is_safe() or ", new="", seen_by="without.try_refused"),
     Plant(file=WITHOUT, old="found.st_uid in (0, os.geteuid()) and ", new="", seen_by="without.try_refused"),
     Plant(file=WITHOUT, old="found.st_mode & 0o022", new="found.st_mode & 0o002", seen_by="without.try_refused"),
-    Plant(file=WITHOUT, old="            self.is_over = fields[0] == b\"@@end_db\"\n", new="",
-          seen_by="without.try_damage"),
-    Plant(file=PATTERNS, old="            self.tests.append(lambda name: True)\n", new="            pass\n",
-          seen_by="without.try_patterns"),
+    Plant(file=WITHOUT, old='            self.is_over = fields[0] == b"@@end_db"\n', new="", seen_by="without.try_damage"),
+    Plant(
+        file=PATTERNS,
+        old="            self.tests.append(lambda name: True)\n",
+        new="            pass\n",
+        seen_by="without.try_patterns",
+    ),
     Plant(file=PATTERNS, old="found.end() <= end and ", new="", seen_by="without.try_patterns"),
-    Plant(file=PATTERNS, old="                retry += 1\n", new="                retry += 2\n",
-          seen_by="without.try_patterns"),
-    Plant(file=RUN, old="str(sum(counts.values()))", new="str(len(counts))", seen_by="without.try_left_out"),
-    Plant(file="commands/lib/aide_compare/comparison.py",
-          old="        outcome.notes += left_out_words(side, outcome.left_out[side])\n", new="",
-          seen_by="without.try_left_out"),
+    Plant(
+        file=PATTERNS, old="                retry += 1\n", new="                retry += 2\n", seen_by="without.try_patterns"
+    ),
+    Plant(
+        file="commands/lib/aide_compare/outcome_state.py",
+        old="sum(counts.values())",
+        new="len(counts)",
+        seen_by="without.try_left_out",
+    ),
+    Plant(
+        file="commands/lib/aide_compare/comparison.py",
+        old="        outcome.notes += left_out_words(side, outcome.left_out[side])\n",
+        new="",
+        seen_by="without.try_left_out",
+    ),
 ]
