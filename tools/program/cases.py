@@ -18,68 +18,68 @@ from tools.oracle.session import Answer
 from tools.lib.arguments import parser_of
 from tools.lib.tally import Tally, difference, file_at, program_of, run, wanted
 
-HEADER = re.compile(r'^-- (\w+)( \(escaped\))? --$')
-ANSWERS = ['stdout', 'stderr', 'status']
-FOLDER = os.path.join(os.path.dirname(os.path.abspath(__file__)), 'cases')
-DIR = b'/@DIR@'
+HEADER = re.compile(r"^-- (\w+)( \(escaped\))? --$")
+ANSWERS = ["stdout", "stderr", "status"]
+FOLDER = os.path.join(os.path.dirname(os.path.abspath(__file__)), "cases")
+DIR = b"/@DIR@"
 
-Case = namedtuple('Case', 'title sections')
+Case = namedtuple("Case", "title sections")
 
 
 def lines_of(text):
-    return re.findall(r'[^\n]*\n|[^\n]+', text)
+    return re.findall(r"[^\n]*\n|[^\n]+", text)
 
 
 def unescaped(text):
-    return text.encode('ascii').decode('unicode_escape').encode('latin-1')
+    return text.encode("ascii").decode("unicode_escape").encode("latin-1")
 
 
 def escaped(text):
-    return text.decode('latin-1').encode('unicode_escape').decode()
+    return text.decode("latin-1").encode("unicode_escape").decode()
 
 
 def parse(text):
     """The title of a case and its sections as bytes."""
     title, sections, name = [], {}, None
     for line in lines_of(text):
-        found = HEADER.match(line.rstrip('\n'))
+        found = HEADER.match(line.rstrip("\n"))
         if found:
             name, is_escaped = found.group(1), bool(found.group(2))
-            sections[name] = b''
+            sections[name] = b""
         elif name is None:
             title.append(line)
         else:
-            sections[name] += unescaped(line.rstrip('\n')) if is_escaped else line.encode()
-    return Case(''.join(title), sections)
+            sections[name] += unescaped(line.rstrip("\n")) if is_escaped else line.encode()
+    return Case("".join(title), sections)
 
 
 def is_plain(text):
     """Whether a text stands in a case as it is."""
     try:
-        lines = text.decode('utf-8').split('\n')
+        lines = text.decode("utf-8").split("\n")
     except UnicodeDecodeError:
         return False
-    return lines[-1] == '' and all(line.replace('\t', '').isprintable() and not HEADER.match(line) for line in lines)
+    return lines[-1] == "" and all(line.replace("\t", "").isprintable() and not HEADER.match(line) for line in lines)
 
 
 def printed(case):
     parts = [case.title]
     for name, text in case.sections.items():
         if is_plain(text):
-            parts.append('-- %s --\n%s' % (name, text.decode()))
+            parts.append("-- %s --\n%s" % (name, text.decode()))
         else:
-            lines = [line.encode('latin-1') for line in lines_of(text.decode('latin-1'))]
-            parts.append('-- %s (escaped) --\n%s' % (name, ''.join(escaped(line) + '\n' for line in lines)))
-    return ''.join(parts)
+            lines = [line.encode("latin-1") for line in lines_of(text.decode("latin-1"))]
+            parts.append("-- %s (escaped) --\n%s" % (name, "".join(escaped(line) + "\n" for line in lines)))
+    return "".join(parts)
 
 
 def answers_in(case, folder, answer):
     """Runs a case in a folder: `answer` is asked for its words."""
     for name, text in case.sections.items():
-        if name not in ANSWERS + ['words']:
-            with open(os.path.join(folder, name.encode()), 'wb') as file:
-                file.write(text.replace(DIR, folder) if name == 'conf' else text)
-    lines = case.sections['words'].decode().split('\n')[:-1]
+        if name not in ANSWERS + ["words"]:
+            with open(os.path.join(folder, name.encode()), "wb") as file:
+                file.write(text.replace(DIR, folder) if name == "conf" else text)
+    lines = case.sections["words"].decode().split("\n")[:-1]
     return answer([unescaped(line).replace(DIR, folder) for line in lines])
 
 
@@ -89,7 +89,7 @@ def stored(case, folder):
 
 
 def read(path):
-    with open(path, encoding='utf-8') as file:
+    with open(path, encoding="utf-8") as file:
         return parse(file.read())
 
 
@@ -99,15 +99,15 @@ def write(path):
     with tempfile.TemporaryDirectory() as folder:
         folder = folder.encode()
         answer = answers_in(case, folder, wanted)
-        texts = [answer.output, answer.errors, b'%d\n' % answer.status]
+        texts = [answer.output, answer.errors, b"%d\n" % answer.status]
         case.sections.update((name, text.replace(folder, DIR)) for name, text in zip(ANSWERS, texts))
-    with open(path, 'w', encoding='utf-8') as file:
+    with open(path, "w", encoding="utf-8") as file:
         file.write(printed(case))
 
 
 def try_cases(program, paths, tally):
     """Tries the program, and the definitions, over stored cases."""
-    tally.add('the stored cases', [] if paths else ['there is none in ' + FOLDER])
+    tally.add("the stored cases", [] if paths else ["there is none in " + FOLDER])
     for path in paths:
         case, label = read(path), os.path.relpath(path, FOLDER)
         with tempfile.TemporaryDirectory() as folder:
@@ -115,18 +115,19 @@ def try_cases(program, paths, tally):
             want = stored(case, folder)
             tally.check(label, answers_in(case, folder, lambda words: run(program, words)), want)
             told = difference(wanted(*[answers_in(case, folder, list)], file_at), want)
-            tally.add('the definitions at ' + label, told)
+            tally.add("the definitions at " + label, told)
 
 
 def all_cases():
-    return sorted(glob.glob(os.path.join(FOLDER, '*', '*.case')))
+    return sorted(glob.glob(os.path.join(FOLDER, "*", "*.case")))
 
 
 def main():
-    parser = parser_of('tools.program.cases', __doc__)
-    parser.add_argument('--write', action='store_true',
-                        help='write what the definitions answer into each CASE; then no PROGRAM is named')
-    parser.add_argument('names', nargs='+', metavar='PROGRAM [CASE...]', help='the built program, and cases (all of them)')
+    parser = parser_of("tools.program.cases", __doc__)
+    parser.add_argument(
+        "--write", action="store_true", help="write what the definitions answer into each CASE; then no PROGRAM is named"
+    )
+    parser.add_argument("names", nargs="+", metavar="PROGRAM [CASE...]", help="the built program, and cases (all of them)")
     given = parser.parse_args()
     if given.write:
         for path in given.names:
@@ -137,5 +138,5 @@ def main():
     tally.end()
 
 
-if __name__ == '__main__':
+if __name__ == "__main__":
     main()

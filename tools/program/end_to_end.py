@@ -24,12 +24,13 @@ from tools.lib.tally import Tally, program_of
 
 
 def main():
-    parser = argparse.ArgumentParser(description='Tries the built program over real files.')
-    parser.add_argument('program')
-    parser.add_argument('--sessions', type=int, default=200, help='how many random sessions')
-    parser.add_argument('--seed', type=int, default=random.SystemRandom().randrange(10**9),
-                        help='the seed of the random sessions')
-    parser.add_argument('--jobs', type=int, default=2, help='how many random sessions at a time')
+    parser = argparse.ArgumentParser(description="Tries the built program over real files.")
+    parser.add_argument("program")
+    parser.add_argument("--sessions", type=int, default=200, help="how many random sessions")
+    parser.add_argument(
+        "--seed", type=int, default=random.SystemRandom().randrange(10**9), help="the seed of the random sessions"
+    )
+    parser.add_argument("--jobs", type=int, default=2, help="how many random sessions at a time")
     given = parser.parse_args()
     program, tally = program_of(given.program), Tally()
     try_examples(program, tally)
@@ -40,10 +41,10 @@ def main():
     try_fifos(program, tally)
     try_quickly(program, tally)
     try_stack(program, tally)
-    print('seed %d' % given.seed, flush=True)
+    print("seed %d" % given.seed, flush=True)
     try_sessions(program, given.seed, range(given.sessions), given.jobs, tally)
     tally.end()
 
 
-if __name__ == '__main__':
+if __name__ == "__main__":
     main()

@@ -22,38 +22,43 @@ from tools.lib.preload import built, run_with
 from tools.program.real_files.folder import NEW, OLD, SKIPPING, Folder, names
 from tools.lib.tally import Tally, difference, program_of, side_by_side, wanted
 
-NOTE = struct.Struct('3l')
+NOTE = struct.Struct("3l")
 OPEN, CLOSE, READ, WRITE = range(1, 5)
-KINDS = {OPEN: 'opening', CLOSE: 'closing', READ: 'reading', WRITE: 'writing'}
+KINDS = {OPEN: "opening", CLOSE: "closing", READ: "reading", WRITE: "writing"}
 FAILS, DOES_NOTHING, IS_SHORT = range(1, 4)
 WAYS = {OPEN: [FAILS], CLOSE: [FAILS], READ: [FAILS, IS_SHORT], WRITE: [FAILS, DOES_NOTHING, IS_SHORT]}
-WORDS = {FAILS: 'fails', DOES_NOTHING: 'takes nothing', IS_SHORT: 'is short'}
+WORDS = {FAILS: "fails", DOES_NOTHING: "takes nothing", IS_SHORT: "is short"}
 OUTPUT, ERRORS = 1, 2
-NOT_WRITTEN = refused(b'cannot write the report', BAD_DEVICE).errors
+NOT_WRITTEN = refused(b"cannot write the report", BAD_DEVICE).errors
 LONG, SHOWN = 6000, 3
 
 # Of a session: its words, its whole answer, the calls that it makes undisturbed, and the texts of its files.
-Session = namedtuple('Session', 'words whole calls files')
-Call = namedtuple('Call', 'kind descriptor result')
+Session = namedtuple("Session", "words whole calls files")
+Call = namedtuple("Call", "kind descriptor result")
 # How often the sides are opened where the words ask for a comparison, and both texts are sound.
-OPENINGS = {'a report of all parts': 6, 'a report of several pages': 3, 'columns that are skipped': 2}
+OPENINGS = {"a report of all parts": 6, "a report of several pages": 3, "columns that are skipped": 2}
 
 
 def sessions(folder):
     """The labels of the sessions, their words, and the texts of the configuration and of both databases."""
-    texts = {'a report of all parts': (OLD, NEW, b''), 'a report of several pages': (OLD, names(LONG), b'report_grouped=no'),
-             'columns that are skipped': (SKIPPING, SKIPPING, b''), 'an old database that is cut': (OLD[:60], NEW, b''),
-             'a new database that is cut': (OLD, NEW[:60], b''), 'a bad configuration': (OLD, NEW, b'nonsense')}
+    texts = {
+        "a report of all parts": (OLD, NEW, b""),
+        "a report of several pages": (OLD, names(LONG), b"report_grouped=no"),
+        "columns that are skipped": (SKIPPING, SKIPPING, b""),
+        "an old database that is cut": (OLD[:60], NEW, b""),
+        "a new database that is cut": (OLD, NEW[:60], b""),
+        "a bad configuration": (OLD, NEW, b"nonsense"),
+    }
     for number, (label, (old, new, options)) in enumerate(texts.items()):
         files = Folder()
-        files.path = os.path.join(folder, b'%d' % number)
+        files.path = os.path.join(folder, b"%d" % number)
         os.mkdir(files.path)
         files.pair(old, new, options)
-        with open(files.at('conf'), 'rb') as file:
+        with open(files.at("conf"), "rb") as file:
             yield label, files.words(), (file.read(), old, new)
         if not number:
-            yield 'a check of the configuration', [b'-D', b'-c', files.at('conf')], (b'', b'', b'')
-    yield 'a usage error', [b'-E'], (b'', b'', b'')
+            yield "a check of the configuration", [b"-D", b"-c", files.at("conf")], (b"", b"", b"")
+    yield "a usage error", [b"-E"], (b"", b"", b"")
 
 
 def opened_as(number):
@@ -66,7 +71,7 @@ def file_of(calls, index):
     opened, taken = 0, 0
     for number, call in enumerate(calls[:index]):
         if call.kind == OPEN and call.result == calls[index].descriptor:
-            opened, taken = sum(1 for before in calls[:number + 1] if before.kind == OPEN), 0
+            opened, taken = sum(1 for before in calls[: number + 1] if before.kind == OPEN), 0
         if call.kind == READ and call.descriptor == calls[index].descriptor:
             taken += call.result
     return opened_as(opened), taken
@@ -77,28 +82,28 @@ def written_before(calls, index, descriptor):
 
 
 def config_of(session):
-    return session.words[session.words.index(b'-c') + 1]
+    return session.words[session.words.index(b"-c") + 1]
 
 
 def unopened(session, file):
     if file == 0:
-        return refused(b'cannot read the configuration ' + config_of(session), BAD_DEVICE)
-    path = os.path.join(os.path.dirname(config_of(session)), [b'old', b'new'][file - 1])
-    return refused(b'cannot open the %s database %s' % ([b'old', b'new'][file - 1], path), BAD_DEVICE)
+        return refused(b"cannot read the configuration " + config_of(session), BAD_DEVICE)
+    path = os.path.join(os.path.dirname(config_of(session)), [b"old", b"new"][file - 1])
+    return refused(b"cannot open the %s database %s" % ([b"old", b"new"][file - 1], path), BAD_DEVICE)
 
 
 def unread(session, file, taken):
     if file == 0:
         return unopened(session, 0)
-    line = session.files[file][:taken].count(b'\n') + 1
-    return refused(b'%s database:%d: read failed' % ([b'old', b'new'][file - 1], line), BAD_DEVICE)
+    line = session.files[file][:taken].count(b"\n") + 1
+    return refused(b"%s database:%d: read failed" % ([b"old", b"new"][file - 1], line), BAD_DEVICE)
 
 
 def answer_where(session, kind, number, way):
     """What is wanted where the call of a kind with a number goes wrong in a way."""
     calls, whole = session.calls, session.whole
     index = [index for index, call in enumerate(calls) if call.kind == kind][number - 1]
-    front = whole.output[:written_before(calls, index, OUTPUT)]
+    front = whole.output[: written_before(calls, index, OUTPUT)]
     if kind == OPEN:
         return unopened(session, opened_as(number))._replace(output=front)
     if kind == CLOSE or way == IS_SHORT:
@@ -127,15 +132,16 @@ class Stumbler:
         self.program, self.library = program, library
 
     def run(self, words, kind=0, number=0, way=0):
-        answer, notes = run_with(self.library, self.program, words, NOTE, 'FAIL_NOTES', FAIL_KIND=kind,
-                                 FAIL_NUMBER=number, FAIL_WAY=way)
+        answer, notes = run_with(
+            self.library, self.program, words, NOTE, "FAIL_NOTES", FAIL_KIND=kind, FAIL_NUMBER=number, FAIL_WAY=way
+        )
         return answer, [Call(*note) for note in notes]
 
 
 def try_one(stumbler, session, kind, number, way):
     answer, _ = stumbler.run(session.words, kind, number, way)
     faults = difference(answer, answer_where(session, kind, number, way))
-    return ['%s %d that %s: %s' % (KINDS[kind], number, WORDS[way], fault) for fault in faults]
+    return ["%s %d that %s: %s" % (KINDS[kind], number, WORDS[way], fault) for fault in faults]
 
 
 def try_session(stumbler, label, words, files, jobs, tally):
@@ -146,36 +152,36 @@ def try_session(stumbler, label, words, files, jobs, tally):
     openings, most, left = openings_of(calls)
     known = 1 + 2 * OPENINGS.get(label, 0)
     is_right = most <= 2 and left == 0 and (label not in OPENINGS or openings == known)
-    tally.add(label + ', openings', [] if is_right else ['%d, %d at a time, %d left' % (openings, most, left)])
+    tally.add(label + ", openings", [] if is_right else ["%d, %d at a time, %d left" % (openings, most, left)])
     session, counts = Session(words, whole, calls, files), Counter(call.kind for call in calls)
     tasks = [(kind, number, way) for kind in KINDS for number in range(1, counts[kind] + 1) for way in WAYS[kind]]
     for (kind, _, way), faults in zip(tasks, side_by_side(jobs, lambda task: try_one(stumbler, session, *task), tasks)):
-        tally.add('%s, a %s that %s' % (label, KINDS[kind], WORDS[way]), faults)
+        tally.add("%s, a %s that %s" % (label, KINDS[kind], WORDS[way]), faults)
     return counts
 
 
 def try_calls(program, top, jobs, tally):
-    library, faults = built('fail_call.c', top)
+    library, faults = built("fail_call.c", top)
     if library is None:
-        tally.add('fail_call.c', faults)
+        tally.add("fail_call.c", faults)
         return
     stumbler, counts = Stumbler(program, library), Counter()
     for label, words, files in sessions(top):
         counts.update(try_session(stumbler, label, words, files, jobs, tally))
-    print(', '.join('%d %ss' % (counts[kind], name) for kind, name in KINDS.items()), flush=True)
-    tally.add('calls of each kind', [] if all(counts[kind] > 1 for kind in KINDS) else ['are %r' % (counts,)])
+    print(", ".join("%d %ss" % (counts[kind], name) for kind, name in KINDS.items()), flush=True)
+    tally.add("calls of each kind", [] if all(counts[kind] > 1 for kind in KINDS) else ["are %r" % (counts,)])
 
 
 def main():
-    parser = argparse.ArgumentParser(description='Lets each call go wrong by which the program uses a file.')
-    parser.add_argument('program')
-    parser.add_argument('--jobs', type=int, default=2, help='how many runs at a time')
+    parser = argparse.ArgumentParser(description="Lets each call go wrong by which the program uses a file.")
+    parser.add_argument("program")
+    parser.add_argument("--jobs", type=int, default=2, help="how many runs at a time")
     given = parser.parse_args()
     program, tally = program_of(given.program), Tally()
-    with tempfile.TemporaryDirectory(prefix='failed-calls-') as top:
+    with tempfile.TemporaryDirectory(prefix="failed-calls-") as top:
         try_calls(program, os.fsencode(top), given.jobs, tally)
     tally.end()
 
 
-if __name__ == '__main__':
+if __name__ == "__main__":
     main()

@@ -28,34 +28,35 @@ class Table(Tally):
 
     def add(self, label, faults):
         super().add(label, faults)
-        label = label if not label.startswith('seed') else 'random sessions'
+        label = label if not label.startswith("seed") else "random sessions"
         self.tried[label] += 1
         self.wrong[label] += bool(faults)
 
     def end(self):
-        print('| What | Trials | Failed |\n|---|---|---|')
+        print("| What | Trials | Failed |\n|---|---|---|")
         for label, count in self.tried.items():
-            print('| %s | %d | %d |' % (label, count, self.wrong[label]))
+            print("| %s | %d | %d |" % (label, count, self.wrong[label]))
         super().end()
 
 
 def main():
-    parser = argparse.ArgumentParser(description='Tries the built program in hostile use.')
-    parser.add_argument('program')
-    parser.add_argument('--jobs', type=int, default=2, help='how many runs at a time')
-    parser.add_argument('--sessions', type=int, default=5000, help='how many random sessions')
-    parser.add_argument('--seed', type=int, default=random.SystemRandom().randrange(10**9),
-                        help='the seed of the random sessions')
+    parser = argparse.ArgumentParser(description="Tries the built program in hostile use.")
+    parser.add_argument("program")
+    parser.add_argument("--jobs", type=int, default=2, help="how many runs at a time")
+    parser.add_argument("--sessions", type=int, default=5000, help="how many random sessions")
+    parser.add_argument(
+        "--seed", type=int, default=random.SystemRandom().randrange(10**9), help="the seed of the random sessions"
+    )
     given = parser.parse_args()
     program, table = program_of(given.program), Table()
     try_outside(program, table)
     try_fifos(program, table)
     try_replaced(program, table)
     try_damage(program, table, given.jobs)
-    print('seed %d' % given.seed, flush=True)
+    print("seed %d" % given.seed, flush=True)
     try_sessions(program, given.seed, range(given.sessions), given.jobs, table)
     table.end()
 
 
-if __name__ == '__main__':
+if __name__ == "__main__":
     main()

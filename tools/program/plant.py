@@ -24,10 +24,20 @@ HERE = os.path.dirname(os.path.dirname(os.path.dirname(os.path.abspath(__file__)
 FAILED = re.compile("[0-9]+ passed, [1-9][0-9]* failed")
 PASSED = re.compile("[1-9][0-9]* passed, 0 failed")
 # The words after the program. A part of end_to_end.py is run by itself.
-WORDS = {"cases": [], "try_fields": [], "try_configurations": ["--count", "40"], "random_sessions": ["120", "7"],
-         "failed_calls": []}
-PARTS = {"devices": "devices.try_devices", "paths": "paths.try_paths", "fifos": "fifos.try_openings",
-         "descriptors": "outside.try_descriptors", "twenty_megabytes": "outside.try_twenty_megabytes"}
+WORDS = {
+    "cases": [],
+    "try_fields": [],
+    "try_configurations": ["--count", "40"],
+    "random_sessions": ["120", "7"],
+    "failed_calls": [],
+}
+PARTS = {
+    "devices": "devices.try_devices",
+    "paths": "paths.try_paths",
+    "fifos": "fifos.try_openings",
+    "descriptors": "outside.try_descriptors",
+    "twenty_megabytes": "outside.try_twenty_megabytes",
+}
 
 
 def words_of(trial, program):
@@ -47,8 +57,9 @@ def run_part(trial, program):
 
 def last_line(trial, program, folder):
     """The last line of a trial that is run with the tools of a folder."""
-    done = subprocess.run(words_of(trial, program), cwd=folder, stdin=subprocess.DEVNULL, stdout=subprocess.PIPE,
-                          stderr=subprocess.STDOUT)
+    done = subprocess.run(
+        words_of(trial, program), cwd=folder, stdin=subprocess.DEVNULL, stdout=subprocess.PIPE, stderr=subprocess.STDOUT
+    )
     return done.stdout.decode("utf-8", "replace").rstrip("\n").rpartition("\n")[2]
 
 

@@ -19,25 +19,25 @@ from tools.lib.tally import Tally, difference, program_of, run, side_by_side, wa
 
 
 def write(path, text):
-    with open(path, 'wb') as file:
+    with open(path, "wb") as file:
         file.write(text)
 
 
 def make_session(seed, number, folder):
     """Writes the files of a session and gives its words."""
-    pick = random.Random('%d %d' % (seed, number))
+    pick = random.Random("%d %d" % (seed, number))
     bad = pick.choice([0, 0, 0, 0.1, 0.5])
-    config = os.path.join(folder, b'conf')
+    config = os.path.join(folder, b"conf")
     write(config, random_configuration(pick, folder, bad))
-    for name, text in zip((b'old', b'new'), random_pair(pick)):
+    for name, text in zip((b"old", b"new"), random_pair(pick)):
         if pick.random() < 0.99:
             write(os.path.join(folder, name), text)
-    return random_words(pick, config if pick.random() < 0.99 else config + b'x', bad)
+    return random_words(pick, config if pick.random() < 0.99 else config + b"x", bad)
 
 
 def try_session(program, seed, number, top):
     """The status that is wanted of a session, and what is not as wanted."""
-    folder = os.path.join(top, b'%d' % number)
+    folder = os.path.join(top, b"%d" % number)
     os.mkdir(folder)
     words = make_session(seed, number, folder)
     want = wanted(words)
@@ -45,17 +45,17 @@ def try_session(program, seed, number, top):
     if not faults:
         shutil.rmtree(folder)
     else:
-        faults.append('its files are in %s, its words are %r' % (os.fsdecode(folder), words))
+        faults.append("its files are in %s, its words are %r" % (os.fsdecode(folder), words))
     return want.status, faults
 
 
 def try_sessions(program, seed, numbers, jobs, tally):
     """Tries so many sessions; the files of those that went wrong are kept. Gives how many wanted which status."""
-    top = tempfile.mkdtemp(prefix='sessions-').encode()
+    top = tempfile.mkdtemp(prefix="sessions-").encode()
     statuses = collections.Counter()
     results = side_by_side(jobs, lambda number: try_session(program, seed, number, top), numbers)
     for number, (status, faults) in zip(numbers, results):
-        tally.add('seed %d, session %d' % (seed, number), faults)
+        tally.add("seed %d, session %d" % (seed, number), faults)
         statuses[status] += 1
     if not os.listdir(top):
         os.rmdir(top)
@@ -63,19 +63,19 @@ def try_sessions(program, seed, numbers, jobs, tally):
 
 
 def main():
-    parser = argparse.ArgumentParser(description='Compares the program with the definitions over random sessions.')
-    parser.add_argument('program')
-    parser.add_argument('count', nargs='?', type=int, default=1000)
-    parser.add_argument('seed', nargs='?', type=int, default=random.SystemRandom().randrange(10**9))
-    parser.add_argument('--jobs', type=int, default=2, help='how many sessions at a time')
-    parser.add_argument('--first', type=int, default=0, help='the number of the first session')
+    parser = argparse.ArgumentParser(description="Compares the program with the definitions over random sessions.")
+    parser.add_argument("program")
+    parser.add_argument("count", nargs="?", type=int, default=1000)
+    parser.add_argument("seed", nargs="?", type=int, default=random.SystemRandom().randrange(10**9))
+    parser.add_argument("--jobs", type=int, default=2, help="how many sessions at a time")
+    parser.add_argument("--first", type=int, default=0, help="the number of the first session")
     given = parser.parse_args()
-    print('seed %d' % given.seed, flush=True)
+    print("seed %d" % given.seed, flush=True)
     tally, numbers = Tally(), range(given.first, given.first + given.count)
     statuses = try_sessions(program_of(given.program), given.seed, numbers, given.jobs, tally)
-    print('by status: %s' % ', '.join('%d: %d' % known for known in sorted(statuses.items())))
+    print("by status: %s" % ", ".join("%d: %d" % known for known in sorted(statuses.items())))
     tally.end()
 
 
-if __name__ == '__main__':
+if __name__ == "__main__":
     main()

@@ -17,23 +17,38 @@ from tools.oracle.session import CONFIGURATION_WORDS, Answer
 from tools.program.real_files.folder import NEW, OLD, Folder
 from tools.lib.tally import Tally, difference, program_of, run, shown, wanted
 
-DIFFERENT = b'AIDE found differences between the two databases.\n'
-SAME = b'AIDE found NO differences between the two databases.\n'
-ACCEPTED = Answer(b'', b'', 0)
+DIFFERENT = b"AIDE found differences between the two databases.\n"
+SAME = b"AIDE found NO differences between the two databases.\n"
+ACCEPTED = Answer(b"", b"", 0)
 
 # An entry in which nothing but the owner changed: the details have a further line only if one is forced.
-OWNED = b'@@begin_db\n@@db_spec name attr perm size uid\n/c 44 100644 10 %d\n@@end_db\n'
-FORCED_LINES = {'Perm': b'  Perm      : 0644 ', 'Size': b'  Size      : 10 '}
+OWNED = b"@@begin_db\n@@db_spec name attr perm size uid\n/c 44 100644 10 %d\n@@end_db\n"
+FORCED_LINES = {"Perm": b"  Perm      : 0644 ", "Size": b"  Size      : 10 "}
 
 # What random texts are refused for: in so many configurations each of these has to come.
 ENOUGH = 1000
-EXPECTED = {CONFIGURATION_WORDS[kind] for kind in (
-    'BadDirective', 'LeftOut', 'StrayElse', 'StrayEndif', 'MissingEndif', 'BadName', 'UnknownAttribute', 'BadExpression',
-    'BadValue', 'BadUrl', 'BadLine', 'NoOldDatabase', 'NoNewDatabase')}
+EXPECTED = {
+    CONFIGURATION_WORDS[kind]
+    for kind in (
+        "BadDirective",
+        "LeftOut",
+        "StrayElse",
+        "StrayEndif",
+        "MissingEndif",
+        "BadName",
+        "UnknownAttribute",
+        "BadExpression",
+        "BadValue",
+        "BadUrl",
+        "BadLine",
+        "NoOldDatabase",
+        "NoNewDatabase",
+    )
+}
 
 
 def refusal(said):
-    return Answer(b'', b'aide: %s\n' % said.encode(), 17)
+    return Answer(b"", b"aide: %s\n" % said.encode(), 17)
 
 
 class Trials:
@@ -42,23 +57,23 @@ class Trials:
     def __init__(self, program, folder, tally):
         self.program, self.folder, self.tally = program, folder, tally
 
-    def words(self, flag, text, before=b'', after=b''):
-        self.folder.write('conf', text)
-        return [flag, b'-c', self.folder.at('conf'), b'-B', before, b'-A', after]
+    def words(self, flag, text, before=b"", after=b""):
+        self.folder.write("conf", text)
+        return [flag, b"-c", self.folder.at("conf"), b"-B", before, b"-A", after]
 
     def check(self, label, words, want):
         """The program and the definitions answer what is wanted."""
         self.tally.check(label, run(self.program, words), want)
-        self.tally.add('the definitions at ' + label, difference(wanted(words), want))
+        self.tally.add("the definitions at " + label, difference(wanted(words), want))
 
-    def compared(self, text, before=b'', after=b''):
+    def compared(self, text, before=b"", after=b""):
         """The words that compare the databases of the folder."""
-        named = b'database_in=file:%s/old\ndatabase_new=file:%s/new\n' % (self.folder.path, self.folder.path)
-        return self.words(b'-E', text, named + before, after)
+        named = b"database_in=file:%s/old\ndatabase_new=file:%s/new\n" % (self.folder.path, self.folder.path)
+        return self.words(b"-E", text, named + before, after)
 
     def pair(self, old, new):
-        self.folder.write('old', old)
-        self.folder.write('new', new)
+        self.folder.write("old", old)
+        self.folder.write("new", new)
 
     def sets(self, label, texts, different, same):
         """What three texts answer to two different databases, and to the same one twice."""
@@ -66,38 +81,38 @@ class Trials:
         self.pair(OLD, NEW)
         self.check(label, self.compared(text, before, after), different)
         self.pair(OLD, OLD)
-        self.check(label + ', the same database', self.compared(text, before, after), same)
+        self.check(label + ", the same database", self.compared(text, before, after), same)
 
 
 def try_refused(trials):
     for line, said, text in refused.ALL + limits.REFUSED:
-        trials.check(shown(text), trials.words(b'-D', text), refusal('config:%d: %s' % (line, said)))
-    for flag, rows in ((b'-D', refused.CHECKED_TEXTS), (b'-E', refused.COMPARED_TEXTS)):
+        trials.check(shown(text), trials.words(b"-D", text), refusal("config:%d: %s" % (line, said)))
+    for flag, rows in ((b"-D", refused.CHECKED_TEXTS), (b"-E", refused.COMPARED_TEXTS)):
         for said, before, text, after in rows:
             trials.check(shown(text), trials.words(flag, text, before, after), refusal(said))
 
 
 def try_limits(trials):
     for text in limits.ACCEPTED:
-        trials.check(shown(text), trials.words(b'-D', text), ACCEPTED)
+        trials.check(shown(text), trials.words(b"-D", text), ACCEPTED)
     for text in limits.WHOLE:
-        trials.tally.check(shown(text), run(trials.program, trials.words(b'-D', text)), ACCEPTED)
+        trials.tally.check(shown(text), run(trials.program, trials.words(b"-D", text)), ACCEPTED)
 
 
 def quiet_texts():
     """All that set `report_quiet`, as three texts."""
     alone = accepted.QUIET + [front + line + back for front, back in accepted.AROUND for line in accepted.PASSED_OVER]
-    return [(b'', text, b'') for text in alone] + accepted.QUIET_TEXTS
+    return [(b"", text, b"") for text in alone] + accepted.QUIET_TEXTS
 
 
 def try_accepted(trials):
     trials.pair(OLD, NEW)
-    usual = run(trials.program, trials.compared(b''))
-    trials.check('a configuration of no lines', trials.compared(b''), usual)
+    usual = run(trials.program, trials.compared(b""))
+    trials.check("a configuration of no lines", trials.compared(b""), usual)
     for texts in quiet_texts():
         trials.sets(shown(texts[1]), texts, usual, ACCEPTED)
     for text in accepted.MINIMAL:
-        trials.sets(shown(text), (b'', text, b''), Answer(DIFFERENT, b'', 7), Answer(SAME, b'', 0))
+        trials.sets(shown(text), (b"", text, b""), Answer(DIFFERENT, b"", 7), Answer(SAME, b"", 0))
 
 
 def try_forced(trials):
@@ -106,7 +121,7 @@ def try_forced(trials):
         words = trials.compared(text)
         answer = run(trials.program, words)
         forced = [other for other, line in FORCED_LINES.items() if line in answer.output]
-        trials.tally.add(shown(text), [] if forced == [name] else ['forced are %r' % forced])
+        trials.tally.add(shown(text), [] if forced == [name] else ["forced are %r" % forced])
         trials.check(shown(text), words, answer)
 
 
@@ -116,23 +131,26 @@ def try_random(trials, seed, count):
     trials.pair(OLD, NEW)
     for number in range(count):
         before, text, after = random_texts(seed, number)
-        label = 'seed %d, texts %d' % (seed, number)
-        for words in (trials.words(b'-D', text, before, after), trials.words(b'-E', text, before, after),
-                      trials.compared(text, before, after)):
+        label = "seed %d, texts %d" % (seed, number)
+        for words in (
+            trials.words(b"-D", text, before, after),
+            trials.words(b"-E", text, before, after),
+            trials.compared(text, before, after),
+        ):
             want = wanted(words)
             trials.tally.check(label, run(trials.program, words), want)
-            seen[want.errors.decode().strip().rpartition(': ')[2]] += 1
+            seen[want.errors.decode().strip().rpartition(": ")[2]] += 1
     if count >= ENOUGH:
-        trials.tally.add('what was seen', ['never: ' + words for words in sorted(EXPECTED - set(seen))])
+        trials.tally.add("what was seen", ["never: " + words for words in sorted(EXPECTED - set(seen))])
 
 
 def main():
-    parser = argparse.ArgumentParser(description='Tries the program over configurations.')
-    parser.add_argument('program')
-    parser.add_argument('--count', type=int, default=ENOUGH, help='how many random configurations')
-    parser.add_argument('--seed', type=int, default=random.SystemRandom().randrange(10**9))
+    parser = argparse.ArgumentParser(description="Tries the program over configurations.")
+    parser.add_argument("program")
+    parser.add_argument("--count", type=int, default=ENOUGH, help="how many random configurations")
+    parser.add_argument("--seed", type=int, default=random.SystemRandom().randrange(10**9))
     given = parser.parse_args()
-    print('seed %d' % given.seed, flush=True)
+    print("seed %d" % given.seed, flush=True)
     with Folder() as folder:
         trials = Trials(program_of(given.program), folder, Tally())
         try_refused(trials)
@@ -143,5 +161,5 @@ def main():
     trials.tally.end()
 
 
-if __name__ == '__main__':
+if __name__ == "__main__":
     main()

@@ -16,17 +16,17 @@ from tools.oracle.texts import printed
 from tools.program.real_files.folder import Folder
 from tools.lib.tally import Tally, difference, program_of, shown
 
-ALL_DETAILS = b'report_level=added_removed_entries\nreport_base16=yes\n'
-CHANGED_DETAILS = b'report_level=changed_attributes\n'
-NOTHING = b'@@begin_db\n@@db_spec name\n@@end_db\n'
+ALL_DETAILS = b"report_level=added_removed_entries\nreport_base16=yes\n"
+CHANGED_DETAILS = b"report_level=changed_attributes\n"
+NOTHING = b"@@begin_db\n@@db_spec name\n@@end_db\n"
 
 # A line of the details: the name of the attribute, or nothing where a value goes on, and the values of both sides.
-LINE = re.compile(rb'^  (.{10})(?:: |  )(.{32}) \| (.*)$', re.MULTILINE)
+LINE = re.compile(rb"^  (.{10})(?:: |  )(.{32}) \| (.*)$", re.MULTILINE)
 
 
 def database(column, field):
     """A database of one entry with a path and another field."""
-    return b'@@begin_db\n@@db_spec name %s\n/a %s\n@@end_db\n' % (column, field)
+    return b"@@begin_db\n@@db_spec name %s\n/a %s\n@@end_db\n" % (column, field)
 
 
 def details(output):
@@ -34,8 +34,8 @@ def details(output):
     found, name = {}, None
     for label, old, new in LINE.findall(output):
         name = label.decode().strip() or name
-        values = found.get(name, (b'', b''))
-        found[name] = tuple(value + more.rstrip(b' ') for value, more in zip(values, (old, new)))
+        values = found.get(name, (b"", b""))
+        found[name] = tuple(value + more.rstrip(b" ") for value, more in zip(values, (old, new)))
     return found
 
 
@@ -49,40 +49,40 @@ class Trials:
         """The program's answer to two databases, which the definitions have to give too."""
         self.folder.pair(old, new, options)
         answer = self.folder.run(self.program)
-        self.tally.add('the definitions at ' + label, difference(answer, self.folder.wanted()))
+        self.tally.add("the definitions at " + label, difference(answer, self.folder.wanted()))
         return answer
 
     def added(self, column, field):
         """The values in the details of an added entry."""
         answer = self.answer(shown(field), NOTHING, database(column, field))
-        self.tally.add(shown(field), [] if answer.status == 1 else ['status %d' % answer.status])
+        self.tally.add(shown(field), [] if answer.status == 1 else ["status %d" % answer.status])
         return {name: new for name, (_, new) in details(answer.output).items()}
 
     def check(self, field, given, want):
-        self.tally.add(shown(field), [] if given == want else ['wanted %r, given %r' % (want, given)])
+        self.tally.add(shown(field), [] if given == want else ["wanted %r, given %r" % (want, given)])
 
 
 def try_values(trials):
     for column, field, name, value in field_rows.NUMBERS:
         trials.check(field, trials.added(column, field).get(name), value.encode())
     for field, value in field_rows.TYPES:
-        trials.check(field, trials.added(b'perm', field).get('Type'), value and value.encode())
+        trials.check(field, trials.added(b"perm", field).get("Type"), value and value.encode())
     for field, name in field_rows.LINKS:
-        trials.check(field, trials.added(b'lname', field).get('Lname'), name)
+        trials.check(field, trials.added(b"lname", field).get("Lname"), name)
     for column, field, length, first, last in field_rows.DIGESTS:
         (text,) = trials.added(column, field).values()
         value = bytes.fromhex(text.decode())
         trials.check(field, (len(value), value[0], value[-1]), (length, first, last))
         trials.check(field, value, base64.b64decode(field))
-        trials.check(field, trials.added(column, b'0'), {})
+        trials.check(field, trials.added(column, b"0"), {})
 
 
 def try_names(trials):
     for field, path in field_rows.NAMES:
-        text = b'@@begin_db\n@@db_spec name acl\n%s POSIX,0\n@@end_db\n' % field
+        text = b"@@begin_db\n@@db_spec name acl\n%s POSIX,0\n@@end_db\n" % field
         answer = trials.answer(shown(field), NOTHING, text)
-        trials.check(field, re.findall(rb'^\?\+{17}: (.*)$', answer.output, re.MULTILINE), [printed(path)])
-        trials.check(field, details(answer.output), {'ACL': (b'', b'POSIX,0')})
+        trials.check(field, re.findall(rb"^\?\+{17}: (.*)$", answer.output, re.MULTILINE), [printed(path)])
+        trials.check(field, details(answer.output), {"ACL": (b"", b"POSIX,0")})
 
 
 def try_lacking(trials):
@@ -94,7 +94,7 @@ def try_lacking(trials):
 def try_pairs(trials):
     """What has changed from a field to another. An attribute that only one side has is no change of a value."""
     for column, old, new, changed in field_rows.PAIRS:
-        both = old + b' ' + new
+        both = old + b" " + new
         answer = trials.answer(shown(both), database(column, old), database(column, new), CHANGED_DETAILS)
         trials.check(both, list(details(answer.output)), changed)
 
@@ -108,13 +108,13 @@ def try_entries(trials):
 def try_refused(trials):
     for column, field, words in field_rows.REFUSED:
         answer = trials.answer(shown(field), NOTHING, database(column, field))
-        want = Answer(b'', b'aide: new database:3: %s in column 2\n' % words.encode(), 24)
+        want = Answer(b"", b"aide: new database:3: %s in column 2\n" % words.encode(), 24)
         trials.tally.check(shown(field), answer, want)
 
 
 def main():
-    parser = argparse.ArgumentParser(description='Tries what the program makes of the fields of a database.')
-    parser.add_argument('program')
+    parser = argparse.ArgumentParser(description="Tries what the program makes of the fields of a database.")
+    parser.add_argument("program")
     given = parser.parse_args()
     with Folder() as folder:
         trials = Trials(program_of(given.program), folder, Tally())
@@ -123,5 +123,5 @@ def main():
     trials.tally.end()
 
 
-if __name__ == '__main__':
+if __name__ == "__main__":
     main()

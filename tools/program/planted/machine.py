@@ -32,8 +32,11 @@ PLANTED = [
     changed("arguments of more than 4,096 bytes left out", "paths", words="[word for word in words if len(word) <= 4096]"),
     changed("blanks at the ends of arguments left out", "paths", words="[word.strip() for word in words]"),
     changed("a first -- left out", "paths", words="words[1:] if words[:1] == [b'--'] else words"),
-    changed("a byte that is no UTF-8 taken for a question mark", "paths",
-            words="[word.decode('utf-8', 'replace').replace(chr(0xfffd), '?').encode() for word in words]"),
+    changed(
+        "a byte that is no UTF-8 taken for a question mark",
+        "paths",
+        words="[word.decode('utf-8', 'replace').replace(chr(0xfffd), '?').encode() for word in words]",
+    ),
     changed("both sides open the old path", "cases", calls="old path for both"),
     changed("a path cut at its first blank", "paths", calls="path cut at a blank"),
     changed("a relative configuration refused", "paths", calls="relative refused"),
@@ -81,7 +84,16 @@ def planted_around(plant, program, folder):
         environment = {"LD_PRELOAD": os.fsdecode(library), "AROUND": plant.calls}
     path = os.path.join(folder, "planted")
     with open(path, "w", encoding="utf-8") as file:
-        file.write(SCRIPT.format(python=PYTHON, words=plant.words, environment=environment, streams=plant.streams,
-                                 execute=plant.status == "status", program=repr(program), status=plant.status))
+        file.write(
+            SCRIPT.format(
+                python=PYTHON,
+                words=plant.words,
+                environment=environment,
+                streams=plant.streams,
+                execute=plant.status == "status",
+                program=repr(program),
+                status=plant.status,
+            )
+        )
     os.chmod(path, 0o755)
     return os.fsencode(path)

@@ -11,13 +11,17 @@ from .folder import NEW, OLD, Folder, names
 from .watch import Watch
 
 MEGABYTE, GIGABYTE = 2**20, 2**30
-MINIMAL = b'report_level=minimal\n'
-NO_MEMORY, NOT_WRITTEN = b'aide: out of memory\n', b'aide: cannot write the report\n'
-TOO_LARGE = b'aide: the configuration is longer than 4194304 bytes\n'
-DEVICES = [('old', '/dev/zero', b'line too long'), ('new', '/dev/zero', b'line too long'),
-           ('old', '/dev/full', b'line too long'), ('old', '/dev/null', b'no @@begin_db')]
+MINIMAL = b"report_level=minimal\n"
+NO_MEMORY, NOT_WRITTEN = b"aide: out of memory\n", b"aide: cannot write the report\n"
+TOO_LARGE = b"aide: the configuration is longer than 4194304 bytes\n"
+DEVICES = [
+    ("old", "/dev/zero", b"line too long"),
+    ("new", "/dev/zero", b"line too long"),
+    ("old", "/dev/full", b"line too long"),
+    ("old", "/dev/null", b"no @@begin_db"),
+]
 QUICK = 2
-KINDS = RIGHT, TOLD, UNBORN = 'right', 'told', 'unborn'
+KINDS = RIGHT, TOLD, UNBORN = "right", "told", "unborn"
 JOBS = 2
 # Limits of memory in kB: the steps in which the range is looked for, the last one, and the steps through the range.
 COARSE, MOST_MEMORY, PAGE = 64, 16 * 1024, 4
@@ -31,14 +35,14 @@ def limited(what, most):
 def is_unborn(answer, has_opened):
     """Whether the system could not start the program: it ended before it opened a file, and not by its own words."""
     is_ended = answer.status < 0 or answer.status in (126, 127)
-    return not has_opened and is_ended and answer.output == b'' and not answer.errors.startswith(b'aide: ')
+    return not has_opened and is_ended and answer.output == b"" and not answer.errors.startswith(b"aide: ")
 
 
 def kind_of(answer, want, has_opened):
     """What less memory has led to: the right answer, want of memory, no start, or else what it was."""
     if answer == want:
         return RIGHT
-    if answer == Answer(b'', NO_MEMORY, 22):
+    if answer == Answer(b"", NO_MEMORY, 22):
         return TOLD
     return UNBORN if is_unborn(answer, has_opened) else repr(answer)
 
@@ -49,8 +53,8 @@ def kinds_in_turn(program, limits):
         folder.pair()
         want, kinds = folder.wanted(), {}
         for most in limits:
-            with Watch(folder.at('conf')) as watch:
-                answer = run(b'/bin/sh', [b'-c', LIMITED, b'%d' % most, program] + folder.words())
+            with Watch(folder.at("conf")) as watch:
+                answer = run(b"/bin/sh", [b"-c", LIMITED, b"%d" % most, program] + folder.words())
                 kinds[most] = kind_of(answer, want, watch.has_opened())
         return kinds
 
@@ -69,20 +73,20 @@ def try_memory(program, tally):
     fine = kinds_by_limit(program, range(born - COARSE, works + COARSE, PAGE))
     for kinds in (coarse, fine):
         for most, kind in sorted(kinds.items()):
-            tally.add('little memory', [] if kind in KINDS else ['%d kB gave %s' % (most, kind)])
+            tally.add("little memory", [] if kind in KINDS else ["%d kB gave %s" % (most, kind)])
     seen = set(KINDS) & set(fine.values())
-    tally.add('little memory, all answers', [] if len(seen) == len(KINDS) else ['saw only %r' % (seen,)])
+    tally.add("little memory, all answers", [] if len(seen) == len(KINDS) else ["saw only %r" % (seen,)])
 
 
 def try_descriptors(program, tally):
     """So few descriptors that not both databases can be open: of four, three are taken."""
     with Folder() as folder:
         folder.pair()
-        few = Answer(b'', b'aide: cannot open the new database %s\n' % folder.at('new'), 18)
+        few = Answer(b"", b"aide: cannot open the new database %s\n" % folder.at("new"), 18)
         for most in range(4, 9):
             want = few if most == 4 else folder.wanted()
             answer = folder.run(program, preexec_fn=limited(resource.RLIMIT_NOFILE, most))
-            tally.check('few descriptors', answer, want)
+            tally.check("few descriptors", answer, want)
 
 
 def try_file_sizes(program, tally, step=1):
@@ -91,13 +95,14 @@ def try_file_sizes(program, tally, step=1):
         folder.pair()
         want = folder.wanted()
         for most in [*range(0, len(want.output), step), len(want.output)]:
-            with open(folder.at('out'), 'wb') as out:
-                answer = folder.run(program, stdout=out, restore_signals=False,
-                                    preexec_fn=limited(resource.RLIMIT_FSIZE, most))
-            with open(folder.at('out'), 'rb') as out:
+            with open(folder.at("out"), "wb") as out:
+                answer = folder.run(
+                    program, stdout=out, restore_signals=False, preexec_fn=limited(resource.RLIMIT_FSIZE, most)
+                )
+            with open(folder.at("out"), "rb") as out:
                 given = Answer(out.read(), answer.errors, answer.status)
             whole = most == len(want.output)
-            tally.check('a file of little room', given, want if whole else Answer(want.output[:most], NOT_WRITTEN, 18))
+            tally.check("a file of little room", given, want if whole else Answer(want.output[:most], NOT_WRITTEN, 18))
 
 
 def try_pipes(program, tally):
@@ -106,14 +111,15 @@ def try_pipes(program, tally):
         folder.pair(OLD, names(30000))
         want = folder.wanted()
         for most in (1, 100, 4096, 65536, 100000):
-            process = subprocess.Popen([program] + folder.words(), stdin=subprocess.DEVNULL, stdout=subprocess.PIPE,
-                                       stderr=subprocess.PIPE)
+            process = subprocess.Popen(
+                [program] + folder.words(), stdin=subprocess.DEVNULL, stdout=subprocess.PIPE, stderr=subprocess.PIPE
+            )
             front = process.stdout.read(most)
             process.stdout.close()
             errors = process.stderr.read()
             process.stderr.close()
             given = Answer(front, errors, process.wait())
-            tally.check('a pipe whose reader goes', given, Answer(want.output[:most], NOT_WRITTEN, 18))
+            tally.check("a pipe whose reader goes", given, Answer(want.output[:most], NOT_WRITTEN, 18))
 
 
 def try_devices(program, tally):
@@ -123,12 +129,12 @@ def try_devices(program, tally):
             folder.pair()
             os.unlink(folder.at(name))
             os.symlink(device, folder.at(name))
-            line = b'aide: %s database:1: %s\n' % (name.encode(), words)
-            tally.check('a device as a database', folder.run(program), (b'', line, 24))
+            line = b"aide: %s database:1: %s\n" % (name.encode(), words)
+            tally.check("a device as a database", folder.run(program), (b"", line, 24))
             os.unlink(folder.at(name))
         folder.pair()
-        answer = run(program, [b'-E', b'-c', b'/dev/zero'])
-        tally.check('a device as a configuration', answer, (b'', TOO_LARGE, 17))
+        answer = run(program, [b"-E", b"-c", b"/dev/zero"])
+        tally.check("a device as a configuration", answer, (b"", TOO_LARGE, 17))
 
 
 def sparse(folder, name, front, size):
@@ -140,50 +146,49 @@ def sparse(folder, name, front, size):
 def try_long_lines(program, tally):
     """Sparse files of 2 GB that have one line, in which a line that is too long is found soon."""
     with Folder() as folder:
-        begun = b'@@begin_db\n@@db_spec name\n'
-        for front, line in ((b'', 1), (begun, 3), (begun + b'/a', 3), (b'@@begin_db\n#', 2)):
+        begun = b"@@begin_db\n@@db_spec name\n"
+        for front, line in ((b"", 1), (begun, 3), (begun + b"/a", 3), (b"@@begin_db\n#", 2)):
             folder.pair(options=MINIMAL)
-            sparse(folder, 'old', front, 2 * GIGABYTE)
+            sparse(folder, "old", front, 2 * GIGABYTE)
             started = time.monotonic()
             answer = folder.run(program)
-            tally.check('a line of 2 GB', answer, (b'', b'aide: old database:%d: line too long\n' % line, 24))
-            tally.add('a line of 2 GB, soon', [] if time.monotonic() - started < QUICK else ['took long'])
+            tally.check("a line of 2 GB", answer, (b"", b"aide: old database:%d: line too long\n" % line, 24))
+            tally.add("a line of 2 GB, soon", [] if time.monotonic() - started < QUICK else ["took long"])
 
 
 def try_twenty_megabytes(program, tally):
     """A database of 20 MB, most of it comments, whose last entry is compared and whose whole is hashed."""
-    comments = (b'#' * 999999 + b'\n') * 20
+    comments = (b"#" * 999999 + b"\n") * 20
     with Folder() as folder:
         for old, new in ((OLD, NEW), (NEW, OLD)):
-            long = new[:-len(b'@@end_db\n')] + comments + b'/z 36 100644 1\n@@end_db\n'
-            folder.pair(old, long, b'report_level=database_attributes\n')
-            tally.check('a new database of 20 MB', folder.run(program), folder.wanted())
-            folder.pair(long, old, b'report_level=database_attributes\n')
-            tally.check('an old database of 20 MB', folder.run(program), folder.wanted())
+            long = new[: -len(b"@@end_db\n")] + comments + b"/z 36 100644 1\n@@end_db\n"
+            folder.pair(old, long, b"report_level=database_attributes\n")
+            tally.check("a new database of 20 MB", folder.run(program), folder.wanted())
+            folder.pair(long, old, b"report_level=database_attributes\n")
+            tally.check("an old database of 20 MB", folder.run(program), folder.wanted())
 
 
 def try_large_files(program, tally):
     """Sparse files of 2 GB, which are read whole or as far as a configuration may reach."""
     with Folder() as folder:
         folder.pair(NEW, NEW, MINIMAL)
-        sparse(folder, 'old', NEW, 2 * GIGABYTE)
+        sparse(folder, "old", NEW, 2 * GIGABYTE)
         answer = folder.run(program, preexec_fn=limited(resource.RLIMIT_AS, 64 * MEGABYTE))
-        tally.check('2 GB behind the end', answer, (b'AIDE found NO differences between the two databases.\n', b'', 0))
-        sparse(folder, 'conf', b'', 2 * GIGABYTE)
+        tally.check("2 GB behind the end", answer, (b"AIDE found NO differences between the two databases.\n", b"", 0))
+        sparse(folder, "conf", b"", 2 * GIGABYTE)
         answer = folder.run(program, preexec_fn=limited(resource.RLIMIT_AS, 64 * MEGABYTE))
-        tally.check('a configuration of 2 GB', answer, (b'', TOO_LARGE, 17))
+        tally.check("a configuration of 2 GB", answer, (b"", TOO_LARGE, 17))
 
 
 def try_surroundings(program, tally):
     """No environment, no standard input, a working folder that is gone."""
     with Folder() as folder:
         folder.pair()
-        gone = folder.at('gone')
+        gone = folder.at("gone")
         os.mkdir(gone)
-        tally.check('other surroundings', folder.run(program, env={}), folder.wanted())
-        tally.check('other surroundings', folder.run(program, preexec_fn=lambda: os.close(0)), folder.wanted())
-        tally.check('other surroundings', folder.run(program, cwd=gone, preexec_fn=lambda: os.rmdir(gone)),
-                    folder.wanted())
+        tally.check("other surroundings", folder.run(program, env={}), folder.wanted())
+        tally.check("other surroundings", folder.run(program, preexec_fn=lambda: os.close(0)), folder.wanted())
+        tally.check("other surroundings", folder.run(program, cwd=gone, preexec_fn=lambda: os.rmdir(gone)), folder.wanted())
 
 
 def try_quickly(program, tally):

@@ -8,12 +8,12 @@ from tools.lib.tally import wanted
 from .folder import Folder
 
 RUNS, ENTRIES = 150, 3000
-CHANGED = [b'aide: the old database changed while it was read\n', b'aide: the new database changed while it was read\n']
+CHANGED = [b"aide: the old database changed while it was read\n", b"aide: the new database changed while it was read\n"]
 
 
 def database(size):
-    entries = b''.join(b'/%05d %d\n' % (number, size) for number in range(ENTRIES))
-    return b'@@begin_db\n@@db_spec name size\n' + entries + b'@@end_db\n'
+    entries = b"".join(b"/%05d %d\n" % (number, size) for number in range(ENTRIES))
+    return b"@@begin_db\n@@db_spec name size\n" + entries + b"@@end_db\n"
 
 
 class Turning:
@@ -38,14 +38,14 @@ class Turning:
 
 
 def replace(folder, name, text):
-    folder.write('next', text)
-    os.replace(folder.at('next'), folder.at(name))
+    folder.write("next", text)
+    os.replace(folder.at("next"), folder.at(name))
 
 
 def resize(folder, name, text):
     """Makes a file that holds the front of a text, or more than it, hold just this text, in one step."""
     size = os.path.getsize(folder.at(name))
-    with open(folder.at(name), 'ab', buffering=0) as file:
+    with open(folder.at(name), "ab", buffering=0) as file:
         if size > len(text):
             file.truncate(len(text))
         else:
@@ -67,18 +67,26 @@ def try_runs(program, tally, label, folder, steps, answers):
         for _ in range(RUNS):
             answer = folder.run(program)
             is_told = answer.status == 18 and answer.errors in CHANGED
-            seen.add('whole' if answer in answers else 'told' if is_told else 'neither')
-            tally.add(label, [] if answer in answers or is_told else ['gave %.600r' % (answer,)])
-    tally.add('such changes, told at all', [] if 'told' in seen else ['none was told'])
+            seen.add("whole" if answer in answers else "told" if is_told else "neither")
+            tally.add(label, [] if answer in answers or is_told else ["gave %.600r" % (answer,)])
+    tally.add("such changes, told at all", [] if "told" in seen else ["none was told"])
 
 
 def try_replaced(program, tally):
     """Each run either tells that a database changed, or gives one of the reports of whole databases, nothing between."""
-    for label, way in (('a database replaced during the run', replace),
-                       ('a database that grows and shrinks during the run', resize)):
-        for name in ('old', 'new'):
+    for label, way in (
+        ("a database replaced during the run", replace),
+        ("a database that grows and shrinks during the run", resize),
+    ):
+        for name in ("old", "new"):
             with Folder() as folder:
-                texts = [database(1), database(1) + b'more\n'] if way is resize else [database(1), database(2)]
-                folder.pair(database(1), database(1), b'report_level=list_entries\n')
-                try_runs(program, tally, label, folder, [lambda text=text: way(folder, name, text) for text in texts],
-                         whole_answers(folder, name, texts))
+                texts = [database(1), database(1) + b"more\n"] if way is resize else [database(1), database(2)]
+                folder.pair(database(1), database(1), b"report_level=list_entries\n")
+                try_runs(
+                    program,
+                    tally,
+                    label,
+                    folder,
+                    [lambda text=text: way(folder, name, text) for text in texts],
+                    whole_answers(folder, name, texts),
+                )

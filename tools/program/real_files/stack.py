@@ -14,15 +14,15 @@ STACK = 64 * 1024
 
 def try_stack(program, tally):
     """Every stored session, and the examples at each level, with 64 kB of stack, the arguments among them."""
-    settings = {'preexec_fn': limited(resource.RLIMIT_STACK, STACK), 'env': {}}
+    settings = {"preexec_fn": limited(resource.RLIMIT_STACK, STACK), "env": {}}
     for path in cases.all_cases():
         case = cases.read(path)
         with tempfile.TemporaryDirectory() as folder:
             folder = os.fsencode(folder)
             answer = cases.answers_in(case, folder, lambda words: run(program, words, **settings))
-            tally.check('%s with little stack' % os.path.relpath(path, cases.FOLDER), answer, cases.stored(case, folder))
+            tally.check("%s with little stack" % os.path.relpath(path, cases.FOLDER), answer, cases.stored(case, folder))
     for folder in folders_of_aide():
         for level in LEVELS:
-            words = words_at(folder, 'report_level=' + level)
-            label = '%s at %s with little stack' % (os.path.relpath(folder, EXAMPLES), level)
+            words = words_at(folder, "report_level=" + level)
+            label = "%s at %s with little stack" % (os.path.relpath(folder, EXAMPLES), level)
             tally.check(label, run(program, words, **settings), run(program, words))

@@ -15,7 +15,7 @@ class Watch:
     def __enter__(self):
         self.events = SYSTEM.inotify_init1(os.O_NONBLOCK)
         if self.events < 0 or SYSTEM.inotify_add_watch(self.events, self.path, IS_OPENED) < 0:
-            raise OSError(ctypes.get_errno(), 'inotify')
+            raise OSError(ctypes.get_errno(), "inotify")
         return self
 
     def __exit__(self, *_):
