@@ -134,9 +134,7 @@ CONFIGURATION = [
     Case("a comment behind a bool", PAIR + RULES + "report_quiet=no # yes\n", 4, 17),
     Case("a comment behind an expression", PAIR + RULES + "report_force_attrs=s # x\n", 17, 17),
     Case("a comment behind a path", PAIR.rstrip() + " # new\n" + RULES, 4, 18),
-    Case(
-        "a comment behind report_url", PAIR + RULES + "report_url=stdout # here\nreport_ignore_changed_attrs=s\n", 4, 0
-    ),
+    Case("a comment behind report_url", PAIR + RULES + "report_url=stdout # here\nreport_ignore_changed_attrs=s\n", 4, 0),
     Case("lines that end in CR LF", (PAIR + RULES).replace("\n", "\r\n"), 4, 18),
     Case("@@ifdef HOSTNAME", PAIR + RULES + "@@ifdef HOSTNAME\nreport_ignore_changed_attrs=s\n@@endif\n", 4, 4),
     Case("a variable in an expression", PAIR + RULES + "@@define X s\nreport_ignore_changed_attrs=@@{X}\n", 17, 0),
@@ -404,9 +402,7 @@ DATABASES = [
         their_text=r": /x\\134123\n",
         our_text=r": /x\\134123\n",
     ),
-    Case(
-        "the digests of the databases", PAIR + RULES, 4, 4, their_text=r"(?s)\A(?!.*SHA256)", our_text=r"\n  SHA256    : "
-    ),
+    Case("the digests of the databases", PAIR + RULES, 4, 4, their_text=r"(?s)\A(?!.*SHA256)", our_text=r"\n  SHA256    : "),
     Case("a database with CR LF", PAIR + RULES, 2, 24, A, A.replace("\n", "\r\n")),
     Case("no column attr", PAIR + RULES, 4, 4, database("name size", "/a 1"), database("name size", "/a 2")),
     Case("another order", PAIR + RULES, 0, 24, A, database("name attr size", "/b 32 2", "/a 32 1")),
@@ -455,7 +451,7 @@ class Trial(Tally):
             cwd=self.folder,
             stdin=subprocess.DEVNULL,
             stderr=subprocess.PIPE,
-            **dict({"stdout": subprocess.PIPE}, **more)
+            **dict({"stdout": subprocess.PIPE}, **more),
         )
         return done.returncode, (done.stdout or b"").decode(errors="replace"), done.stderr.decode(errors="replace")
 
@@ -514,9 +510,7 @@ def try_order(trial):
         for number in range(20):
             open(tree + b"/" + name + b"-%d" % number, "w").close()
     for workers in (0, 1, 4):
-        paths = [
-            unquote_to_bytes(line.split(b" ")[0]) for line in scan(trial, "R\nnum_workers=%d" % workers, "order.db")
-        ]
+        paths = [unquote_to_bytes(line.split(b" ")[0]) for line in scan(trial, "R\nnum_workers=%d" % workers, "order.db")]
         trial.holds(
             "AIDE writes path order, %d workers" % workers,
             len(paths) > 300 and paths == sorted(paths, key=lambda path: path.split(b"/")),

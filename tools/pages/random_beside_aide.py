@@ -84,8 +84,12 @@ def options(chance):
     """Random options of the report, as a map."""
     some = lambda: "+".join(chance.sample(NAMES, chance.randrange(1, 4)))
     chosen = {"report_level": chance.choice(LEVELS)}
-    for name in ("report_ignore_added_attrs", "report_ignore_removed_attrs", "report_ignore_changed_attrs",
-                 "report_force_attrs"):
+    for name in (
+        "report_ignore_added_attrs",
+        "report_ignore_removed_attrs",
+        "report_ignore_changed_attrs",
+        "report_force_attrs",
+    ):
         if chance.random() < 0.4:
             chosen[name] = some()
     for name in ("report_grouped", "report_base16"):
@@ -141,8 +145,7 @@ def letter_is_told(slot, theirs, ours, ignored, removed, kind):
 
 
 def compare_entry(path, theirs, ours, chosen, partial, tally, label):
-    ignored = {LETTERS[name] for key in chosen if key.startswith("report_ignore")
-               for name in chosen[key].split("+")}
+    ignored = {LETTERS[name] for key in chosen if key.startswith("report_ignore") for name in chosen[key].split("+")}
     removed = chosen.get("report_ignore_removed_attrs", "").split("+")
     kind = "one side only" if path in partial else ""
     if theirs == ours:

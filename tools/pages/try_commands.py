@@ -43,8 +43,11 @@ def try_one(sandbox, display, row):
 
 def main():
     parser = parser_of("tools.pages.try_commands", __doc__)
-    parser.add_argument("--with-rt", action="store_true",
-                        help="also what needs the kit's `rt`: README's first command, by `rt try` (one to three minutes), and `rt version`")
+    parser.add_argument(
+        "--with-rt",
+        action="store_true",
+        help="also what needs the kit's `rt`: README's first command, by `rt try` (one to three minutes), and `rt version`",
+    )
     add_program(parser)
     given = parser.parse_args()
     sandbox = Sandbox(given.program, given.with_rt)

@@ -24,9 +24,20 @@ CONF_PAGE = os.path.join(HERE, "man", "aide-compare.conf.5")
 SLOTS = "YlZbpugamcinHAXSEC"
 # Pages of other programs that the pages name.
 OTHER_PAGES = [
-    "man1/aide.1", "man1/gzip.1", "man1/logger.1", "man1/lsattr.1", "man1/sort.1", "man1/ssh.1",
-    "man1/xargs.1", "man1/zcat.1", "man2/gethostname.2", "man5/aide.conf.5", "man8/logcheck.8",
-    "man8/rsyslogd.8", "man8/sendmail.8", "man8/cron.8"
+    "man1/aide.1",
+    "man1/gzip.1",
+    "man1/logger.1",
+    "man1/lsattr.1",
+    "man1/sort.1",
+    "man1/ssh.1",
+    "man1/xargs.1",
+    "man1/zcat.1",
+    "man2/gethostname.2",
+    "man5/aide.conf.5",
+    "man8/logcheck.8",
+    "man8/rsyslogd.8",
+    "man8/sendmail.8",
+    "man8/cron.8",
 ]
 
 
@@ -193,12 +204,8 @@ def try_directives(trial, page):
 
 
 def attributes_of(page):
-    rows = re.findall(
-        r"^\.It Li (\S+) Ta (\S+) Ta (\S+) Ta (\S+) Ta (\S+)$", between(page, "attributes", "attributes"), re.M
-    )
-    return [
-        (name, column, None if bit == "-" else int(bit), letter, detail) for name, column, bit, letter, detail in rows
-    ]
+    rows = re.findall(r"^\.It Li (\S+) Ta (\S+) Ta (\S+) Ta (\S+) Ta (\S+)$", between(page, "attributes", "attributes"), re.M)
+    return [(name, column, None if bit == "-" else int(bit), letter, detail) for name, column, bit, letter, detail in rows]
 
 
 def try_forms(column):
@@ -264,18 +271,14 @@ def try_attributes(trial, page):
     for row in rows:
         try_attribute(trial, row)
     columns = sorted({row[1] for row in rows})
-    everything = database(
-        "name attr " + " ".join(columns), "/f 0 " + " ".join(try_forms(column)[0] for column in columns)
-    )
+    everything = database("name attr " + " ".join(columns), "/f 0 " + " ".join(try_forms(column)[0] for column in columns))
     changed = database(
         "name attr " + " ".join(columns),
         "/f %d %s" % (2**12 - 2, " ".join(try_forms(column)[1] for column in columns)),
     )
     full = everything.replace("/f 0 ", "/f %d " % (2**12 - 2)).replace(" 100644", " 40644")
     details = trial.compare(full, changed)[1]
-    order = re.findall(
-        r"^  (\S+) *: .* \| ", details.split("Detailed information")[1].split("The attributes of")[0], re.M
-    )
+    order = re.findall(r"^  (\S+) *: .* \| ", details.split("Detailed information")[1].split("The attributes of")[0], re.M)
     trial.holds("order of the details", order == [row[4] for row in rows], order)
 
 
@@ -312,9 +315,7 @@ def try_groups(trial, page):
 
 PAIR = (
     database("name attr perm size sha256", "/b 36 40755 4096 0", "/c 36 100644 10 0"),
-    database(
-        "name attr perm size sha256", "/a 36 100644 5 0", "/c 36 100600 7 47DEQpj8HBSa+/TImW+5JCeuQeRkm5NMpJWZG3hSuFU="
-    ),
+    database("name attr perm size sha256", "/a 36 100644 5 0", "/c 36 100600 7 47DEQpj8HBSa+/TImW+5JCeuQeRkm5NMpJWZG3hSuFU="),
 )
 
 
@@ -332,9 +333,7 @@ def try_reports(trial, page):
         got = "".join(line.rstrip() + "\n" for line in output.replace(trial.folder, "/var/lib/aide").splitlines())
         trial.holds("report at " + level, (status, got, errors) == (7, wanted, ""), "\n" + got)
     status, output, errors = trial.compare(PAIR[0], PAIR[0], options="report_level=minimal\n")
-    trial.holds(
-        "no differences", (status, output) == (0, "AIDE found NO differences between the two databases.\n"), output
-    )
+    trial.holds("no differences", (status, output) == (0, "AIDE found NO differences between the two databases.\n"), output)
     trial.holds("report_quiet", trial.compare(PAIR[0], PAIR[0], options="report_quiet=yes\n") == (0, "", ""))
     output = trial.compare(*PAIR, options="report_grouped=no\nreport_summarize_changes=no\n")[1]
     trial.holds(
@@ -396,9 +395,7 @@ def try_faults(trial, page):
     """Each line of DIAGNOSTICS is one that the program writes."""
     named = [
         unescaped(words).strip('"')
-        for words in re.findall(
-            r"^\.It Li (.*)$", section(page, "Faults of the configuration", "Ss").split(".Ss")[0], re.M
-        )
+        for words in re.findall(r"^\.It Li (.*)$", section(page, "Faults of the configuration", "Ss").split(".Ss")[0], re.M)
     ]
     trial.holds("faults of the configuration", len(named) == 17, len(named))
     for words in named:
@@ -466,9 +463,7 @@ def try_lines(trial, page):
         (done.returncode, done.stdout, done.stderr) == (22, b"", b"aide: out of memory\n"),
         done,
     )
-    trial.holds(
-        "no configuration", trial.run("-D", "-c", "/nope") == (18, "", "aide: cannot read the configuration /nope\n")
-    )
+    trial.holds("no configuration", trial.run("-D", "-c", "/nope") == (18, "", "aide: cannot read the configuration /nope\n"))
     got = trial.run("-D", "-c", trial.folder)
     trial.holds("a folder", got == (18, "", "aide: cannot read the configuration %s\n" % trial.folder), got)
     trial.holds("the file -", trial.run("-D", "-c", "-") == (18, "", "aide: cannot read the configuration -\n"))
@@ -502,9 +497,7 @@ def try_lines(trial, page):
     os.write(writer, PAIR[0].encode())
     os.close(writer)
     text = "database_in=file:/dev/stdin\ndatabase_new=file:%s\n" % trial.path("new.db")
-    done = subprocess.run(
-        [trial.program, "-E", "-c", trial.write("conf", text)], stdin=reader, capture_output=True, text=True
-    )
+    done = subprocess.run([trial.program, "-E", "-c", trial.write("conf", text)], stdin=reader, capture_output=True, text=True)
     os.close(reader)
     trial.holds(
         "a pipe",
@@ -531,12 +524,8 @@ def try_texts(trial, page):
     trial.holds("the file wins over -B", lines("-B", "report_level=minimal") == 7)
     trial.holds("report_url=stdout", lines("-B", "report_level=minimal\nreport_url=stdout") == 1)
     trial.holds("behind report_url=stdout", lines("-A", "report_url=stdout\nreport_level=minimal") == 7)
-    trial.holds(
-        "the last database_in", trial.run("-E", "-c", conf, "-A", "database_in=file:" + trial.path("new.db"))[0] == 0
-    )
-    trial.holds(
-        "the first database_in", trial.run("-E", "-c", conf, "-B", "database_in=file:" + trial.path("new.db"))[0] == 7
-    )
+    trial.holds("the last database_in", trial.run("-E", "-c", conf, "-A", "database_in=file:" + trial.path("new.db"))[0] == 0)
+    trial.holds("the first database_in", trial.run("-E", "-c", conf, "-B", "database_in=file:" + trial.path("new.db"))[0] == 7)
     status, output, errors = trial.run("-D", "-c", conf, "-B", "@@ifdef A", "-A", "@@endif")
     trial.holds("a block over two texts", (status, errors) == (17, "aide: before:2: missing @@endif\n"), errors)
 

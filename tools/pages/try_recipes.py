@@ -34,10 +34,17 @@ PARTS = {
 
 def arguments():
     parser = parser_of("tools.pages.try_recipes", __doc__)
-    parser.add_argument("--with-packages", action="store_true",
-                        help="also what needs Debian's packages: AIDE, slurm-wlm, nagios4, cron, openssh-server, ansible-core; as root, with daemons on 127.0.0.1 that are stopped at the end")
-    parser.add_argument("--shell", default="", metavar="INTERPRETER",
-                        help="the job of cron begins with this instead of /bin/sh, for example \"/bin/busybox sh\"")
+    parser.add_argument(
+        "--with-packages",
+        action="store_true",
+        help="also what needs Debian's packages: AIDE, slurm-wlm, nagios4, cron, openssh-server, ansible-core; as root, with daemons on 127.0.0.1 that are stopped at the end",
+    )
+    parser.add_argument(
+        "--shell",
+        default="",
+        metavar="INTERPRETER",
+        help='the job of cron begins with this instead of /bin/sh, for example "/bin/busybox sh"',
+    )
     parser.add_argument("--only", choices=PARTS, help="only this part")
     add_program(parser)
     return parser.parse_args()

@@ -16,8 +16,11 @@ HOST = STORE + "/hosts/www/aide.db"
 
 def faults_in(errors):
     """The lines on standard error that say more than which databases were read, and how many lines were sorted."""
-    return [line for line in errors.splitlines()
-            if not re.match("aide-compare-(run: (old|new) database: |sort: (moved |AIDE itself writes))", line)]
+    return [
+        line
+        for line in errors.splitlines()
+        if not re.match("aide-compare-(run: (old|new) database: |sort: (moved |AIDE itself writes))", line)
+    ]
 
 
 def nothing(sandbox, found):
@@ -91,12 +94,24 @@ def has_lists(sandbox, done):
     """A page without script, of the entries that were added or removed."""
     text = sandbox.read("/tmp/page.html")
     found = ["<code>%s</code>" % name in text for name in "abc"]
-    sandbox.holds("the lists", not done[1] and not faults_in(done[2]) and "<script" not in text and found[2] is False and any(found), done)
+    sandbox.holds(
+        "the lists",
+        not done[1] and not faults_in(done[2]) and "<script" not in text and found[2] is False and any(found),
+        done,
+    )
 
 
 def put_logs(sandbox):
     """Files of which some change on every day, and some must not."""
-    paths = ["/etc/passwd", "/srv/mail", "/srv/mail/inbox", "/srv/mail/queue/1", "/var/log", "/var/log/dpkg.log", "/var/log/syslog"]
+    paths = [
+        "/etc/passwd",
+        "/srv/mail",
+        "/srv/mail/inbox",
+        "/srv/mail/queue/1",
+        "/var/log",
+        "/var/log/dpkg.log",
+        "/var/log/syslog",
+    ]
     texts = [HEAD + "".join("%s 100644 %d MA== 1\n" % (path, size) for path in paths) + "@@end_db\n" for size in (1, 2)]
     sandbox.fill(*texts)
 
@@ -183,7 +198,9 @@ def has_brief(sandbox, done):
 
 
 def has_page_of_reasons(sandbox, done):
-    sandbox.holds("lines and page", '"left_out"' in sandbox.read("/tmp/lines") and "</html>" in sandbox.read("/tmp/page.html"), done)
+    sandbox.holds(
+        "lines and page", '"left_out"' in sandbox.read("/tmp/lines") and "</html>" in sandbox.read("/tmp/page.html"), done
+    )
 
 
 def try_alarms(sandbox, text):

@@ -27,7 +27,13 @@ class Commands(Row):
     def __init__(self, page, key, statuses, look=expectations.nothing, prepare=None, folder="/tmp", given=None, needs=None):
         super().__init__(page, key)
         self.statuses, self.look, self.prepare, self.folder, self.given, self.needs = (
-            statuses, look, prepare, folder, given, needs)
+            statuses,
+            look,
+            prepare,
+            folder,
+            given,
+            needs,
+        )
 
     def work(self, sandbox, display):
         if self.needs and not sandbox.has(self.needs):
@@ -87,84 +93,206 @@ class FirstAnswer(Commands):
         super().work(sandbox, display)
 
 
-LEVELS = ["minimal", "summary", "database_attributes", "list_entries", "changed_attributes", "added_removed_attributes",
-          "added_removed_entries"]
+LEVELS = [
+    "minimal",
+    "summary",
+    "database_attributes",
+    "list_entries",
+    "changed_attributes",
+    "added_removed_attributes",
+    "added_removed_entries",
+]
 ROWS = [
-    Commands("man/aide-compare-accept.1", "Accept by the digest in a report or in a mail:", [0], expectations.is_accepted,
-             prepare=expectations.put_examples),
-    Commands("man/aide-compare-accept.1", "Keep the records of packages for a baseline that aideinit has made:", [0],
-             expectations.prints("packages: dpkg's records of now are kept as "), prepare=expectations.put_examples),
+    Commands(
+        "man/aide-compare-accept.1",
+        "Accept by the digest in a report or in a mail:",
+        [0],
+        expectations.is_accepted,
+        prepare=expectations.put_examples,
+    ),
+    Commands(
+        "man/aide-compare-accept.1",
+        "Keep the records of packages for a baseline that aideinit has made:",
+        [0],
+        expectations.prints("packages: dpkg's records of now are kept as "),
+        prepare=expectations.put_examples,
+    ),
     Commands("man/aide-compare-html.1", "A page of the differences between two databases:", [0], expectations.has_page),
     Commands("man/aide-compare-html.1", "Lists for mail, of what was added or removed:", [0], expectations.has_lists),
     Commands(JSON, "The paths of all entries that were added:", [0], expectations.prints("/a\n"), needs="jq"),
     Commands(JSON, "Where, when and what, for an event that has to stand alone:", [0], expectations.has_events, needs="jq"),
-    Commands(JSON, "All files whose new permissions let everybody write them:", [0], expectations.prints("/2\n/3\n/6\n/7\n"),
-             prepare=expectations.put_json, given="/tmp/lines.json", needs="jq"),
+    Commands(
+        JSON,
+        "All files whose new permissions let everybody write them:",
+        [0],
+        expectations.prints("/2\n/3\n/6\n/7\n"),
+        prepare=expectations.put_json,
+        given="/tmp/lines.json",
+        needs="jq",
+    ),
     Commands("man/aide-compare-log.1", "EXAMPLES", [0], expectations.is_logged, prepare=expectations.compare),
-    Commands("man/aide-compare-mail.1", "Compare the databases that AIDE's configuration names. ...", [7],
-             expectations.is_mailed("root", False)),
-    Commands("man/aide-compare-mail.1", "The same for another reader, with a page:", [7],
-             expectations.is_mailed("security@example.org", True)),
-    Commands("man/aide-compare-mail.1", "Mail only what nothing explains, and each Monday how many changes were explained:", [7],
-             expectations.is_mailed("root", False)),
+    Commands(
+        "man/aide-compare-mail.1",
+        "Compare the databases that AIDE's configuration names. ...",
+        [7],
+        expectations.is_mailed("root", False),
+    ),
+    Commands(
+        "man/aide-compare-mail.1",
+        "The same for another reader, with a page:",
+        [7],
+        expectations.is_mailed("security@example.org", True),
+    ),
+    Commands(
+        "man/aide-compare-mail.1",
+        "Mail only what nothing explains, and each Monday how many changes were explained:",
+        [7],
+        expectations.is_mailed("root", False),
+    ),
     Commands("man/aide-compare-metrics.1", "Write the metrics after each comparison:", [7, 0], expectations.has_metrics),
     Shown("man/aide-compare-metrics.1", "Rules for alarms, in a file of rules for Prometheus. ...", expectations.try_alarms),
-    Shown("man/aide-compare-metrics.1", "A rule that is silent if every change is explained. ...", expectations.try_quiet_alarm),
+    Shown(
+        "man/aide-compare-metrics.1", "A rule that is silent if every change is explained. ...", expectations.try_quiet_alarm
+    ),
     Commands(RUN, "Compare two files:", [7], expectations.has_summary),
-    Commands(RUN, "Compare the databases that AIDE's configuration names, and write the result for the check ...", [7],
-             expectations.has_state),
+    Commands(
+        RUN,
+        "Compare the databases that AIDE's configuration names, and write the result for the check ...",
+        [7],
+        expectations.has_state,
+    ),
     Commands(RUN, "Ask only whether there is a difference:", [7], expectations.is_minimal),
     Commands(RUN, "Show the difference, but not that of access times and inodes:", [7], expectations.lists("/a", "/b", "/c")),
-    Commands(RUN, "Leave out what changes on every quiet day of a Debian with AIDE's stock rules. ...", [0, 0, 4],
-             expectations.leaves_out("/var/log/syslog", 2, "/etc/aide-compare/without, line "), prepare=expectations.put_logs),
-    Commands(RUN, "Leave out one folder with all that lies below:", [4],
-             expectations.leaves_out("/srv/mail", 3, "--without-path"), prepare=expectations.put_logs),
-    Commands(RUN, "Explain the changes by the packages that were upgraded since the baseline was accepted, ...", [7],
-             expectations.has_brief),
+    Commands(
+        RUN,
+        "Leave out what changes on every quiet day of a Debian with AIDE's stock rules. ...",
+        [0, 0, 4],
+        expectations.leaves_out("/var/log/syslog", 2, "/etc/aide-compare/without, line "),
+        prepare=expectations.put_logs,
+    ),
+    Commands(
+        RUN,
+        "Leave out one folder with all that lies below:",
+        [4],
+        expectations.leaves_out("/srv/mail", 3, "--without-path"),
+        prepare=expectations.put_logs,
+    ),
+    Commands(
+        RUN,
+        "Explain the changes by the packages that were upgraded since the baseline was accepted, ...",
+        [7],
+        expectations.has_brief,
+    ),
     Commands(RUN, "Make a page that says which changes are explained, ...", [7, 0], expectations.has_page_of_reasons),
     Commands(RUN, "Compare a database that comes from another host, of at most one gibibyte:", [7], expectations.has_summary),
     Commands("man/aide-compare-sort.1", "Sort a database and compare it with the baseline:", [0, 7], expectations.has_summary),
-    Commands(MAIN, "Compare the two databases that AIDE has left on Debian, compressed or not:", [7], expectations.has_summary),
+    Commands(
+        MAIN, "Compare the two databases that AIDE has left on Debian, compressed or not:", [7], expectations.has_summary
+    ),
     Commands(MAIN, "The same by hand, where only you can read the unpacked copies:", [0, 0, 0, 7], expectations.is_private),
-    Commands(MAIN, "With a configuration that names the databases, ask only whether there is a difference:", [7],
-             expectations.is_minimal),
+    Commands(
+        MAIN,
+        "With a configuration that names the databases, ask only whether there is a difference:",
+        [7],
+        expectations.is_minimal,
+    ),
     Commands(MAIN, "Check a configuration:", [0], expectations.prints("good\n")),
-    Commands(MAIN, "Do not do this. A pipe cannot be read twice, ...", [18], expectations.is_refused("changed while it was read")),
+    Commands(
+        MAIN, "Do not do this. A pipe cannot be read twice, ...", [18], expectations.is_refused("changed while it was read")
+    ),
     Shown(CONF, "The configuration of aide-compare 1 ...", expectations.is_configuration([])),
     Shown(CONF, "A database is plain text, ...", expectations.is_database),
     Shown(CONF, "Report only changes of owners, modes and contents, ...", expectations.try_owners_and_modes),
     Shown(CONF, "One file for all hosts. ...", expectations.is_configuration(["--before=@@define HOST www"])),
     Shown("man/check_aide_compare.1", "The line has numbers for graphs: ...", expectations.is_line_of_check),
-    Commands("man/check_aide_compare.1", "EXAMPLES", [2], expectations.prints("AIDE CRITICAL: "), prepare=expectations.compare),
-    Commands("man/check_aide_compare.1", "CRITICAL only for a change of high severity, ...", [2], expectations.prints("AIDE CRITICAL: 4 unexplained"),
-             prepare=expectations.compare_with_reasons),
-    Commands(HOSTS, "All hosts of a file, 16 at a time:", [7], expectations.prints("www 7 added 1, removed 1, changed 2"),
-             prepare=expectations.put_baseline),
+    Commands(
+        "man/check_aide_compare.1", "EXAMPLES", [2], expectations.prints("AIDE CRITICAL: "), prepare=expectations.compare
+    ),
+    Commands(
+        "man/check_aide_compare.1",
+        "CRITICAL only for a change of high severity, ...",
+        [2],
+        expectations.prints("AIDE CRITICAL: 4 unexplained"),
+        prepare=expectations.compare_with_reasons,
+    ),
+    Commands(
+        HOSTS,
+        "All hosts of a file, 16 at a time:",
+        [7],
+        expectations.prints("www 7 added 1, removed 1, changed 2"),
+        prepare=expectations.put_baseline,
+    ),
     Commands(HOSTS, "A new host:", [0], expectations.is_first_of_host),
-    Commands(HOSTS, "The database of a report that was read becomes the baseline:", [0], expectations.is_accepted_for_host,
-             prepare=expectations.compare_host),
-    Commands(REPORT, "The changes of today, those on one host first:", [7],
-             expectations.prints("aide on 1 hosts: 1 differ, 0 not compared, 0 without differences\n\nHosts that differ:"),
-             prepare=expectations.compare_host),
-    Commands(REPORT, "What is new or changed below one folder, with all hosts that have it:", [7],
-             expectations.prints("aide on 1 hosts: 1 differ"), prepare=expectations.compare_host),
-    Commands(REPORT, "One mail for all hosts, after they were compared:", [7, 7], expectations.is_mailed_for_hosts,
-             prepare=expectations.put_baseline),
-    Shown(README, "A report of two databases that AIDE has written (`examples/small_tree`), shortened:",
-          expectations.is_shortened_report),
+    Commands(
+        HOSTS,
+        "The database of a report that was read becomes the baseline:",
+        [0],
+        expectations.is_accepted_for_host,
+        prepare=expectations.compare_host,
+    ),
+    Commands(
+        REPORT,
+        "The changes of today, those on one host first:",
+        [7],
+        expectations.prints("aide on 1 hosts: 1 differ, 0 not compared, 0 without differences\n\nHosts that differ:"),
+        prepare=expectations.compare_host,
+    ),
+    Commands(
+        REPORT,
+        "What is new or changed below one folder, with all hosts that have it:",
+        [7],
+        expectations.prints("aide on 1 hosts: 1 differ"),
+        prepare=expectations.compare_host,
+    ),
+    Commands(
+        REPORT,
+        "One mail for all hosts, after they were compared:",
+        [7, 7],
+        expectations.is_mailed_for_hosts,
+        prepare=expectations.put_baseline,
+    ),
+    Shown(
+        README,
+        "A report of two databases that AIDE has written (`examples/small_tree`), shortened:",
+        expectations.is_shortened_report,
+    ),
     FirstAnswer(README, "## First answer in a minute", [7], expectations.is_first_answer),
     Commands(README, "## Use", [7], expectations.has_summary),
-    Commands(README, "aide-compare-run OLD NEW | aide-compare-json | aide-compare-html > page.html", [0], expectations.has_page),
-    Commands(README, "man aide-compare", [0], expectations.prints("AIDE-COMPARE(1)"), prepare=expectations.set_pages, needs="man"),
-    Commands(README, "man aide-compare.conf", [0], expectations.prints("AIDE-COMPARE.CONF(5)"), prepare=expectations.set_pages,
-             needs="man"),
+    Commands(
+        README, "aide-compare-run OLD NEW | aide-compare-json | aide-compare-html > page.html", [0], expectations.has_page
+    ),
+    Commands(
+        README, "man aide-compare", [0], expectations.prints("AIDE-COMPARE(1)"), prepare=expectations.set_pages, needs="man"
+    ),
+    Commands(
+        README,
+        "man aide-compare.conf",
+        [0],
+        expectations.prints("AIDE-COMPARE.CONF(5)"),
+        prepare=expectations.set_pages,
+        needs="man",
+    ),
     WithRt(README, "rt version", [0], expectations.is_kit),
-    Commands(EXAMPLES, "Each folder has an old database, a new one, and a configuration. ...", [0, 7, 7, 7],
-             expectations.are_examples, folder="/tmp/clone"),
-    Elsewhere(README, "dpkg -i aide-compare_...", "it installs for the whole machine", "tools/packaging/installing/packages.py",
-              expectations.is_package),
-    Elsewhere(README, "From source, with ...", "it builds, and installs for the whole machine", "tools/packaging/try_install.py"),
+    Commands(
+        EXAMPLES,
+        "Each folder has an old database, a new one, and a configuration. ...",
+        [0, 7, 7, 7],
+        expectations.are_examples,
+        folder="/tmp/clone",
+    ),
+    Elsewhere(
+        README,
+        "dpkg -i aide-compare_...",
+        "it installs for the whole machine",
+        "tools/packaging/installing/packages.py",
+        expectations.is_package,
+    ),
+    Elsewhere(
+        README, "From source, with ...", "it builds, and installs for the whole machine", "tools/packaging/try_install.py"
+    ),
     Elsewhere(README, "This runs the program before anything is proved ...", "this script is a part of it", "tools/test"),
 ]
-ROWS += [Elsewhere(MAIN, "Cm %s ..." % level, "a report, which is compared level for level", "tools/pages/try_manual.py")
-         for level in LEVELS]
+ROWS += [
+    Elsewhere(MAIN, "Cm %s ..." % level, "a report, which is compared level for level", "tools/pages/try_manual.py")
+    for level in LEVELS
+]

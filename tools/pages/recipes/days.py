@@ -18,7 +18,9 @@ def put_stubs(trial):
     """The commands of the machine that the tools call: what they are given is kept."""
     os.makedirs(trial.path("/var/lib/prometheus/node-exporter"), exist_ok=True)
     trial.write("/usr/local/sbin/sendmail", '#!/bin/sh\ncat >> "%s/tmp/mailed"\n' % trial.root, 0o755)
-    trial.stub("logger", 'printf "%%s\\n" "$*" >> "%s/tmp/logged"; [ -t 0 ] || cat >> "%s/tmp/logged"' % (trial.root, trial.root))
+    trial.stub(
+        "logger", 'printf "%%s\\n" "$*" >> "%s/tmp/logged"; [ -t 0 ] || cat >> "%s/tmp/logged"' % (trial.root, trial.root)
+    )
     trial.stub("systemctl", "exit 0")
     trial.stub("chown", 'printf "%%s\\n" "$*" >> "%s/tmp/owners"' % trial.root)
     put_stub(trial)
@@ -27,7 +29,10 @@ def put_stubs(trial):
 
 def put_packages(trial, version, digests):
     """dpkg's records of a machine with one package, openssl, and the MD5 sums of its files by path."""
-    trial.write("/var/lib/dpkg/status", "Package: openssl\nStatus: install ok installed\nArchitecture: amd64\nVersion: %s\n\n" % version)
+    trial.write(
+        "/var/lib/dpkg/status",
+        "Package: openssl\nStatus: install ok installed\nArchitecture: amd64\nVersion: %s\n\n" % version,
+    )
     trial.write("/var/lib/dpkg/diversions", "")
     trial.write("/var/lib/dpkg/info/openssl.list", "/.\n" + "".join(path + "\n" for path in digests))
     trial.write("/var/lib/dpkg/info/openssl.md5sums", "".join("%s  %s\n" % (sum, path[1:]) for path, sum in digests.items()))
@@ -122,7 +127,9 @@ class Day:
         done = self.page.run("metrics")
         files = glob.glob(self.trial.path("/var/lib/prometheus/node-exporter/*.prom"))
         text = "".join(open(name).read() for name in files)
-        got = tuple(int(number) for number in re.findall(r"^aide_compare_(?:added|removed|changed)_entries (\d+)$", text, re.M))
+        got = tuple(
+            int(number) for number in re.findall(r"^aide_compare_(?:added|removed|changed)_entries (\d+)$", text, re.M)
+        )
         self.holds("metrics", done == (0, "", "") and got == (self.counts or (0, 0, 0)), (done, text))
         for name in files:
             done = self.trial.run(["cat", name], rights=NOBODY)
@@ -218,7 +225,10 @@ def accept(trial, page, counts, yesterday, today):
     that collects."""
     baseline, new = trial.path(BASELINE), trial.path(NEWEST)
     before = open(baseline, "rb").read()
-    for name, digest in (("a wrong digest", "0" * 64), ("the digest of yesterday's mail", digest_in_mail(trial, page, yesterday))):
+    for name, digest in (
+        ("a wrong digest", "0" * 64),
+        ("the digest of yesterday's mail", digest_in_mail(trial, page, yesterday)),
+    ):
         done = accept_by(trial, page, digest)
         trial.holds(name + " is refused", done[0] == 24 and open(baseline, "rb").read() == before, done)
     done = accept_by(trial, page, digest_in_mail(trial, page, today)[:16])
@@ -263,7 +273,11 @@ def ask_about_age(trial, page, name, reason):
         taken(trial, "mailed")
         done = [trial.shell(command) for command in commands]
         mail = taken(trial, "mailed") or ""
-        good = done == [(0, "", "")] * len(done) and re.search(r"^Subject: .*: no comparison \(status 18\)$", mail, re.M) and reason in mail
+        good = (
+            done == [(0, "", "")] * len(done)
+            and re.search(r"^Subject: .*: no comparison \(status 18\)$", mail, re.M)
+            and reason in mail
+        )
         trial.holds("%s: mail by %s" % (name, way), good, (done, mail))
         state = trial.read(STATE)
         good = "\nstatus=18\n" in state and re.search(r"^error=.*" + re.escape(reason), state, re.M)

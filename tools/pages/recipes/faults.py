@@ -47,8 +47,11 @@ def check_told(trial, page, name, status, reason, **more):
     trial.holds(name + ": the check", done[0] == 3 and "UNKNOWN" in done[1] and done[1].count("\n") == 1, done)
     done = page.run("metrics")
     text = trial.read("/var/lib/prometheus/node-exporter/aide-compare.prom")
-    trial.holds(name + ": metrics",
-                done[0] == 0 and re.search(r"_status %d$" % status, text, re.M) and "added" not in text.replace("1 added", ""), text)
+    trial.holds(
+        name + ": metrics",
+        done[0] == 0 and re.search(r"_status %d$" % status, text, re.M) and "added" not in text.replace("1 added", ""),
+        text,
+    )
     done, text = page.run("log"), taken(trial, "logged") or ""
     trial.holds(name + ": log", "no comparison" in text, (done, text))
 

@@ -131,9 +131,13 @@ def try_report(trial, page):
     done = asked(trial, page, "report hosts", ["report-hosts"])
     first = "aide on %d hosts: 2 differ, %d not compared, 2 without differences\n" % (len(WANTED), len(WANTED) - 4)
     trial.holds("report-hosts: how many", done[0] == 24 and done[1].startswith(first), done)
-    parts = ["added on 2 of %d hosts: File /a é\n    on other, user@other.example-1\n    Size 5, Perm 0644" % len(WANTED),
-             "changed on 2 of %d hosts: File /c\n" % len(WANTED), "\n  forged: ",
-             "\n  down: ssh: connect to host down port 22: No route to host", "\n  a b: the name of a host"]
+    parts = [
+        "added on 2 of %d hosts: File /a é\n    on other, user@other.example-1\n    Size 5, Perm 0644" % len(WANTED),
+        "changed on 2 of %d hosts: File /c\n" % len(WANTED),
+        "\n  forged: ",
+        "\n  down: ssh: connect to host down port 22: No route to host",
+        "\n  a b: the name of a host",
+    ]
     for part in parts:
         trial.holds("report-hosts: %r" % part, part in done[1], done[1])
     trial.stub("sendmail", 'cat > "%s/mail"' % trial.path("/tmp"))
@@ -259,8 +263,11 @@ def try_twice(trial):
     for run in runs:
         output = run.communicate()[0].decode()
         lines = lines_of(output)[0]
-        trial.holds("three runs at once",
-                    run.returncode == 7 and {host: lines[host][0] for host in lines} == {"same": "0", "other": "7", "zipped": "0"}, output)
+        trial.holds(
+            "three runs at once",
+            run.returncode == 7 and {host: lines[host][0] for host in lines} == {"same": "0", "other": "7", "zipped": "0"},
+            output,
+        )
     trial.holds("a database after three runs at once", trial.read(STORE + "/hosts/other/aide.db.new") == NEW)
 
 
@@ -294,7 +301,9 @@ def try_options(trial):
     compare = tool(trial, "compare-host")
     for words in (["other", "--", "-A", "report_level=minimal"], ["--conf", conf, "other"], ["--conf", conf, "other", "--"]):
         done = trial.run([compare] + words)
-        trial.holds("compare-host with options", done[0] == 7 and done[1].count("\n") == 1 and "to accept it" in done[2], (words, done))
+        trial.holds(
+            "compare-host with options", done[0] == 7 and done[1].count("\n") == 1 and "to accept it" in done[2], (words, done)
+        )
     done = trial.run([compare, "other", "same"])
     trial.holds("compare-host with two hosts", done[0] == 15 and done[2], done)
 
@@ -306,7 +315,9 @@ def try_words(trial):
         trial.holds(name + " --help", done[0] == 0 and done[1].startswith("usage: " + name) and not done[2], done)
         for words in ([], ["--nope", "x"], ["--store"], ["a", "b"]):
             done = trial.run([tool(trial, name)] + words)
-            trial.holds(name + " with wrong words", done[0] == 15 and done[2].startswith(name + ": ") and not done[1], (words, done))
+            trial.holds(
+                name + " with wrong words", done[0] == 15 and done[2].startswith(name + ": ") and not done[1], (words, done)
+            )
     for words in (["--jobs", "0"], ["--jobs", "x"], ["--share", "3/2"], ["--share", "2"], ["--same-for", "31d"]):
         done = trial.run([tool(trial, "compare-hosts")] + words + [trial.path("/tmp/one")])
         trial.holds("compare-hosts with wrong numbers", done[0] == 15, (words, done))
@@ -317,5 +328,16 @@ def try_hosts(trial, page, with_packages):
     put_hosts(trial)
     try_lines(trial)
     try_report(trial, page)
-    for part in (try_check, try_slow, try_quiet, try_first, try_stale, try_killed, try_twice, try_place, try_options, try_words):
+    for part in (
+        try_check,
+        try_slow,
+        try_quiet,
+        try_first,
+        try_stale,
+        try_killed,
+        try_twice,
+        try_place,
+        try_options,
+        try_words,
+    ):
         part(trial)

@@ -22,9 +22,7 @@ def try_packages(trial, page, with_packages):
     os.makedirs(folder)
     script = os.path.join(HERE, "tools", "pages", "recipes", "packages.sh")
     words = ["unshare"] + NAMESPACES + ["sh", script, HERE, trial.program, folder]
-    done = subprocess.run(
-        words, stdin=subprocess.DEVNULL, stdout=subprocess.PIPE, stderr=subprocess.STDOUT, timeout=SECONDS
-    )
+    done = subprocess.run(words, stdin=subprocess.DEVNULL, stdout=subprocess.PIPE, stderr=subprocess.STDOUT, timeout=SECONDS)
     output = done.stdout.decode(errors="replace")
     print(output, end="")
     lines = output.split("\n")

@@ -48,10 +48,14 @@ def try_command(trial, page):
     done = page.run("quiet")
     said = left + introduction(trial, trial.path(BASELINE), trial.path(NEWEST))
     good = done[0] == 5 and "/etc/ld.so.preload\n" in done[1] and "/etc/passwd\n" in done[1] and "/var/" not in done[1]
-    trial.holds("quiet: an intruder is reported, and the digests are of whole databases", good and done[2] == said, (done, said))
+    trial.holds(
+        "quiet: an intruder is reported, and the digests are of whole databases", good and done[2] == said, (done, said)
+    )
     os.chmod(trial.path(WITHOUT), 0o666)
     done = page.run("quiet")
-    trial.holds("quiet: a file that others can write", done[0] == 18 and not done[1] and "other users can write" in done[2], done)
+    trial.holds(
+        "quiet: a file that others can write", done[0] == 18 and not done[1] and "other users can write" in done[2], done
+    )
     os.chmod(trial.path(WITHOUT), 0o644)
 
 
@@ -174,7 +178,9 @@ def sums_of(texts):
 
 def put_night(trial, name, texts):
     """A database of files with these texts, which root owns."""
-    lines = ["%s 4156 100755 0 0 1 %s\n" % (path, base64.b64encode(sum.digest()).decode()) for path, sum in sums_of(texts).items()]
+    lines = [
+        "%s 4156 100755 0 0 1 %s\n" % (path, base64.b64encode(sum.digest()).decode()) for path, sum in sums_of(texts).items()
+    ]
     trial.write(name, gzip.compress((COLUMNS + "".join(sorted(lines)) + "@@end_db\n").encode()), 0o600)
 
 
@@ -217,8 +223,11 @@ def try_lines(trial, page):
         trial.write("/tmp/%s.db.gz" % name, gzip.compress((HEAD + "".join(sorted(lines)) + "@@end_db\n").encode()))
     done = page.run("lines")
     trial.holds("lines", done[0] == 0 and "unexplained" in done[2], done)
-    trial.holds("lines: what was left out, and the page",
-                '"left_out":{"old":3,"new":4}' in trial.read("/tmp/lines") and "</html>" in trial.read("/tmp/page.html"), trial.read("/tmp/lines")[:500])
+    trial.holds(
+        "lines: what was left out, and the page",
+        '"left_out":{"old":3,"new":4}' in trial.read("/tmp/lines") and "</html>" in trial.read("/tmp/page.html"),
+        trial.read("/tmp/lines")[:500],
+    )
 
 
 def try_quiet(trial, page, with_packages):

@@ -52,8 +52,17 @@ def entries(report):
 def try_install(trial, page):
     text = page.text("install")
     trial.holds("install: the command that was run", text == "packaging/install\n", text)
-    for name in ("aide-compare", "aide-compare-run", "aide-compare-accept", "aide-compare-mail", "aide-compare-metrics",
-                 "aide-compare-log", "aide-compare-sort", "aide-compare-json", "aide-compare-html"):
+    for name in (
+        "aide-compare",
+        "aide-compare-run",
+        "aide-compare-accept",
+        "aide-compare-mail",
+        "aide-compare-metrics",
+        "aide-compare-log",
+        "aide-compare-sort",
+        "aide-compare-json",
+        "aide-compare-html",
+    ):
         path = trial.path("/usr/local/bin/" + name)
         trial.holds("installed: " + name, os.access(path, os.X_OK))
     done = trial.run(["aide-compare", "-D", "-c", "/dev/null"])
@@ -159,7 +168,10 @@ def try_order(trial, page):
 
 def try_mail(trial, page):
     """The mail of --html has the text and the page."""
-    trial.write("/etc/aide/aide.conf", trial.below("database_in=file:/var/lib/aide/aide.db\ndatabase_new=file:/var/lib/aide/aide.db.new\n"))
+    trial.write(
+        "/etc/aide/aide.conf",
+        trial.below("database_in=file:/var/lib/aide/aide.db\ndatabase_new=file:/var/lib/aide/aide.db.new\n"),
+    )
     for name, text in (("aide.db", OLD), ("aide.db.new", NEW)):
         trial.write("/var/lib/aide/" + name, gzip.compress(text.encode()), 0o600)
     done, mail = page.run("mail"), taken(trial, "mailed") or ""

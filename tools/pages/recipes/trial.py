@@ -117,7 +117,7 @@ class Trial(Tally):
                 stderr=subprocess.PIPE,
                 preexec_fn=prepare,
                 timeout=SECONDS,
-                **more
+                **more,
             )
         except subprocess.TimeoutExpired:
             return None, "", "no end after %d seconds" % SECONDS
@@ -134,7 +134,7 @@ class Trial(Tally):
             stdin=stdin,
             stdout=subprocess.PIPE,
             stderr=subprocess.PIPE,
-            **more
+            **more,
         )
 
     def install(self):
