@@ -5,19 +5,84 @@ import hashlib
 # The columns of the forms, by the length of their lines in bytes, about. Lines of 77 bytes are those of a configuration
 # without digests. Lines of 64 short fields have 138 bytes.
 FORMS = {
-    77: ['name', 'perm', 'inode', 'mtime', 'size'],
-    138: ['name', 'attr', 'perm', 'lname', 'size', 'bcount', 'uid', 'gid', 'atime', 'mtime', 'ctime', 'inode', 'lcount',
-          'md5', 'sha1', 'sha256', 'sha512', 'rmd160', 'tiger', 'crc32', 'crc32b', 'haval', 'gost', 'whirlpool',
-          'stribog256', 'stribog512', 'sha512_256', 'sha3_256', 'sha3_512', 'acl', 'xattrs', 'selinux', 'e2fsattrs',
-          'capabilities'] + ['unknown%02d' % number for number in range(30)],
-    165: ['name', 'lname', 'attr', 'perm', 'inode', 'uid', 'gid', 'size', 'mtime', 'ctime', 'lcount', 'sha256', 'acl',
-          'xattrs'],
-    259: ['name', 'lname', 'perm', 'uid', 'gid', 'size', 'ctime', 'mtime', 'inode', 'bcount', 'lcount', 'md5', 'attr',
-          'acl', 'sha256', 'selinux', 'xattrs', 'e2fsattrs'],
+    77: ["name", "perm", "inode", "mtime", "size"],
+    138: [
+        "name",
+        "attr",
+        "perm",
+        "lname",
+        "size",
+        "bcount",
+        "uid",
+        "gid",
+        "atime",
+        "mtime",
+        "ctime",
+        "inode",
+        "lcount",
+        "md5",
+        "sha1",
+        "sha256",
+        "sha512",
+        "rmd160",
+        "tiger",
+        "crc32",
+        "crc32b",
+        "haval",
+        "gost",
+        "whirlpool",
+        "stribog256",
+        "stribog512",
+        "sha512_256",
+        "sha3_256",
+        "sha3_512",
+        "acl",
+        "xattrs",
+        "selinux",
+        "e2fsattrs",
+        "capabilities",
+    ]
+    + ["unknown%02d" % number for number in range(30)],
+    165: [
+        "name",
+        "lname",
+        "attr",
+        "perm",
+        "inode",
+        "uid",
+        "gid",
+        "size",
+        "mtime",
+        "ctime",
+        "lcount",
+        "sha256",
+        "acl",
+        "xattrs",
+    ],
+    259: [
+        "name",
+        "lname",
+        "perm",
+        "uid",
+        "gid",
+        "size",
+        "ctime",
+        "mtime",
+        "inode",
+        "bcount",
+        "lcount",
+        "md5",
+        "attr",
+        "acl",
+        "sha256",
+        "selinux",
+        "xattrs",
+        "e2fsattrs",
+    ],
 }
-ACL = 'POSIX,dXNlcjo6cnctCmdyb3VwOjpyLS0Kb3RoZXI6OnItLQo=,0'
+ACL = "POSIX,dXNlcjo6cnctCmdyb3VwOjpyLS0Kb3RoZXI6OnItLQo=,0"
 # What AIDE writes in the column `attr`, if the form has it. All attributes of the form of 138 bytes are on.
-BITS = {77: '', 138: '4095', 165: '112744996797', 259: '112744996797'}
+BITS = {77: "", 138: "4095", 165: "112744996797", 259: "112744996797"}
 
 
 class Pair:
@@ -30,7 +95,7 @@ class Pair:
 
     def openings(self, level):
         """How often a run opens each database: for two passes, and once for each list and for the details."""
-        return 2 if level == 'minimal' else 2 + self.sections
+        return 2 if level == "minimal" else 2 + self.sections
 
     def has(self, number, is_new):
         if self.added and number % self.added == 0 and not is_new:
@@ -41,16 +106,16 @@ class Pair:
 # A few of each: one entry in 1,000 is changed, and one in 10,000 on either side is alone. An upgrade gives a tenth of the
 # files new times, and a third of these other bytes.
 PAIRS = {
-    '0.1 % changed': Pair(changed=1000),
-    'a few of each': Pair(changed=1000, alone=10000, sections=4),
-    '1 % changed': Pair(changed=100),
-    '10 % changed': Pair(changed=10),
-    '100 % changed': Pair(changed=1),
-    'none changed': Pair(sections=0),
-    '10 % added': Pair(added=10),
-    '100 % added': Pair(added=1),
-    'a column more': Pair(more_columns=['capabilities'], sections=0),
-    'an upgrade': Pair(upgraded=10),
+    "0.1 % changed": Pair(changed=1000),
+    "a few of each": Pair(changed=1000, alone=10000, sections=4),
+    "1 % changed": Pair(changed=100),
+    "10 % changed": Pair(changed=10),
+    "100 % changed": Pair(changed=1),
+    "none changed": Pair(sections=0),
+    "10 % added": Pair(added=10),
+    "100 % added": Pair(added=1),
+    "a column more": Pair(more_columns=["capabilities"], sections=0),
+    "an upgrade": Pair(upgraded=10),
 }
 
 
@@ -63,21 +128,40 @@ def digest(name, text):
 
 
 def time_at(number):
-    return base64.b64encode(b'%d' % (1700000000 + number)).decode()
+    return base64.b64encode(b"%d" % (1700000000 + number)).decode()
 
 
 def fields_of(form, number, has_times, has_bytes):
     """The fields of an entry that are not `0`; the last two tell what of it is changed."""
     if form == 138:
-        return {'name': '/f%07d' % number, 'attr': BITS[form], 'perm': '644', 'size': '12'[has_bytes], 'bcount': '8',
-                'mtime': '12'[has_times], 'ctime': '12'[has_times], 'inode': str(number % 10), 'lcount': '1'}
-    path = '/usr/share/d%04d/sub%02d/file-%06d.dat' % (number // 1000, number // 50 % 20, number)
-    text = path + ('changed' if has_bytes else '')
-    return {'name': path, 'perm': '100644', 'bcount': '8', 'lcount': '1', 'attr': BITS[form],
-            'size': str(number * 7919 % 100000 + has_bytes), 'inode': str(1000000 + number),
-            'ctime': time_at(number + has_times), 'mtime': time_at(number + (has_times if form == 77 else 0)),
-            'md5': digest('md5', text), 'sha256': digest('sha256', text), 'acl': ACL if form == 259 else '0',
-            'e2fsattrs': '524288'}
+        return {
+            "name": "/f%07d" % number,
+            "attr": BITS[form],
+            "perm": "644",
+            "size": "12"[has_bytes],
+            "bcount": "8",
+            "mtime": "12"[has_times],
+            "ctime": "12"[has_times],
+            "inode": str(number % 10),
+            "lcount": "1",
+        }
+    path = "/usr/share/d%04d/sub%02d/file-%06d.dat" % (number // 1000, number // 50 % 20, number)
+    text = path + ("changed" if has_bytes else "")
+    return {
+        "name": path,
+        "perm": "100644",
+        "bcount": "8",
+        "lcount": "1",
+        "attr": BITS[form],
+        "size": str(number * 7919 % 100000 + has_bytes),
+        "inode": str(1000000 + number),
+        "ctime": time_at(number + has_times),
+        "mtime": time_at(number + (has_times if form == 77 else 0)),
+        "md5": digest("md5", text),
+        "sha256": digest("sha256", text),
+        "acl": ACL if form == 259 else "0",
+        "e2fsattrs": "524288",
+    }
 
 
 def line_of(form, columns, pair, number, is_new):
@@ -86,18 +170,18 @@ def line_of(form, columns, pair, number, is_new):
     has_bytes = is_changed or is_upgraded and number // pair.upgraded % 3 == 0
     fields = fields_of(form, number, is_changed or is_upgraded, has_bytes)
     if is_upgraded and form != 138:
-        fields['mtime'] = time_at(number + 1)
-    return ' '.join(fields.get(column, '0') for column in columns)
+        fields["mtime"] = time_at(number + 1)
+    return " ".join(fields.get(column, "0") for column in columns)
 
 
 def write_database(path, form, pair, entries, is_new):
     columns = FORMS[form] + (pair.more_columns if is_new else [])
-    with open(path, 'w') as file:
-        file.write('@@begin_db\n# This file was made by bench/databases.py\n@@db_spec %s\n' % ' '.join(columns))
+    with open(path, "w") as file:
+        file.write("@@begin_db\n# This file was made by bench/databases.py\n@@db_spec %s\n" % " ".join(columns))
         for number in range(entries):
             if pair.has(number, is_new):
-                file.write(line_of(form, columns, pair, number, is_new) + '\n')
-        file.write('@@end_db\n')
+                file.write(line_of(form, columns, pair, number, is_new) + "\n")
+        file.write("@@end_db\n")
 
 
 def write_pair(old, new, form, pair, entries):

@@ -105,8 +105,11 @@ def compare(root, jobs, hosts):
         seconds, used, memory = measured(root, words + [root + "/hosts"], target)
         target.seek(0)
         summary = target.read().strip().rsplit("\n", 1)[-1]
-    print("%3d jobs: %6.1f s, %6.0f hosts a minute, %.3f processor seconds a host, %5.0f MB; %s"
-          % (jobs, seconds, 60 * hosts / seconds, used / hosts, memory, summary), flush=True)
+    print(
+        "%3d jobs: %6.1f s, %6.0f hosts a minute, %.3f processor seconds a host, %5.0f MB; %s"
+        % (jobs, seconds, 60 * hosts / seconds, used / hosts, memory, summary),
+        flush=True,
+    )
 
 
 def report(root, form, hosts):
@@ -116,8 +119,11 @@ def report(root, form, hosts):
         size = os.fstat(target.fileno()).st_size
         target.seek(0)
         changes = sum(re.match('{"record":"change"|(added|removed|changed) on', line) is not None for line in target)
-    print("report-hosts %-6s: %6.1f s, %.4f processor seconds a host, %5.0f MB; %d changes in %.1f MB"
-          % (" ".join(form), seconds, used / hosts, memory, changes, size / 1e6), flush=True)
+    print(
+        "report-hosts %-6s: %6.1f s, %.4f processor seconds a host, %5.0f MB; %d changes in %.1f MB"
+        % (" ".join(form), seconds, used / hosts, memory, changes, size / 1e6),
+        flush=True,
+    )
 
 
 def main():
@@ -133,8 +139,10 @@ def main():
     try:
         install(root, asked.program)
         packed, plain = put_hosts(root, asked)
-        print("%d hosts, %d entries: %d bytes, %d unpacked; load %.1f"
-              % (asked.hosts, asked.entries, packed, plain, os.getloadavg()[0]))
+        print(
+            "%d hosts, %d entries: %d bytes, %d unpacked; load %.1f"
+            % (asked.hosts, asked.entries, packed, plain, os.getloadavg()[0])
+        )
         for jobs in map(int, asked.jobs.split(",")):
             compare(root, jobs, asked.hosts)
         for form in ([], ["--json"]):

@@ -31,27 +31,43 @@ import time
 
 from databases import PAIRS, write_pair
 
-DEFAULT, WHOLE = 'changed_attributes', 'added_removed_entries'
+DEFAULT, WHOLE = "changed_attributes", "added_removed_entries"
 # The pairs with the lengths of their lines, in bytes, and the levels at which they are compared.
 CASES = [
-    ('none changed', (77,), ('minimal', DEFAULT)),
-    ('0.1 % changed', (165, 259), ('minimal', DEFAULT)),
-    ('a few of each', (165, 259), (DEFAULT, WHOLE)),
-    ('1 % changed', (165,), ('minimal', DEFAULT)),
-    ('10 % changed', (77, 165, 259), ('minimal', DEFAULT)),
-    ('100 % changed', (77, 138, 165, 259), ('minimal', DEFAULT)),
-    ('10 % added', (259,), (WHOLE,)),
-    ('100 % added', (77, 259), (WHOLE,)),
-    ('a column more', (165,), ('minimal', DEFAULT)),
-    ('an upgrade', (165, 259), ('minimal', DEFAULT)),
+    ("none changed", (77,), ("minimal", DEFAULT)),
+    ("0.1 % changed", (165, 259), ("minimal", DEFAULT)),
+    ("a few of each", (165, 259), (DEFAULT, WHOLE)),
+    ("1 % changed", (165,), ("minimal", DEFAULT)),
+    ("10 % changed", (77, 165, 259), ("minimal", DEFAULT)),
+    ("100 % changed", (77, 138, 165, 259), ("minimal", DEFAULT)),
+    ("10 % added", (259,), (WHOLE,)),
+    ("100 % added", (77, 259), (WHOLE,)),
+    ("a column more", (165,), ("minimal", DEFAULT)),
+    ("an upgrade", (165, 259), ("minimal", DEFAULT)),
 ]
 # The pairs that are measured with more entries too, and those that AIDE compares.
-LARGER = ('a few of each', '100 % changed')
-WITH_AIDE = ('0.1 % changed', 'a few of each', '10 % changed', '100 % changed')
-HEADINGS = ['Pair', 'Line, bytes', 'Entries', 'Level', 'Openings', 'Instructions, millions',
-            'Instructions, times `sha256sum`', 'Processor, s', 'Time, times `sha256sum`', 'Quartiles', 'Runs',
-            'Written, MB', 'MB a second', 'MB a second, without hashing', 'AIDE, s', 'AIDE, times', 'Peak, MB']
-AIDE = shutil.which('aide')
+LARGER = ("a few of each", "100 % changed")
+WITH_AIDE = ("0.1 % changed", "a few of each", "10 % changed", "100 % changed")
+HEADINGS = [
+    "Pair",
+    "Line, bytes",
+    "Entries",
+    "Level",
+    "Openings",
+    "Instructions, millions",
+    "Instructions, times `sha256sum`",
+    "Processor, s",
+    "Time, times `sha256sum`",
+    "Quartiles",
+    "Runs",
+    "Written, MB",
+    "MB a second",
+    "MB a second, without hashing",
+    "AIDE, s",
+    "AIDE, times",
+    "Peak, MB",
+]
+AIDE = shutil.which("aide")
 PROCESSORS = sorted(os.sched_getaffinity(0))
 # One text for the program and for AIDE, which compares only the entries that a line selects.
 CONFIGURATION = """database_in=file:@@{DIR}/old
@@ -71,8 +87,7 @@ class Running:
 
     def __init__(self, words):
         self.words, self.memory, self.seconds = words, 0, None
-        self.process = subprocess.Popen(words, stdin=subprocess.DEVNULL, stdout=subprocess.DEVNULL,
-                                        stderr=subprocess.DEVNULL)
+        self.process = subprocess.Popen(words, stdin=subprocess.DEVNULL, stdout=subprocess.DEVNULL, stderr=subprocess.DEVNULL)
 
     def is_running(self):
         """Asks for the greatest memory so far (KiB) and, once the process has ended, for its processor seconds."""
@@ -82,15 +97,15 @@ class Running:
             self.process.returncode = status
             self.seconds = usage.ru_utime + usage.ru_stime
             if not os.WIFEXITED(status) or os.WEXITSTATUS(status) > 7:
-                sys.exit('%s ended with %d' % (self.words[0], status))
+                sys.exit("%s ended with %d" % (self.words[0], status))
         return not done
 
 
 def peak_of(pid):
     """The greatest memory of a running process so far in KiB, 0 where the system does not tell."""
     try:
-        with open('/proc/%d/status' % pid) as file:
-            return next((int(line.split()[1]) for line in file if line.startswith('VmHWM')), 0)
+        with open("/proc/%d/status" % pid) as file:
+            return next((int(line.split()[1]) for line in file if line.startswith("VmHWM")), 0)
     except OSError:
         return 0
 
@@ -123,23 +138,35 @@ def least_seconds(words, runs):
 
 def instructions_of(words):
     """How many instructions a command takes, as callgrind counts them."""
-    done = subprocess.run(['valgrind', '--tool=callgrind', '--callgrind-out-file=/dev/null'] + words,
-                          stdin=subprocess.DEVNULL, stdout=subprocess.DEVNULL, stderr=subprocess.PIPE, check=False)
-    found = re.search(r'I +refs: +([0-9,]+)', done.stderr.decode())
+    done = subprocess.run(
+        ["valgrind", "--tool=callgrind", "--callgrind-out-file=/dev/null"] + words,
+        stdin=subprocess.DEVNULL,
+        stdout=subprocess.DEVNULL,
+        stderr=subprocess.PIPE,
+        check=False,
+    )
+    found = re.search(r"I +refs: +([0-9,]+)", done.stderr.decode())
     if not found:
-        sys.exit('valgrind did not count the instructions of %s' % words[0])
-    return int(found[1].replace(',', ''))
+        sys.exit("valgrind did not count the instructions of %s" % words[0])
+    return int(found[1].replace(",", ""))
 
 
 def written_by(words):
     """How many bytes a command writes to its standard output."""
-    return len(subprocess.run(words, stdin=subprocess.DEVNULL, stdout=subprocess.PIPE, stderr=subprocess.DEVNULL,
-                              check=False).stdout)
+    return len(
+        subprocess.run(words, stdin=subprocess.DEVNULL, stdout=subprocess.PIPE, stderr=subprocess.DEVNULL, check=False).stdout
+    )
 
 
 def compare(executable, folder, level):
-    return [executable, '--compare', '--config', os.path.join(folder, 'conf'),
-            '--before', '@@define DIR %s\n@@define LEVEL %s' % (folder, level)]
+    return [
+        executable,
+        "--compare",
+        "--config",
+        os.path.join(folder, "conf"),
+        "--before",
+        "@@define DIR %s\n@@define LEVEL %s" % (folder, level),
+    ]
 
 
 class Row:
@@ -152,7 +179,7 @@ class Row:
 
     def measure(self, given, folder):
         program = compare(given.program, folder, self.level)
-        hashes = ['sha256sum'] + [os.path.join(folder, side) for side in ('old', 'new')] * self.openings
+        hashes = ["sha256sum"] + [os.path.join(folder, side) for side in ("old", "new")] * self.openings
         if given.instructions:
             self.instructions, self.hashed = instructions_of(program), instructions_of(hashes)
         self.written = written_by(program)
@@ -171,26 +198,37 @@ class Row:
 
     def cells(self):
         counted = self.instructions is not None
-        return [self.name, self.form, self.entries, '`%s`' % self.level, self.openings,
-                '%.1f' % (self.instructions / 1e6) if counted else '',
-                '%.2f' % (self.instructions / self.hashed) if counted else '', '%.3f' % self.seconds,
-                '%.2f' % self.ratios[1], '%.2f to %.2f' % (self.ratios[0], self.ratios[2]), len(self.runs),
-                '%.1f' % (self.written / 1e6), '%.0f' % (self.written / 1e6 / self.seconds),
-                '%.0f' % (self.written / 1e6 / self.unhashed) if self.unhashed > 0 else '',
-                '%.2f' % self.aide if self.aide else '', '%.0f' % (self.aide / self.alone) if self.aide else '',
-                '%.1f' % (self.memory / 1024)]
+        return [
+            self.name,
+            self.form,
+            self.entries,
+            "`%s`" % self.level,
+            self.openings,
+            "%.1f" % (self.instructions / 1e6) if counted else "",
+            "%.2f" % (self.instructions / self.hashed) if counted else "",
+            "%.3f" % self.seconds,
+            "%.2f" % self.ratios[1],
+            "%.2f to %.2f" % (self.ratios[0], self.ratios[2]),
+            len(self.runs),
+            "%.1f" % (self.written / 1e6),
+            "%.0f" % (self.written / 1e6 / self.seconds),
+            "%.0f" % (self.written / 1e6 / self.unhashed) if self.unhashed > 0 else "",
+            "%.2f" % self.aide if self.aide else "",
+            "%.0f" % (self.aide / self.alone) if self.aide else "",
+            "%.1f" % (self.memory / 1024),
+        ]
 
 
 def measured_rows(given, name, form, entries, levels):
     """The rows of one pair of databases, which are made first."""
     with tempfile.TemporaryDirectory(dir=given.folder) as folder:
-        write_pair(os.path.join(folder, 'old'), os.path.join(folder, 'new'), form, PAIRS[name], entries)
-        with open(os.path.join(folder, 'conf'), 'w') as file:
+        write_pair(os.path.join(folder, "old"), os.path.join(folder, "new"), form, PAIRS[name], entries)
+        with open(os.path.join(folder, "conf"), "w") as file:
             file.write(CONFIGURATION)
         for level in levels:
             row = Row(name, form, entries, level)
             row.measure(given, folder)
-            print('measured: %s, %d bytes, %d entries, %s' % (name, form, entries, level), file=sys.stderr, flush=True)
+            print("measured: %s, %d bytes, %d entries, %s" % (name, form, entries, level), file=sys.stderr, flush=True)
             yield row
 
 
@@ -204,7 +242,7 @@ def all_rows(given):
 
 def line_of_file(path, begin):
     with open(path) as file:
-        return next((line.split(':', 1)[1].strip() for line in file if line.startswith(begin)), 'unknown')
+        return next((line.split(":", 1)[1].strip() for line in file if line.startswith(begin)), "unknown")
 
 
 def output_of(*words):
@@ -212,37 +250,45 @@ def output_of(*words):
         done = subprocess.run(words, stdout=subprocess.PIPE, stderr=subprocess.STDOUT, check=False)
         return done.stdout.decode().splitlines()[0]
     except (OSError, IndexError):
-        return 'not installed'
+        return "not installed"
 
 
 def print_head(program):
-    print('Measured on %s: %s, %d processors, %s.' % (
-        datetime.date.today(), line_of_file('/proc/cpuinfo', 'model name'), os.cpu_count(), platform.platform()))
-    print('Program built with %s, %d bytes; %s; AIDE: %s.\n' % (
-        output_of('rt', 'version'), os.path.getsize(program), output_of('sha256sum', '--version'),
-        output_of('aide', '--version')))
-    print('| %s |\n|%s' % (' | '.join(HEADINGS), '---|' * len(HEADINGS)), flush=True)
+    print(
+        "Measured on %s: %s, %d processors, %s."
+        % (datetime.date.today(), line_of_file("/proc/cpuinfo", "model name"), os.cpu_count(), platform.platform())
+    )
+    print(
+        "Program built with %s, %d bytes; %s; AIDE: %s.\n"
+        % (
+            output_of("rt", "version"),
+            os.path.getsize(program),
+            output_of("sha256sum", "--version"),
+            output_of("aide", "--version"),
+        )
+    )
+    print("| %s |\n|%s" % (" | ".join(HEADINGS), "---|" * len(HEADINGS)), flush=True)
 
 
 def main():
-    parser = argparse.ArgumentParser(description='Measures the program beside sha256sum and AIDE.')
-    parser.add_argument('program')
-    parser.add_argument('--entries', type=int, default=10000, help='how many entries a database has')
-    parser.add_argument('--larger', type=int, default=100000, help='how many it has in a few rows; 0 leaves these out')
-    parser.add_argument('--seconds', type=float, default=5, help='how long each row of the program is measured')
-    parser.add_argument('--least-runs', type=int, default=3, help='how often each row is measured at least')
-    parser.add_argument('--instructions', action='store_true', help='count instructions by valgrind')
-    parser.add_argument('--aide-up-to', type=int, default=100000, help='the greatest number of entries that AIDE gets')
-    parser.add_argument('--folder', help='where the databases are made')
+    parser = argparse.ArgumentParser(description="Measures the program beside sha256sum and AIDE.")
+    parser.add_argument("program")
+    parser.add_argument("--entries", type=int, default=10000, help="how many entries a database has")
+    parser.add_argument("--larger", type=int, default=100000, help="how many it has in a few rows; 0 leaves these out")
+    parser.add_argument("--seconds", type=float, default=5, help="how long each row of the program is measured")
+    parser.add_argument("--least-runs", type=int, default=3, help="how often each row is measured at least")
+    parser.add_argument("--instructions", action="store_true", help="count instructions by valgrind")
+    parser.add_argument("--aide-up-to", type=int, default=100000, help="the greatest number of entries that AIDE gets")
+    parser.add_argument("--folder", help="where the databases are made")
     given = parser.parse_args()
     given.program = os.path.abspath(given.program)
-    if given.instructions and not shutil.which('valgrind'):
-        parser.error('--instructions needs valgrind')
+    if given.instructions and not shutil.which("valgrind"):
+        parser.error("--instructions needs valgrind")
     rows = sorted(all_rows(given), key=Row.badness, reverse=True)
     print_head(given.program)
     for row in rows:
-        print('| %s |' % ' | '.join(map(str, row.cells())))
+        print("| %s |" % " | ".join(map(str, row.cells())))
 
 
-if __name__ == '__main__':
+if __name__ == "__main__":
     main()

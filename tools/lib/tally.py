@@ -12,7 +12,7 @@ TIME_LIMIT = 120
 def file_at(path):
     """The bytes of a file of the machine, as the definitions ask for them."""
     try:
-        with open(path, 'rb') as file:
+        with open(path, "rb") as file:
             return file.read()
     except IsADirectoryError:
         return Unread
@@ -22,8 +22,12 @@ def file_at(path):
 
 def run(program, words, **streams):
     """What a program answers."""
-    done = subprocess.run([program] + words, stdin=subprocess.DEVNULL, timeout=TIME_LIMIT,
-                          **{'stdout': subprocess.PIPE, 'stderr': subprocess.PIPE, **streams})
+    done = subprocess.run(
+        [program] + words,
+        stdin=subprocess.DEVNULL,
+        timeout=TIME_LIMIT,
+        **{"stdout": subprocess.PIPE, "stderr": subprocess.PIPE, **streams},
+    )
     return Answer(done.stdout, done.stderr, done.returncode)
 
 
@@ -32,13 +36,16 @@ def wanted(words, files=file_at):
 
 
 def shown(text):
-    return '%d bytes, %.600r' % (len(text), text) if isinstance(text, bytes) else repr(text)
+    return "%d bytes, %.600r" % (len(text), text) if isinstance(text, bytes) else repr(text)
 
 
 def difference(given, want):
     """What of an answer is not as wanted, in words; nothing where all is."""
-    return ['%s: wanted %s\n    given  %s' % (name, shown(two), shown(one))
-            for name, one, two in zip(Answer._fields, given, want) if one != two]
+    return [
+        "%s: wanted %s\n    given  %s" % (name, shown(two), shown(one))
+        for name, one, two in zip(Answer._fields, given, want)
+        if one != two
+    ]
 
 
 class Tally:
@@ -50,21 +57,23 @@ class Tally:
     def add(self, label, faults):
         self.passed, self.failed = self.passed + (not faults), self.failed + bool(faults)
         for fault in faults:
-            print('%s: %s' % (label, fault), flush=True)
+            print("%s: %s" % (label, fault), flush=True)
 
     def check(self, label, got, want):
         """Counts an answer of a program, which has to be the wanted one."""
         self.add(label, difference(got, want))
 
-    def holds(self, label, good, got=''):
+    def holds(self, label, good, got=""):
         """Counts a condition; `got` is what is printed if it does not hold."""
-        self.add(label, [] if good else ['does not hold%s' % (' ' + (got if isinstance(got, str) else repr(got)))[:2000].rstrip()])
+        self.add(
+            label, [] if good else ["does not hold%s" % (" " + (got if isinstance(got, str) else repr(got)))[:2000].rstrip()]
+        )
 
     def status(self):
         """Prints the last line, and returns the status of the process. A run in which nothing was tried has failed."""
         if not self.passed + self.failed:
-            self.add('all', ['nothing was tried'])
-        print('%d passed, %d failed' % (self.passed, self.failed), flush=True)
+            self.add("all", ["nothing was tried"])
+        print("%d passed, %d failed" % (self.passed, self.failed), flush=True)
         return 1 if self.failed else 0
 
     def end(self):
@@ -82,5 +91,5 @@ def program_of(path):
     """The whole path of the program that is tried."""
     path = os.path.abspath(path)
     if not os.access(path, os.X_OK):
-        sys.exit('%s is not an executable file' % path)
+        sys.exit("%s is not an executable file" % path)
     return path.encode()

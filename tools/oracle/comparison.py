@@ -6,9 +6,9 @@ from .configuration import LEVELS
 from .database import order_of
 from .fields import FILE_TYPES
 
-SLOTS = 'YlZbpugamcinHAXSEC'
+SLOTS = "YlZbpugamcinHAXSEC"
 
-Change = namedtuple('Change', 'path old new')
+Change = namedtuple("Change", "path old new")
 
 
 def changed_in(old, new):
@@ -21,34 +21,36 @@ def added_in(old, new):
 
 def reported(old, new, settings):
     """The attributes by which an entry counts as changed."""
-    return (changed_in(old, new) - settings['report_ignore_changed_attrs']
-            | added_in(old, new) - settings['report_ignore_added_attrs']
-            | added_in(new, old) - settings['report_ignore_removed_attrs'])
+    return (
+        changed_in(old, new) - settings["report_ignore_changed_attrs"]
+        | added_in(old, new) - settings["report_ignore_added_attrs"]
+        | added_in(new, old) - settings["report_ignore_removed_attrs"]
+    )
 
 
 def is_from(level, settings):
     """Whether the report has what comes in at a level."""
-    return LEVELS.index(settings['report_level']) >= LEVELS.index(level)
+    return LEVELS.index(settings["report_level"]) >= LEVELS.index(level)
 
 
 def kind_of(change, settings):
     """Whether a path was added, removed, is changed, or none of these."""
     if change.old is None or change.new is None:
-        return 'added' if change.old is None else 'removed'
-    return 'changed' if reported(change.old, change.new, settings) else None
+        return "added" if change.old is None else "removed"
+    return "changed" if reported(change.old, change.new, settings) else None
 
 
 def shown(change, settings):
     """The attributes of an entry that its details show."""
     kind = kind_of(change, settings)
-    if kind in ('added', 'removed'):
-        return set(change.new or change.old or {}) if is_from('added_removed_entries', settings) else set()
-    if kind is None or not is_from('changed_attributes', settings):
+    if kind in ("added", "removed"):
+        return set(change.new or change.old or {}) if is_from("added_removed_entries", settings) else set()
+    if kind is None or not is_from("changed_attributes", settings):
         return set()
-    forced = {name for name in settings['report_force_attrs'] if name in change.old or name in change.new}
-    if is_from('added_removed_attributes', settings):
+    forced = {name for name in settings["report_force_attrs"] if name in change.old or name in change.new}
+    if is_from("added_removed_attributes", settings):
         return reported(change.old, change.new, settings) | forced
-    return changed_in(change.old, change.new) - settings['report_ignore_changed_attrs'] | forced
+    return changed_in(change.old, change.new) - settings["report_ignore_changed_attrs"] | forced
 
 
 def compared(old, new):
@@ -59,39 +61,39 @@ def compared(old, new):
 def type_of(change):
     """The type of an entry, the new one's first; None where it has none."""
     for entry in (change.new, change.old):
-        if entry is not None and 'ftype' in entry:
-            return entry['ftype'] >> 12
+        if entry is not None and "ftype" in entry:
+            return entry["ftype"] >> 12
     return None
 
 
 def letter_of(change):
-    return FILE_TYPES.get(type_of(change), ('?', 'Entry'))[0]
+    return FILE_TYPES.get(type_of(change), ("?", "Entry"))[0]
 
 
 def title_of(change):
-    return FILE_TYPES.get(type_of(change), ('?', 'Entry'))[1]
+    return FILE_TYPES.get(type_of(change), ("?", "Entry"))[1]
 
 
 def sign_of(slot, old, new, settings):
     """The letter of a slot for a changed entry: the first case that holds for an attribute of the slot."""
     here = {attribute.name for attribute in ATTRIBUTES if attribute.slot == slot}
     changed, added, removed = (names & here for names in (changed_in(old, new), added_in(old, new), added_in(new, old)))
-    if changed - settings['report_ignore_changed_attrs']:
-        return slot if slot != 'Z' else '<' if new['s'] < old['s'] else '>'
-    if added - settings['report_ignore_added_attrs']:
-        return '+'
-    if removed - settings['report_ignore_removed_attrs']:
-        return '-'
+    if changed - settings["report_ignore_changed_attrs"]:
+        return slot if slot != "Z" else "<" if new["s"] < old["s"] else ">"
+    if added - settings["report_ignore_added_attrs"]:
+        return "+"
+    if removed - settings["report_ignore_removed_attrs"]:
+        return "-"
     if changed or added or removed:
-        return ':'
+        return ":"
     if here & old.keys() & new.keys():
-        return '=' if slot == 'Z' else '.'
-    return ' '
+        return "=" if slot == "Z" else "."
+    return " "
 
 
 def summary_of(change, settings):
     """The eighteen letters of an entry."""
     if change.old is None or change.new is None:
-        return letter_of(change) + 17 * ('+' if change.old is None else '-')
-    first = '!' if 'ftype' in changed_in(change.old, change.new) else letter_of(change)
-    return first + ''.join(sign_of(slot, change.old, change.new, settings) for slot in SLOTS[1:])
+        return letter_of(change) + 17 * ("+" if change.old is None else "-")
+    first = "!" if "ftype" in changed_in(change.old, change.new) else letter_of(change)
+    return first + "".join(sign_of(slot, change.old, change.new, settings) for slot in SLOTS[1:])

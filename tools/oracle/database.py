@@ -7,58 +7,62 @@ from .fields import Meaningless, decoded, number_of, values_of
 from .texts import fields_of, lines_of
 
 LINE_LIMIT, BYTE_LIMIT, COLUMN_LIMIT = 1048576, 2**40, 64
-KNOWN = [b'name', b'attr'] + [attribute.column.encode() for attribute in ATTRIBUTES]
+KNOWN = [b"name", b"attr"] + [attribute.column.encode() for attribute in ATTRIBUTES]
 
-Fault = namedtuple('Fault', 'line kind column')
-Database = namedtuple('Database', 'entries skipped')
+Fault = namedtuple("Fault", "line kind column")
+Database = namedtuple("Database", "entries skipped")
 # The lines of a text that are not skipped, as (number, fields), by what they are.
-Parts = namedtuple('Parts', 'begin spec entries end')
+Parts = namedtuple("Parts", "begin spec entries end")
 
 
 def order_of(path):
     """What paths are ordered by: their pieces."""
-    return path.split(b'/')
+    return path.split(b"/")
 
 
 def parts_of(lines):
     """The first line, the second one, the lines up to the end line, and the end line, as far as they are there."""
     read = [(number, fields_of(line)) for number, line in enumerate(lines, 1)]
-    read = [(number, fields) for number, fields in read if fields and not fields[0].startswith(b'#')]
-    ends = [index for index in range(2, len(read)) if read[index][1][0] == b'@@end_db'] + [len(read)]
-    return Parts(read[:1], read[1:2], read[2:ends[0]], read[ends[0]:][:1])
+    read = [(number, fields) for number, fields in read if fields and not fields[0].startswith(b"#")]
+    ends = [index for index in range(2, len(read)) if read[index][1][0] == b"@@end_db"] + [len(read)]
+    return Parts(read[:1], read[1:2], read[2 : ends[0]], read[ends[0] :][:1])
 
 
 def is_spec(fields):
     columns = fields[1:]
     known = [column for column in columns if column in KNOWN]
-    return fields[0] == b'@@db_spec' and 1 <= len(columns) <= COLUMN_LIMIT and columns.count(b'name') == 1 \
+    return (
+        fields[0] == b"@@db_spec"
+        and 1 <= len(columns) <= COLUMN_LIMIT
+        and columns.count(b"name") == 1
         and len(set(known)) == len(known)
+    )
 
 
 def spec_fault(fields):
-    if fields[0] == b'@@db_spec':
-        return None if is_spec(fields) else 'BadSpec'
-    return 'BadDirective' if fields[0].startswith(b'@@') and fields[0] != b'@@end_db' else 'NoSpec'
+    if fields[0] == b"@@db_spec":
+        return None if is_spec(fields) else "BadSpec"
+    return "BadDirective" if fields[0].startswith(b"@@") and fields[0] != b"@@end_db" else "NoSpec"
 
 
 def path_of(columns, fields):
-    return decoded(fields[columns.index(b'name')])
+    return decoded(fields[columns.index(b"name")])
 
 
 def shape_fault(columns, fields):
     """What is wrong with an entry before its order is asked for."""
-    if fields[0].startswith(b'@@'):
-        return 'BadDirective'
+    if fields[0].startswith(b"@@"):
+        return "BadDirective"
     if len(fields) != len(columns):
-        return 'FieldCount'
-    return None if path_of(columns, fields).startswith(b'/') else 'BadName'
+        return "FieldCount"
+    return None if path_of(columns, fields).startswith(b"/") else "BadName"
 
 
 def column_fault(columns, fields):
     """The kind and the column of the first field without a meaning."""
     for number, (column, field) in enumerate(zip(columns, fields), 1):
         try:
-            if column == b'attr':
+            if column == b"attr":
                 number_of(field, 0)
             for attribute in ATTRIBUTES:
                 if attribute.column.encode() == column:
@@ -76,18 +80,18 @@ def entry_faults(columns, entries):
     greatest = list(accumulate(orders, max))
     for index, (number, fields) in enumerate(entries[:whole]):
         if index and not greatest[index - 1] < orders[index]:
-            return [Fault(number, 'OutOfOrder', None)]
+            return [Fault(number, "OutOfOrder", None)]
         fault = column_fault(columns, fields)
         if fault:
             return [Fault(number, *fault)]
-    return [Fault(number, shape, None) for number, shape in shapes[whole:whole + 1]]
+    return [Fault(number, shape, None) for number, shape in shapes[whole : whole + 1]]
 
 
 def text_faults(parts):
     """The first fault of the lines that are not skipped, as a list."""
     for number, fields in parts.begin:
-        if fields[0] != b'@@begin_db':
-            return [Fault(number, 'NoBegin', None)]
+        if fields[0] != b"@@begin_db":
+            return [Fault(number, "NoBegin", None)]
     for number, fields in parts.spec:
         fault = spec_fault(fields)
         if fault:
@@ -100,8 +104,9 @@ def line_faults(lines, limit):
     """The first line with a fault, as a list; of two in a line its length comes first."""
     parts = parts_of(lines)
     last = parts.end[0][0] if parts.end else len(lines)
-    faults = [(number, 0, Fault(number, 'LineTooLong', None))
-              for number, line in enumerate(lines[:last], 1) if len(line) > limit][:1]
+    faults = [
+        (number, 0, Fault(number, "LineTooLong", None)) for number, line in enumerate(lines[:last], 1) if len(line) > limit
+    ][:1]
     faults += [(fault.line, 1, fault) for fault in text_faults(parts)]
     return [fault for _, _, fault in sorted(faults, key=lambda known: known[:2])[:1]]
 
@@ -109,25 +114,29 @@ def line_faults(lines, limit):
 def first_fault(text, line_limit=LINE_LIMIT, byte_limit=BYTE_LIMIT):
     """The first fault of a text, None for a sound one."""
     given, is_cut = text[:byte_limit], len(text) > byte_limit
-    unfinished = given[given.rfind(b'\n') + 1:]
-    lines = lines_of(given[:len(given) - len(unfinished)] if is_cut else given)
+    unfinished = given[given.rfind(b"\n") + 1 :]
+    lines = lines_of(given[: len(given) - len(unfinished)] if is_cut else given)
     faults, parts = line_faults(lines, line_limit), parts_of(lines)
     if faults:
         return faults[0]
     if is_cut:
         is_long = not parts.end and len(unfinished) > line_limit
-        return Fault(given.count(b'\n') + 1, 'LineTooLong' if is_long else 'TooManyBytes', None)
+        return Fault(given.count(b"\n") + 1, "LineTooLong" if is_long else "TooManyBytes", None)
     if parts.end:
         return None
-    return Fault(len(lines) + 1, 'NoEnd' if parts.begin else 'NoBegin', None)
+    return Fault(len(lines) + 1, "NoEnd" if parts.begin else "NoBegin", None)
 
 
 def entry_of(columns, fields):
     """The attributes that an entry has, with their values."""
-    row = dict(zip((column.decode('latin-1') for column in columns), fields))
-    bits = number_of(row['attr'], 0) if 'attr' in row else None
-    return {attribute.name: value for attribute in ATTRIBUTES if attribute.column in row
-            for value in values_of(attribute, row[attribute.column], bits)}
+    row = dict(zip((column.decode("latin-1") for column in columns), fields))
+    bits = number_of(row["attr"], 0) if "attr" in row else None
+    return {
+        attribute.name: value
+        for attribute in ATTRIBUTES
+        if attribute.column in row
+        for value in values_of(attribute, row[attribute.column], bits)
+    }
 
 
 def database_of(text):

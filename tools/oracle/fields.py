@@ -4,17 +4,23 @@ import binascii
 import re
 
 # A sign, noughts that do not count, and the other digits.
-NUMBER = re.compile(rb'(-?)(?=[0-9])0*([0-9]*)')
-OCTAL = re.compile(rb'[0-7]+')
-ESCAPE = re.compile(rb'%([0-9A-Fa-f]{2})')
-LEAST, GREATEST, DIGITS = -2**63, 2**64 - 1, 20
+NUMBER = re.compile(rb"(-?)(?=[0-9])0*([0-9]*)")
+OCTAL = re.compile(rb"[0-7]+")
+ESCAPE = re.compile(rb"%([0-9A-Fa-f]{2})")
+LEAST, GREATEST, DIGITS = -(2**63), 2**64 - 1, 20
 TIME_LIMIT = 44
 TYPE_BITS, PERMISSION_BITS = 0o170000, 0o7777
 
 # The types of files by their bits: the letter, the title and the value in the details.
 FILE_TYPES = {
-    0o10: ('f', 'File'), 0o04: ('d', 'Directory'), 0o12: ('l', 'Link'), 0o02: ('c', 'Character device'),
-    0o06: ('b', 'Block device'), 0o01: ('p', 'FIFO'), 0o14: ('s', 'Socket')}
+    0o10: ("f", "File"),
+    0o04: ("d", "Directory"),
+    0o12: ("l", "Link"),
+    0o02: ("c", "Character device"),
+    0o06: ("b", "Block device"),
+    0o01: ("p", "FIFO"),
+    0o14: ("s", "Socket"),
+}
 
 
 class Meaningless(Exception):
@@ -28,14 +34,14 @@ def decoded(field):
 
 def number_of(field, least=LEAST):
     found = NUMBER.fullmatch(field)
-    if not found or len(found.group(2)) > DIGITS or not least <= int(found.group(1) + b'0' + found.group(2)) <= GREATEST:
-        raise Meaningless('BadNumber')
-    return int(found.group(1) + b'0' + found.group(2))
+    if not found or len(found.group(2)) > DIGITS or not least <= int(found.group(1) + b"0" + found.group(2)) <= GREATEST:
+        raise Meaningless("BadNumber")
+    return int(found.group(1) + b"0" + found.group(2))
 
 
 def mode_of(field):
     if not OCTAL.fullmatch(field) or int(field, 8) > 2**32 - 1:
-        raise Meaningless('BadNumber')
+        raise Meaningless("BadNumber")
     return int(field, 8)
 
 
@@ -51,49 +57,49 @@ def bytes_of_base64(field):
 def time_of(field):
     """Seconds, as a number or as the base64 of one."""
     text = field
-    if not (field[:1].isdigit() or field[:1] == b'-'):
+    if not (field[:1].isdigit() or field[:1] == b"-"):
         text = bytes_of_base64(field) if len(field) <= TIME_LIMIT else None
     try:
-        return number_of(text if text is not None else b'')
+        return number_of(text if text is not None else b"")
     except Meaningless:
-        raise Meaningless('BadTime') from None
+        raise Meaningless("BadTime") from None
 
 
 def digest_of(field, least, most):
     """The bytes of a digest, None where there is none."""
-    if field == b'0':
+    if field == b"0":
         return None
     value = bytes_of_base64(field)
     if value is None or not least <= len(value) <= most:
-        raise Meaningless('BadDigest')
+        raise Meaningless("BadDigest")
     return value
 
 
 def link_of(field):
     """The name that a link has, None for no link name."""
-    if field == b'0':
+    if field == b"0":
         return None
-    if field == b'0-':
-        return b''
-    return decoded(field[1:] if field.startswith(b'00') else field)
+    if field == b"0-":
+        return b""
+    return decoded(field[1:] if field.startswith(b"00") else field)
 
 
 def values_of(attribute, field, bits):
     """The value of an attribute in a list of its own, an empty list where the entry lacks it."""
     has_bit = attribute.bit is None or bits is None or bits >> attribute.bit & 1
-    if attribute.form == 'type':
+    if attribute.form == "type":
         values = [mode_of(field) & TYPE_BITS]
         return [value for value in values if value]
-    if attribute.form == 'perm':
+    if attribute.form == "perm":
         values = [mode_of(field) & PERMISSION_BITS]
-    elif attribute.form == 'number':
+    elif attribute.form == "number":
         values = [number_of(field)]
-    elif attribute.form == 'time':
+    elif attribute.form == "time":
         values = [time_of(field)]
-    elif attribute.form == 'link':
+    elif attribute.form == "link":
         values = [link_of(field)]
-    elif attribute.form == 'opaque':
-        return [field] if field != b'0' else []
+    elif attribute.form == "opaque":
+        return [field] if field != b"0" else []
     else:
         value = digest_of(field, *attribute.form)
         return [value] if value is not None else []

@@ -14,10 +14,27 @@ from tools.packaging.installing import completions, packages, targets, texts
 from tools.packaging.installing.trial import Trial
 
 # The first one installs what others look at.
-PARTS = [targets.try_targets, targets.try_shells, targets.try_again, targets.try_uninstall, targets.try_interrupted,
-         targets.try_refusals, targets.try_build, texts.try_programs, texts.try_pages, texts.try_documents,
-         texts.try_prefix, texts.try_units, texts.try_cron, texts.try_version, completions.try_files,
-         completions.try_bash, completions.try_zsh, completions.try_fish, packages.try_packages]
+PARTS = [
+    targets.try_targets,
+    targets.try_shells,
+    targets.try_again,
+    targets.try_uninstall,
+    targets.try_interrupted,
+    targets.try_refusals,
+    targets.try_build,
+    texts.try_programs,
+    texts.try_pages,
+    texts.try_documents,
+    texts.try_prefix,
+    texts.try_units,
+    texts.try_cron,
+    texts.try_version,
+    completions.try_files,
+    completions.try_bash,
+    completions.try_zsh,
+    completions.try_fish,
+    packages.try_packages,
+]
 
 
 def main():

@@ -62,8 +62,28 @@ def tracked():
 
 def is_there(name, page):
     """Whether a page may name a file so: from the top, beside the page, from a crate, from a crate's src/."""
-    folders = ["", os.path.dirname(page), "crates", "tools", "bench", "man", "contrib", "commands", "commands/bin", "crates/*", "crates/*/src",
-               "crates/*/src/*", "crates/*/proofs", "crates/*/specs", "tools/*", "tools/program/*", "tools/pages/*", "tools/commands/*", "packaging", "examples/*"]
+    folders = [
+        "",
+        os.path.dirname(page),
+        "crates",
+        "tools",
+        "bench",
+        "man",
+        "contrib",
+        "commands",
+        "commands/bin",
+        "crates/*",
+        "crates/*/src",
+        "crates/*/src/*",
+        "crates/*/proofs",
+        "crates/*/specs",
+        "tools/*",
+        "tools/program/*",
+        "tools/pages/*",
+        "tools/commands/*",
+        "packaging",
+        "examples/*",
+    ]
     # packaging/install puts the folders of contrib/ that are examples into examples/ beside the documents.
     installed = name.replace("examples/", "contrib/", 1)
     return any(glob.glob(os.path.join(TOP, folder, each)) for folder in folders for each in (name, installed))
@@ -88,7 +108,7 @@ def check_copies(page, text, tally):
 def check_promised(tally):
     found = public_specs.met(public_specs.crates())
     page = read("docs/ARCHITECTURE.md")
-    table = page[page.index("| Crate | Files of `specs/`"):].split("\n\n")[0]
+    table = page[page.index("| Crate | Files of `specs/`") :].split("\n\n")[0]
     for crate, files in re.findall(r"^\| `(\w+)` \| (.*) \|$", table, re.M):
         named = sorted(re.findall(r"`([\w.]+)`", files))
         differing = " ".join(sorted(set(named) ^ set(found.get(crate, []))))
@@ -99,7 +119,7 @@ def check_changes(tally):
     """Each kind of change in CONTRIBUTING names just the files that have the text of its example: no other file has it, and
     each file or pattern finds one that has it."""
     page = read("CONTRIBUTING.md")
-    part = page[page.index("## What a change touches"):].split("\n## ")[0]
+    part = page[page.index("## What a change touches") :].split("\n## ")[0]
     texts = {name: read_text(name) for name in tracked() if name != "CONTRIBUTING.md"}
     for literal, rows in re.findall(r"^### .*\(`([^`]+)`\)\n\n((?:[-|  ].*\n)+)", part, re.M):
         patterns = [pattern for pattern in re.findall(r"`([^`\s]+)`", rows) if "/" in pattern or pattern.endswith(".md")]
@@ -123,7 +143,7 @@ def check_clauses(tally):
     parts = re.split(r"\n### What a caller of `(\w+)` may rely on\n", read("docs/LIBRARY.md"))
     for call, part in zip(parts[1::2], parts[2::2]):
         source = read(sources[call])
-        contract = source[source.index("pub fn %s<" % call):].split("\n{\n")[0]
+        contract = source[source.index("pub fn %s<" % call) :].split("\n{\n")[0]
         for row in re.findall(r"^\| .* \| ((?:`\w+`(?:, )?)+) \|$", part, re.M):
             for clause in re.findall(r"`(\w+)`", row):
                 tally.is_so("clause", "%s of %s" % (clause, call), re.search(r"ensures %s \{" % clause, contract))

@@ -31,8 +31,7 @@ MOST_COMMENT_COLUMNS = 120
 MOST_LINES = 350
 
 IMPORT = re.compile(r"(\s*)((?:ghost )?use )(\S+)\.\{(.*)\}(;?)")
-SKIPPED = re.compile(
-    r"""//[^\n]*|/\*.*?\*/|b?"(?:\\.|[^"\\])*"|b?'(?:\\.[^']*|[^'\\\n])'""", re.S)
+SKIPPED = re.compile(r"""//[^\n]*|/\*.*?\*/|b?"(?:\\.|[^"\\])*"|b?'(?:\\.[^']*|[^'\\\n])'""", re.S)
 OPENING, CLOSING = "([{", ")]}"
 
 
@@ -77,7 +76,7 @@ def functions_of(text):
         if opened < 0:
             continue
         index = end_of(text, opened)
-        arguments = count_arguments(text[opened + 1:index - 1])
+        arguments = count_arguments(text[opened + 1 : index - 1])
         ensures = 0
         while True:
             step = re.compile(r"\b(requires|ensures)\b|[{;]").search(text, index)
@@ -104,7 +103,7 @@ def expand(path):
         return
     head = [word.strip() for word in path[:opened].split("::") if word.strip()]
     depth, part = 0, ""
-    for letter in path[opened + 1:path.rindex("}")] + ",":
+    for letter in path[opened + 1 : path.rindex("}")] + ",":
         depth += (letter == "{") - (letter == "}")
         if letter == "," and depth == 0:
             if part.strip():
@@ -136,7 +135,7 @@ def imports_of(modules):
                 inner = tuple(path[1:])
             elif path[0] == "super":
                 climbed = sum(1 for word in path if word == "super")
-                inner = module[:len(module) - climbed] + tuple(path[climbed:])
+                inner = module[: len(module) - climbed] + tuple(path[climbed:])
             else:
                 continue
             target = longest(modules, inner) or passed_on.get(inner[0] if inner else "", ())
@@ -156,6 +155,7 @@ def longest(modules, path):
 
 def cycles_of(graph):
     """The sets of modules that reach one another, each sorted."""
+
     def reached(start):
         seen, waiting = set(), [start]
         while waiting:
@@ -238,8 +238,12 @@ def lines_needed(imports):
 
 def spread_imports(lines):
     """The first line of each module in a head whose names would fit on fewer lines."""
-    return [str(imports[0][0]) for head in heads_of(lines) for imports in head.values()
-            if lines_needed([found for _, found in imports]) < len(imports)]
+    return [
+        str(imports[0][0])
+        for head in heads_of(lines)
+        for imports in head.values()
+        if lines_needed([found for _, found in imports]) < len(imports)
+    ]
 
 
 def width_of(line):
@@ -274,10 +278,13 @@ def covers(row, where):
 
 
 def main():
-    parser = argparse.ArgumentParser(
-        description=__doc__, formatter_class=argparse.RawDescriptionHelpFormatter)
-    parser.add_argument("--root", type=pathlib.Path, default=pathlib.Path(__file__).resolve().parents[2],
-                        help="the repository (default: the one that this script is in)")
+    parser = argparse.ArgumentParser(description=__doc__, formatter_class=argparse.RawDescriptionHelpFormatter)
+    parser.add_argument(
+        "--root",
+        type=pathlib.Path,
+        default=pathlib.Path(__file__).resolve().parents[2],
+        help="the repository (default: the one that this script is in)",
+    )
     parser.add_argument("--rows", action="store_true", help="print every finding as a row of the table, and stop")
     options = parser.parse_args()
     crates = sorted(crate for crate in (options.root / "crates").glob("*") if (crate / "src").is_dir())

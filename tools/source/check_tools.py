@@ -68,8 +68,15 @@ def command_of(name):
 
 def run(command):
     environment = dict(os.environ, PYTHONDONTWRITEBYTECODE="1")
-    done = subprocess.run(command, cwd=TOP, env=environment, stdin=subprocess.DEVNULL, timeout=SECONDS,
-                          stdout=subprocess.PIPE, stderr=subprocess.STDOUT)
+    done = subprocess.run(
+        command,
+        cwd=TOP,
+        env=environment,
+        stdin=subprocess.DEVNULL,
+        timeout=SECONDS,
+        stdout=subprocess.PIPE,
+        stderr=subprocess.STDOUT,
+    )
     return done.returncode, done.stdout.decode("utf-8", "replace")
 
 

@@ -53,5 +53,11 @@ def words_of(crate, uses, folder):
         words += ["--extern", "%s=%s.rlib" % (name, os.path.join(place, name))]
     for place in [built(name) for name in below(crate, uses)] + [os.path.join(top, "rlibs")]:
         words += ["-L", "dependency=" + place]
-    return words + ["--antt-project", os.path.join(top, "rattle", "logic", "antt-project.json"), "--logic-built",
-                    os.path.join(top, "logic_built"), "--incremental", folder]
+    return words + [
+        "--antt-project",
+        os.path.join(top, "rattle", "logic", "antt-project.json"),
+        "--logic-built",
+        os.path.join(top, "logic_built"),
+        "--incremental",
+        folder,
+    ]

@@ -59,8 +59,13 @@ def main():
     with tempfile.TemporaryDirectory(prefix="proof-times-") as top:
         folder = os.path.join(top, "kept")
         words = words_of(given.crate, uses, folder) + (["--test"] if given.test else [])
-        done = subprocess.run(words, cwd=os.path.join(TOP, "crates", given.crate), stdin=subprocess.DEVNULL,
-                              stdout=subprocess.PIPE, stderr=subprocess.STDOUT)
+        done = subprocess.run(
+            words,
+            cwd=os.path.join(TOP, "crates", given.crate),
+            stdin=subprocess.DEVNULL,
+            stdout=subprocess.PIPE,
+            stderr=subprocess.STDOUT,
+        )
         times = times_in(folder) if os.path.isdir(folder) else {}
         if not times:
             stop("the check did not begin:\n" + done.stdout.decode(errors="replace")[-2000:])

@@ -83,7 +83,7 @@ def owner_of(head):
     """The name of the item that a line begins; of an impl, the type that it is for."""
     plain = re.sub(r"<[^<>]*(<[^<>]*>[^<>]*)*>", "", head.split("{")[0])
     if plain.startswith("impl"):
-        plain = plain[len("impl"):].split(" for ")[-1]
+        plain = plain[len("impl") :].split(" for ")[-1]
         return WORD.search(plain).group(0)
     return WORD.findall(plain.split("(")[0])[-1] if ":" not in plain.split("(")[0] else WORD.findall(plain.split(":")[0])[-1]
 

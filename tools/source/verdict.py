@@ -88,8 +88,13 @@ class Edit:
                     file.write(text)
             kept = os.path.join(room, "kept")
             shutil.copytree(os.path.join(crate_folder(self.crate), "out", "incremental"), kept)
-            done = subprocess.run(words_of(self.crate, libraries(), kept), cwd=room, stdin=subprocess.DEVNULL,
-                                  stdout=subprocess.PIPE, stderr=subprocess.STDOUT)
+            done = subprocess.run(
+                words_of(self.crate, libraries(), kept),
+                cwd=room,
+                stdin=subprocess.DEVNULL,
+                stdout=subprocess.PIPE,
+                stderr=subprocess.STDOUT,
+            )
         lines = done.stdout.decode(errors="replace").rstrip("\n").split("\n")
         if done.returncode == 0:
             return "the crate is still proved with this edit"

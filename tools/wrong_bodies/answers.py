@@ -8,7 +8,7 @@ FILES = ("Answers.antt", "Invariants.antt", "Proof.antt")
 
 def module_of(file):
     """The path of a file's module below `proofs/`."""
-    parts = file[len("src/"):-len(".rt")].split("/")
+    parts = file[len("src/") : -len(".rt")].split("/")
     return [] if parts in (["lib"], ["main"]) else parts[:-1] if parts[-1] == "mod" else parts
 
 
@@ -28,7 +28,8 @@ def folder_of(proofs, place):
     if function.owner is None or (not function.trait and exact.is_dir()):
         return exact
     found = sorted(
-        path for path in proofs.rglob(function.name)
+        path
+        for path in proofs.rglob(function.name)
         if path.is_dir() and is_owner(function, path.parent.name) and any((path / name).is_file() for name in FILES)
     )
     near = [path for path in found if path.parent.parent == proofs.joinpath(*module)]

@@ -20,7 +20,7 @@ def context_of(crate):
         found = sources.Sources(name)
         for file, functions in found.functions.items():
             for function in functions:
-                sum_.update("\n".join(found.texts[file][function.begin:function.body]).encode())
+                sum_.update("\n".join(found.texts[file][function.begin : function.body]).encode())
         for path in sorted((found.folder / "specs").rglob("*.antt")):
             sum_.update(path.read_bytes())
     return sum_.hexdigest()
@@ -30,7 +30,7 @@ def sum_of(context, found, place):
     """A sum of what the base of one function rests on."""
     sum_ = hashlib.sha256(context.encode())
     function = place.function
-    sum_.update("\n".join(found.texts[place.file][function.begin:function.last]).encode())
+    sum_.update("\n".join(found.texts[place.file][function.begin : function.last]).encode())
     folder = answers.folder_of(found.folder / "proofs", place)
     for path in sorted(folder.rglob("*.antt")) if folder.is_dir() else []:
         sum_.update(path.read_bytes())

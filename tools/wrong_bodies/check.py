@@ -37,8 +37,9 @@ def faults_of(crate):
 
 
 def main():
-    argparse.ArgumentParser(prog="python3 -m tools.wrong_bodies.check", description=__doc__,
-                            formatter_class=argparse.RawDescriptionHelpFormatter).parse_args()
+    argparse.ArgumentParser(
+        prog="python3 -m tools.wrong_bodies.check", description=__doc__, formatter_class=argparse.RawDescriptionHelpFormatter
+    ).parse_args()
     passed, failed = 0, []
     for crate in PROVED:
         try:

@@ -21,8 +21,9 @@ def check(folder, names):
     for name in names:
         words += ["--only", name]
     before = used()
-    began = subprocess.Popen(words, cwd=folder, stdin=subprocess.DEVNULL,
-                             stdout=subprocess.PIPE, stderr=subprocess.STDOUT, start_new_session=True)
+    began = subprocess.Popen(
+        words, cwd=folder, stdin=subprocess.DEVNULL, stdout=subprocess.PIPE, stderr=subprocess.STDOUT, start_new_session=True
+    )
     started = time.monotonic()
     try:
         text, _ = began.communicate(timeout=LIMIT)

@@ -22,8 +22,9 @@ CHOSEN = "only these bodies: NAME, or a part of the name, file or function"
 
 
 def read_words():
-    parser = argparse.ArgumentParser(prog="python3 -m tools.wrong_bodies.judge", description=__doc__,
-                                     formatter_class=argparse.RawDescriptionHelpFormatter)
+    parser = argparse.ArgumentParser(
+        prog="python3 -m tools.wrong_bodies.judge", description=__doc__, formatter_class=argparse.RawDescriptionHelpFormatter
+    )
     parser.add_argument("crates", nargs="+", metavar="CRATE")
     parser.add_argument("--only", metavar="WORD", action="append", help=CHOSEN)
     parser.add_argument("--stale", action="store_true", help=STALE)

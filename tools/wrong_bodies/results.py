@@ -30,10 +30,14 @@ def stale(row, body, source):
 def add(crate, body, verdict, source, edits=False):
     """Stores the verdict on a body. What the list has no longer goes."""
     rows = stored(crate, edits)
-    rows[body.name] = {"sum": body.sum(), "source": source, "function": verdict.function, "kind": verdict.kind,
-                       "by": verdict.clauses()}
+    rows[body.name] = {
+        "sum": body.sum(),
+        "source": source,
+        "function": verdict.function,
+        "kind": verdict.kind,
+        "by": verdict.clauses(),
+    }
     names = {listed.name for listed in bodies.listed(crate, edits)}
-    text = json.dumps({name: row for name, row in rows.items() if name in names}, indent=1, sort_keys=True,
-                      ensure_ascii=False)
+    text = json.dumps({name: row for name, row in rows.items() if name in names}, indent=1, sort_keys=True, ensure_ascii=False)
     path_of(crate, edits).parent.mkdir(exist_ok=True)
     path_of(crate, edits).write_text(text + "\n", encoding="utf-8")

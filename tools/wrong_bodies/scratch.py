@@ -32,8 +32,9 @@ def copy_crate(name, to, is_checked):
     if (to / "out" / ("incremental" if is_checked else "rlib")).is_dir():
         return
     ignored = () if is_checked else ("incremental",)
-    shutil.copytree(bodies.ROOT / "crates" / name, to, symlinks=True, dirs_exist_ok=True,
-                    ignore=shutil.ignore_patterns(*ignored))
+    shutil.copytree(
+        bodies.ROOT / "crates" / name, to, symlinks=True, dirs_exist_ok=True, ignore=shutil.ignore_patterns(*ignored)
+    )
 
 
 class Plant:
@@ -99,7 +100,7 @@ class Scratch:
         for plant in plants:
             function = plant.place.function
             first = function.begin if not plant.is_copy else function.last + 1
-            written += text[at:max(at, first)]
+            written += text[at : max(at, first)]
             lines = self.lines_of(plant, text)
             begin = len(written) + 1
             written += [""] * plant.is_copy + lines
@@ -110,19 +111,19 @@ class Scratch:
     def lines_of(self, plant, text):
         """The function as the plant has it."""
         function, file = plant.place.function, plant.place.file
-        lines = text[function.begin:function.body]
+        lines = text[function.begin : function.body]
         if plant.body:
             lines += self.sources.changed(plant.body, text, file, function.body, function.last)
         else:
-            lines += text[function.body:function.last]
+            lines += text[function.body : function.last]
         lines.append(text[function.last])
         if plant.is_copy:
             at = function.head - function.begin
             head = lines[at].replace(f"fn {function.name}", f"fn {plant.name}", 1)
-            indent = head[:len(head) - len(head.lstrip())]
+            indent = head[: len(head) - len(head.lstrip())]
             words = head.lstrip()
             if words.startswith("pub"):
-                words = words[words.index(" ") + 1:]
+                words = words[words.index(" ") + 1 :]
             lines[at] = indent + words
         return lines
 
@@ -131,4 +132,5 @@ class Scratch:
         for file in {file for file, _, _ in plant.body.pairs}:
             text = self.sources.texts[file]
             (self.folder / file).write_text(
-                "\n".join(self.sources.changed(plant.body, text, file, 0, len(text))), encoding="utf-8")
+                "\n".join(self.sources.changed(plant.body, text, file, 0, len(text))), encoding="utf-8"
+            )

@@ -19,8 +19,9 @@ STARTED = re.compile(r"^test (\S+) \.\.\. ", re.MULTILINE)
 
 
 def read_words():
-    parser = argparse.ArgumentParser(prog="python3 -m tools.wrong_bodies.seen", description=__doc__,
-                                     formatter_class=argparse.RawDescriptionHelpFormatter)
+    parser = argparse.ArgumentParser(
+        prog="python3 -m tools.wrong_bodies.seen", description=__doc__, formatter_class=argparse.RawDescriptionHelpFormatter
+    )
     parser.add_argument("--only", metavar="WORD", action="append", help="only these bodies: NAME, or a part of it")
     return parser.parse_args()
 
@@ -49,8 +50,13 @@ def tests_of(crate, body):
         copied(folder)
         if body:
             plant(body, folder)
-        done = subprocess.run(["rt", "try", "--test"], cwd=folder / "crates" / crate, stdin=subprocess.DEVNULL,
-                              stdout=subprocess.PIPE, stderr=subprocess.STDOUT)
+        done = subprocess.run(
+            ["rt", "try", "--test"],
+            cwd=folder / "crates" / crate,
+            stdin=subprocess.DEVNULL,
+            stdout=subprocess.PIPE,
+            stderr=subprocess.STDOUT,
+        )
     text = done.stdout.decode("utf-8", "replace")
     return set(PASSED.findall(text)), set(STARTED.findall(text)), text
 

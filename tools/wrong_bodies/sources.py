@@ -44,7 +44,7 @@ class Sources:
             if function is None and functions.has_head_at(self.functions[file], at):
                 raise bodies.ListError(f"{body.place}: `{body.name}` changes a contract, which shows nothing")
             places.add((file, function))
-            texts[file] = texts[file][:at] + [texts[file][at].replace(old, new)] + texts[file][at + 1:]
+            texts[file] = texts[file][:at] + [texts[file][at].replace(old, new)] + texts[file][at + 1 :]
         if len(places) == 1:
             return Place(*places.pop())
         return Place(body.pairs[0][0], None)
@@ -62,7 +62,7 @@ class Sources:
     def sum_of(self, place):
         """A sum of the function that a body changes, with its contract, or of the file if it changes no function."""
         text, function = self.texts[place.file], place.function
-        lines = text[function.begin:function.last + 1] if function else text
+        lines = text[function.begin : function.last + 1] if function else text
         return hashlib.sha256("\n".join(lines).encode()).hexdigest()[:16]
 
     def changed(self, body, text, file, first, last):

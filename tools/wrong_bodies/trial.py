@@ -12,17 +12,42 @@ from tools.wrong_bodies import base, batches, bodies, scratch, sources, verdicts
 
 CRATE = "aide_words"
 CASES = (
-    ("right_in_two_steps", "src/words.rt", "        self.list.as_slice()",
-     "        let slice = self.list.as_slice(); slice", verdicts.PROVES),
-    ("one_argument_too_many", "src/words.rt", "            list: Vec::new(alloc),",
-     "            list: Vec::new(alloc, 3),", verdicts.UNJUDGED),
-    ("outer_blanks_lost", "src/words.rt", "        match String::from_str(alloc, text) {",
-     "        match String::from_str(alloc, text.trim()) {", verdicts.OPEN),
-    ("empty_text_lent", "src/words.rt", "        Word::as_str(self)", "        \"\"", verdicts.OPEN),
-    ("numbers_alike", "src/job.rt", "            WordsFault::Memory => 2,", "            WordsFault::Memory => 1,",
-     verdicts.FALSE),
-    ("texts_exchanged", "src/job.rt", "        before: Word::new(alloc, text(found, \"before\"))?,",
-     "        before: Word::new(alloc, text(found, \"after\"))?,", verdicts.ANSWER),
+    (
+        "right_in_two_steps",
+        "src/words.rt",
+        "        self.list.as_slice()",
+        "        let slice = self.list.as_slice(); slice",
+        verdicts.PROVES,
+    ),
+    (
+        "one_argument_too_many",
+        "src/words.rt",
+        "            list: Vec::new(alloc),",
+        "            list: Vec::new(alloc, 3),",
+        verdicts.UNJUDGED,
+    ),
+    (
+        "outer_blanks_lost",
+        "src/words.rt",
+        "        match String::from_str(alloc, text) {",
+        "        match String::from_str(alloc, text.trim()) {",
+        verdicts.OPEN,
+    ),
+    ("empty_text_lent", "src/words.rt", "        Word::as_str(self)", '        ""', verdicts.OPEN),
+    (
+        "numbers_alike",
+        "src/job.rt",
+        "            WordsFault::Memory => 2,",
+        "            WordsFault::Memory => 1,",
+        verdicts.FALSE,
+    ),
+    (
+        "texts_exchanged",
+        "src/job.rt",
+        '        before: Word::new(alloc, text(found, "before"))?,',
+        '        before: Word::new(alloc, text(found, "after"))?,',
+        verdicts.ANSWER,
+    ),
 )
 
 
@@ -33,8 +58,9 @@ class Options:
 
 
 def main():
-    parser = argparse.ArgumentParser(prog="python3 -m tools.wrong_bodies.trial", description=__doc__,
-                                     formatter_class=argparse.RawDescriptionHelpFormatter)
+    parser = argparse.ArgumentParser(
+        prog="python3 -m tools.wrong_bodies.trial", description=__doc__, formatter_class=argparse.RawDescriptionHelpFormatter
+    )
     parser.add_argument("--scratch", metavar="FOLDER", help="a folder for the copy (default: a new one)")
     options = parser.parse_args()
     found, wanted, pairs = sources.Sources(CRATE), {}, []

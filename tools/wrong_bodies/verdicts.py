@@ -30,6 +30,7 @@ def verdict_of(seen, needed):
     by that answer."""
     if seen.line is None:
         return Verdict(UNJUDGED, ["no line of its function was found"])
+
     def is_own(goal):
         return not any(answers.covers(answer, goal) for answer in needed)
 

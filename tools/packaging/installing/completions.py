@@ -9,8 +9,15 @@ BASH = "share/bash-completion/completions/"
 ZSH = "share/zsh/site-functions/_aide-compare"
 FLEET = "lib/aide-compare/fleet/"
 FISH = "share/fish/vendor_completions.d/"
-LEVELS = ["minimal", "summary", "database_attributes", "list_entries", "changed_attributes", "added_removed_attributes",
-          "added_removed_entries"]
+LEVELS = [
+    "minimal",
+    "summary",
+    "database_attributes",
+    "list_entries",
+    "changed_attributes",
+    "added_removed_attributes",
+    "added_removed_entries",
+]
 
 # bash-completion reads the file inside of a function of its own.
 ASK_BASH = r"""
@@ -136,23 +143,25 @@ def try_bash(trial):
         if is_comparison(name):
             given = ask_bash(trial, name, "--state", "x", "--", "-")
             trial.holds("bash offers what %s takes after --" % name, sorted(given) == options_after(trial) != [], given)
-    for words, wanted in ((["aide-compare", "-E", "-A", "report_level", "="], LEVELS),
-                          (["aide-compare", "-E", "-A", "report_level", "=", "su"], ["summary"]),
-                          (["aide-compare", "-E", "-A", "report_l"], ["report_level="]),
-                          (["aide-compare", "-E", "--after", "=", "report_l"], ["report_level="]),
-                          (["aide-compare", "-B", "report_quiet", "=", "y"], ["yes"]),
-                          (["aide-compare", "-E", ""], []),
-                          (["aide-compare", "-c", "VERS"], ["VERSION"]),
-                          (["aide-compare", "--config", "=", "VERS"], ["VERSION"]),
-                          (["aide-compare-run", "--without", "VERS"], ["VERSION"]),
-                          (["aide-compare-run", "--without-path", "VERS"], []),
-                          (["aide-compare-mail", "--queue", "pack"], ["packaging"]),
-                          (["aide-compare-mail", "--queue", "VERS"], []),
-                          (["aide-compare-mail", "--", "-A", "report_l"], ["report_level="]),
-                          (["aide-compare-sort", "VERS"], ["VERSION"]),
-                          (["report-hosts", "--order", ""], ["common", "path", "rare"]),
-                          (["report-hosts", "--store", "pack"], ["packaging"]),
-                          (["compare-hosts", "VERS"], ["VERSION"])):
+    for words, wanted in (
+        (["aide-compare", "-E", "-A", "report_level", "="], LEVELS),
+        (["aide-compare", "-E", "-A", "report_level", "=", "su"], ["summary"]),
+        (["aide-compare", "-E", "-A", "report_l"], ["report_level="]),
+        (["aide-compare", "-E", "--after", "=", "report_l"], ["report_level="]),
+        (["aide-compare", "-B", "report_quiet", "=", "y"], ["yes"]),
+        (["aide-compare", "-E", ""], []),
+        (["aide-compare", "-c", "VERS"], ["VERSION"]),
+        (["aide-compare", "--config", "=", "VERS"], ["VERSION"]),
+        (["aide-compare-run", "--without", "VERS"], ["VERSION"]),
+        (["aide-compare-run", "--without-path", "VERS"], []),
+        (["aide-compare-mail", "--queue", "pack"], ["packaging"]),
+        (["aide-compare-mail", "--queue", "VERS"], []),
+        (["aide-compare-mail", "--", "-A", "report_l"], ["report_level="]),
+        (["aide-compare-sort", "VERS"], ["VERSION"]),
+        (["report-hosts", "--order", ""], ["common", "path", "rare"]),
+        (["report-hosts", "--store", "pack"], ["packaging"]),
+        (["compare-hosts", "VERS"], ["VERSION"]),
+    ):
         given = ask_bash(trial, words[0], *words[1:])
         trial.holds("bash completes " + " ".join(words), sorted(given) == sorted(wanted), given)
 
@@ -162,15 +171,17 @@ def try_zsh(trial):
         trial.skip("completions of zsh: it is not installed")
         return
     folder = trial.path("first/usr/local", os.path.dirname(ZSH))
-    for line, wanted in (("aide-compare --config-c", "aide-compare --config-check"),
-                         ("aide-compare -E -A report_level=su", "report_level=summary"),
-                         ("aide-compare-run --without-", "aide-compare-run --without-path"),
-                         ("aide-compare-run --without=VERS", "--without=VERSION"),
-                         ("aide-compare-mail --most-r", "aide-compare-mail --most-report"),
-                         ("aide-compare-mail -- --aft", "aide-compare-mail -- --after="),
-                         ("aide-compare-sort --h", "aide-compare-sort --help"),
-                         ("aide-compare-sort VERS", "aide-compare-sort VERSION"),
-                         ("report-hosts --order=ra", "report-hosts --order=rare")):
+    for line, wanted in (
+        ("aide-compare --config-c", "aide-compare --config-check"),
+        ("aide-compare -E -A report_level=su", "report_level=summary"),
+        ("aide-compare-run --without-", "aide-compare-run --without-path"),
+        ("aide-compare-run --without=VERS", "--without=VERSION"),
+        ("aide-compare-mail --most-r", "aide-compare-mail --most-report"),
+        ("aide-compare-mail -- --aft", "aide-compare-mail -- --after="),
+        ("aide-compare-sort --h", "aide-compare-sort --help"),
+        ("aide-compare-sort VERS", "aide-compare-sort VERSION"),
+        ("report-hosts --order=ra", "report-hosts --order=rare"),
+    ):
         done = trial.run(["zsh", "-f", "-c", ASK_ZSH, "zsh", folder, line], cwd=trial.source, timeout=60)
         trial.holds("zsh completes " + line, done[0] == 0 and wanted in done[1].replace("\r", ""), done)
 
@@ -181,16 +192,23 @@ def try_fish(trial):
         return
     home = trial.path("home")
     os.makedirs(home)
-    surroundings = dict(os.environ, HOME=home, XDG_DATA_DIRS=trial.path("first/usr/local/share"),
-                        PATH=":".join([trial.path("first/usr/local", "bin"), trial.path("first/usr/local", FLEET),
-                                       os.environ["PATH"]]))
-    for line, wanted in (("aide-compare --config-c", ["--config-check"]),
-                         ("aide-compare -A report_level=su", ["report_level=summary"]),
-                         ("aide-compare-sort --h", ["--help"]), ("aide-compare-sort VERS", ["VERSION"]),
-                         ("aide-compare-run --without-", ["--without-path"]),
-                         ("aide-compare-mail --most-r", ["--most-report"]), ("aide-compare-mail -- --aft", ["--after"]),
-                         ("report-hosts --order ra", ["rare"]),
-                         ("aide-compare ", [])):
+    surroundings = dict(
+        os.environ,
+        HOME=home,
+        XDG_DATA_DIRS=trial.path("first/usr/local/share"),
+        PATH=":".join([trial.path("first/usr/local", "bin"), trial.path("first/usr/local", FLEET), os.environ["PATH"]]),
+    )
+    for line, wanted in (
+        ("aide-compare --config-c", ["--config-check"]),
+        ("aide-compare -A report_level=su", ["report_level=summary"]),
+        ("aide-compare-sort --h", ["--help"]),
+        ("aide-compare-sort VERS", ["VERSION"]),
+        ("aide-compare-run --without-", ["--without-path"]),
+        ("aide-compare-mail --most-r", ["--most-report"]),
+        ("aide-compare-mail -- --aft", ["--after"]),
+        ("report-hosts --order ra", ["rare"]),
+        ("aide-compare ", []),
+    ):
         done = trial.run(["fish", "-c", "complete -C '%s'" % line], cwd=trial.source, env=surroundings, timeout=60)
         given = [one.split("\t")[0] for one in done[1].splitlines()]
         trial.holds("fish completes " + line, done[0] == 0 and given == wanted, done)

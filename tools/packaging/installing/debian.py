@@ -72,8 +72,18 @@ class Machine:
             trial.write("debian-root/var/lib/dpkg/" + name, "")
 
     def dpkg(self, action, what):
-        done = self.trial.run(["dpkg", "--root=" + self.root, "--log=/dev/null", "--force-script-chrootless", "--force-depends",
-                               "--force-confold", action, what])
+        done = self.trial.run(
+            [
+                "dpkg",
+                "--root=" + self.root,
+                "--log=/dev/null",
+                "--force-script-chrootless",
+                "--force-depends",
+                "--force-confold",
+                action,
+                what,
+            ]
+        )
         self.trial.holds("dpkg %s" % action, done[0] == 0, done)
 
     def install(self):

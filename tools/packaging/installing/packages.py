@@ -14,7 +14,10 @@ from tools.packaging.installing.trial import files, rights, texts, tree
 FIXED = 1767225600
 
 # The configuration files of the Debian package, and the example that each is.
-CONFIGURATION = {"etc/aide/aide.conf.d/31_aide_aide-compare": "31_aide_aide-compare", "etc/aide-compare/without": "debian.without"}
+CONFIGURATION = {
+    "etc/aide/aide.conf.d/31_aide_aide-compare": "31_aide_aide-compare",
+    "etc/aide-compare/without": "debian.without",
+}
 
 
 def make(trial, name, **more):
@@ -41,9 +44,22 @@ def try_packages(trial):
     os.makedirs(trial.path("other place"))
     shells = ["busybox", "sh"] if shutil.which("busybox") else ["sh"]
     script = os.path.join(trial.source, "packaging", "make_package")
-    done = trial.run([*shells, "-c", 'umask 077; exec "$@"', "sh", *shells, script, "--program", trial.program, "--output",
-                      trial.path("packages2")], cwd=trial.path("other place"),
-                     env=dict(more, TMPDIR=trial.path("other place"), LC_ALL="C.UTF-8", TZ="Asia/Tokyo"))
+    done = trial.run(
+        [
+            *shells,
+            "-c",
+            'umask 077; exec "$@"',
+            "sh",
+            *shells,
+            script,
+            "--program",
+            trial.program,
+            "--output",
+            trial.path("packages2"),
+        ],
+        cwd=trial.path("other place"),
+        env=dict(more, TMPDIR=trial.path("other place"), LC_ALL="C.UTF-8", TZ="Asia/Tokyo"),
+    )
     second = {path: data for path, (_, data) in files(tree(trial.path("packages2"))).items()}
     trial.holds("make_package elsewhere", done[0] == 0, done)
     for name in sorted(wanted):
@@ -67,7 +83,9 @@ def try_packages(trial):
     done, least = make(trial, "least", env=dict(more, PATH=trial.plain_path))
     good = done[0] == 0 and set(least) == {tarball, "SHA256SUMS"} and "no Debian package" in done[1]
     trial.holds("without dpkg-deb", good and least[tarball] == first[tarball], (done, sorted(least)))
-    trial.holds("no temporary file is left", os.listdir(trial.path("other place")) == [], os.listdir(trial.path("other place")))
+    trial.holds(
+        "no temporary file is left", os.listdir(trial.path("other place")) == [], os.listdir(trial.path("other place"))
+    )
 
 
 def try_nobody(trial, first, surroundings):
@@ -90,7 +108,7 @@ def try_tarball(trial, data, time):
     installed.pop("lib/aide-compare/installed")
     with tarfile.open(fileobj=io.BytesIO(data)) as archive:
         members = archive.getmembers()
-        given = {one.name[len(top):]: (one.mode, archive.extractfile(one).read()) for one in members if one.isfile()}
+        given = {one.name[len(top) :]: (one.mode, archive.extractfile(one).read()) for one in members if one.isfile()}
     trial.holds("the tarball has what is installed", given == installed, sorted(set(given) ^ set(installed)))
     trial.holds("files below one folder", len(given) == len(members) and all(one.name.startswith(top) for one in members))
     trial.holds("owner and time of the tarball", all((one.uid, one.gid, one.mtime) == (0, 0, time) for one in members))
@@ -120,9 +138,14 @@ def try_debian(trial, path, time):
     """The Debian package: its fields, its sums, its times, and nothing of /usr/local."""
     done = trial.run(["dpkg-deb", "-f", path])
     fields = dict(re.findall(r"^([\w-]+): (.*)$", done[1], re.M))
-    for name, wanted in (("Package", "aide-compare"), ("Version", trial.version + "-1"), ("Architecture", "amd64"),
-                         ("Depends", "libc6 (>= 2.34), python3:any"), ("Suggests", "aide"),
-                         ("Recommends", "default-mta | mail-transport-agent")):
+    for name, wanted in (
+        ("Package", "aide-compare"),
+        ("Version", trial.version + "-1"),
+        ("Architecture", "amd64"),
+        ("Depends", "libc6 (>= 2.34), python3:any"),
+        ("Suggests", "aide"),
+        ("Recommends", "default-mta | mail-transport-agent"),
+    ):
         trial.holds("the field " + name, fields.get(name) == wanted, fields.get(name))
     folder = path + ".tree"
     done = trial.run(["dpkg-deb", "-R", path, folder])
@@ -136,9 +159,10 @@ def try_debian(trial, path, time):
         same = kept.pop(name, None) == kept["usr/share/doc/aide-compare/examples/aide/" + example]
         trial.holds("a configuration file: " + name, same)
     trial.holds("the configuration files", conffiles == "".join("/%s\n" % name for name in CONFIGURATION), conffiles)
-    trial.holds("md5sums",
-                sorted(sums) == sorted("%s  %s" % (hashlib.md5(data).hexdigest(), name) for name, data in kept.items()))
-    installed = {name[len("usr/local/"):] for name in files(tree(trial.path("first")))} - {"lib/aide-compare/installed"}
+    trial.holds(
+        "md5sums", sorted(sums) == sorted("%s  %s" % (hashlib.md5(data).hexdigest(), name) for name, data in kept.items())
+    )
+    installed = {name[len("usr/local/") :] for name in files(tree(trial.path("first")))} - {"lib/aide-compare/installed"}
     renamed = set()
     for name in installed:
         name = re.sub(r"^(share/man/.*)$", r"\1.gz", name).replace("zsh/site-functions", "zsh/vendor-completions")
@@ -151,8 +175,12 @@ def try_debian(trial, path, time):
         trial.holds("no /usr/local in " + name, not named, named)
         trial.holds("the interpreter of " + name, not text.startswith("#!/usr/bin/env python3") or "/examples/" in name)
     documents = "usr/share/doc/aide-compare/"
-    links = [(name, link) for name, text in texts(found).items() if name.startswith(documents) and name.endswith(".md")
-             for link in re.findall(r"\]\(([^)#:]+)(?:#[^)]*)?\)", text)]
+    links = [
+        (name, link)
+        for name, text in texts(found).items()
+        if name.startswith(documents) and name.endswith(".md")
+        for link in re.findall(r"\]\(([^)#:]+)(?:#[^)]*)?\)", text)
+    ]
     lost = [(name, link) for name, link in links if documents + link not in kept]
     trial.holds("the documents of the package link to what it has", len(links) > 5 and not lost, lost)
     page = gzip.decompress(kept["usr/share/man/man1/aide-compare.1.gz"]).decode()
@@ -164,6 +192,9 @@ def try_debian(trial, path, time):
         data = trial.run(["sh", "-c", 'dpkg-deb --fsys-tarfile "$1" > "$2"', "sh", path, whole])
     with tarfile.open(whole) as archive:
         members = archive.getmembers()
-    trial.holds("owner and time of the package",
-                data[0] == 0 and all((one.uid, one.gid, one.mtime) == (0, 0, time) for one in members), [(one.name, one.uid, one.mtime) for one in members][:3])
+    trial.holds(
+        "owner and time of the package",
+        data[0] == 0 and all((one.uid, one.gid, one.mtime) == (0, 0, time) for one in members),
+        [(one.name, one.uid, one.mtime) for one in members][:3],
+    )
     trial.holds("the permissions in the package", all(one.mode in (0o755, 0o644) for one in members))

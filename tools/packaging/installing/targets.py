@@ -8,20 +8,40 @@ from tools.packaging.installing.trial import files, rights, tree
 DOCUMENTS = "share/doc/aide-compare"
 MANIFEST = "lib/aide-compare/installed"
 # What has to be there whatever the repository's folders hold.
-KNOWN = ["bin/aide-compare", "bin/aide-compare-sort", "lib/systemd/system/aide-compare.service",
-         "lib/systemd/system/aide-compare.timer", "lib/systemd/system/aide-compare-mail.service",
-         "lib/systemd/system/aide-compare-failed.service", "share/man/man1/aide-compare.1", "share/man/man1/aide-compare-sort.1",
-         "share/man/man5/aide-compare.conf.5", "share/bash-completion/completions/aide-compare",
-         "share/zsh/site-functions/_aide-compare", "share/fish/vendor_completions.d/aide-compare.fish",
-         DOCUMENTS + "/README.md", DOCUMENTS + "/RECIPES.md", DOCUMENTS + "/CHANGELOG.md", DOCUMENTS + "/VERSION",
-         DOCUMENTS + "/examples/cron/aide-compare.cron.daily", DOCUMENTS + "/examples/aide/debian.without",
-         DOCUMENTS + "/examples/small_tree/old.db", DOCUMENTS + "/examples/small_tree/new.db"]
-FOLDERS = {"commands/bin": "bin", "commands/lib/aide_compare": "lib/aide-compare/python/aide_compare",
-           "commands/nagios": "lib/nagios/plugins", "commands/fleet": "lib/aide-compare/fleet",
-           "contrib/systemd": "lib/systemd/system", "contrib/completions/bash": "share/bash-completion/completions",
-           "contrib/completions/zsh": "share/zsh/site-functions",
-           "contrib/completions/fish": "share/fish/vendor_completions.d", "docs": DOCUMENTS,
-           "examples/small_tree": DOCUMENTS + "/examples/small_tree"}
+KNOWN = [
+    "bin/aide-compare",
+    "bin/aide-compare-sort",
+    "lib/systemd/system/aide-compare.service",
+    "lib/systemd/system/aide-compare.timer",
+    "lib/systemd/system/aide-compare-mail.service",
+    "lib/systemd/system/aide-compare-failed.service",
+    "share/man/man1/aide-compare.1",
+    "share/man/man1/aide-compare-sort.1",
+    "share/man/man5/aide-compare.conf.5",
+    "share/bash-completion/completions/aide-compare",
+    "share/zsh/site-functions/_aide-compare",
+    "share/fish/vendor_completions.d/aide-compare.fish",
+    DOCUMENTS + "/README.md",
+    DOCUMENTS + "/RECIPES.md",
+    DOCUMENTS + "/CHANGELOG.md",
+    DOCUMENTS + "/VERSION",
+    DOCUMENTS + "/examples/cron/aide-compare.cron.daily",
+    DOCUMENTS + "/examples/aide/debian.without",
+    DOCUMENTS + "/examples/small_tree/old.db",
+    DOCUMENTS + "/examples/small_tree/new.db",
+]
+FOLDERS = {
+    "commands/bin": "bin",
+    "commands/lib/aide_compare": "lib/aide-compare/python/aide_compare",
+    "commands/nagios": "lib/nagios/plugins",
+    "commands/fleet": "lib/aide-compare/fleet",
+    "contrib/systemd": "lib/systemd/system",
+    "contrib/completions/bash": "share/bash-completion/completions",
+    "contrib/completions/zsh": "share/zsh/site-functions",
+    "contrib/completions/fish": "share/fish/vendor_completions.d",
+    "docs": DOCUMENTS,
+    "examples/small_tree": DOCUMENTS + "/examples/small_tree",
+}
 
 
 def target_of(path):
@@ -32,7 +52,7 @@ def target_of(path):
     if folder == "man":
         return "share/man/man%s/%s" % (name[-1], name)
     if path.startswith("contrib/"):
-        return DOCUMENTS + "/examples/" + path[len("contrib/"):]
+        return DOCUMENTS + "/examples/" + path[len("contrib/") :]
     return None if "/" in path else DOCUMENTS + "/" + name
 
 
@@ -53,10 +73,13 @@ def try_targets(trial):
         trial.holds("a file to install: " + target, target in wanted)
     found = trial.installed("first")
     prefix = "usr/local/"
-    given = {path[len(prefix):]: mode for path, (mode, _) in files(found).items()}
+    given = {path[len(prefix) :]: mode for path, (mode, _) in files(found).items()}
     for target in sorted(set(wanted) | set(given)):
-        trial.holds("installed with its mode: " + target, wanted.get(target) == given.get(target),
-                    "wanted %s, given %s" % (show(wanted.get(target)), show(given.get(target))))
+        trial.holds(
+            "installed with its mode: " + target,
+            wanted.get(target) == given.get(target),
+            "wanted %s, given %s" % (show(wanted.get(target)), show(given.get(target))),
+        )
     for path, (mode, data) in sorted(found.items()):
         if data is None:
             trial.holds("the mode of the folder " + path, mode == 0o755, show(mode))
@@ -132,10 +155,14 @@ def try_uninstall(trial):
     for path, kept in before.items():
         trial.holds("what was there before is left: " + path, left.get(path) == kept)
     wanted = set(before) | {os.path.relpath(mine, folder)}
-    trial.holds("no file of ours is left", set(files(left)) == set(files(before)) | {os.path.relpath(mine, folder)},
-                sorted(left))
-    trial.holds("no empty folder of ours is left",
-                all(any(one == path or one.startswith(path + "/") for one in wanted) for path in left), sorted(left))
+    trial.holds(
+        "no file of ours is left", set(files(left)) == set(files(before)) | {os.path.relpath(mine, folder)}, sorted(left)
+    )
+    trial.holds(
+        "no empty folder of ours is left",
+        all(any(one == path or one.startswith(path + "/") for one in wanted) for path in left),
+        sorted(left),
+    )
     done = trial.install("--destdir", folder, "--uninstall")
     trial.holds("uninstall a second time", done[0] == 1 and "nothing is installed" in done[2], done)
 
@@ -181,13 +208,26 @@ def try_refusals(trial):
     trial.holds("a folder in the way", done[0] == 1 and "is in the way" in done[2] and tree(blocked) == before, done)
     trial.write("blocked2/usr/local/share", "a file\n")
     done = trial.install("--destdir", trial.path("blocked2"), "--program", trial.program)
-    trial.holds("a file in the place of a folder",
-                done[0] == 1 and "is in the way" in done[2] and len(tree(trial.path("blocked2"))) == 3, done)
-    for words in (["--prefix", "usr"], ["--prefix", "/a b"], ["--prefix", "/a/../b"], ["--prefix", "/a|b"], ["--prefix"],
-                  ["--destdir"], ["--nonsense"], ["more"], ["--prefix="]):
+    trial.holds(
+        "a file in the place of a folder",
+        done[0] == 1 and "is in the way" in done[2] and len(tree(trial.path("blocked2"))) == 3,
+        done,
+    )
+    for words in (
+        ["--prefix", "usr"],
+        ["--prefix", "/a b"],
+        ["--prefix", "/a/../b"],
+        ["--prefix", "/a|b"],
+        ["--prefix"],
+        ["--destdir"],
+        ["--nonsense"],
+        ["more"],
+        ["--prefix="],
+    ):
         done = trial.install("--destdir", trial.path("refused"), "--program", trial.program, *words)
-        trial.holds("refused: " + " ".join(words),
-                    done[0] == 2 and done[1] == "" and not os.path.exists(trial.path("refused")), done)
+        trial.holds(
+            "refused: " + " ".join(words), done[0] == 2 and done[1] == "" and not os.path.exists(trial.path("refused")), done
+        )
     done = trial.install("--destdir", trial.path("refused"), "--program", trial.path("nowhere"))
     trial.holds("a program that is not there", done[0] == 1 and not os.path.exists(trial.path("refused")), done)
     done = trial.install("--help")
@@ -200,8 +240,9 @@ def try_build(trial):
     code = trial.write("unbuilt/crates/aide/src/main.rt", "//! A program.\n")
     built = os.path.join(source, "crates/aide/out/aide")
     calls = trial.path("calls")
-    trial.write("stubs/rt", '#!/bin/sh\necho "$PWD $*" >> "%s"\nmkdir -p out && cp "%s" out/aide\n' % (calls, trial.program),
-                0o755)
+    trial.write(
+        "stubs/rt", '#!/bin/sh\necho "$PWD $*" >> "%s"\nmkdir -p out && cp "%s" out/aide\n' % (calls, trial.program), 0o755
+    )
     words = ["--destdir", trial.path("built")]
     done = trial.install(*words, source=source, env=trial.plain())
     good = done[0] == 1 and "rt" in done[2] and "--program" in done[2] and not os.path.exists(trial.path("built"))
@@ -214,8 +255,11 @@ def try_build(trial):
         with open(calls) as file:
             lines = file.read().splitlines()
         trial.holds(name, done[0] == 0 and len(lines) == wanted, (done, lines))
-        trial.holds("it says how long it takes: " + name,
-                    ("8 to 13 minutes" in done[2]) == (name != "a program that was built after its sources"), done)
+        trial.holds(
+            "it says how long it takes: " + name,
+            ("8 to 13 minutes" in done[2]) == (name != "a program that was built after its sources"),
+            done,
+        )
     trial.holds("how rt is called", lines[-1] == os.path.dirname(os.path.dirname(code)) + " run -- -D -c /dev/null", lines)
     with open(trial.path("built/usr/local/bin/aide-compare"), "rb") as one, open(trial.program, "rb") as two:
         trial.holds("what was built is installed", one.read() == two.read())

@@ -33,7 +33,9 @@ def try_programs(trial):
     trial.holds("aide-compare-sort of gzip", done[:2] == (0, wanted), done)
     trial.write("twice.db", "@@begin_db\n@@db_spec name attr\n/a\\ 0\n/a\\ 0\n@@end_db\n")
     done = trial.run([os.path.join(folder, "aide-compare-sort"), trial.path("twice.db")])
-    trial.holds("a path that stands twice", done[0] == 24 and done[2].endswith("aide-compare-sort: stands twice: /a\\134\n"), done)
+    trial.holds(
+        "a path that stands twice", done[0] == 24 and done[2].endswith("aide-compare-sort: stands twice: /a\\134\n"), done
+    )
 
 
 def try_pages(trial):
@@ -50,7 +52,7 @@ def try_pages(trial):
         trial.holds("the version in " + path, ("\n.Os aide-compare %s\n" % trial.version) in text)
         trial.holds("no path of the repository in " + path, not SOURCE_PATH.search(text), SOURCE_PATH.findall(text))
         for name in re.findall(r"^\.Pa (\S+\.md)", text, re.M):
-            good = name.startswith("/usr/local/") and name[len("/usr/local/"):] in found
+            good = name.startswith("/usr/local/") and name[len("/usr/local/") :] in found
             trial.holds("%s names a document that is installed" % path, good, name)
         if shutil.which("man"):
             done = trial.run(["man", "--warnings", "-E", "UTF-8", "-l", "-Tutf8", "-Z", trial.path("first/usr/local", path)])
@@ -96,8 +98,15 @@ def try_units(trial):
     with open(os.path.join(folder, "aide-compare.service")) as file:
         service = file.read()
     start = re.findall(r"^ExecStart=(.*)$", service, re.M)
-    trial.holds("ExecStart", start == ["/usr/local/bin/aide-compare-mail --alarm-sent-is-success --queue /var/lib/aide-compare/daily/mail --age 50h "
-                          "--state /var/lib/aide-compare/daily/state --reasons"], start)
+    trial.holds(
+        "ExecStart",
+        start
+        == [
+            "/usr/local/bin/aide-compare-mail --alarm-sent-is-success --queue /var/lib/aide-compare/daily/mail --age 50h "
+            "--state /var/lib/aide-compare/daily/state --reasons"
+        ],
+        start,
+    )
     trial.holds("no status of differences is a success", "SuccessExitStatus" not in service)
     if not shutil.which("systemd-analyze"):
         trial.skip("the units: systemd-analyze is not installed")
@@ -112,7 +121,9 @@ def try_units(trial):
             trial.write("units/" + name, file.read().replace("/usr/local/bin/aide-compare-mail", "/bin/true"))
     done = trial.run(["systemd-analyze", "security", "--offline=true", "--threshold=10", copy])
     trial.holds("the service is exposed by 1.0 at most", done[0] == 0, done[1][-80:])
-    done = trial.run(["systemd-analyze", "verify", "--man=no", copy, os.path.join(os.path.dirname(copy), "aide-compare.timer")])
+    done = trial.run(
+        ["systemd-analyze", "verify", "--man=no", copy, os.path.join(os.path.dirname(copy), "aide-compare.timer")]
+    )
     trial.holds("systemd-analyze verify", done[0] == 0 and "aide-compare" not in done[2], done)
 
 
@@ -141,7 +152,10 @@ def try_cron(trial):
     with open(called) as file:
         lines = file.read().splitlines()
     wanted = "%s --user %s --alarm-sent-is-success --age 50h --state %s" % (
-        tool, pwd.getpwuid(os.geteuid()).pw_name, trial.path("lib/aide-compare/daily/state"))
+        tool,
+        pwd.getpwuid(os.geteuid()).pw_name,
+        trial.path("lib/aide-compare/daily/state"),
+    )
     trial.holds("what the jobs call", lines == [wanted] * 3, lines)
     if shutil.which("run-parts"):
         for name in ("aide-compare.cron.daily", "aide-compare"):

@@ -8,8 +8,18 @@ import tempfile
 from tools.lib.tally import Tally
 
 HERE = os.path.dirname(os.path.dirname(os.path.dirname(os.path.dirname(os.path.abspath(__file__)))))
-PARTS = ["commands", "contrib", "docs", "examples/small_tree", "man", "README.md", "CHANGELOG.md", "SECURITY.md", "VERSION",
-         "packaging"]
+PARTS = [
+    "commands",
+    "contrib",
+    "docs",
+    "examples/small_tree",
+    "man",
+    "README.md",
+    "CHANGELOG.md",
+    "SECURITY.md",
+    "VERSION",
+    "packaging",
+]
 NOBODY = 65534
 # What the scripts may need: the base system without a compiler, git, dpkg-deb or rt.
 NEEDED = """[ awk basename cat chmod cmp comm cp cut date dirname env find grep gzip head id ln ls md5sum mkdir mktemp mv printf
