@@ -25,6 +25,11 @@ SLOTS = "YlZbpugamcinHAXSEC"
 # Pages of other programs that the pages name.
 OTHER_PAGES = [
     "man1/aide.1",
+    "man1/dpkg.1",
+    "man1/getfacl.1",
+    "man1/gpgv.1",
+    "man1/ls.1",
+    "man8/getcap.8",
     "man1/gzip.1",
     "man1/logger.1",
     "man1/lsattr.1",

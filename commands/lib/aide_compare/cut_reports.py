@@ -83,7 +83,7 @@ def mended_lines(file, size):
 
 
 class KeptReport:
-    """The report of a host, from its descriptor: its lines by `readline`, and `size`, how many bytes it had if it was cut."""
+    """The report of a host, from its descriptor: its bytes by `read`, and `size`, how many bytes it had if it was cut."""
 
     def __init__(self, descriptor):
         length = os.fstat(descriptor).st_size
@@ -92,8 +92,9 @@ class KeptReport:
         self._file = open(descriptor, "rb")
         self._lines = mended_lines(self._file, length - len(last.group())) if last else None
 
-    def readline(self, limit):
-        return next(self._lines, b"") if self._lines else self._file.readline(limit)
+    def read(self, size):
+        """Some of the bytes that come next, about so many; none at the end. Of a mended report that is a line."""
+        return next(self._lines, b"") if self._lines else self._file.read(size)
 
     def close(self):
         self._file.close()

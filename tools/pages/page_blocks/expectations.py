@@ -1,5 +1,6 @@
 """What displays need before they are run, and what is looked at after it."""
 import base64
+import gzip
 import hashlib
 import os
 import re
@@ -37,6 +38,15 @@ def prints(text):
     return look
 
 
+def prints_after_comparing(text):
+    """The output is the text; standard error only says which databases were read."""
+
+    def look(sandbox, done):
+        sandbox.holds("prints %r" % text, done[1] == text and not faults_in(done[2]), done)
+
+    return look
+
+
 def lists(*paths):
     """The report lists these paths and no other."""
 
@@ -66,6 +76,16 @@ def compare(sandbox):
     """What an administrator did before: a comparison that left its state."""
     done = sandbox.run("aide-compare-run --state %s" % STATE)
     sandbox.holds("a comparison before", done[0] == [7], done)
+
+
+def put_records(sandbox):
+    """The records of dpkg beside the old database, or, on a machine without dpkg, those of another machine: none."""
+    done = sandbox.trial.run(["aide-compare-accept", "--only-packages", sandbox.path("/tmp/old.gz")])
+    if os.path.exists(sandbox.path("/tmp/old.gz.packages")):
+        os.rename(sandbox.path("/tmp/old.gz.packages"), sandbox.path("/tmp/old.packages"))
+    else:
+        sandbox.holds("the records of packages are written", not sandbox.has("dpkg-query"), done)
+        sandbox.write("/tmp/old.packages", gzip.compress(b"\0" * 1024))
 
 
 def put_examples(sandbox):
