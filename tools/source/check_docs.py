@@ -27,6 +27,8 @@ ENDINGS = r"(?:rt|antt|py|md|sh|c|txt|conf|edit|[15])"
 NAMED = re.compile(r"`((?:[\w.-]+/)*[\w.-]+\.%s)`" % ENDINGS)
 BELOW = re.compile(r"`((?:tools|packaging|commands|docs|crates|examples|contrib|man|bench)/[\w./-]*)`")
 
+COPIES = re.compile(r"tools/wrong_bodies/(bodies|results)/|docs/WRONG_BODIES\.md$")
+
 
 class Kinds(Tally):
     """What was checked, by kind: a kind of which nothing is found has failed."""
@@ -117,10 +119,11 @@ def check_promised(tally):
 
 def check_changes(tally):
     """Each kind of change in CONTRIBUTING names just the files that have the text of its example: no other file has it, and
-    each file or pattern finds one that has it."""
+    each file or pattern finds one that has it. Wrong bodies copy the text of functions; what is stale there is told by
+    tools/wrong_bodies/check.py."""
     page = read("CONTRIBUTING.md")
     part = page[page.index("## What a change touches") :].split("\n## ")[0]
-    texts = {name: read_text(name) for name in tracked() if name != "CONTRIBUTING.md"}
+    texts = {name: read_text(name) for name in tracked() if name != "CONTRIBUTING.md" and not COPIES.match(name)}
     for literal, rows in re.findall(r"^### .*\(`([^`]+)`\)\n\n((?:[-|  ].*\n)+)", part, re.M):
         patterns = [pattern for pattern in re.findall(r"`([^`\s]+)`", rows) if "/" in pattern or pattern.endswith(".md")]
         having = [name for name, text in texts.items() if literal in text]

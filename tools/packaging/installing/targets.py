@@ -27,12 +27,17 @@ KNOWN = [
     DOCUMENTS + "/VERSION",
     DOCUMENTS + "/examples/cron/aide-compare.cron.daily",
     DOCUMENTS + "/examples/aide/debian.without",
+    DOCUMENTS + "/examples/aide/debian.rules",
+    DOCUMENTS + "/examples/json/aide-compare-lines.schema.json",
+    "share/aide-compare/severity.conf",
     DOCUMENTS + "/examples/small_tree/old.db",
     DOCUMENTS + "/examples/small_tree/new.db",
 ]
 FOLDERS = {
     "commands/bin": "bin",
     "commands/lib/aide_compare": "lib/aide-compare/python/aide_compare",
+    "commands/lib/aide_compare/reasons": "lib/aide-compare/python/aide_compare/reasons",
+    "commands/share": "share/aide-compare",
     "commands/nagios": "lib/nagios/plugins",
     "commands/fleet": "lib/aide-compare/fleet",
     "contrib/systemd": "lib/systemd/system",

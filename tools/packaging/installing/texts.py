@@ -51,7 +51,7 @@ def try_pages(trial):
     for path, text in pages.items():
         trial.holds("the version in " + path, ("\n.Os aide-compare %s\n" % trial.version) in text)
         trial.holds("no path of the repository in " + path, not SOURCE_PATH.search(text), SOURCE_PATH.findall(text))
-        for name in re.findall(r"^\.Pa (\S+\.md)", text, re.M):
+        for name in re.findall(r"^\.Pa ([^\s*]+\.md)(?!\S)", text, re.M):
             good = name.startswith("/usr/local/") and name[len("/usr/local/") :] in found
             trial.holds("%s names a document that is installed" % path, good, name)
         if shutil.which("man"):
@@ -151,7 +151,7 @@ def try_cron(trial):
         trial.holds("cron.daily, the tool's status %s" % status, done == (status or 0, "", ""), done)
     with open(called) as file:
         lines = file.read().splitlines()
-    wanted = "%s --user %s --alarm-sent-is-success --age 50h --state %s" % (
+    wanted = "%s --user %s --alarm-sent-is-success --age 50h --state %s --reasons" % (
         tool,
         pwd.getpwuid(os.geteuid()).pw_name,
         trial.path("lib/aide-compare/daily/state"),

@@ -26,7 +26,7 @@ ROWS = (
     (b"/etc/rc?.d/*", b"/etc/init.d/"),
     (b"/etc/ssl/certs/*", b"/usr/share/ca-certificates"),
     (b"/etc/ca-certificates.conf*", b"/usr/share/ca-certificates"),
-    (b"/usr/local/share/ca-certificates", b"/usr/share/ca-certificates"),
+    (b"/usr/*/share/ca-certificates", b"/usr/share/ca-certificates"),
     (b"/etc/shells", b"/usr/share/debianutils/shells.d"),
     (b"/var/lib/shells.state", b"/usr/share/debianutils/shells.d"),
     (b"/etc/timezone", b"/usr/share/zoneinfo"),

@@ -44,7 +44,7 @@ NO_PATTERN = (
     (b"/etc/rc.local", "started at boot"),
     (b"/etc/systemd/**", "started by systemd"),
     (b"/usr/lib/systemd/**", "started by systemd"),
-    (b"/usr/local/lib/systemd/**", "started by systemd"),
+    (b"/usr/*/lib/systemd/**", "started by systemd"),
     (b"/run/systemd/system/**", "started by systemd"),
     (b"/run/systemd/transient/**", "started by systemd"),
     (b"/run/udev/rules.d/**", "run when a device appears"),
