@@ -97,6 +97,8 @@ PLANTED = (
         (ENTRIES, "self.is_link() or not (has_more or has_list)", "self.is_link() or not has_more"),
         (ENTRIES, "self.is_link() or not (has_more or has_list)", "self.is_link() or not has_list"),
         (PACKAGES, '        count = new.number("lcount") or 0\n', "        count = 0\n"),
+        (PACKAGES, "if old and differ <= SAME_CONTENT and old.digests():", "if old and differ <= SAME_CONTENT:"),
+        (ENTRIES, "for column, value in found.items() if value}", "for column, value in found.items()}"),
         (PROTECTED, "    return gains_set_id(old, new) or (", "    return ("),
         (PROTECTED, " or (is_open(new) and not is_open(old))", ""),
     )
@@ -115,6 +117,16 @@ PLANTED = (
         (DPKG, "yield self.place_of(path, package), digest", "yield path, digest"),
         (
             DPKG,
+            'if place is not None and database.at(place).link() in (b"usr" + path, b"/usr" + path):',
+            "if place is not None:",
+        ),
+        (
+            DPKG,
+            'database.at(place).link() in (b"usr" + path, b"/usr" + path):',
+            'b"usr/" in (database.at(place).link() or b""):',
+        ),
+        (
+            DPKG,
             '        for path in self._read(package, "list").split(b"\\n"):',
             '        for path in self._read(package, "list").split():',
         ),
@@ -123,6 +135,7 @@ PLANTED = (
         "reasons_packages.try_links",
         (PACKAGES, "        if any(owner in self.known.now[path] for owner in owners):\n", "        if True:\n"),
         (PACKAGES, "            if len(changes) < count:\n", "            if False:\n"),
+        (PACKAGES, 'or (old and not differ <= SAME_TARGET | {"lname", "size"})', ""),
     )
     + seen_by(
         "reasons_packages.try_removed",
@@ -222,8 +235,22 @@ PLANTED = (
         (INDEXES, 'if digest == digests.get(ending) or plain_digest == digests.get(""):', "if True:"),
         (INDEXES, "return done.stdout if is_good and done.returncode in (0, 2) else None", "return done.stdout"),
         (INDEXES, "PIECE = os.O_RDONLY | os.O_NOFOLLOW | ", "PIECE = os.O_RDONLY | "),
+        (
+            INDEXES,
+            "            text = signed_text(copy, self.keyrings)\n",
+            "            text = signed_text(copy, self.keyrings) and os.pread(copy, MOST_RELEASE, 0)\n",
+        ),
     )
-    + seen_by("reasons_archive.try_forms", (DEB, "begin + size + size % 2", "begin + size"))
+    + seen_by(
+        "reasons_archive.try_forms",
+        (DEB, "begin + size + size % 2", "begin + size"),
+        (
+            PACKED,
+            '        block = os.read(source, BLOCK)\n        if not block:\n            raise Refuted("cut short")\n',
+            "        block = os.read(source, BLOCK)\n        if not block:\n            return\n",
+        ),
+        (PACKED, "if not 0 <= size <= self.most:", "if False:"),
+    )
     + seen_by(
         "reasons_lines.try_same",
         (LINES, 'end = line.rindex(b"}")', 'line, end = ENCODE(json.loads(line)).encode() + b"\\n", -2'),
@@ -233,6 +260,7 @@ PLANTED = (
         "reasons_lines.try_damage",
         (LINES, "if any(name in fields for name in OURS):", "if False:"),
         (LINES, "if not good or not self.last < names:", "if not good:"),
+        (LINES, '== "entry" and not self.databases:', '== "entry":'),
         (EXPLAINER, 'if present != PRESENT[fields["kind"]] and (', "if False and ("),
         (LIB + "database.py", "if len(fields) != len(places):", "if False:"),
     )
@@ -245,6 +273,7 @@ PLANTED = (
         "reasons_lines.try_records",
         (RECORDS, " or found.st_mode & 0o022", ""),
         (RECORDS, "            if folder.others:\n", "            if False:\n"),
+        (RECORDS, 'mode="wb", fileobj=target, mtime=0', 'mode="wb", fileobj=target'),
         (RECORDS, "os.O_RDONLY | os.O_NOFOLLOW | os.O_NONBLOCK", "os.O_RDONLY | os.O_NONBLOCK"),
     )
     + seen_by(

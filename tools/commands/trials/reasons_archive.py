@@ -64,12 +64,12 @@ def deb(data, control, form=""):
     return text
 
 
-def tool():
-    return deb(tar(FILES, LINKS, HARD_LINKS), tar(CONTROL))
+def tool(files=()):
+    return deb(tar({**FILES, **dict(files)}, LINKS, HARD_LINKS), tar(CONTROL))
 
 
-def index():
-    package = tool()
+def index(package=None):
+    package = package or tool()
     return (
         "Package: alien\nVersion: 2\nArchitecture: all\nFilename: x.deb\nSize: 1\nSHA256: %s\n\nPackage: tool\nVersion: 1:2\n"
         "Architecture: amd64\nDescription: a\n tool\nFilename: pool/tool_2_amd64.deb\nSize: %d\nSHA256: %s\n\n"
@@ -77,9 +77,9 @@ def index():
     ).encode()
 
 
-def release():
-    """The text that is signed."""
-    text = index()
+def release(text=None):
+    """The text that is signed, or what it would say of another index."""
+    text = text or index()
     return "Suite: trial\nSHA256:\n" + "".join(
         " %s %d %sPackages\n" % (hashlib.sha256(text).hexdigest(), len(text), folder) for folder in ("", "main/binary-amd64/")
     )
@@ -177,18 +177,16 @@ def try_signed(sandbox):
 def try_forged(sandbox):
     """What is not signed, or not what was signed, is no evidence; dpkg's own is still told apart by its grade."""
     prepare(sandbox)
-    index_of_another = index().replace(hashlib.sha256(tool()).hexdigest().encode(), hashlib.sha256(b"x").hexdigest().encode())
+    package = tool({"usr/bin/b": FORGED, "usr/bin/set-id": FORGED})
+    another = {"package": package, "index": index(package)}
     forged = {
         "release": {"release": RELEASE.replace("Suite: trial", "Suite: triaL")},
         "index": {"index": index() + b"\n"},
         "package": {"package": tool()[:-1] + b"x"},
         "cut": {"package": tool()[:-9]},
-        "another": {"index": index_of_another},
-        "unsigned text before": {
-            "release": release().replace(hashlib.sha256(index()).hexdigest(), hashlib.sha256(index_of_another).hexdigest())
-            + RELEASE,
-            "index": index_of_another,
-        },
+        "another": another,
+        "unsigned text before": {"release": release(another["index"]) + RELEASE, **another},
+        "unsigned text after": {"release": RELEASE + release(another["index"]), **another},
         "no signature": {"release": release()},
         "nothing": {"release": ""},
     }
@@ -211,14 +209,29 @@ def try_forged(sandbox):
         sandbox.expect(label, answer, status, b"")
 
 
+def _try_bounded(sandbox, packed):
+    """However much an archive asks for at once, no more is read than is allowed."""
+    with open(sandbox.write("bounded", bytes(9)), "rb") as file:
+        bounded = packed.Bounded(os.dup(file.fileno()), 4)
+        for size, is_read in ((4, True), (5, False), (9, False), (-1, False)):
+            try:
+                got = len(bounded.read(size))
+            except tarfile.ReadError:
+                got = None
+            sandbox.holds("%d bytes at once" % size, got == (size if is_read else None), got)
+        bounded.close()
+
+
 def try_forms(sandbox):
     """All forms in which packages are packed, and damage in each."""
     path = os.path.join(HERE, "commands", "lib")
     if path not in sys.path:
         sys.path.append(path)
     from aide_compare.reasons.deb import read_deb
+    from aide_compare.reasons import packed as packed_module
     from aide_compare.reasons.packed import Refuted
 
+    _try_bounded(sandbox, packed_module)
     forms = {
         "": bytes,
         ".gz": gzip.compress,
@@ -232,6 +245,7 @@ def try_forms(sandbox):
         for label, packed, good in (
             ("whole", text, True),
             ("cut", text[: -2000 if not form else -20], False),
+            ("its files cut", deb(pack(data)[: 600000 if not form else -4], pack(tar(CONTROL)), form), False),
             ("no package", b"x" + text, False),
         ):
             with open(sandbox.write("form.deb", packed), "rb") as file:

@@ -110,7 +110,9 @@ def try_damage(sandbox):
         "a path without a slash": lines.replace(b'"/a"', b'"a"'),
         "no path": lines.replace(b'"path":"/a"', b'"pat":"/a"'),
         "a severity already": sandbox.call(NAME, *GIVEN, text=lines).output,
-        "an entry after the databases": b"".join(parts[:1] + parts[2:] + parts[1:2]),
+        "the first entry after the databases": b"".join(parts[:1] + parts[2:] + parts[1:2]),
+        "the last entry after the databases": b"".join(parts[:-3] + parts[-2:] + parts[-3:-2]),
+        "the last entry between the databases": b"".join(parts[:-3] + parts[-2:-1] + parts[-3:-2] + parts[-1:]),
     }
     for label, text in cases.items():
         sandbox.expect(label, sandbox.call(NAME, *GIVEN, text=text), 65, b"", [b"line "])
@@ -225,7 +227,7 @@ def try_records(sandbox):
     read = records.KeptRecords(sandbox.path("kept.packages"))
     found = {name: read.read(name) for name in read.names}
     sandbox.holds("records are kept whole", found == {name: text for name, text in files.items() if text != b"no"}, found)
-    sandbox.holds("twice the same", kept() == text)
+    sandbox.holds("twice the same, without the time of writing", kept() == text and text[4:8] == bytes(4), text[:10])
     sandbox.holds(
         "there are records", records.has_records(sandbox.path("dpkg")) and not records.has_records(sandbox.path("bin"))
     )

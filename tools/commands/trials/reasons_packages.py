@@ -55,6 +55,8 @@ def try_content(sandbox):
     case("in the list, without a digest", "-", b"/usr/bin/f", said=None)
     case("the same content as before", BY_DPKG, b"/usr/bin/g", new=ONE, said=None)
     case("no digest in the databases", "-", b"/usr/bin/h", said=None, md5="0", sha256="0")
+    case("no digest in the databases, the same size", "-", b"/usr/bin/k", new=ONE, said=None, md5="0", sha256="0")
+    case("no digest that can be read, the same size", "-", b"/usr/bin/l", new=ONE, said=None, md5="!", sha256="!")
     case("new, without a digest anywhere", "-", b"/usr/bin/i", old=None, said=None, md5="0", sha256="0")
     case("set-user-ID before and after", BY_DPKG, b"/usr/bin/j", mode=0o104755)
     for label, after in (
@@ -147,10 +149,27 @@ def try_names(sandbox):
             host.new.file(path, TWO)
             wanted["merged %d, diverted or a conffile" % merged, path] = expected
         host.expect(sandbox, wanted)
+    _try_elsewhere(sandbox)
     altered = Host()
     altered.old.file(b"/etc/c", ONE, inode=1).package("tool", "1", (), {b"/etc/c": ONE})
     altered.new.file(b"/etc/c", b"the administrator's", inode=2).package("tool", "2", (), {b"/etc/c": TWO})
     altered.expect(sandbox, {("an altered conffile", b"/etc/c"): "-"})
+
+
+def _try_elsewhere(sandbox):
+    """Where /bin and the others are no links to their own names in /usr, a package's file in them is none in /usr."""
+    host, wanted = Host(), {}
+    host.both(lambda night: night.folder(b"/bin").link(b"/sbin", b"usr/bin").link(b"/lib", b"usr/local/lib"))
+    host.both(lambda night: night.link(b"/lib64", b"/opt/usr/lib64"))
+    host.old.package("tool", "1")
+    files = (b"/bin/a", b"/sbin/b", b"/lib/c", b"/lib64/d")
+    host.new.package("tool", "2", dict.fromkeys(files, TWO))
+    for path in files:
+        host.new.file(b"/usr" + path, TWO)
+        wanted["a folder, or a link elsewhere", b"/usr" + path] = "-"
+    host.new.file(b"/bin/a", TWO)
+    wanted["a folder", b"/bin/a"] = BY_DPKG
+    host.expect(sandbox, wanted)
 
 
 def try_links(sandbox):
@@ -165,6 +184,8 @@ def try_links(sandbox):
         b"/usr/lib/away.so": (b"lib.so.1", b"/tmp/x.so", MADE),
         b"/usr/lib/none.so": (None, b"/tmp/x.so", MADE),
         b"/usr/lib/users.so": (None, b"lib.so.2", "-"),
+        b"/usr/lib/users-now.so": (b"lib.so.1", b"lib.so.2", "-"),
+        b"/usr/lib/users-same.so": (b"lib.so.2", b"lib.so.2", "-"),
     }
     for path, (before, after, want) in targets.items():
         upgrade.contents["new"][path] = None
