@@ -94,6 +94,7 @@ PLANTED = (
         (PACKAGES, "        if old and not differ <= CONTENT:\n            return None\n", ""),
         (PACKAGES, "(old is None and not new.is_plain())", "False"),
         (ENTRIES, 'self.number("uid") == 0 and (', "("),
+        (PROTECTED, "is_open(new) and not is_open(old)", "is_open(new)"),
         (ENTRIES, "self.is_link() or not (has_more or has_list)", "self.is_link() or not has_more"),
         (ENTRIES, "self.is_link() or not (has_more or has_list)", "self.is_link() or not has_list"),
         (PACKAGES, '        count = new.number("lcount") or 0\n', "        count = 0\n"),
@@ -197,6 +198,11 @@ PLANTED = (
         (RULES, "return None if takes_no_pattern(change.path) else rule.reason", "return rule.reason"),
         (RULES, "        if old is None and _is_program_or_device(new.mode):\n            return None\n", ""),
         (RULES, "        return differ <= rule.columns or (", "        return True or ("),
+        (RULES, "        if not (old and new):\n", "        if not old:\n"),
+        (RULES, "stat.S_ISCHR(mode) or stat.S_ISBLK(mode) or", "stat.S_ISCHR(mode) or"),
+        (RULES, "(stat.S_ISREG(mode) and bool(mode & 0o111))", "bool(mode & 0o111)"),
+        (RULES, "GROWS in rule.words and old.is_file() and", "old.is_file() and"),
+        (RULES, "GROWS in rule.words and old.is_file() and", "GROWS in rule.words and"),
         (RULES, "old.is_file() and has_grown(old, new, differ))", "old.is_file())"),
         (RULES, 'Reason("rule", text, False, "rules")', 'Reason("rule", text, True, "rules")'),
         (RULES, "text = shown(parts[2], MOST_TEXT)", 'text = parts[2].decode("utf-8", "replace")'),
@@ -228,6 +234,11 @@ PLANTED = (
         (DEB, 'self.found.get(b"/" + (target[2:]', 'self.found.get(b"//" + (target[2:]'),
         (ARCHIVE, 'part.replace(b":", b"%3a")', "part"),
         (INDEXES, 'path.replace("/", slash)', "path"),
+    )
+    + seen_by(
+        "reasons_archive.try_owners",
+        (PACKAGES, "if (old or new.is_plain()) and differ <= CONTENT and", "if differ <= CONTENT and"),
+        (PACKAGES, "if (old or new.is_plain()) and differ <= CONTENT and", "if (old or new.is_plain()) and"),
     )
     + seen_by(
         "reasons_archive.try_forged",

@@ -28,6 +28,7 @@ def try_reasons_packages(sandbox):
         reasons_packages.try_removed,
         reasons_packages.try_read,
         reasons_archive.try_signed,
+        reasons_archive.try_owners,
         reasons_archive.try_forged,
         reasons_archive.try_forms,
     ):

@@ -11,7 +11,7 @@ import sys
 import tarfile
 
 from .archive_signed import KEYRING, OTHER_KEYRING, RELEASE
-from .reasons_host import Host
+from .reasons_host import MORE_ACL, Entry, Host
 from .sandbox import HERE
 
 BY_ARCHIVE, BY_DPKG, MADE = "package archive!", "package dpkg!", "package_made dpkg"
@@ -172,6 +172,26 @@ def try_signed(sandbox):
     ):
         write_archive(sandbox, "archive%d" % number, name, lists)
         expect(sandbox, "signed, layout %d" % number, ARCHIVED, "--archive", "archive%d" % number, "--keyring", "archive.gpg")
+
+
+def try_owners(sandbox):
+    """dpkg's own files as the archive has them, but not root's: whoever owns a script of a package can write it later."""
+    prepare(sandbox)
+    write_archive(sandbox)
+    path, words = INFO + b"tool.md5sums", ("--archive", "archive", "--keyring", "archive.gpg")
+    for label, before, after, want in (
+        ("new", None, {}, BY_ARCHIVE),
+        ("new, of another user", None, {"uid": 1000}, "-"),
+        ("new, with an access list", None, {"acl": Entry.acl(MORE_ACL)}, "-"),
+        ("as before", {}, {}, BY_ARCHIVE),
+        ("now of another user", {}, {"uid": 1000}, "-"),
+        ("now with another mode", {}, {"mode": 0o100755}, "-"),
+    ):
+        host = host_of()
+        if before is not None:
+            host.old.file(path, b"old sums", **before)
+        host.new.file(path, b"sums\n", **after)
+        host.expect(sandbox, {(label, path): want}, *words)
 
 
 def try_forged(sandbox):

@@ -180,6 +180,14 @@ def try_rules(sandbox):
     case("-", b"/srv/modes/set-id", new=ONE, after={"inode": 1, "mode": 0o104644})
     host.new.add(b"/srv/data/new-device", 0o20600)
     wanted["a new device", b"/srv/data/new-device"] = "-"
+    host.new.add(b"/srv/data/new-disk", 0o60600).folder(b"/srv/data/new-folder")
+    wanted["a new disk", b"/srv/data/new-disk"] = "-"
+    wanted["a new folder", b"/srv/data/new-folder"] = RULE
+    case("-", b"/srv/modes/gone", new=None)
+    case("-", b"/srv/modes/grown", after={"inode": 1, "mtime": Entry.time(2000)}, new=b"one two")
+    host.old.folder(b"/srv/logs/folder", size=1)
+    host.new.folder(b"/srv/logs/folder", size=2)
+    wanted["a folder that grew", b"/srv/logs/folder"] = "-"
     objects = host.expect(sandbox, wanted, "--rules", "rules", records=False)
     texts = {fields["reason"]["text"] for fields in objects if "reason" in fields}
     sandbox.holds("the texts of rules, escaped", texts >= {"written each day", "modes\\033[0m"}, texts)

@@ -38,7 +38,7 @@ class Packages:
             return self._removed(change)
         control = self.archive.control(change.path) if self.archive else None
         if control is not None:
-            return self._control(change.path, new, differ, control)
+            return self._control(change.path, old, new, differ, control)
         if change.path not in self.known.now or (old is None and not new.is_plain()):
             return None
         if new.is_file():
@@ -66,9 +66,9 @@ class Packages:
             return None
         return self._reason("gone with %s" % words_of(owners[-1]), "dpkg")
 
-    def _control(self, path, new, differ, control):
+    def _control(self, path, old, new, differ, control):
         """The reason for one of dpkg's files about a package of the archive, which brings it."""
-        if differ <= CONTENT and self._agrees(path, new, control):
+        if (old or new.is_plain()) and differ <= CONTENT and self._agrees(path, new, control):
             return self._reason("dpkg's records as the archive has them", "archive")
         self.refuted.add(path)
         return None
