@@ -190,6 +190,9 @@ PLANTED = (
         (PARENTS, "return NOT_VERIFIED if names.unverified else VERIFIED", "return VERIFIED"),
         (PARENTS, "        if not _only_names(old, new, differ):\n            return None\n", ""),
         (PARENTS, "return None not in flags and flags[0] ^ flags[1] == INDEX", "return True"),
+        (PARENTS, "return None not in flags and flags[0]", "return flags[0]"),
+        (PARENTS, "change.old_at is None or change.new_at is None or", "change.old_at is None or"),
+        (PARENTS, "if change.reason is None and not change.is_never:", "if change.reason is None:"),
         (PARENTS, "            if change.is_replaced:\n", "            if True:\n"),
         (PARENTS, "return ANEW if names and _only", "return VERIFIED if names and _only"),
     )

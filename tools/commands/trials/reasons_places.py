@@ -120,7 +120,19 @@ def try_folders(sandbox):
     table.new.folder(b"/srv/own", inode=50, e2fsattrs="528384", **later).package("tool", "2", listed=[b"/srv/own"])
     table.old.folder(b"/srv/flag", inode=50, e2fsattrs="524288")
     table.new.folder(b"/srv/flag", inode=50, e2fsattrs="524304", **later).packages["tool"][4].append(b"/srv/flag")
-    table.expect(sandbox, {("an index of names", b"/srv/own"): "folder dpkg", ("another flag", b"/srv/flag"): "-"})
+    table.old.folder(b"/srv/odd", inode=50, e2fsattrs="524288").folder(b"/srv/gone")
+    table.new.folder(b"/srv/odd", inode=50, e2fsattrs="x", **later)
+    never = b"/etc/initramfs-tools/hooks/inner"
+    table.old.folder(never, inode=50)
+    table.new.folder(never, inode=50, **later).packages["tool"][4].append(never)
+    wanted = {
+        ("an index of names", b"/srv/own"): "folder dpkg",
+        ("another flag", b"/srv/flag"): "-",
+        ("flags that are no number", b"/srv/odd"): "-",
+        ("a removed folder", b"/srv/gone"): "-",
+        ("a folder that nothing ever explains", never): "-",
+    }
+    table.expect(sandbox, wanted)
 
 
 RULES = b"""# What may differ, where, and why.
