@@ -200,6 +200,8 @@ def try_links(sandbox):
     for path, inode, want in ((b"/usr/bin/perl", 70, BY_DPKG), (b"/usr/bin/perl5", 70, BY_DPKG), (b"/usr/bin/half", 71, "-")):
         upgrade.case("two names", want, path, after={"inode": inode, "lcount": 2}, before={"lcount": 2})
     host.new.file(b"/usr/local/p", TWO, inode=71, lcount=2)
+    for path, said in ((b"/usr/bin/twin", TWO), (b"/usr/bin/twin-otherwise", b"something else")):
+        upgrade.case("two names, one with another digest", "-", path, old=None, said=said, after={"inode": 72, "lcount": 2})
     upgrade.expect(sandbox)
 
 
