@@ -196,6 +196,8 @@ PLANTED = (
         (PARENTS, "if change.reason is None and not change.is_never:", "if change.reason is None:"),
         (PARENTS, "            if change.is_replaced:\n", "            if True:\n"),
         (PARENTS, "return ANEW if names and _only", "return VERIFIED if names and _only"),
+        (PARENTS, "return ANEW if names and _only", "return ANEW if _only"),
+        (PARENTS, 'names and _only_names(old, new, differ - {"inode"}) else', "names else"),
     )
     + seen_by(
         "reasons_places.try_rules",

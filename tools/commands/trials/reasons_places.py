@@ -122,6 +122,10 @@ def try_folders(sandbox):
     table.new.folder(b"/srv/flag", inode=50, e2fsattrs="524304", **later).packages["tool"][4].append(b"/srv/flag")
     table.old.folder(b"/srv/odd", inode=50, e2fsattrs="524288").folder(b"/srv/gone")
     table.new.folder(b"/srv/odd", inode=50, e2fsattrs="x", **later)
+    for path, mode in ((b"/srv/swapped", 0o40755), (b"/srv/swapped-rights", 0o40700)):
+        table.old.folder(path, inode=50)
+        table.new.folder(path, mode, inode=51, **later)
+    table.new.file(b"/srv/swapped-rights/file", TWO).packages["tool"][1][b"/srv/swapped-rights/file"] = TWO
     never = b"/etc/initramfs-tools/hooks/inner"
     table.old.folder(never, inode=50)
     table.new.folder(never, inode=50, **later).packages["tool"][4].append(never)
@@ -130,6 +134,9 @@ def try_folders(sandbox):
         ("another flag", b"/srv/flag"): "-",
         ("flags that are no number", b"/srv/odd"): "-",
         ("a removed folder", b"/srv/gone"): "-",
+        ("another folder under the name, and nothing in it changed", b"/srv/swapped"): "-",
+        ("another folder under the name, with other rights", b"/srv/swapped-rights"): "-",
+        ("a file in it", b"/srv/swapped-rights/file"): "package dpkg!",
         ("a folder that nothing ever explains", never): "-",
     }
     table.expect(sandbox, wanted)
