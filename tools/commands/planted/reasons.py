@@ -136,6 +136,7 @@ PLANTED = (
         "reasons_packages.try_links",
         (PACKAGES, "        if any(owner in self.known.now[path] for owner in owners):\n", "        if True:\n"),
         (PACKAGES, "            if len(changes) < count:\n", "            if False:\n"),
+        (PACKAGES, "if not link or (old and not differ", "if (old and not differ"),
         (PACKAGES, "if reason and count > 1 and change.is_replaced:", "if count > 1 and change.is_replaced:"),
         (PACKAGES, 'or (old and not differ <= SAME_TARGET | {"lname", "size"})', ""),
     )

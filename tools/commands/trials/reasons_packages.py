@@ -194,6 +194,9 @@ def try_links(sandbox):
             host.old.link(path, before, inode=8)
         host.new.link(path, after, inode=9, uid=1000 if b"users" in path else 0)
         wanted["a link", path] = want
+    host.new.add(b"/usr/lib/nowhere.so", 0o120777)
+    upgrade.contents["new"][b"/usr/lib/nowhere.so"] = None
+    wanted["a link without a target", b"/usr/lib/nowhere.so"] = "-"
     host.old.link(b"/usr/lib/alien.so", b"a")
     host.new.link(b"/usr/lib/alien.so", b"lib.so.2")
     wanted["a link of no package", b"/usr/lib/alien.so"] = "-"
