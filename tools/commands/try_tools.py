@@ -27,6 +27,7 @@ from tools.commands.trials.explained import try_explained
 from tools.commands.trials.explained_readers import try_explained_readers
 from tools.commands.trials.fleet import try_fleet
 from tools.commands.trials.hosts_ends import try_hosts_ends
+from tools.commands.trials.hosts_page import try_hosts_page
 from tools.commands.trials.hosts_report import try_hosts_report
 from tools.commands.trials.faults import try_faults, try_signals
 from tools.commands.trials.lost_modules import try_lost_modules
@@ -51,6 +52,7 @@ TRIALS = [
     try_attacks,
     try_fleet,
     try_hosts_report,
+    try_hosts_page,
     try_hosts_ends,
     try_cut_reports,
     try_faults,

@@ -1,4 +1,4 @@
-"""report-hosts: what differs on all hosts, each change once with the hosts that have it, as text, as JSON or as a mail."""
+"""report-hosts: what differs on all hosts, each change once with its hosts, as text, as JSON, as a page or as a mail."""
 import os
 import shlex
 import sys
@@ -117,6 +117,13 @@ class HostsReport:
             for line in report_lines(self.summary, self.hosts, self.changes(), self.summary["order"]):
                 target.write((line + "\n").encode("utf-8", "backslashreplace"))
 
+    def write_html(self, command):
+        from aide_compare.hosts_page import page
+
+        with open(1, "wb", buffering=BLOCK, closefd=False) as target:
+            for part in page(self.summary, self.hosts, self.changes(), command):
+                target.write(part)
+
     def mail(self, given, command):
         """Sends one mail about all hosts, and none if there is nothing to say."""
         from aide_compare.hosts_text import fitting, headline
@@ -177,6 +184,7 @@ def options():
     )
     form = parser.add_mutually_exclusive_group()
     form.add_argument("--json", action="store_true", help="write JSON, one object a line")
+    form.add_argument("--html", action="store_true", help="write one page for a browser, without a script")
     form.add_argument("--to", type=address, metavar="ADDRESS", help="mail the text, if a host differs or was not compared")
     parser.add_argument("--most-mail", type=size, default=1 << 20, metavar="SIZE", help="cut a mail that would be larger (1M)")
     parser.add_argument("--smtp", type=some_text, metavar="HOST[:PORT]", help="send by SMTP to this server, not by sendmail")
@@ -195,9 +203,11 @@ def main(arguments):
 
     def work():
         report = HostsReport(names, given)
+        words = [sys.argv[0], "--store", os.path.abspath(given.store), os.path.abspath(given.file)]
         if given.to:
-            words = [sys.argv[0], "--store", os.path.abspath(given.store), os.path.abspath(given.file)]
             report.mail(given, shlex.join(words))
+        elif given.html:
+            report.write_html(shlex.join(words))
         else:
             (report.write_json if given.json else report.write_text)()
         return report.worst

@@ -140,6 +140,15 @@ class Contents:
         return any(stream.more_digests for stream in self.streams)
 
 
+def filled(parts):
+    """The beginning of a page, with each part in the place of its mark."""
+    text = part_of("page.html")
+    for mark, part in parts:
+        before, _, after = text.partition("<!-- %s -->" % mark)
+        text = before + part + after
+    return text.encode("utf-8", "backslashreplace")
+
+
 def head(report, contents, title, parts):
     """The beginning of the page, up to the entries."""
     style, script, more = parts
@@ -149,20 +158,18 @@ def head(report, contents, title, parts):
         if report.changes() is None
         else "%s: %s" % (title, ", ".join("%s %s" % (number(report.summary[kind]), kind) for kind in KINDS))
     )
-    text = part_of("page.html")
-    for mark, part in (
-        ("POLICY", policy),
-        ("HEADING", escape(heading)),
-        ("STYLE", style),
-        ("OUTCOME", OUTCOMES[report.summary["differences"]]),
-        ("COUNTS", counts(report, contents.reasons)),
-        ("REMARKS", remarks(report, more)),
-        ("DATABASES", facts(report.summary) + databases(report)),
-        ("TITLE", escape(title)),
-    ):
-        before, _, after = text.partition("<!-- %s -->" % mark)
-        text = before + part + after
-    return text.encode()
+    return filled(
+        (
+            ("POLICY", policy),
+            ("HEADING", escape(heading)),
+            ("STYLE", style),
+            ("OUTCOME", OUTCOMES[report.summary["differences"]]),
+            ("COUNTS", counts(report, contents.reasons)),
+            ("REMARKS", remarks(report, more)),
+            ("DATABASES", facts(report.summary) + databases(report)),
+            ("TITLE", escape(title)),
+        )
+    )
 
 
 def spooled(parts):

@@ -13,6 +13,8 @@ GRADES = {
     "archive": "the archive says so",
     "rules": "a rule says so",
 }
+# In place of an old value, if hosts with the same change had several. No text of a host is this object.
+VARIOUS = type("Various", (str,), {})("various")
 HEADS = "<tr><th>Attribute<th>Old<th>New"
 
 
@@ -52,6 +54,8 @@ def cell(value, note="", doubt=""):
     """A value. If people read something else in its place, the exact one is its title."""
     if value is None:
         return '<td class="none">none'
+    if value is VARIOUS:
+        return '<td class="none">' + value
     text = '<td title="%s">%s' % (escape(value), escape(note)) if note and note != value else "<td>" + escape(value)
     return "%s<small>%s</small>" % (text, escape(doubt)) if doubt else text
 

@@ -1,5 +1,6 @@
 # Completions of fish for report-hosts.
 complete -c report-hosts -l json -d 'Write JSON, one object a line'
+complete -c report-hosts -l html -d 'Write one page for a browser'
 complete -c report-hosts -l to -x -a '(__fish_complete_users)' -d 'Mail the text'
 complete -c report-hosts -l order -x -a 'path rare common' -d 'The order of the changes'
 complete -c report-hosts -l only-path -x -d 'Only changes of these paths'

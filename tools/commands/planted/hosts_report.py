@@ -103,6 +103,52 @@ PLANTED = [
     ),
     Plant(file=LIB + "hosts_text.py", old=" or taken.get(first, 0) + size > share:", new=":", seen_by="hosts_report.try_mail"),
     Plant(
+        file=LIB + "page_items.py",
+        old='text += "<code>%s</code>%s" % (escape(name),',
+        new='text += "<code>%s</code>%s" % (name,',
+        seen_by="hosts_page.try_markup",
+    ),
+    Plant(
+        file=LIB + "hosts_page.py",
+        old="None, shown_path(path), ",
+        new='None, path.decode("utf-8", "replace"), ',
+        seen_by="hosts_page.try_markup",
+    ),
+    Plant(
+        file=LIB + "hosts_page.py",
+        old="if len(text) > self.room or taken > self.share:",
+        new="if False:",
+        seen_by="hosts_page.try_room",
+    ),
+    Plant(file=LIB + "hosts_page.py", old=" or taken > self.share:", new=":", seen_by="hosts_page.try_room"),
+    Plant(
+        file=LIB + "hosts_page.py",
+        old="yield head(summary, hosts, remark_of(items.left_out, command))",
+        new='yield head(summary, hosts, "")',
+        seen_by="hosts_page.try_room",
+    ),
+    Plant(
+        file=LIB + "hosts_page.py",
+        old='row[1] if "old" in attributes[LABELS[row[0]]] else VARIOUS',
+        new="row[1]",
+        seen_by="hosts_page.try_values",
+    ),
+    Plant(
+        file=LIB + "hosts_page.py", old='host_list("Not compared", refused, True)', new='""', seen_by="hosts_page.try_values"
+    ),
+    Plant(
+        file=LIB + "hosts_page.py",
+        old='fields["hosts"] - len(fields["names"])',
+        new="0",
+        seen_by="hosts_page.try_values",
+    ),
+    Plant(
+        file=LIB + "hosts_page.py",
+        old='"Not compared", "not_compared")',
+        new='"Not compared", "hosts")',
+        seen_by="hosts_page.try_values",
+    ),
+    Plant(
         file=LIB + "hosts_report.py",
         old="        if not self.worst:\n            return\n",
         new="",

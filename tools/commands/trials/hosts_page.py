@@ -1,0 +1,100 @@
+"""The page of many hosts: its counts, its values, names that are no markup, what it has no room for, and no script."""
+import html
+import re
+import subprocess
+import sys
+
+from .hosts_report import HOSTILE, Hosts, database, four_hosts, line
+from .sandbox import NEW, OLD
+
+MARKUP = (b"/<script>alert(1)<,script>", b"/<img%20src=x%20onerror=alert(1)>", b"/&amp;lt;b", b"/\"'></code><b>")
+TAGS = {"a", "b", "body", "code", "dd", "details", "div", "dl", "dt", "h1", "head", "header", "html", "i", "li", "main"}
+TAGS |= {"meta", "p", "small", "span", "style", "summary", "table", "td", "th", "title", "tr", "ul"}
+# The command with a page that has room for less.
+SMALL = "import sys; sys.path.insert(0, sys.argv.pop(1)); from aide_compare import hosts_page, hosts_report, ending\n"
+SMALL += "hosts_page.page.__defaults__ = (60000,); sys.exit(ending.command('report-hosts', hosts_report.main))"
+
+
+def try_hosts_page(sandbox):
+    for trial in (try_values, try_markup, try_room):
+        trial(sandbox)
+
+
+def items_of(page):
+    """The changes of a page, each from its beginning to the next one."""
+    return page.partition("<main")[2].split("<li>")[1:]
+
+
+def try_values(sandbox):
+    """The counts, the hosts that were not compared, and each change with its hosts and values."""
+    hosts = four_hosts(sandbox)
+    with open(sandbox.path("hosts"), "a") as file:
+        file.write("never\n")
+    status, page, errors = hosts.report("--html", "--most-hosts", "2")
+    sandbox.holds("the page", status == 18 and not errors and page.startswith("<!doctype html>"), (status, errors))
+    title = "aide on 6 hosts: 4 differ, 1 not compared"
+    sandbox.holds("its heading", page.count(title) == 2 and "5 different changes, those on the fewest" in page, page[-3000:])
+    for text, count in (("Hosts", 6), ("Differ", 4), ("Not compared", 1)):
+        sandbox.holds("the count " + text, "<dt>%s</dt><dd>%d</dd>" % (text, count) in page, page[-3000:])
+    sandbox.holds("who was not compared", "<li>never: was never compared (status 18)\n" in page, page)
+    sandbox.holds("no script", "<script" not in page and "script-src" not in page and "default-src 'none'" in page, page[:900])
+    items = items_of(page)
+    sandbox.holds("each change once", len(items) == 5 and "on 1 of 6 hosts: www4" in items[0], items)
+    same = [each for each in items if "/usr/.x</code>" in each and "on 3 of 6 hosts: www1, www2 and 1 more<" in each]
+    good = (
+        len(same) == 1
+        and "rwsr-xr-x" in same[0]
+        and "<th>SHA256" in same[0]
+        and "Of each host: Mtime, Inode, Linkcount<" in same[0]
+    )
+    sandbox.holds("a new file on three hosts", good, same)
+    various = [each for each in items if "/etc/p</code>" in each]
+    good = len(various) == 1 and '<td class="none">various<td title="0600">-rw-------' in various[0]
+    sandbox.holds("old values that are not the same", good, various)
+    common = items_of(hosts.report("--html", "--order", "common")[1])
+    sandbox.holds("another order", len(common) == 5 and "on 1 of 6 hosts" in common[-1], common)
+
+
+def try_markup(sandbox):
+    """Names that hosts have chosen are text: they make no tag, no attribute and no line."""
+    hosts = Hosts(sandbox)
+    lines = [line(path, path) for path in HOSTILE + MARKUP]
+    hosts.compared({"good1": (database(), database(*lines))})
+    page = hosts.start(hosts.words("report-hosts", "--html", sandbox.path("hosts"))).communicate()[0]
+    text = page.decode()
+    found = set(re.findall("<([a-z0-9]+)", text.partition("</style>")[2])) - TAGS
+    sandbox.holds("no tag of a name", not found and "onerror=alert(1)&gt;" in text, found)
+    items = items_of(text)
+    sandbox.holds("an item each", len(items) == len(lines), len(items))
+    good = not re.search("[\x00-\x09\x0b-\x1f\x7f\u202e\udc80-\udcff]", text.partition("</style>")[2])
+    sandbox.holds("no control", good, text[-900:])
+    names = [html.unescape(re.search("<code>(.*?)</code>", each).group(1)) for each in items]
+    sandbox.holds("the names as they are", "/<script>alert(1)<,script>" in names and "/&amp;lt;b" in names, names)
+
+
+def try_room(sandbox):
+    """A page that has no room for all says so at its top, and one host crowds out no other."""
+    hosts = Hosts(sandbox)
+    many = database(*(line(b"/n%04d" % number, b"%d" % number) for number in range(300)))
+    hosts.compared({"good1": (database(), many), "good3": (database(), database(line(b"/zz"))), "same": (OLD, OLD)})
+    words = [
+        sys.executable,
+        "-c",
+        SMALL,
+        sandbox.path("lib"),
+        "--html",
+        "--store",
+        sandbox.path("store"),
+        sandbox.path("hosts"),
+    ]
+    done = subprocess.run(words, stdout=subprocess.PIPE, stderr=subprocess.PIPE, env=sandbox.environment())
+    page, left = done.stdout.decode(), re.search(r"no room for (\d+) more changes", done.stdout.decode())
+    good = len(done.stdout) <= 60000 and left and left.start() < page.index("<main")
+    sandbox.holds("its bound", good, (len(done.stdout), done.stderr))
+    items = items_of(page)
+    sandbox.holds("what is left out", left and 20 < len(items) == 301 - int(left.group(1)), (len(items), left))
+    sandbox.holds("a host that crowds out no other", any("on 1 of 3 hosts: good3" in each for each in items), items[-1:])
+    command = re.search("This command prints all: <code>(.*?)</code>", page)
+    sandbox.holds("its command", command and sandbox.path("store") in html.unescape(command.group(1)), command)
+    whole = hosts.report("--html")[1]
+    sandbox.holds("a page with room", len(items_of(whole)) == 301 and "no room" not in whole, len(items_of(whole)))
