@@ -128,9 +128,13 @@ class HostsReport:
         """Sends one mail about all hosts, and none if there is nothing to say."""
         from aide_compare.hosts_text import fitting, headline
         from aide_compare.message import build, clean
-        from aide_compare.sending import Sendmail, Smtp, deliver
+        from aide_compare.sending import Sendmail, Smtp, alert, deliver
 
-        way = Smtp(given.smtp, given.mail_time) if given.smtp else Sendmail(seconds=given.mail_time)
+        try:
+            way = Smtp(given.smtp, given.mail_time) if given.smtp else Sendmail(seconds=given.mail_time)
+        except Fault as fault:
+            alert("%s; %s" % (fault.text, headline(self.summary)))
+            raise
         if not self.worst:
             return
         lines, left_out = fitting(self.summary, self.hosts, self.changes(), self.summary["order"], given.most_mail * 3 // 4)

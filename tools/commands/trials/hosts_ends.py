@@ -3,6 +3,7 @@ import json
 import os
 import shutil
 import signal
+import socket
 import subprocess
 import sys
 import time
@@ -31,7 +32,7 @@ private_room.stoppable(work)
 
 
 def try_hosts_ends(sandbox):
-    for trial in (try_many_hosts, try_ends, try_dropped):
+    for trial in (try_many_hosts, try_ends, try_dropped, try_no_mailer):
         trial(sandbox)
 
 
@@ -88,3 +89,36 @@ def try_dropped(sandbox):
     done = subprocess.run(words, stdout=subprocess.PIPE, stderr=subprocess.PIPE, timeout=100)
     good = b"Exception ignored" in done.stderr and done.returncode == -signal.SIGTERM and time.time() - begun < 40
     sandbox.holds("a signal that Python drops", good, done)
+
+
+def try_no_mailer(sandbox):
+    """Without any sendmail, the system log says what the mail would have said."""
+    four_hosts(sandbox)
+    copy, script = sandbox.path("without/aide_compare"), "import sys; sys.path.insert(0, sys.argv.pop(1)); "
+    script += "from aide_compare import ending, hosts_report; sys.exit(ending.command('report-hosts', hosts_report.main))"
+    shutil.copytree(sandbox.path("lib/aide_compare"), copy)
+    with open(copy + "/sending.py") as file:
+        text = file.read()
+    for old, new in (
+        ('"/dev/log", "/run/', '"%s", "/no/' % sandbox.path("log")),
+        ("    beside = [", "    return None\n    beside = ["),
+    ):
+        sandbox.holds("a text of sending", old in text, old)
+        text = text.replace(old, new)
+    sandbox.write("without/aide_compare/sending.py", text)
+    with socket.socket(socket.AF_UNIX, socket.SOCK_DGRAM) as log:
+        log.bind(sandbox.path("log"))
+        log.settimeout(5)
+        words = ["--to", "root", "--store", sandbox.path("store"), sandbox.path("hosts")]
+        done = subprocess.run(
+            [sys.executable, "-c", script, sandbox.path("without")] + words,
+            stdout=subprocess.PIPE,
+            stderr=subprocess.PIPE,
+            env=sandbox.environment(),
+        )
+        try:
+            got = log.recv(10000)
+        except socket.timeout:
+            got = b""
+    good = done.returncode == 18 and b"cannot find sendmail" in done.stderr and got.startswith(b"<33>")
+    sandbox.holds("no sendmail", good and got.endswith(b"; aide on 5 hosts: 4 differ, 0 not compared"), (done, got))
