@@ -68,7 +68,7 @@ def try_markup(sandbox):
     sandbox.holds("an item each", len(items) == len(lines), len(items))
     good = not re.search("[\x00-\x09\x0b-\x1f\x7f\u202e\udc80-\udcff]", text.partition("</style>")[2])
     sandbox.holds("no control", good, text[-900:])
-    names = [html.unescape(re.search("<code>(.*?)</code>", each).group(1)) for each in items]
+    names = [html.unescape(each.partition("<code>")[2].partition("</code>")[0]) for each in items]
     sandbox.holds("the names as they are", "/<script>alert(1)<,script>" in names and "/&amp;lt;b" in names, names)
 
 
