@@ -11,7 +11,8 @@ A list has a block for each body, and a blank line between two blocks:
 `file`, `old` and `new` mean what they mean in a must-fail edit: each `old` is on one line and stands once in its file,
 and a further pair applies to what the earlier ones made. A line `in: FUNCTION`, or `in: TYPE::FUNCTION`, asks for texts
 that stand once in that function. A body that the contracts should let through has one more line, `right: REASON` or
-`test: NAME OF THE TEST THAT SEES IT`.
+`test: NAME OF THE TEST THAT SEES IT`. A body that a kept answer refuses has a line `differs: SENTENCE`, which tells in what
+the two sides of its goal differ: it is written by hand, after the message was read.
 """
 import hashlib
 import pathlib
@@ -19,7 +20,7 @@ import pathlib
 HERE = pathlib.Path(__file__).resolve().parent
 ROOT = HERE.parent.parent
 LISTS = HERE / "bodies"
-WORDS = ("body", "why", "file", "in", "old", "new", "right", "test")
+WORDS = ("body", "why", "file", "in", "old", "new", "right", "test", "differs")
 
 
 class ListError(Exception):
@@ -31,7 +32,7 @@ class Body:
 
     def __init__(self, crate, name, place):
         self.crate, self.name, self.place = crate, name, place
-        self.why, self.right, self.test, self.within = "", "", "", ""
+        self.why, self.right, self.test, self.differs, self.within = "", "", "", "", ""
         self.pairs = []
 
     def is_let_through(self):

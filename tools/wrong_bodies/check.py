@@ -1,8 +1,8 @@
 """Compares the lists of wrong bodies with the sources, their stored results and docs/WRONG_BODIES.md. No prover runs.
 
 Fails when a list cannot be read, an `old` text does not stand once where it must, a body has no stored result, it or its
-function was changed since, a proved crate has too few bodies, a body proves without a reason, or a page is not what the
-results say. The last line is `N passed, M failed`.
+function was changed since, a proved crate has too few bodies, a body proves without a reason, a kept answer is not told
+in a line `differs`, or a page is not what the results say. The last line is `N passed, M failed`.
 """
 import argparse
 import sys
@@ -23,6 +23,8 @@ def fault_of(body, found, row):
         return str(error)
     why = results.stale(row, body, found.sum_of(place))
     why = why or verdicts.is_wrong(body, verdicts.Verdict(row["kind"], row["by"]))
+    if not why and bool(body.differs) != (row["kind"] == verdicts.ANSWER):
+        why = f"has a line `differs`, but its verdict is {row['kind']}" if body.differs else "needs a line `differs`"
     return f"{body.place}: `{body.name}` {why}" if why else None
 
 

@@ -1,10 +1,13 @@
 """Writes docs/WRONG_BODIES.md from the lists and their stored results."""
+import re
+
 from tools.wrong_bodies import bodies, results, verdicts
 
 PAGE = bodies.ROOT / "docs" / "WRONG_BODIES.md"
 TRIALS = bodies.ROOT / "docs" / "TRIALS.md"
 BEGINNING = "[WRONG_BODIES.md](WRONG_BODIES.md) lists"
 LONGEST = 160
+GOAL = re.compile(r"`[^`]*`|")
 EDITS = "The crates' must-fail edits, judged in the same way by `--edits`. Those of the other crates were not."
 
 HEAD = """# Wrong bodies, and how the prover refuses them
@@ -19,7 +22,7 @@ lists and the stored results; it calls no prover.
 |---|---|
 | shown false | the prover found values at which a goal of the body is false |
 | open | a goal of the body is not proved, and no stored answer is needed for the right body's goal |
-| kept answer | a stored answer does not prove its goal any more; `tools/wrong_bodies/results/` has the whole message |
+| kept answer | a stored answer does not prove its goal any more; the table names the goal, and says in what its two sides differ, and `tools/wrong_bodies/results/` has the whole message |
 | only a name | a stored answer names something that the body no longer has, which says little of the clause |
 | law broken | a law or a lemma of the crate is not proved any more |
 | proves | the contracts let the body through; the table says why that does no harm, or which test sees it |
@@ -52,6 +55,8 @@ def told(body, row):
         return f"{row['kind']}: it is right, {body.right}"
     if body.test:
         return f"{row['kind']}: the test `{body.test}` sees it"
+    if row["kind"] == verdicts.ANSWER and body.differs:
+        return f"{row['kind']}: {GOAL.match(row['by'][0]).group()}: {body.differs}"
     by = row["by"] if row["kind"] in (verdicts.FALSE, verdicts.OPEN) else row["by"][:1]
     return shortened(f"{row['kind']}: " + ", ".join(name if " " in name else f"`{name}`" for name in by))
 
