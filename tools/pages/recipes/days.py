@@ -174,8 +174,8 @@ def play(trial, page, watched):
     watched.nightly()
     done = page.run("first")
     trial.holds("first", done[0] == 0 and done[2] == "", done)
-    wanted = "".join("_aide: %s\n" % trial.path(name) for name in (STORE + "/daily", BASELINE))
-    trial.holds("first: folder and baseline are given to the user of the timer", taken(trial, "owners") == wanted)
+    given = "_aide: %s\n_aide: %s %s\n" % tuple(trial.path(name) for name in (STORE + "/daily", BASELINE, NEWEST))
+    trial.holds("first: folder and databases are given to the user of the timer", taken(trial, "owners") == given)
     page.prints("first", done[1])
     # The days that follow are those of the unit as it is installed.
     shutil.rmtree(trial.path("/etc/systemd/system/aide-compare.service.d"))
