@@ -21,8 +21,9 @@ GROWING, MOVES, ENTRIES, PACKAGES, MADE, PARENTS, PROTECTED, RULES, SEVERITY, DP
         "archive",
     )
 )
-CONTENT, TRUSTED, RECORDS, LINES, EXPLAINER, PACKED, TABLE = (
-    LIB + name + ".py" for name in ("content", "trusted", "records", "lines", "explainer", "packed", "table")
+CONTENT, TRUSTED, RECORDS, LINES, EXPLAINER, PACKED, TABLE, LINKS, MERGED = (
+    LIB + name + ".py"
+    for name in ("content", "trusted", "records", "lines", "explainer", "packed", "table", "hard_links", "merged")
 )
 
 
@@ -97,7 +98,7 @@ PLANTED = (
         (PROTECTED, "is_open(new) and not is_open(old)", "is_open(new)"),
         (ENTRIES, "self.is_link() or not (has_more or has_list)", "self.is_link() or not has_more"),
         (ENTRIES, "self.is_link() or not (has_more or has_list)", "self.is_link() or not has_list"),
-        (PACKAGES, '        count = new.number("lcount") or 0\n', "        count = 0\n"),
+        (LINKS, '        count = new.number("lcount") or 0\n', "        count = 0\n"),
         (PACKAGES, "if old and differ <= SAME_CONTENT and old.digests():", "if old and differ <= SAME_CONTENT:"),
         (ENTRIES, "for column, value in found.items() if value}", "for column, value in found.items()}"),
         (PROTECTED, "    return gains_set_id(old, new) or (", "    return ("),
@@ -111,18 +112,18 @@ PLANTED = (
     )
     + seen_by(
         "reasons_packages.try_names",
-        (DPKG, "return self.merged[head] + path[len(head) :] if head in self.merged else path", "return path"),
+        (MERGED, "return self.merged[head] + path[len(head) :] if head in self.merged else path", "return path"),
         (DPKG, "self.diverted[self.usr(source)] = (self.usr(target), package)", "self.diverted[source] = (target, package)"),
         (DPKG, "        return path if by == package.name else target\n", "        return target\n"),
         (DPKG, "        return path if by == package.name else target\n", "        return path\n"),
         (DPKG, "yield self.place_of(path, package), digest", "yield path, digest"),
         (
-            DPKG,
+            MERGED,
             'if place is not None and database.at(place).link() in (b"usr" + path, b"/usr" + path):',
             "if place is not None:",
         ),
         (
-            DPKG,
+            MERGED,
             'database.at(place).link() in (b"usr" + path, b"/usr" + path):',
             'b"usr/" in (database.at(place).link() or b""):',
         ),
@@ -135,9 +136,9 @@ PLANTED = (
     + seen_by(
         "reasons_packages.try_links",
         (PACKAGES, "        if any(owner in self.known.now[path] for owner in owners):\n", "        if True:\n"),
-        (PACKAGES, "            if len(changes) < count:\n", "            if False:\n"),
+        (LINKS, "            if len(changes) < count:\n", "            if False:\n"),
         (PACKAGES, "if not link or (old and not differ", "if (old and not differ"),
-        (PACKAGES, "if reason and count > 1 and change.is_replaced:", "if count > 1 and change.is_replaced:"),
+        (LINKS, "if reason and new.is_file() and count > 1 and", "if new.is_file() and count > 1 and"),
         (PACKAGES, 'or (old and not differ <= SAME_TARGET | {"lname", "size"})', ""),
     )
     + seen_by(
@@ -166,8 +167,8 @@ PLANTED = (
             "found is not None and do_agree(found, known) and do_agree(found, wanted)",
             "found is not None and do_agree(found, wanted)",
         ),
-        (PACKAGES, "else self.contents.agrees(path, entry, wanted)", "else True"),
-        (PACKAGES, "else self.contents.agrees(path, entry, wanted)", "else False"),
+        (CONTENT, "else self.agrees(path, entry, wanted)", "else True"),
+        (CONTENT, "else self.agrees(path, entry, wanted)", "else False"),
     )
     + seen_by(
         "reasons_places.try_made",

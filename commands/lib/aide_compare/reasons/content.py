@@ -43,6 +43,13 @@ class Contents:
     def __init__(self, most=2 << 30):
         self.left = most
 
+    def fits(self, path, entry, wanted):
+        """Whether an entry has the wanted digests. Without one in common, the file itself has to have both."""
+        known = entry.digests()
+        if not wanted or not known:
+            return False
+        return do_agree(known, wanted) if known.keys() & wanted.keys() else self.agrees(path, entry, wanted)
+
     def agrees(self, path, entry, wanted):
         """Whether the file with this path has the digests of its entry in the database and those that are wanted."""
         known = entry.digests()

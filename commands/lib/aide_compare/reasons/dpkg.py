@@ -7,13 +7,11 @@ import re
 from collections import namedtuple
 
 from aide_compare.escapes import shown
-from aide_compare.reasons.database import Database
-from aide_compare.path_keys import key_of_path
+from aide_compare.reasons.merged import Merged
 
 FIELD = re.compile(rb"^(Package|Status|Architecture|Multi-Arch|Version|Conffiles):[ \t]*(.*(?:\n[ \t].*)*)", re.M)
 CONFFILE = re.compile(rb" ?(/.*?) ([0-9a-f]{32})(?: (?:obsolete|remove-on-upgrade))*")
 DIGEST = re.compile(rb"([0-9a-f]{32})  ?(.+)")
-MERGED = (b"/bin", b"/lib", b"/lib32", b"/lib64", b"/libx32", b"/sbin")
 MOST_PACKAGES = 100000
 
 Package = namedtuple("Package", "name arch version state conffiles")
@@ -42,35 +40,16 @@ def packages_of(status):
     return found
 
 
-def merged_in(descriptor, side):
-    """The folders that are links to the same name in /usr, as this database says."""
-    database, merged = Database(descriptor, side), {}
-    try:
-        for path in MERGED:
-            place = database.find(key_of_path(path))
-            if place is not None and database.at(place).link() in (b"usr" + path, b"/usr" + path):
-                merged[path] = b"/usr" + path
-        return merged
-    finally:
-        database.close()
-
-
 class Night:
     """dpkg's records of one night, beside the database of that night."""
 
     def __init__(self, records, descriptor, side):
-        self.records, self.merged = records, merged_in(descriptor, side)
+        self.records, self.usr = records, Merged(descriptor, side).usr
         self.packages = packages_of(records.read("status"))
         self.names, self.diverted = frozenset(records.names), {}
         lines = records.read("diversions").split(b"\n")
         for source, target, package in zip(lines[::3], lines[1::3], lines[2::3]):
             self.diverted[self.usr(source)] = (self.usr(target), package)
-
-    def usr(self, path):
-        """A path as it is with the links of /bin and the others followed."""
-        end = path.find(b"/", 1)
-        head = path if end < 0 else path[:end]
-        return self.merged[head] + path[len(head) :] if head in self.merged else path
 
     def place_of(self, path, package):
         """Where a file of a package is: a diversion moves it, unless it is of the package that diverts."""

@@ -5,10 +5,11 @@ or state changed, and only for content: never for a mode, an owner, a link, an a
 """
 from aide_compare.reasons import made
 from aide_compare.reasons.archive import Asked
-from aide_compare.reasons.content import COMPUTED, Contents, do_agree
+from aide_compare.reasons.content import COMPUTED, Contents
 from aide_compare.reasons.dpkg import words_of
 from aide_compare.reasons.entries import CONTENT, DIGESTS, TIMES
 from aide_compare.reasons.gathered import Gathered
+from aide_compare.reasons.hard_links import HardLinks
 from aide_compare.reasons.reason import Reason
 
 SAME_CONTENT = CONTENT - DIGESTS - {"size"}
@@ -22,7 +23,7 @@ class Packages:
     def __init__(self, old_records, new_records, archive=None):
         self.records, self.archive, self.contents = (old_records, new_records), archive, Contents()
         self.known = self.made = None
-        self.linked, self.refuted, self.reasons = {}, set(), {}
+        self.links, self.refuted, self.reasons = HardLinks(), set(), {}
 
     def gather(self, changes, explainer):
         self.known = Gathered(self.records, (explainer.old, explainer.new), changes, explainer.read)
@@ -68,7 +69,7 @@ class Packages:
 
     def _control(self, path, old, new, differ, control):
         """The reason for one of dpkg's files about a package of the archive, which brings it."""
-        if (old or new.is_plain()) and differ <= CONTENT and self._agrees(path, new, control):
+        if (old or new.is_plain()) and differ <= CONTENT and self.contents.fits(path, new, control):
             return self._reason("dpkg's records as the archive has them", "archive")
         self.refuted.add(path)
         return None
@@ -81,38 +82,20 @@ class Packages:
             reason = self._package(path, "%s, same content as before")
         covering = self._covering(path)
         if covering:
-            if self._agrees(path, new, self.archive.digests(path)):
+            if self.contents.fits(path, new, self.archive.digests(path)):
                 reason = self._reason(words_of(covering), "archive")
         elif reason is None:
             reason = self._by_records(path, new)
-        return self._with_links(change, new, reason)
+        return self.links.noted(change, new, reason)
 
     def _by_records(self, path, new):
         """The reason if the digest is one that dpkg's records of the changed packages have for this path."""
         found = self.known.digests.get(path, b"")
         digests = (found[begin : begin + MD5_SIZE] for begin in range(0, len(found), MD5_SIZE))
-        return self._package(path) if any(self._agrees(path, new, {"md5": digest}) for digest in digests) else None
-
-    def _agrees(self, path, entry, wanted):
-        """Whether an entry has the wanted digests. Without one in common, the file itself has to have both."""
-        known = entry.digests()
-        if not wanted or not known:
-            return False
-        return do_agree(known, wanted) if known.keys() & wanted.keys() else self.contents.agrees(path, entry, wanted)
-
-    def _with_links(self, change, new, reason):
-        """Notes a new file that has several names: all of them have to be explained."""
-        count = new.number("lcount") or 0
-        if reason and count > 1 and change.is_replaced:
-            self.linked.setdefault((new.field("inode"), count), []).append(change)
-        return reason
+        return self._package(path) if any(self.contents.fits(path, new, {"md5": digest}) for digest in digests) else None
 
     def drop_unseen_links(self):
-        """Takes the reason from each file that has a name which is not explained."""
-        for (_, count), changes in self.linked.items():
-            if len(changes) < count:
-                for change in changes:
-                    change.reason = None
+        self.links.drop_unseen()
 
     def _link(self, change, old, new, differ):
         path, link = change.path, new.link()
