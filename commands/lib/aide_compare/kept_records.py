@@ -1,4 +1,4 @@
-"""dpkg's records of the time of a baseline, in a file beside it that says by a digest to which baseline they belong.
+"""The packages' records of the time of a baseline, in a file beside it that says by a digest to which baseline they belong.
 
 The file is what `write_records` writes, and after it a member of gzip with that digest. Records of another time than the
 baseline could explain what no package has changed, so a file with another digest is never used.
@@ -26,11 +26,18 @@ def _mark(digest):
     return text.getvalue()
 
 
-def records_for(digest):
-    """A descriptor of dpkg's records of now, for the baseline with this digest; None on a machine without dpkg."""
-    from aide_compare.reasons.records import has_records, write_records
+def _whose():
+    """Whose records this machine has; "" for nobody's."""
+    from aide_compare.reasons.records import has_records, has_rpm
 
-    if not has_records():
+    return "dpkg's" if has_records() else "rpm's" if has_rpm() else ""
+
+
+def records_for(digest):
+    """A descriptor of the records of now, for the baseline with this digest; None on a machine without dpkg and rpm."""
+    from aide_compare.reasons.records import write_records
+
+    if not _whose():
         return None
     target = nameless()
     try:
@@ -62,7 +69,7 @@ def misfit(path, digest):
 
 
 class Records:
-    """dpkg's records beside a baseline. The former ones go before the baseline does, and the new ones come after it, so that
+    """The packages' records beside a baseline. The former ones go before the baseline does, and the new ones come after it, so that
     at no moment the records of an older time are beside a newer baseline."""
 
     def __init__(self, baseline, digest):
@@ -91,7 +98,7 @@ class Records:
             raise self.baseline.fault("its %s cannot be removed: %s" % (SUFFIX, reason(error)))
 
     def keep(self):
-        """Writes the records, if there are any. Returns a line that says what was done; nothing without dpkg."""
+        """Writes the records, if there are any. Returns a line that says what was done; nothing without dpkg and rpm."""
         place = shown(self.baseline.path) + SUFFIX
         if self.fd is None:
             return "no packages' records were kept: %s" % self.why if self.why else ""
@@ -99,4 +106,4 @@ class Records:
             self.baseline.put_beside(self.fd, SUFFIX)
         except Fault as fault:
             return "no packages' records were kept as %s: %s" % (place, fault.text)
-        return "packages: dpkg's records of now are kept as %s" % place
+        return "packages: %s records of now are kept as %s" % (_whose(), place)

@@ -1,5 +1,5 @@
 """All trials of aide-compare-reasons, in groups that run side by side."""
-from . import reasons_archive, reasons_lines, reasons_logs, reasons_packages, reasons_places
+from . import reasons_archive, reasons_lines, reasons_logs, reasons_packages, reasons_places, reasons_rpm, reasons_rpm_records
 from .reasons_nights import try_nights
 
 
@@ -27,6 +27,13 @@ def try_reasons_packages(sandbox):
         reasons_packages.try_links,
         reasons_packages.try_removed,
         reasons_packages.try_read,
+        reasons_rpm.try_content,
+        reasons_rpm.try_unchanged,
+        reasons_rpm.try_links,
+        reasons_rpm.try_removed,
+        reasons_rpm.try_read,
+        reasons_rpm_records.try_damage,
+        reasons_rpm_records.try_program,
         reasons_archive.try_signed,
         reasons_archive.try_owners,
         reasons_archive.try_forged,

@@ -97,6 +97,11 @@ class Entry:
         field = self.field("lname")
         return None if field == ABSENT or not stat.S_ISLNK(self.mode) else decoded(field)
 
+    def capabilities(self):
+        """The text of its capabilities; empty if there are none, and None if it cannot be read."""
+        field = self.field("capabilities")
+        return b"" if field == ABSENT else _unpacked(field)
+
     def is_file(self):
         return stat.S_ISREG(self.mode)
 

@@ -3,7 +3,9 @@ from aide_compare.ending import Fault, Status
 from aide_compare.options import some_text
 from aide_compare.reasons.archive import Archive
 from aide_compare.reasons.packages import Packages
-from aide_compare.reasons.records import FolderRecords, KeptRecords
+from aide_compare.reasons.records import KeptRecords, records_now
+from aide_compare.reasons.rpm import RPM_NAME
+from aide_compare.reasons.rpm_packages import RpmPackages
 from aide_compare.reasons.rules import Rules
 from aide_compare.reasons.severity import Severity
 
@@ -21,13 +23,13 @@ def add_evidence_options(parser):
         "--packages",
         metavar="FILE",
         type=some_text,
-        help="dpkg's records of the time of the old database, as aide-compare-accept keeps them",
+        help="the packages' records of the time of the old database, as aide-compare-accept keeps them",
     )
     parser.add_argument(
         "--packages-now",
         metavar="FILE",
         type=some_text,
-        help="dpkg's records of the time of the new database, if they are not those of this machine",
+        help="the packages' records of the time of the new database, if they are not those of this machine",
     )
     parser.add_argument(
         "--archive",
@@ -56,8 +58,15 @@ def _packages_of(given):
         if given.archive or given.packages_now:
             raise Fault(Status.USAGE, "--archive and --packages-now need --packages, which says which packages changed")
         return None
-    new = KeptRecords(given.packages_now) if given.packages_now else FolderRecords()
-    return Packages(KeptRecords(given.packages), new, Archive(given.archive, given.keyring) if given.archive else None)
+    old = KeptRecords(given.packages)
+    new = KeptRecords(given.packages_now) if given.packages_now else records_now()
+    if (RPM_NAME in old.names) != (RPM_NAME in new.names):
+        raise Fault(Status.USAGE, "the records of one night are dpkg's, and those of the other are rpm's")
+    if RPM_NAME not in old.names:
+        return Packages(old, new, Archive(given.archive, given.keyring) if given.archive else None)
+    if given.archive:
+        raise Fault(Status.USAGE, "--archive has packages of dpkg, and the records are rpm's")
+    return RpmPackages(old.read(RPM_NAME), new.read(RPM_NAME))
 
 
 def evidence_of(given):

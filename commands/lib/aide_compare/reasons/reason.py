@@ -6,7 +6,7 @@ Reason = namedtuple("Reason", "name text verified grade")
 Counts = namedtuple("Counts", "explained not_verified unexplained high medium low")
 
 CLASSES = ("growing", "moved", "added_log", "removed_log", "package", "package_made", "folder", "rule")
-GRADES = ("databases", "dpkg", "archive", "rules")
+GRADES = ("databases", "dpkg", "rpm", "archive", "rules")
 LEVELS = ("high", "medium", "low")
 
 

@@ -1,6 +1,7 @@
-"""dpkg's records in one file, kept beside a baseline: a package that is removed takes its lists with it.
+"""The packages' records in one file, kept beside a baseline: a package that is removed takes its lists with it.
 
-The file is a tar archive, packed by gzip, with dpkg's own files under the names that they have below /var/lib/dpkg.
+The file is a tar archive, packed by gzip, with dpkg's own files under the names that they have below
+/var/lib/dpkg, or with rpm's text in a file `rpm`.
 """
 import gzip
 import io
@@ -13,6 +14,7 @@ from aide_compare.ending import Fault, Status, reason
 from aide_compare.escapes import shown
 from aide_compare.folders import open_folder
 from aide_compare.reasons.packed import Bounded, members
+from aide_compare.reasons.rpm import MOST_TEXT, RPM_NAME, RpmRecords, has_rpm
 from aide_compare.reasons.trusted import open_trusted, read_whole
 from aide_compare.unpack import Opened, copy_opened
 
@@ -74,22 +76,22 @@ class KeptRecords:
         opened.words = self.words
         copy = copy_opened(opened, MOST_ALL)
         os.lseek(copy.fd, 0, os.SEEK_SET)
-        self.file, self.members = Bounded(copy.fd, MOST_FILE), {}
+        self.file, self.members = Bounded(copy.fd, MOST_TEXT), {}
         try:
             self._find()
         except (tarfile.TarError, ValueError, EOFError) as error:
             raise Fault(Status.DEVICE, "%s are damaged: %s" % (self.words, shown(str(error), 100)))
         self.names = sorted(self.members)
-        if "status" not in self.members:
-            raise Fault(Status.DEVICE, "%s have no status of dpkg" % self.words)
+        if "status" not in self.members and RPM_NAME not in self.members:
+            raise Fault(Status.DEVICE, "%s have neither the status of dpkg nor rpm's packages" % self.words)
 
     def _find(self):
         for member in members(self.file, MOST_FILES):
-            kept = KEPT.fullmatch(member.name)
-            if kept and member.isreg():
-                if member.size > MOST_FILE:
+            is_rpms, kept = member.name == RPM_NAME, KEPT.fullmatch(member.name)
+            if (is_rpms or kept) and member.isreg():
+                if member.size > (MOST_TEXT if is_rpms else MOST_FILE):
                     raise tarfile.ReadError("a file is too large")
-                self.members[kept.group(1)] = (member.offset_data, member.size)
+                self.members[RPM_NAME if is_rpms else kept.group(1)] = (member.offset_data, member.size)
 
     def read(self, name):
         offset, size = self.members.get(name, (0, 0))
@@ -101,13 +103,18 @@ class KeptRecords:
 
 
 def has_records(folder=DPKG):
-    """Whether this machine has dpkg's records."""
-    return os.path.isfile(folder + "/status")
+    """Whether this machine has dpkg's records. Where dpkg is only a tool, its status is empty."""
+    return os.path.isfile(folder + "/status") and os.path.getsize(folder + "/status") > 0
 
 
-def write_records(target, folder=DPKG):
-    """Writes dpkg's records of now to an open file of bytes. The same records give the same bytes."""
-    records = FolderRecords(folder)
+def records_now(folder=DPKG):
+    """The records of now: dpkg's, or rpm's on a machine that has rpm and no dpkg."""
+    return RpmRecords() if not has_records(folder) and has_rpm() else FolderRecords(folder)
+
+
+def write_records(target, folder=DPKG, records=None):
+    """Writes the packages' records of now to an open file of bytes. The same records give the same bytes."""
+    records = records or records_now(folder)
     try:
         with gzip.GzipFile(filename="", mode="wb", fileobj=target, mtime=0) as packed:
             with tarfile.open(fileobj=packed, mode="w:", format=tarfile.GNU_FORMAT) as archive:

@@ -1,0 +1,79 @@
+"""What rpm says of all packages of this machine now, as one text: the packages, and under each one its files."""
+import os
+import subprocess
+import threading
+
+from aide_compare.ending import Fault, Status
+from aide_compare.escapes import shown
+from aide_compare.folders import open_folder
+from aide_compare.reasons.packed import Refuted, copied
+from aide_compare.reasons.trusted import read_whole
+
+RPM = "/usr/bin/rpm"
+# Where rpm's database may be. rpm is always told: with no folder of its own, Debian's makes a new database in the home.
+FOLDERS = ("/usr/lib/sysimage/rpm", "/var/lib/rpm")
+DATABASES = ("rpmdb.sqlite", "Packages.db", "Packages")
+QUERY = (
+    "P\\t%{NAME}\\t%|EPOCH?{%{EPOCH}:}|%{VERSION}-%{RELEASE}\\t%{ARCH}\\t%{FILEDIGESTALGO}\\n"
+    "[F\\t%{FILENAMES}\\t%{FILEDIGESTS}\\t%{FILEMODES:octal}\\t%{FILEUSERNAME}\\t%{FILEGROUPNAME}\\t%{FILELINKTOS}"
+    "\\t%{FILEFLAGS}\\t%{FILECAPS}\\t%{FILESTATES}\\n]"
+)
+RPM_NAME = "rpm"  # The name of the text among records that are kept.
+MOST_TEXT, SECONDS = 256 << 20, 120
+
+
+def database_folder(folders=FOLDERS):
+    """The folder of rpm's database on this machine, or None."""
+    return next((path for path in folders if any(os.path.isfile(path + "/" + name) for name in DATABASES)), None)
+
+
+def has_rpm(program=RPM, folders=FOLDERS):
+    """Whether this machine has rpm, and packages of it."""
+    return os.path.isfile(program) and database_folder(folders) is not None
+
+
+class RpmRecords:
+    """rpm's records as they are now. The folder of its database must be root's or the caller's."""
+
+    names = [RPM_NAME]
+
+    def __init__(self, program=RPM, folders=FOLDERS, most=MOST_TEXT, seconds=SECONDS):
+        self.program, self.folder, self.most, self.seconds = program, database_folder(folders), most, seconds
+        if self.folder is None:
+            raise Fault(Status.DEVICE, "there is no database of rpm")
+        with open_folder(self.folder) as folder:
+            if folder.others:
+                raise Fault(Status.DEVICE, "other users can write rpm's database in %s" % shown(self.folder))
+
+    def read(self, name):
+        """The text of all packages. It is bounded in time and size, and does not depend on settings of the caller."""
+        try:
+            target, status = self._asked([self.program, "--dbpath", self.folder, "-qa", "--queryformat", QUERY])
+        except (OSError, Refuted) as error:
+            raise Fault(Status.DEVICE, "rpm's records cannot be read: %s" % shown(str(error), 200))
+        try:
+            if status:
+                raise Fault(Status.DEVICE, "rpm's records cannot be read: rpm failed, or took too long (%d)" % status)
+            return read_whole(target, self.most, "rpm's records")
+        finally:
+            os.close(target)
+
+    def _asked(self, words):
+        """A private file with what a program writes, and the program's status."""
+        settings = {"LC_ALL": "C", "PATH": "/usr/bin:/bin", "HOME": "/nonexistent"}
+        with subprocess.Popen(
+            words, stdin=subprocess.DEVNULL, stdout=subprocess.PIPE, stderr=subprocess.DEVNULL, env=settings
+        ) as process:
+            timer = threading.Timer(self.seconds, process.kill)
+            timer.daemon = True
+            timer.start()
+            try:
+                target = copied(process.stdout.fileno(), None, self.most)[0]
+                return target, process.wait()
+            finally:
+                timer.cancel()
+                if process.poll() is None:
+                    process.kill()
+
+    def close(self):
+        """There is nothing to close."""

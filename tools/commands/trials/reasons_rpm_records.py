@@ -1,0 +1,107 @@
+"""rpm's records, damaged or whole, and rpm itself with a program in its place."""
+import io
+import os
+import time
+
+from .reasons_host import Host
+from .reasons_lines import modules
+from .reasons_rpm import ONE, TWO, ask, line, package
+
+
+def try_damage(sandbox):
+    """Records that are damaged, cut, empty or of two kinds are refused."""
+    host = Host()
+    host.new.file(b"/usr/a", TWO, mode=0o100755)
+    host.old.file(b"/usr/gone", ONE)
+    old = package(b"tool", b"1-1", line(b"/usr/gone"))
+    new = package(b"tool", b"2-1", line(b"/usr/a"))
+    dpkgs = {"status": b"Package: a\nStatus: install ok installed\nArchitecture: all\nVersion: 2\n", "diversions": b""}
+    for label, before, now, words, status in (
+        ("none damaged", old, new, (), 0),
+        ("no packages now", old, b"", (), 18),
+        ("cut at the end", old, new[:-1], (), 18),
+        ("cut in a line", old, new[:-9], (), 18),
+        ("a line cut", old, new[:-9] + b"\n", (), 18),
+        ("a line more", old, new + b"x\n", (), 18),
+        ("no package first", old, b"x\n" + new, (), 18),
+        ("a package without a version", old, b"P\ttool\n" + new, (), 18),
+        ("the old ones damaged", b"x", new, (), 18),
+        ("dpkg's now", old, dpkgs, (), 15),
+        ("dpkg's before", dpkgs, new, (), 15),
+        ("neither", {"x": b""}, new, (), 18),
+        ("an archive of dpkg", old, new, ("--archive", "."), 15),
+    ):
+        answer = ask(sandbox, host, before, now, *words)
+        good = answer.status == status and (status == 0 or not answer.output)
+        sandbox.holds("records of rpm: " + label, good, answer)
+
+
+STUB = "#!/bin/sh\n%s\n"
+ENDLESS = "while :; do echo 'P\tx\t1-1\tx86_64\t8'; done"
+
+
+def try_program(sandbox):
+    """rpm itself, by a program in its place: what it is asked, and what it may do."""
+    _, fault = modules()
+    from aide_compare.reasons import rpm
+
+    text = package(b"tool", b"1-1", line(b"/usr/a"))
+    sandbox.write("rpm/rpmdb.sqlite", b"")
+    os.chmod(sandbox.path("rpm"), 0o755)
+    sandbox.write("answer", text)
+    folder, stub = sandbox.path("rpm"), sandbox.path("rpm-stub")
+
+    def asked(body, **more):
+        sandbox.write("rpm-stub", STUB % body)
+        os.chmod(stub, 0o755)
+        begin = time.monotonic()
+        try:
+            got = rpm.RpmRecords(**{"program": stub, "folders": (folder,), **more}).read("rpm")
+        except fault as refused:
+            got = refused.status
+        except Exception as unforeseen:
+            got = repr(unforeseen)
+        return got, time.monotonic() - begin < 20
+
+    tell = 'printf \'%%s|\' "$#" "$1" "$2" "$3" "$HOME" "$LC_ALL" "$SUGAR" >%s; cat %s'
+    os.environ["SUGAR"] = "of the caller"
+    got = asked(tell % (sandbox.path("words"), sandbox.path("answer")))
+    del os.environ["SUGAR"]
+    sandbox.holds("the text is rpm's", got == (text, True), got)
+    with open(sandbox.path("words"), encoding="utf-8") as file:
+        words = file.read()
+    sandbox.holds("what rpm is told", words == "5|--dbpath|%s|-qa|/nonexistent|C||" % folder, words)
+    for label, body, more in (
+        ("it fails", "cat %s; exit 1" % sandbox.path("answer"), {}),
+        ("it never ends", "exec sleep 60", {"seconds": 0.5}),
+        ("it writes without end", ENDLESS, {"most": 100000}),
+        ("it is not there", "exit 0", {"program": stub + "-missing"}),
+        ("its database is not there", "exit 0", {"folders": (sandbox.path("nowhere"),)}),
+    ):
+        got = asked(body, **more)
+        sandbox.holds("rpm: " + label, got == (18, True), got)
+    os.chmod(folder, 0o777)
+    got = asked("exit 0")
+    sandbox.holds("rpm: others can write its database", got == (18, True), got)
+    os.chmod(folder, 0o755)
+    there = [rpm.has_rpm(*given) for given in ((stub, (folder,)), (stub + "x", (folder,)), (stub, (folder + "x",)))]
+    sandbox.holds("whether rpm is there", there == [True, False, False], there)
+    sandbox.write("no-dpkg/status", b"")
+    there = modules()[0].has_records(sandbox.path("no-dpkg"))
+    sandbox.holds("dpkg without packages has no records", there is False, there)
+    asked("cat %s" % sandbox.path("answer"))
+    got = kept(sandbox, rpm.RpmRecords(stub, (folder,)))
+    sandbox.holds("rpm's records are kept whole", got == {"rpm": text}, got)
+
+
+def kept(sandbox, now):
+    """The records of now, written as beside a baseline and read again."""
+    records, fault = modules()
+    target = io.BytesIO()
+    try:
+        records.write_records(target, records=now)
+        sandbox.write("kept-rpm.packages", target.getvalue())
+        read = records.KeptRecords(sandbox.path("kept-rpm.packages"))
+        return {name: read.read(name) for name in read.names}
+    except fault as refused:
+        return refused.text
