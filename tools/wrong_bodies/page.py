@@ -22,16 +22,19 @@ lists and the stored results; it calls no prover.
 |---|---|
 | shown false | the prover found values at which a goal of the body is false |
 | open | a goal of the body is not proved, and no stored answer is needed for the right body's goal |
-| kept answer | a stored answer does not prove its goal any more; the table names the goal, and says in what its two sides differ, and `tools/wrong_bodies/results/` has the whole message |
+| kept answer | a stored answer does not prove its goal any more: the table tells in what the goal's two sides differ |
 | only a name | a stored answer names something that the body no longer has, which says little of the clause |
 | law broken | a law or a lemma of the crate is not proved any more |
 | proves | the contracts let the body through; the table says why that does no harm, or which test sees it |
 | not judged | the body does not compile, or the check said nothing of it |
 
-An open goal is no proof that the goal is false: the search may have missed its proof. So the table names the clause. A verdict
-is of a function with its contract as they were when it was taken, and is kept with a sum of both. After a change of the
-function `tools.wrong_bodies.check` fails until `python3 -m tools.wrong_bodies.judge --stale --write CRATE` has judged its bodies
-again. What the lemmas of a crate say may have changed since.
+An open goal is no proof that the goal is false: the search may have missed its proof. So the table names the clause. The
+whole messages are in `tools/wrong_bodies/results/`. What the table tells of a kept answer was written by hand, after its
+message and the body were read.
+
+A verdict is of a function with its contract as they were when it was taken, and is kept with a sum of both. After a change
+of the function `tools.wrong_bodies.check` fails until `python3 -m tools.wrong_bodies.judge --stale --write CRATE` has judged
+its bodies again. What the lemmas of a crate say may have changed since.
 
 No body can break some clauses, so none is listed for them. `answered` of `session` and `session_on` speaks of the definitions
 alone. No call can make a count of failures fall (`sources_never_fall` of `run`), close a side so that `lookups` of `run`
