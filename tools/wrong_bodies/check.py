@@ -33,9 +33,12 @@ def faults_of(crate):
     found = sources.Sources(crate)
     for edits in (False, True):
         rows = results.stored(crate, edits)
-        for body in bodies.listed(crate, edits):
+        listed = bodies.listed(crate, edits)
+        for body in listed:
             if not edits or body.name in rows:
                 yield fault_of(body, found, rows.get(body.name))
+        for name in sorted(set(rows) - {body.name for body in listed}):
+            yield f"{crate}: `{name}` has a stored result, and no list has it"
 
 
 def main():
