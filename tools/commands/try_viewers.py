@@ -337,6 +337,7 @@ def main():
     try_aide_form(program, tally)
     try_deep(tally)
     looks.try_views(tally)
+    looks.try_blank_ends(tally)
     looks.try_heading(tally)
     looks.try_reasons(given.seed, tally)
     looks.try_only(tally)

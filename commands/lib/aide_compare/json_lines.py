@@ -63,15 +63,15 @@ def bytes_of(fields, key):
     return bytes.fromhex(fields[key + "_hex"]) if key + "_hex" in fields else fields[key].encode("utf-8")
 
 
-def is_usual(line):
+def is_usual(line, letters):
     """Whether every text of a line is shown as it is: all is ASCII, nothing is escaped in JSON or is a control byte, no text
-    begins or ends with a blank, and none is given in base 16 too."""
+    but a summary string, its letters, begins or ends with a blank, and none is given in base 16 too."""
     return (
         line.isascii()
         and b"\\" not in line
         and b"\x7f" not in line
         and b'" ' not in line
-        and b' "' not in line
+        and line.count(b' "') == letters.endswith(" ")
         and b'_hex"' not in line
     )
 
@@ -136,10 +136,10 @@ def reason_of(text, verified, grade):
 
 
 def entry_of(fields, line):
-    usual, path = is_usual(line), bytes_of(fields, "path")
+    path, letters = bytes_of(fields, "path"), fields.get("summary", "")
     demand(path[:1] == b"/", "a path begins with a slash")
-    letters = fields.get("summary", "")
     demand(letters == "" or LETTERS.fullmatch(letters), "a summary string has 18 letters")
+    usual = is_usual(line, letters)
     rows, digests = rows_of(fields.get("attributes", {}), usual)
     severity, reason = fields.get("severity"), fields.get("reason")
     name = fields["path"] if usual and b" " not in path else shown_path(path)

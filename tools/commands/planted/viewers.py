@@ -83,9 +83,15 @@ PLANTED = [
     ),
     Plant(
         file=LIB + "json_lines.py",
-        old="usual, path = is_usual(line), ",
-        new="usual, path = True, ",
+        old="usual = is_usual(line, letters)",
+        new="usual = True",
         seen_by="viewers.try_hostile",
+    ),
+    Plant(
+        file=LIB + "json_lines.py",
+        old='line.count(b\' "\') == letters.endswith(" ")',
+        new="True",
+        seen_by="viewers.try_blank_ends",
     ),
     Plant(
         file=LIB + "page_lists.py",

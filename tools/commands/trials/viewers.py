@@ -30,6 +30,10 @@ def try_heading(sandbox):
     looks.try_heading(sandbox.tally)
 
 
+def try_blank_ends(sandbox):
+    looks.try_blank_ends(sandbox.tally)
+
+
 def try_reasons(sandbox):
     looks.try_reasons(SEED, sandbox.tally)
 

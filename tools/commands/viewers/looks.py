@@ -1,4 +1,5 @@
 """What a page says of reasons, severities, hosts and times, and how its filters and orders work."""
+import io
 import json
 import os
 import random
@@ -12,6 +13,7 @@ from tools.commands.viewers.refused import rich_report
 
 from aide_compare.escapes import shown as escaped
 from aide_compare.json_lines import GRADES, KINDS, SEVERITIES
+from aide_compare.page import page
 from aide_compare.page_view import CHOICES, STANDINGS, Seen, View
 from aide_compare.report_lines import Refused
 
@@ -140,6 +142,17 @@ def try_reasons(seed, tally):
     objects = objects_of(rich_report({"report_level": "summary"}))
     objects[0]["reasons"] = {"explained": 4, "not_verified": 1, "unexplained": 3, "high": 2, "medium": 0, "low": 2}
     tally.add("reasons without entries", card_faults(page_of(objects), objects[0]["reasons"]))
+
+
+def try_blank_ends(tally):
+    """A blank at the end of a value is seen, also beside a summary string that ends with one."""
+    summary = {**objects_of(rich_report({}))[0], "lines": 2, "total": 1, "added": 0, "removed": 0, "changed": 1}
+    entry = {"record": "entry", "kind": "changed", "path": "/l", "summary": "l =.... mc....  . ", "type": "Link"}
+    for value, want in (("/t ", "/t\\040"), (" /t", "\\040/t"), ("/t", "/t")):
+        objects = [summary, {**entry, "attributes": {"Lname": {"old": "/a", "new": value}}}]
+        lines = b"".join(json.dumps(fields, separators=(",", ":")).encode() + b"\n" for fields in objects)
+        text = b"".join(page(io.BytesIO(lines), None, True)).decode()
+        tally.holds("%r is shown as %s" % (value, want), ">%s<" % want in text, text[-1500:])
 
 
 def try_heading(tally):
