@@ -30,6 +30,8 @@ OTHER_PAGES = [
     "man1/gpgv.1",
     "man1/ls.1",
     "man8/getcap.8",
+    "man8/rpm.8",
+    "man8/rpmbuild.8",
     "man1/gzip.1",
     "man1/logger.1",
     "man1/lsattr.1",
