@@ -7,7 +7,7 @@ from .accepting import BASE, OLDER, accept_at, contents, fresh, is_tried, librar
 from .sandbox import NEW, NOBODY, OLD, sha256
 
 KILLED = 1
-MOST_CALLS = 250
+MOST_CALLS = 1000
 
 
 def try_accept_kills(sandbox):
