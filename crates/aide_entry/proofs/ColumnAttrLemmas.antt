@@ -8,7 +8,7 @@ use Rattle.aide_attr.specs.Attr.{number, holder_of}
 use Rattle.aide_attr.specs.Set.{is_attr}
 use Rattle.aide_attr.specs.declared.attr.Attr.{Attr}
 use Rattle.aide_attr.specs.declared.attr.Attr.TheVariants.{Ftype, Perm}
-use Rattle.aide_entry.specs.ColumnAttrs.{AreListed}
+use Rattle.aide_entry.specs.code.ColumnAttrs.{AreListed}
 use Rattle.aide_entry.specs.Entry.{attributes_of}
 use Rattle.aide_entry.specs.Fields.{field_under, is_of}
 use Rattle.aide_entry.specs.Text.{fields}

@@ -5,7 +5,7 @@ use Rattle.aide_attr.specs.Attr.{number, count}
 use Rattle.aide_attr.specs.declared.attr.Attr.{Attr}
 use Rattle.aide_attr.proofs.AttrLemmas.{number_small}
 use Rattle.aide_attr.proofs.DifferenceLemmas.{attr_is}
-use Rattle.aide_entry.specs.Codes.{code_of}
+use Rattle.aide_entry.specs.code.Codes.{code_of}
 use Rattle.aide_entry.specs.declared.column.Column.{Column}
 use Rattle.aide_entry.specs.declared.column.Column.TheVariants.{Name, Bits, Of, Skipped}
 

@@ -12,7 +12,7 @@ use Rattle.aide_attr.specs.declared.attr.Attr.{Attr}
 use Rattle.aide_entry.specs.Text.{fields}
 use Rattle.aide_entry.specs.Fields.{field_under, is_bits, is_of}
 use Rattle.aide_entry.specs.Entry.{field_of, is_on, attributes_of, value_in}
-use Rattle.aide_entry.specs.FirstColumns.{bits_in, is_set}
+use Rattle.aide_entry.specs.code.FirstColumns.{bits_in, is_set}
 use Rattle.aide_entry.proofs.FirstColumnLemmas.{set_is_on}
 use Rattle.aide_entry.specs.declared.column.Column.{Column}
 use Rattle.aide_entry.specs.Attributes.{type_value, type_in}

@@ -4,10 +4,10 @@ use Rattle.std.proofs.Common.{Bool, true, false, if◌then◌else◌, Option, No
 use Rattle.std.proofs.lemmas.Bool.{cases_eq, eq-eqb, ne_eqb}
 use Rattle.std.proofs.lemmas.List.{drop_all, get_or-replicate, take_more_set, map-append}
 use Rattle.aide_attr.specs.Attr.{number}
-use Rattle.aide_entry.specs.Codes.{code_of}
+use Rattle.aide_entry.specs.code.Codes.{code_of}
 use Rattle.aide_entry.specs.Entry.{is_on}
 use Rattle.aide_entry.specs.Fields.{field_under, is_column}
-use Rattle.aide_entry.specs.FirstColumns.{AreFirstColumns, first_column, one_behind, field_at_first, bits_said, is_set}
+use Rattle.aide_entry.specs.code.FirstColumns.{AreFirstColumns, first_column, one_behind, field_at_first, bits_said, is_set}
 use Rattle.aide_entry.specs.Spans.{first_in}
 use Rattle.aide_entry.specs.declared.column.Column.{Column}
 use Rattle.aide_entry.specs.declared.column.Column.TheVariants.{Name, Bits, Of, Skipped}

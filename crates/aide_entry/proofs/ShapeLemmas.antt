@@ -13,7 +13,7 @@ use Rattle.aide_entry.specs.Numbers.{mode_of, number_of, bits_of, natural_of}
 use Rattle.aide_entry.specs.Values.{time_of, is_nought, is_field, fault_of_form, IsTimeOrNothing}
 use Rattle.std.specs.Str.{bytes_eq}
 use Rattle.aide_entry.specs.Entry.{has_form, first_bad_from, fault_of_column}
-use Rattle.aide_entry.specs.Shapes.{shape_of, shape_of_form, has_shape, fault_of_shape, first_misshapen_from}
+use Rattle.aide_entry.specs.code.Shapes.{shape_of, shape_of_form, has_shape, fault_of_shape, first_misshapen_from}
 use Rattle.aide_entry.specs.declared.column.Column.{Column}
 use Rattle.aide_entry.specs.declared.column.Column.TheVariants.{Name, Bits, Of, Skipped}
 use Rattle.aide_entry.specs.Spans.{field_at, fields_at}

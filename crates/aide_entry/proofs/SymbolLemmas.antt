@@ -18,7 +18,7 @@ use Rattle.base64.specs.GeneralPurpose.{IsBytes, decode_of, decoded_of}
 use Rattle.base64.specs.declared.decode.DecodeError.{DecodeError}
 use Rattle.std.specs.declared.result.Result.TheVariants.{Ok, Err}
 use Rattle.std.specs.Result.{result_ok}
-use Rattle.aide_entry.specs.Symbols.{is_symbol}
+use Rattle.aide_entry.specs.code.Symbols.{is_symbol}
 use Rattle.aide_entry.specs.Values.{digest_of, of_length}
 
 -- what the first eight tell

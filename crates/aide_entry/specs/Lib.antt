@@ -7,16 +7,12 @@ pub mod Values
 pub mod Lent
 pub mod Base64Tables
 pub mod Entry
-pub mod Codes
 pub mod Columns
-pub mod FirstColumns
-pub mod ColumnAttrs
-pub mod Symbols
 pub mod Cause
 pub mod Skipped
 pub mod Spans
-pub mod Shapes
 pub mod Fault
 pub mod Attributes
 pub mod View
 pub mod EntryLines
+pub mod code

@@ -1,7 +1,7 @@
 //! What the fields of a column mean.
 ghost use Rattle.std.specs.Prelude.{◌≡◌, ◌<◌};
 ghost use Rattle.aide_entry.specs.Fields.{is_column};
-ghost use Rattle.aide_entry.specs.Codes.{code_of};
+ghost use Rattle.aide_entry.specs.code.Codes.{code_of};
 
 use aide_attr::Attr;
 

@@ -2,13 +2,13 @@
 ghost use Rattle.std.specs.Prelude.{◌≡◌, ◌+◌, ◌*◌, ◌<◌, ◌≤◌, [], ◌∷◌, ◌++◌, length, true, false};
 ghost use Rattle.std.specs.Prelude.{take, map, All, ℕ, List, None, IfNone, IfSome, drop};
 ghost use Rattle.aide_entry.specs.Fields.{is_column, field_under};
-ghost use Rattle.aide_entry.specs.FirstColumns.{AreFirstColumns};
+ghost use Rattle.aide_entry.specs.code.FirstColumns.{AreFirstColumns};
 ghost use Rattle.aide_entry.specs.Spans.{first_in};
 ghost use Rattle.aide_entry.specs.declared.column.Column.{Column};
 ghost use Rattle.aide_entry.specs.Skipped.{skipped_in};
-ghost use Rattle.aide_entry.specs.Codes.{code_of};
-ghost use Rattle.aide_entry.specs.ColumnAttrs.{AreListed};
-ghost use Rattle.aide_entry.specs.Shapes.{shape_of, IsShort};
+ghost use Rattle.aide_entry.specs.code.Codes.{code_of};
+ghost use Rattle.aide_entry.specs.code.ColumnAttrs.{AreListed};
+ghost use Rattle.aide_entry.specs.code.Shapes.{shape_of, IsShort};
 
 use crate::column::{Column, code_of, is_column};
 use crate::shape::{Shape, shape_of};

@@ -3,7 +3,7 @@ ghost use Rattle.std.specs.Prelude.{◌≡◌, is_some, true, false, None};
 ghost use Rattle.std.specs.List.{list_any};
 ghost use Rattle.aide_entry.specs.Path.{path_cmp};
 ghost use Rattle.aide_entry.specs.Columns.{columns_in};
-ghost use Rattle.aide_entry.specs.FirstColumns.{bits_in};
+ghost use Rattle.aide_entry.specs.code.FirstColumns.{bits_in};
 ghost use Rattle.aide_entry.specs.Values.{value_of, is_field};
 ghost use Rattle.aide_entry.specs.View.{entry_in};
 ghost use Rattle.aide_entry.specs.Attributes.{number_order, is_different, sides_between};

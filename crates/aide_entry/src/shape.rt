@@ -2,8 +2,8 @@
 ghost use Rattle.std.specs.Prelude.{◌≡◌, ◌≤◌, IfNone, IfSome, true, false, is_some};
 ghost use Rattle.aide_attr.specs.Attr.{most_bytes};
 ghost use Rattle.aide_entry.specs.Cause.{IsOfText};
-ghost use Rattle.aide_entry.specs.Shapes.{shape_of_form, shape_of, has_shape};
-ghost use Rattle.aide_entry.specs.Shapes.{IsShort, fault_of_shape};
+ghost use Rattle.aide_entry.specs.code.Shapes.{shape_of_form, shape_of, has_shape};
+ghost use Rattle.aide_entry.specs.code.Shapes.{IsShort, fault_of_shape};
 ghost use Rattle.aide_entry.specs.Values.{time_of, IsTimeOrNothing};
 
 use crate::base64_tables::Base64Tables;

@@ -1,7 +1,7 @@
 //! Finds out whether bytes are symbols of base64.
 ghost use Rattle.std.specs.Prelude.{◌≡◌};
 ghost use Rattle.std.specs.List.{list_all};
-ghost use Rattle.aide_entry.specs.Symbols.{is_within, is_symbol};
+ghost use Rattle.aide_entry.specs.code.Symbols.{is_within, is_symbol};
 
 /// Returns whether a byte is between `low` and `high`, both included.
 fn is_within(low: u8, high: u8, byte: u8) -> bool
@@ -11,7 +11,7 @@ fn is_within(low: u8, high: u8, byte: u8) -> bool
 }
 
 /// Returns whether a byte is a symbol. There is no branch.
-#[tactic(auto, unfolding(crate::specs::Symbols::is_symbol))]
+#[tactic(auto, unfolding(crate::specs::code::Symbols::is_symbol))]
 fn is_symbol(byte: u8) -> bool
     ensures { result ≡ is_symbol byte }
 {

@@ -71,7 +71,7 @@ impl<'a> View<'a> {
     ghost use Rattle.aide_entry.specs.Attributes.{type_in, number_in, link_in, digest_in};
     ghost use Rattle.aide_entry.specs.Attributes.{opaque_in};
     ghost use Rattle.aide_entry.specs.Entry.{field_of};
-    ghost use Rattle.aide_entry.specs.FirstColumns.{bits_in};
+    ghost use Rattle.aide_entry.specs.code.FirstColumns.{bits_in};
     ghost use Rattle.aide_entry.specs.Lent.{IsDigest, lent_link};
     ghost use Rattle.aide_entry.specs.Values.{IsTimeOrNothing};
 

@@ -5,7 +5,6 @@ pub mod Sent
 pub mod Layout
 pub mod ValueText
 pub mod Feed
-pub mod PieceText
 pub mod ReadyRest
 pub mod PrintedRest
 pub mod SliceRest
@@ -16,3 +15,4 @@ pub mod PenSheet
 pub mod Overview
 pub mod Section
 pub mod Titles
+pub mod code

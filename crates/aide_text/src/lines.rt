@@ -5,7 +5,7 @@ ghost use Rattle.aide_text.specs.Sheet.{Wrote};
 ghost use Rattle.aide_text.specs.Layout.{padded, margin, indent, heading, single_line, alone, bar};
 ghost use Rattle.aide_text.specs.Layout.{left_part, pair_body, pair_line, next_line, has_lines};
 ghost use Rattle.aide_text.specs.Layout.{side_by_side};
-ghost use Rattle.aide_text.specs.PieceText.{piece_text};
+ghost use Rattle.aide_text.specs.code.PieceText.{piece_text};
 
 use crate::feed::Feed;
 use crate::pen::{Pen, put, put_colon_blank, put_ended};

@@ -13,7 +13,7 @@ pub(crate) struct Piece {
 }
 
 impl Piece {
-    ghost use Rattle.aide_text.specs.PieceText.{piece_text};
+    ghost use Rattle.aide_text.specs.code.PieceText.{piece_text};
 
     /// Takes the next piece of a text: its next 32 bytes, or all that are left.
     pub(crate) fn of<T: Feed>(text: &mut T) -> Piece

@@ -1,5 +1,5 @@
 use Rattle.std.proofs.Common.{rules, ◌∙◌, sym, ap, subst, get_or, set, [], ◌∷◌, ◌++◌}
-use Rattle.aide_entry.specs.FirstColumns.{AreFirstColumns}
+use Rattle.aide_entry.specs.code.FirstColumns.{AreFirstColumns}
 use Rattle.aide_entry.proofs.FirstColumnLemmas.{first_placed, again_placed}
 use Rattle.aide_entry.proofs.columns.note_first.Goals as goal
 

@@ -3,7 +3,7 @@ use Rattle.std.specs.List.{zip}
 use Rattle.aide_entry.specs.Columns.{columns_in}
 use Rattle.aide_entry.specs.Spans.{fields_at}
 use Rattle.aide_entry.specs.Text.{fields}
-use Rattle.aide_entry.specs.Shapes.{shape_of, first_misshapen_from}
+use Rattle.aide_entry.specs.code.Shapes.{shape_of, first_misshapen_from}
 use Rattle.aide_entry.proofs.ShapeLemmas.{bad_by_shapes}
 use Rattle.aide_entry.proofs.entry.first_bad.Goals as goal
 

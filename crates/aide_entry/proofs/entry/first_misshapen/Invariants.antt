@@ -2,7 +2,7 @@ use Rattle.std.proofs.Common.{◌≡◌, ◌+◌, ◌-◌, ◌≤◌, drop}
 use Rattle.std.specs.List.{zip}
 use Rattle.aide_entry.specs.Spans.{fields_at}
 use Rattle.aide_entry.specs.Values.{IsTimeOrNothing}
-use Rattle.aide_entry.specs.Shapes.{first_misshapen_from}
+use Rattle.aide_entry.specs.code.Shapes.{first_misshapen_from}
 use Rattle.aide_entry.proofs.entry.first_misshapen.Given as goal
 
 abbrev pub invariant-columns : goal.invariant-columns

@@ -1,6 +1,6 @@
 use Rattle.std.proofs.Common.{ap, sym, ◌∙◌}
 use Rattle.std.specs.List.{list_all}
-use Rattle.aide_entry.specs.Symbols.{is_symbol}
+use Rattle.aide_entry.specs.code.Symbols.{is_symbol}
 use Rattle.aide_entry.proofs.SymbolLemmas.{symbols_behind}
 use Rattle.aide_entry.proofs.symbols.are_symbols.Goals as goal
 

@@ -1,6 +1,6 @@
 use Rattle.std.proofs.Common.{◌≡◌, length}
 use Rattle.std.specs.List.{list_all}
-use Rattle.aide_entry.specs.Symbols.{is_symbol}
+use Rattle.aide_entry.specs.code.Symbols.{is_symbol}
 use Rattle.aide_entry.proofs.symbols.are_symbols.Given as goal
 
 abbrev pub invariant-eights : goal.invariant-eights

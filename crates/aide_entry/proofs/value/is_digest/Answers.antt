@@ -1,7 +1,7 @@
 use Rattle.std.proofs.Common.{◌≡◌, ◌/◌, ap, sym, ◌∙◌, arith, length, take}
 use Rattle.std.specs.List.{list_all}
 use Rattle.std.proofs.lemmas.List.{length-take-le}
-use Rattle.aide_entry.specs.Symbols.{is_symbol}
+use Rattle.aide_entry.specs.code.Symbols.{is_symbol}
 use Rattle.aide_entry.proofs.SymbolLemmas.{no_symbols, no_last, by_count}
 use Rattle.aide_entry.proofs.value.is_digest.Goals as goal
 

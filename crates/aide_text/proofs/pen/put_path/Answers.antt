@@ -1,6 +1,6 @@
 use Rattle.std.proofs.Common.{◌∙◌, sym}
 use Rattle.aide_text.specs.PenSheet.{sheet}
-use Rattle.aide_text.specs.PieceText.{piece_text}
+use Rattle.aide_text.specs.code.PieceText.{piece_text}
 use Rattle.aide_text.specs.Printed.{printed}
 use Rattle.aide_text.specs.PrintedRest.{printed_rest}
 use Rattle.aide_text.proofs.Pieces.{piece_more, piece_shorter, piece_none}

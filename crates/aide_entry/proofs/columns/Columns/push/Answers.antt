@@ -2,10 +2,10 @@ use Rattle.std.proofs.Common.{arith, length, take, sym, subst, ◌≡◌}
 use Rattle.std.proofs.lemmas.List.{take_more_set, length-take-le}
 use Rattle.std.proofs.lemmas.List.Elements.{All-push}
 use Rattle.std.specs.List.{All}
-use Rattle.aide_entry.specs.Codes.{code_of}
-use Rattle.aide_entry.specs.ColumnAttrs.{AreListed}
-use Rattle.aide_entry.specs.FirstColumns.{AreFirstColumns}
-use Rattle.aide_entry.specs.Shapes.{shape_of, IsShort}
+use Rattle.aide_entry.specs.code.Codes.{code_of}
+use Rattle.aide_entry.specs.code.ColumnAttrs.{AreListed}
+use Rattle.aide_entry.specs.code.FirstColumns.{AreFirstColumns}
+use Rattle.aide_entry.specs.code.Shapes.{shape_of, IsShort}
 use Rattle.aide_entry.proofs.FirstColumnLemmas.{pushed_map}
 use Rattle.aide_entry.proofs.columns.Columns.push.Goals as goal
 

@@ -1,5 +1,5 @@
 use Rattle.std.proofs.Common.{sym, ap, map, take, ◌∙◌}
-use Rattle.aide_entry.specs.Codes.{code_of}
+use Rattle.aide_entry.specs.code.Codes.{code_of}
 use Rattle.aide_entry.specs.Columns.{columns_in}
 use Rattle.aide_entry.proofs.ColumnLemmas.{same_codes}
 use Rattle.std.specs.Cmp.Lexicographic.{same_text, bytes_decides}

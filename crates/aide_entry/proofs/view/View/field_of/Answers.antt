@@ -1,7 +1,7 @@
 use Rattle.std.proofs.Common.{refl, None}
 use Rattle.std.specs.Option.{option_copied}
 use Rattle.aide_entry.specs.Columns.{columns_in}
-use Rattle.aide_entry.specs.FirstColumns.{bits_in}
+use Rattle.aide_entry.specs.code.FirstColumns.{bits_in}
 use Rattle.aide_entry.proofs.FieldValues.{field_on}
 use Rattle.aide_entry.proofs.view.View.field_of.Goals as goal
 

@@ -2,7 +2,7 @@
 use Rattle.std.specs.Prelude.{ℕ, zero, suc, ◌==◌, Bool, true, if◌then◌else◌, Option, Some, None}
 use Rattle.std.specs.Prelude.{unwrap_or, List, [], ◌∷◌, drop, slice_index, ◌≡◌}
 use Rattle.std.specs.Int.{bit_at}
-use Rattle.aide_entry.specs.Codes.{code_of}
+use Rattle.aide_entry.specs.code.Codes.{code_of}
 use Rattle.aide_entry.specs.Fields.{field_under, is_column, is_bits}
 use Rattle.aide_entry.specs.Numbers.{bits_of}
 use Rattle.aide_entry.specs.Spans.{first_in}
