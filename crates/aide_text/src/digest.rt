@@ -8,7 +8,7 @@ ghost use Rattle.aide_text.specs.ValueText.{digest_text};
 use crate::lines::put_alone;
 use crate::pen::Pen;
 use crate::sink::Sink;
-use crate::value::digest_of;
+use crate::value::digest_text;
 
 /// Writes the SHA-256 (FIPS 180-4) of a database, in base 16 or in base 64 (RFC 4648 section 4).
 pub fn put_digest<W: Sink>(out: &mut W, pen: &mut Pen, base16: bool, digest: &[u8; 32])
@@ -16,6 +16,6 @@ pub fn put_digest<W: Sink>(out: &mut W, pen: &mut Pen, base16: bool, digest: &[u
         (sheet W.delivered W.failures W.flushes out.old pen.old)
         (sheet W.delivered W.failures W.flushes out.new pen.new) }
 {
-    let text = digest_of(base16, digest);
+    let text = digest_text(base16, digest);
     put_alone(out, pen, b"SHA256", text.bytes());
 }

@@ -56,6 +56,8 @@ impl<B: Feed> Feed for Printed<B> {
 
     ghost rest = { printed_rest B.rest };
 
+    // A call for each byte of each path would take as long as the work itself.
+    #[inline(always)]
     fn next_byte(&mut self) -> Option<u8> {
         if self.at < 4 {
             let c = self.pending[self.at];

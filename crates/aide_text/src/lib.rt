@@ -32,4 +32,4 @@ pub use section::{Contents, Section};
 pub use sink::{Sink, WriteSink};
 pub use slices::SliceFeed;
 pub use titles::{put_path_line, put_section_head, put_titled};
-pub use value::{ValueText, digest_of, kind_text, mode_of, number_of};
+pub use value::{ValueText, digest_text, kind_text, mode_text, number_text};

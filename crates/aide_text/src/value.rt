@@ -88,7 +88,7 @@ ghost use Rattle.std.specs.Prelude.{◌+◌, ◌%◌};
 
 /// Returns the low twelve bits of a mode as four octal digits, or the empty text if there is no mode. A mode below zero
 /// has the digits of its absolute value.
-pub fn mode_of(mode: Option<i128>) -> Ready
+pub fn mode_text(mode: Option<i128>) -> Ready
     ensures { ready_rest result ≡ option_text mode_text mode }
 {
     match mode {
@@ -98,7 +98,7 @@ pub fn mode_of(mode: Option<i128>) -> Ready
 }
 
 /// Returns a number in decimal, or the empty text if there is no number.
-pub fn number_of(number: Option<i128>) -> Ready
+pub fn number_text(number: Option<i128>) -> Ready
     ensures { ready_rest result ≡ option_text signed_decimal number }
 {
     match number {
@@ -137,7 +137,7 @@ fn base64_of(bytes: &[u8]) -> Ready
 /// Returns a digest of at most 64 bytes as a text, in base 16 (lowercase) if `base16` is set. Otherwise the text is
 /// in base 64 (RFC 4648 section 4).
 #[tactic(auto, unfolding(crate::specs::ValueText::digest_text))]
-pub fn digest_of(base16: bool, bytes: &[u8]) -> Ready
+pub fn digest_text(base16: bool, bytes: &[u8]) -> Ready
     requires { length bytes.now ≤ 64 }
     ensures { ready_rest result ≡ digest_text base16 bytes.now }
 {

@@ -1,6 +1,6 @@
 use Rattle.std.proofs.Common.{ap, sym, ◌∙◌}
 use Rattle.aide_text.specs.ValueText.{digest_text}
-use Rattle.aide_text.proofs.value.digest_of.Goals as goal
+use Rattle.aide_text.proofs.value.digest_text.Goals as goal
 
 pub returns-then-base16 : goal.returns-then-base16
 unfolding digest_text

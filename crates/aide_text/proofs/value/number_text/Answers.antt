@@ -3,7 +3,7 @@ use Rattle.std.proofs.lemmas.Int.{to_z-of_z}
 use Rattle.std.specs.Fmt.{signed_decimal}
 use Rattle.std.specs.Int.{w128}
 use Rattle.aide_text.specs.ValueText.{option_text}
-use Rattle.aide_text.proofs.value.number_of.Goals as goal
+use Rattle.aide_text.proofs.value.number_text.Goals as goal
 
 pub returns-in-Some : goal.returns-in-Some
 returns-in-Some c =
