@@ -2,8 +2,6 @@
 ghost use Rattle.std.specs.Prelude.{◌≡◌, is_some, true, false, None};
 ghost use Rattle.std.specs.List.{list_any};
 ghost use Rattle.aide_entry.specs.Path.{path_cmp};
-ghost use Rattle.aide_entry.specs.Columns.{columns_in};
-ghost use Rattle.aide_entry.specs.code.FirstColumns.{bits_in};
 ghost use Rattle.aide_entry.specs.Values.{value_of, is_field};
 ghost use Rattle.aide_entry.specs.View.{entry_in};
 ghost use Rattle.aide_entry.specs.Attributes.{number_order, is_different, sides_between};
@@ -13,7 +11,7 @@ ghost use Rattle.aide_attr.specs.declared.attr.Attr.{Attr};
 
 use crate::path::cmp_paths;
 use crate::value::{differ, has_value};
-use crate::view::{View, with_if};
+use crate::view::{View, ViewWithBits, with_if};
 use aide_attr::{Attr, AttrSet, Delta, Form};
 use std::cmp::Ordering;
 
@@ -58,22 +56,14 @@ fn contrast_of(form: Form, old: &[u8], new: &[u8]) -> Contrast
     }
 }
 
-/// Returns how two entries differ at an attribute, given the numbers in their fields of bits.
-fn contrast_at(
-    old: &View<'_>,
-    old_bits: Option<u64>,
-    new: &View<'_>,
-    new_bits: Option<u64>,
-    attr: Attr,
-) -> Contrast
-    requires old { old_bits ≡ bits_in (columns_in old.now.columns.now) old.now.line.now }
-    requires new { new_bits ≡ bits_in (columns_in new.now.columns.now) new.now.line.now }
-    ensures in_old { result.in_old ≡ is_some ((entry_in old.now).1 attr) }
-    ensures in_new { result.in_new ≡ is_some ((entry_in new.now).1 attr) }
-    ensures differs { result.differs ≡ is_different ((entry_in old.now).1 attr)
-        ((entry_in new.now).1 attr) }
+/// Returns how two entries differ at an attribute.
+fn contrast_at(old: &ViewWithBits<'_, '_>, new: &ViewWithBits<'_, '_>, attr: Attr) -> Contrast
+    ensures in_old { result.in_old ≡ is_some ((entry_in old.now.view.now).1 attr) }
+    ensures in_new { result.in_new ≡ is_some ((entry_in new.now.view.now).1 attr) }
+    ensures differs { result.differs ≡ is_different ((entry_in old.now.view.now).1 attr)
+        ((entry_in new.now.view.now).1 attr) }
 {
-    match (old.field_by(old_bits, attr), new.field_by(new_bits, attr)) {
+    match (old.field(attr), new.field(attr)) {
         (None, None) => Contrast {
             in_old: false,
             in_new: false,
@@ -122,14 +112,14 @@ fn contrasts_between(old: &View<'_>, new: &View<'_>) -> Contrasts
     ensures differs { (attr : Attr) → has result.differs attr
         ≡ is_different ((entry_in old.now).1 attr) ((entry_in new.now).1 attr) }
 {
-    let old_bits = old.bits();
-    let new_bits = new.bits();
+    let old_read = old.with_bits();
+    let new_read = new.with_bits();
     let mut in_old = AttrSet::empty();
     let mut in_new = AttrSet::empty();
     let mut differs = AttrSet::empty();
     let mut rest = attrs_of(old, new);
     'attrs: while let Some((attr, more)) = rest.split_first() {
-        let contrast = contrast_at(old, old_bits, new, new_bits, *attr);
+        let contrast = contrast_at(&old_read, &new_read, *attr);
         in_old = with_if(in_old, *attr, contrast.in_old);
         in_new = with_if(in_new, *attr, contrast.in_new);
         differs = with_if(differs, *attr, contrast.differs);

@@ -11,17 +11,26 @@ pub fn is_digit(base: u8, byte: u8) -> bool
     byte >= b'0' && byte < b'0' + base
 }
 
+/// Returns whether a number with one more digit is 2^64 or more, for a number that is not far below a tenth of 2^64.
+// It is not inlined, so that the loop over the digits of a smaller number compares once for each digit.
+#[cold]
+#[inline(never)]
+fn is_over_late(value: u64, digit: u64) -> bool
+    requires late { 1844674407370955161 ≤ value }
+    requires digit { digit < 10 }
+    ensures over { result ≡ true → 2 ^ 64 ≤ value * 10 + digit }
+    ensures below { result ≡ false → value * 10 + digit < 2 ^ 64 }
+{
+    value > 1844674407370955161 || digit > 5
+}
+
 /// Returns whether a number with one more digit is 2^64 or more. It needs no division.
 fn is_over(value: u64, digit: u64) -> bool
     requires { digit < 10 }
     ensures over { result ≡ true → 2 ^ 64 ≤ value * 10 + digit }
     ensures below { result ≡ false → value * 10 + digit < 2 ^ 64 }
 {
-    if value == 1844674407370955161 {
-        digit > 5
-    } else {
-        value > 1844674407370955161
-    }
+    value >= 1844674407370955161 && is_over_late(value, digit)
 }
 
 /// Reads the number that decimal digits write, if it is below 2^64.
@@ -159,6 +168,15 @@ fn all_digits(base: u8, bytes: &[u8]) -> bool
     rest.is_empty() || are_four_digits(base, last)
 }
 
+/// Returns whether decimal digits, more than 19, write a number below 2^64.
+#[cold]
+#[inline(never)]
+fn is_long_natural(digits: &[u8]) -> bool
+    ensures { result ≡ is_some (natural_of digits.now) }
+{
+    read_natural(digits).is_some()
+}
+
 /// Returns whether decimal digits write a number below 2^64. At most 19 digits always do.
 fn is_natural(digits: &[u8]) -> bool
     ensures { result ≡ is_some (natural_of digits.now) }
@@ -167,7 +185,7 @@ fn is_natural(digits: &[u8]) -> bool
         return false;
     }
     if digits.len() > 19 {
-        return read_natural(digits).is_some();
+        return is_long_natural(digits);
     }
     all_digits(10, digits)
 }

@@ -3,6 +3,7 @@ ghost use Rattle.std.specs.Prelude.{◌≡◌, ◌||◌, ◌&&◌, true};
 ghost use Rattle.aide_attr.specs.Set.{has, is_attr};
 ghost use Rattle.aide_attr.specs.declared.attr.Attr.{Attr};
 ghost use Rattle.aide_entry.specs.Columns.{columns_in};
+ghost use Rattle.aide_entry.specs.code.FirstColumns.{bits_in};
 ghost use Rattle.aide_entry.specs.Entry.{has_entry};
 ghost use Rattle.aide_entry.specs.Spans.{AreSpans};
 
@@ -71,7 +72,6 @@ impl<'a> View<'a> {
     ghost use Rattle.aide_entry.specs.Attributes.{type_in, number_in, link_in, digest_in};
     ghost use Rattle.aide_entry.specs.Attributes.{opaque_in};
     ghost use Rattle.aide_entry.specs.Entry.{field_of};
-    ghost use Rattle.aide_entry.specs.code.FirstColumns.{bits_in};
     ghost use Rattle.aide_entry.specs.Lent.{IsDigest, lent_link};
     ghost use Rattle.aide_entry.specs.Values.{IsTimeOrNothing};
 
@@ -84,11 +84,14 @@ impl<'a> View<'a> {
         (name, percent_decode(name))
     }
 
-    /// Returns the number in the field of bits, if there is such a field. It is read once for many attributes.
-    pub(crate) fn bits(&self) -> Option<u64>
-        ensures { result ≡ bits_in (columns_in self.now.columns.now) self.now.line.now }
+    /// Reads the number in the field of bits, if there is such a field, for many attributes.
+    pub(crate) fn with_bits(&self) -> ViewWithBits<'_, 'a>
+        ensures { result.view.now ≡ self.now }
     {
-        bits_of(self.columns, self.line, self.spans)
+        ViewWithBits {
+            view: self,
+            bits: bits_of(self.columns, self.line, self.spans),
+        }
     }
 
     /// Returns when the entry's inode last changed, as it is written, or an empty text. Whether the attribute counts
@@ -99,29 +102,6 @@ impl<'a> View<'a> {
         match field_under(self.columns, Column::Of(Attr::Ctime), self.line, self.spans) {
             None => &[],
             Some(field) => field,
-        }
-    }
-
-    /// Returns the field of an attribute's column, if it counts by these bits.
-    pub(crate) fn field_by(&self, bits: Option<u64>, attr: Attr) -> Option<&'a [u8]>
-        requires { bits ≡ bits_in (columns_in self.now.columns.now) self.now.line.now }
-        ensures { option_copied result ≡ field_of (columns_in self.now.columns.now)
-            self.now.line.now attr }
-    {
-        match field_under(
-            self.columns,
-            Column::Of(attr.holder()),
-            self.line,
-            self.spans,
-        ) {
-            None => None,
-            Some(field) => {
-                if is_on(attr.bit(), bits) {
-                    Some(field)
-                } else {
-                    None
-                }
-            }
         }
     }
 
@@ -137,18 +117,7 @@ impl<'a> View<'a> {
                 self.line,
                 self.spans,
             ),
-            Some(_) => self.field_by(self.bits(), attr),
-        }
-    }
-
-    /// Returns whether the entry has an attribute, by these bits.
-    fn has(&self, bits: Option<u64>, attr: Attr) -> bool
-        requires { bits ≡ bits_in (columns_in self.now.columns.now) self.now.line.now }
-        ensures { result ≡ is_some ((entry_in self.now).1 attr) }
-    {
-        match self.field_by(bits, attr) {
-            None => false,
-            Some(field) => has_value(attr.form(), field),
+            Some(_) => self.with_bits().field(attr),
         }
     }
 
@@ -156,11 +125,11 @@ impl<'a> View<'a> {
     pub fn attrs(&self) -> AttrSet
         ensures { (attr : Attr) → has result attr ≡ is_some ((entry_in self.now).1 attr) }
     {
-        let bits = self.bits();
+        let read = self.with_bits();
         let mut set = AttrSet::empty();
         let mut rest = self.columns.attrs();
         'attrs: while let Some((attr, more)) = rest.split_first() {
-            set = with_if(set, *attr, self.has(bits, *attr));
+            set = with_if(set, *attr, read.has(*attr));
             rest = more;
         }
         set
@@ -235,6 +204,57 @@ impl<'a> View<'a> {
         match attr.form() {
             Form::Opaque => { if is_nought(field) { None } else { Some(field) } }
             _ => None,
+        }
+    }
+}
+
+/// A view of an entry, with the number in its field of bits if there is such a field. The number is read once for many
+/// attributes.
+#[derive(Clone, Copy)]
+pub(crate) struct ViewWithBits<'x, 'a> {
+    pub(crate) view: &'x View<'a>,
+    pub(crate) bits: Option<u64>,
+    ghost read: { bits ≡ bits_in (columns_in view.now.columns.now) view.now.line.now },
+}
+
+impl<'x, 'a> ViewWithBits<'x, 'a> {
+    ghost use Rattle.std.specs.Prelude.{is_some};
+    ghost use Rattle.std.specs.Option.{option_copied};
+    ghost use Rattle.aide_entry.specs.View.{entry_in};
+    ghost use Rattle.aide_entry.specs.Entry.{field_of};
+
+    /// Returns the field of an attribute's column, if it counts by the bits.
+    // Two entries that differ ask for it at each attribute, and a call takes as long as the look-up.
+    #[inline(always)]
+    pub(crate) fn field(&self, attr: Attr) -> Option<&'a [u8]>
+        ensures { option_copied result ≡ field_of (columns_in self.now.view.now.columns.now)
+            self.now.view.now.line.now attr }
+    {
+        let view = self.view;
+        match field_under(
+            view.columns,
+            Column::Of(attr.holder()),
+            view.line,
+            view.spans,
+        ) {
+            None => None,
+            Some(field) => {
+                if is_on(attr.bit(), self.bits) {
+                    Some(field)
+                } else {
+                    None
+                }
+            }
+        }
+    }
+
+    /// Returns whether the entry has an attribute.
+    pub(crate) fn has(&self, attr: Attr) -> bool
+        ensures { result ≡ is_some ((entry_in self.now.view.now).1 attr) }
+    {
+        match self.field(attr) {
+            None => false,
+            Some(field) => has_value(attr.form(), field),
         }
     }
 }

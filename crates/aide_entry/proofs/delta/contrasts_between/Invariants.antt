@@ -6,8 +6,8 @@ use Rattle.aide_entry.proofs.AttrLoops.{AreFilling}
 use Rattle.aide_entry.proofs.delta.contrasts_between.Given as goal
 
 abbrev pub invariant-attrs : goal.invariant-attrs
-invariant-attrs l = AreFilling l.in_old l.in_new l.differs l.rest (λ a. is_some ((entry_in l.old).1 a))
-    (λ a. is_some ((entry_in l.new).1 a)) (λ a. is_different ((entry_in l.old).1 a) ((entry_in l.new).1 a))
+invariant-attrs l = AreFilling l.in_old l.in_new l.differs l.rest (λ a. is_some ((entry_in l.fn.old).1 a))
+    (λ a. is_some ((entry_in l.fn.new).1 a)) (λ a. is_different ((entry_in l.fn.old).1 a) ((entry_in l.fn.new).1 a))
 
 abbrev pub decreases-attrs : goal.decreases-attrs
 decreases-attrs l = length l.rest

@@ -14,7 +14,7 @@ attrs-init c =
 pub attrs-preserved : goal.attrs-preserved
 attrs-preserved c =
     steps c.attrs.set c.with_if-set.result c.in-Some.attr.now c.has.result c.attrs.rest.now c.in-Some.more.now (λ a. is_some ((entry_in c.args.self.now).1 a))
-    c.in-Some.ensures.cases.0 c.has.ensures c.with_if-set.ensures c.attrs.invariant
+    c.in-Some.ensures.cases.0 (rw c.with_bits-read.ensures at c.has.ensures) c.with_if-set.ensures c.attrs.invariant
 
 pub returns : goal.returns
 returns c =
