@@ -1,22 +1,22 @@
 -- Entries that a desk holds alike: they are the same, so their paths tie and nothing differs.
-use Rattle.std.specs.Prelude.{◌≡◌, Option, Some, None, [], ◌∷◌}
+use Rattle.std.specs.Prelude.{◌≡◌, ℕ, List, Option, Some, None, [], ◌∷◌}
 use Rattle.std.proofs.Common.{sym, ap, ◌∙◌}
 use Rattle.std.specs.Cmp.{tied_itself}
 use Rattle.std.specs.declared.cmp.Ordering.{Ordering}
 use Rattle.aide_db.specs.Alike.{HoldsAlike}
-use Rattle.aide_entry.specs.Attributes.{Entry}
+use Rattle.aide_entry.specs.Attributes.{Attributes, Entry}
 use Rattle.aide_entry.specs.View.{entry_at}
 use Rattle.aide_db.specs.Desk.{desk_entry}
 use Rattle.aide_db.specs.DeskView.{DeskView}
 use Rattle.aide_entry.specs.Path.{path_cmp}
 use Rattle.aide_db.specs.declared.side.Side.TheVariants.{Old, New}
 use Rattle.aide_entry.proofs.PathLaws.{path_cmp_total}
-use Rattle.aide_report.specs.code.ChangeView.{alike_of}
+use Rattle.aide_report.specs.Compare.{Change}
+use Rattle.aide_report.specs.code.ChangeView.{IsAlike}
 use Rattle.aide_report.specs.code.NextEntry.{next_entry}
-use Rattle.aide_report.specs.code.Turn.{turn_of, turn_by, change_at}
+use Rattle.aide_report.specs.code.NextPath.{change_by, next_change}
 use Rattle.aide_report.specs.declared.merge.NextEntry.{NextEntry}
 use Rattle.aide_report.specs.declared.merge.NextEntry.TheVariants.{Due, Here, Ended}
-use Rattle.aide_report.specs.declared.merge.Turn.TheVariants.{Both}
 
 abbrev entry_or : Entry → Option Entry → Entry
 entry_or e None = e
@@ -34,26 +34,22 @@ shown_of_next Due shown entry e = cc
 shown_of_next Here shown entry e = e
 shown_of_next Ended shown entry e = cc
 
--- it is the turn of both sides
-pub turn_of_alike : (d : DeskView) (old_next new_next : NextEntry) (old new : Entry) → HoldsAlike d
+-- the next path is that of both sides, with one entry
+pub next_of_alike : (d : DeskView) (old_next new_next : NextEntry) (old new : Entry) → HoldsAlike d
     → next_entry old_next (desk_entry Old d) ≡ Some old → next_entry new_next (desk_entry New d) ≡ Some new
-    → Both ≡ turn_of (next_entry old_next (desk_entry Old d)) (next_entry new_next (desk_entry New d))
-turn_of_alike d old_next new_next old new alike shows_old shows_new =
+    → IsAlike (next_change (next_entry old_next (desk_entry Old d)) (next_entry new_next (desk_entry New d)))
+next_of_alike d old_next new_next old new alike shows_old shows_new =
     let same = same_shown d old new alike (shown_of_next old_next (desk_entry Old d) old shows_old)
     (shown_of_next new_next (desk_entry New d) new shows_new) in
-    sym ((λ i. turn_of (shows_old i) (shows_new i)) ∙ ap (λ (e : Entry). turn_by (path_cmp old.0 e.0)) (sym same)
-    ∙ ap turn_by (tied_itself path_cmp_total old.0))
+    record {
+      entry = old;
+      only = (λ i. next_change (shows_old i) (shows_new i)) ∙ ap (λ (e : Entry). change_by (path_cmp old.0 e.0) old e ∷ []) (sym same)
+          ∙ ap (λ (r : Ordering). change_by r old old ∷ []) (tied_itself path_cmp_total old.0);
+    }
 
--- it is the turn that the order of two entries gives
-pub turn_of_order : (order : Ordering) (old new : Entry) {old_shown new_shown : Option Entry} → old_shown ≡ Some old → new_shown ≡ Some new
-    → order ≡ path_cmp old.0 new.0
-    → turn_by order ≡ turn_of old_shown new_shown
-turn_of_order order old new shows_old shows_new is = ap turn_by is ∙ sym (λ i. turn_of (shows_old i) (shows_new i))
-
--- the change there has this entry on both sides
-pub change_of_alike : (d : DeskView) (old new : Entry) → HoldsAlike d → desk_entry Old d ≡ Some old
-    → desk_entry New d ≡ Some new
-    → change_at Both (desk_entry Old d) (desk_entry New d) ≡ alike_of old ∷ []
-change_of_alike d old new alike shows_old shows_new =
-    (λ i. change_at Both (shows_old i) (shows_new i))
-    ∙ ap (λ (e : Entry). (old.0, (Some old.1, Some e.1)) ∷ []) (sym (same_shown d old new alike shows_old shows_new))
+-- the next path is that of the first of two entries
+pub next_of_both : (old new : Entry) {old_shown new_shown : Option Entry} (change : Change (List ℕ) Attributes)
+    → old_shown ≡ Some old → new_shown ≡ Some new → change ≡ change_by (path_cmp old.0 new.0) old new
+    → next_change old_shown new_shown ≡ change ∷ []
+next_of_both old new change shows_old shows_new is =
+    (λ i. next_change (shows_old i) (shows_new i)) ∙ ap (λ (c : Change (List ℕ) Attributes). c ∷ []) (sym is)

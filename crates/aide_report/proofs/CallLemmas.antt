@@ -96,6 +96,18 @@ both_keep r m n d middle e is_old is_new kept_new kept_old old new = record {
   fits = fits_both r.to_come m d middle e is_old is_new kept_new old.fits new.fits;
 }
 
+-- both cursors are as before
+pub passed_on : {R : Type 0} (r : Reels R) (m : Merge R) (d : DeskView) (old_next new_next : NextEntry)
+    → KeepsMerge r m (record m { old_next = old_next; new_next = new_next }) d d
+passed_on r m d old_next new_next =
+    let n = record m { old_next = old_next; new_next = new_next } in
+    record {
+      limits = limits_both m n refl refl;
+      stands = of_sides (StandsAt r.to_come m d) (StandsAt r.to_come n d) (λ text stands. stands) (λ text stands. stands);
+      room = refl;
+      fits = λ old_line new_line before within_old within_new fits. fits;
+    }
+
 -- a fault of the old side's cursor
 pub old_fault : {R : Type 0} (r : Reels R) (m n : Merge R) (d : DeskView) (fault : DbFault) → m.old_cursor.side ≡ Old
     → IsCursorFault r m.old_cursor n.old_cursor d fault → IsMergeFault r m n d fault

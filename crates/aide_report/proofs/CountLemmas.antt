@@ -88,12 +88,3 @@ small_alike a b top m n less counted small = rw counted (record {
   total = omega (arith, small.total);
   shown = omega (arith, small.shown);
 })
-
--- no change was shown
-pub counts_same : (options : Options) (a : Counts) (rest changes more all : List Change) → rest ≡ changes ++ more
-    → changes ≡ [] → Completes options a rest all → Completes options a more all
-counts_same options a rest changes more all is none so_far = let step : rest ≡ more = is ∙ ap (λ cs. cs ++ more) none in rw step at so_far
-
-pub small_same : (a : Counts) (top m n : ℕ) → n < m → AreBelow a (top - m) → AreBelow a (top - n)
-small_same a top m n less small =
-    record { added = omega (arith, small.added); removed = omega (arith, small.removed); changed = omega (arith, small.changed); total = omega (arith, small.total); shown = omega (arith, small.shown) }

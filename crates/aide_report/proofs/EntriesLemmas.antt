@@ -31,12 +31,6 @@ pub entries_step : (options : Options) (contents : Contents) (entry : PathChange
 entries_step options contents entry rest changes more is one =
     ap (entries_text options contents) (is ∙ ap (λ l. l ++ more) one) ∙ entries_first options contents entry more
 
-pub entries_same : (options : Options) (contents : Contents) (rest changes more : List PathChange)
-    → rest ≡ changes ++ more → changes ≡ []
-    → entries_text options contents rest ≡ entries_text options contents more
-entries_same options contents rest changes more is none =
-    ap (entries_text options contents) (is ∙ ap (λ l. l ++ more) none)
-
 pub entries_end : (options : Options) (contents : Contents) (rest : List PathChange) → rest ≡ []
     → entries_text options contents rest ≡ []
 unfolding entries_text

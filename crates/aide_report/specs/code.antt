@@ -1,7 +1,7 @@
 -- Definitions for steps inside the code. No clause of a public call cites them.
 pub mod Merged
 pub mod NextEntry
-pub mod Turn
+pub mod NextPath
 pub mod Merging
 pub mod ChangeView
 pub mod Counts

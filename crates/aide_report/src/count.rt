@@ -9,9 +9,9 @@ ghost use Rattle.aide_report.specs.Entries.{is_shown_entry};
 ghost use Rattle.aide_report.specs.code.MergeCalls.{IsMergeFault, KeepsMerge};
 ghost use Rattle.aide_report.specs.code.Merging.{remaining, IsReady, IsEnded, StandsAt, total_work};
 
-use crate::change::{AtPath, Change, at_turn};
+use crate::change::{AtPath, Change};
 use crate::difference::counts_as;
-use crate::merge::{Merge, Turn};
+use crate::merge::Merge;
 use aide_conf::Options;
 use aide_db::{DbFault, Desk, Reel, Side};
 use aide_text::Counts;
@@ -66,17 +66,13 @@ pub(crate) fn count<R: Reel, A: Allocator + Copy>(
 {
     let mut counts = Counts::new();
     'pass: loop {
-        let turn = match merge.next(desk) {
-            Ok(turn) => turn,
-            Err(fault) => return Err(fault),
-        };
-        if let Turn::End = turn {
-            return Ok(counts);
+        if let Err(fault) = merge.read_due(desk) {
+            return Err(fault);
         }
-        match at_turn(desk, turn) {
+        match merge.next(desk) {
             AtPath::Differs(change) => add(&mut counts, change, options),
             AtPath::Alike => counts.total += 1,
-            AtPath::Nothing => {}
+            AtPath::End => return Ok(counts),
         }
     }
 }

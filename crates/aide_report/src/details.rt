@@ -24,8 +24,8 @@ use aide_attr::{Attr, AttrSet, FileType, Form};
 use aide_conf::Options;
 use aide_db::View;
 use aide_text::{
-    Contents, DecodedFeed, Pen, Printed, Ready, Sink, SliceFeed, ValueText, digest_of, kind_text,
-    mode_of, number_of, put_newline, put_path_line, put_side_by_side,
+    Contents, DecodedFeed, Pen, Printed, Ready, Sink, SliceFeed, ValueText, digest_text, kind_text,
+    mode_text, number_text, put_newline, put_path_line, put_side_by_side,
 };
 
 fn link_value<'a>(view: &View<'a>) -> ValueText<Ready, DecodedFeed<'a>, SliceFeed<'a>>
@@ -56,7 +56,7 @@ fn digest_value(view: &View<'_>, attr: Attr, base16: bool) -> Ready
     let mut buffer = [0; 64];
     match view.digest(attr, &mut buffer) {
         None => Ready::of(b""),
-        Some(len) => digest_of(base16, &buffer[..len]),
+        Some(len) => digest_text(base16, &buffer[..len]),
     }
 }
 
@@ -71,9 +71,9 @@ fn value<'a>(
 {
     match attr.form() {
         Form::Kind => ValueText::Short(kind_text(view.kind())),
-        Form::Mode => ValueText::Short(mode_of(view.number(attr))),
-        Form::Number => ValueText::Short(number_of(view.number(attr))),
-        Form::Time => ValueText::Short(number_of(view.number(attr))),
+        Form::Mode => ValueText::Short(mode_text(view.number(attr))),
+        Form::Number => ValueText::Short(number_text(view.number(attr))),
+        Form::Time => ValueText::Short(number_text(view.number(attr))),
         Form::Link => link_value(view),
         Form::Digest(_, _) => ValueText::Short(digest_value(view, attr, base16)),
         Form::Opaque => field_value(view, attr),

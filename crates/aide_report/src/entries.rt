@@ -9,10 +9,10 @@ ghost use Rattle.aide_report.specs.Sections.{all_listed, lists, entries_text, on
 ghost use Rattle.aide_text.specs.PenSheet.{on_sheet};
 ghost use Rattle.aide_text.specs.Sheet.{Wrote, WritesSome};
 
-use crate::change::{AtPath, Change, at_turn, path_of};
+use crate::change::{AtPath, Change, path_of};
 use crate::details::put_details;
 use crate::difference::letters;
-use crate::merge::{Merge, Turn};
+use crate::merge::Merge;
 use aide_conf::Options;
 use aide_db::{DbFault, Desk, Reel, Side};
 use aide_text::{Contents, Pen, Sink, put, put_path_end};
@@ -139,14 +139,10 @@ pub(crate) fn put_entries<R: Reel, W: Sink, A: Allocator + Copy>(
     ensures fault { IfErr result (IsStopOf R.Reel merge.old merge.new desk.old pen.new) }
 {
     'pass: loop {
-        let turn = match merge.next(desk) {
-            Ok(turn) => turn,
-            Err(fault) => return Err(PassFault::Database(fault)),
-        };
-        if let Turn::End = turn {
-            return Ok(());
+        if let Err(fault) = merge.read_due(desk) {
+            return Err(PassFault::Database(fault));
         }
-        match at_turn(desk, turn) {
+        match merge.next(desk) {
             AtPath::Differs(change) => {
                 put_change(out, pen, options, contents, change);
                 if pen.failed {
@@ -154,7 +150,7 @@ pub(crate) fn put_entries<R: Reel, W: Sink, A: Allocator + Copy>(
                 }
             }
             AtPath::Alike => {}
-            AtPath::Nothing => {}
+            AtPath::End => return Ok(()),
         }
     }
 }

@@ -1,19 +1,25 @@
 //! Two databases read in lock step: one path after another, in path order.
-ghost use Rattle.std.specs.Prelude.{◌≡◌, ℕ, IfOk, IfErr, List, Option};
-ghost use Rattle.aide_entry.specs.View.{Shows};
+ghost use Rattle.std.specs.Prelude.{◌≡◌, ℕ, IfOk, IfErr, List, OnOk, Option};
+ghost use Rattle.aide_entry.specs.Attributes.{Attributes};
+ghost use Rattle.aide_entry.specs.Path.{path_cmp};
+ghost use Rattle.aide_entry.specs.View.{Shows, entry_in};
 ghost use Rattle.aide_db.specs.Desk.{desk_entry};
 ghost use Rattle.aide_db.specs.Kept.{IsKept};
 ghost use Rattle.aide_db.specs.Side.{other_side};
-ghost use Rattle.aide_report.specs.code.MergeCalls.{IsAdvanced, IsCursorFault, IsMergeFault};
-ghost use Rattle.aide_report.specs.code.MergeCalls.{IsOpened, IsStep, KeepsCursor, KeepsMerge};
-ghost use Rattle.aide_report.specs.code.Merging.{IsReady};
+ghost use Rattle.aide_report.specs.Compare.{Change as Sided};
+ghost use Rattle.aide_report.specs.code.ChangeView.{change_of, ShowsPath};
+ghost use Rattle.aide_report.specs.code.MergeCalls.{HasRead, IsAdvanced, IsCursorFault};
+ghost use Rattle.aide_report.specs.code.MergeCalls.{IsMergeFault, IsOpened, IsStep};
+ghost use Rattle.aide_report.specs.code.MergeCalls.{KeepsCursor, KeepsMerge};
+ghost use Rattle.aide_report.specs.code.Merging.{IsNotDue, IsReady};
 ghost use Rattle.aide_report.specs.code.NextEntry.{next_entry};
+ghost use Rattle.aide_report.specs.code.NextPath.{change_by, next_change, old_after, new_after};
 ghost use Rattle.aide_report.specs.code.Passes.{KeepsDesk};
 ghost use Rattle.aide_report.specs.code.Readings.{ClearsSide, GivesBoth, GivesSide, IsStarted};
 ghost use Rattle.aide_report.specs.code.Seen.{AreLimits};
 ghost use Rattle.aide_report.specs.Standing.{IsUnfailed};
-ghost use Rattle.aide_report.specs.code.Turn.{turn_of, old_after, new_after};
 
+use crate::change::{AtPath, Change};
 use aide_db::{Cursor, DbFault, Desk, Limits, Reel, Side, Step, View, cmp_names};
 use std::alloc::Allocator;
 use std::cmp::Ordering;
@@ -24,15 +30,6 @@ pub(crate) enum NextEntry {
     Due,
     Here,
     Ended,
-}
-
-/// Which side has the path that comes next.
-#[derive(Clone, Copy)]
-pub(crate) enum Turn {
-    Added,
-    Removed,
-    Both,
-    End,
 }
 
 /// Two cursors, and how far each side has come.
@@ -131,60 +128,87 @@ fn next_view<A: Allocator + Copy>(next: NextEntry, desk: &Desk<A>, side: Side) -
     }
 }
 
-/// Which side has the next path. If both entries have the same line, their paths are not compared.
-fn next_turn<A: Allocator + Copy>(old_next: NextEntry, new_next: NextEntry, desk: &Desk<A>) -> Turn
-    ensures { result ≡ turn_of (next_entry old_next (desk_entry Side.Old desk.now))
-        (next_entry new_next (desk_entry Side.New desk.now)) }
+/// The change at the first path of two entries.
+fn first_change<'a>(old: View<'a>, new: View<'a>) -> Change<'a>
+    ensures { change_of result ≡ change_by (path_cmp (entry_in old.entry).0
+        (entry_in new.entry).0) (entry_in old.entry) (entry_in new.entry) }
+{
+    match cmp_names(&old, &new) {
+        Ordering::Less => Change::Removed(old),
+        Ordering::Equal => Change::Common(old, new),
+        Ordering::Greater => Change::Added(new),
+    }
+}
+
+/// What both sides have at the first path of their next entries. If both entries have the same line, their paths are
+/// not compared.
+fn at_path<A: Allocator + Copy>(
+    old_next: NextEntry,
+    new_next: NextEntry,
+    desk: &Desk<A>,
+) -> AtPath<'_>
+    ensures { ShowsPath result (next_change (next_entry old_next (desk_entry Side.Old desk.now))
+        (next_entry new_next (desk_entry Side.New desk.now))) }
 {
     let old = next_view(old_next, desk, Side::Old);
     let new = next_view(new_next, desk, Side::New);
     match (old, new) {
         (Some(old), Some(new)) => {
             if desk.is_alike() {
-                return Turn::Both;
+                return AtPath::Alike;
             }
-            match cmp_names(&old, &new) {
-                Ordering::Less => Turn::Removed,
-                Ordering::Equal => Turn::Both,
-                Ordering::Greater => Turn::Added,
-            }
+            AtPath::Differs(first_change(old, new))
         }
-        (Some(_), None) => Turn::Removed,
-        (None, Some(_)) => Turn::Added,
-        (None, None) => Turn::End,
+        (Some(old), None) => AtPath::Differs(Change::Removed(old)),
+        (None, Some(new)) => AtPath::Differs(Change::Added(new)),
+        (None, None) => AtPath::End,
     }
 }
 
 impl<R: Reel> Merge<R> {
-    /// Passes on the next path: at its turn the desk shows what each side has there.
-    pub(crate) fn next<A: Allocator + Copy>(&mut self, desk: &mut Desk<A>) -> Result<Turn, DbFault>
+    /// Reads the next entry of each side if it is due.
+    pub(crate) fn read_due<A: Allocator + Copy>(
+        &mut self,
+        desk: &mut Desk<A>,
+    ) -> Result<(), DbFault>
         requires { IsReady self.old desk.old }
         ensures keeps { KeepsMerge R.Reel self.old self.new desk.old desk.new }
-        ensures step { IfOk result (IsStep R.Reel self.old self.new desk.old desk.new) }
+        ensures read { OnOk result (HasRead R.Reel self.old self.new desk.old desk.new) }
         ensures fault { IfErr result (IsMergeFault R.Reel self.old self.new desk.old) }
     {
         self.old_next = advance(&mut self.old_cursor, self.old_next, desk)?;
         self.new_next = advance(&mut self.new_cursor, self.new_next, desk)?;
-        let turn = next_turn(self.old_next, self.new_next, desk);
-        self.release(turn);
-        Ok(turn)
+        Ok(())
     }
 
-    /// Lets go of the entries that a turn passes on.
-    fn release(&mut self, turn: Turn)
-        ensures { self.new ≡ record self.old {
-          old_next = old_after turn self.old.old_next;
-          new_next = new_after turn self.old.new_next;
-        } }
+    /// Passes on the next path, once the entries that were due have been read.
+    pub(crate) fn next<'d, A: Allocator + Copy>(&mut self, desk: &'d Desk<A>) -> AtPath<'d>
+        requires ready { IsReady self.old desk.now }
+        requires not_due { IsNotDue self.old }
+        ensures keeps { KeepsMerge R.Reel self.old self.new desk.now desk.now }
+        ensures step { IsStep self.old self.new desk.now result }
     {
-        match turn {
-            Turn::Added => self.new_next = NextEntry::Due,
-            Turn::Removed => self.old_next = NextEntry::Due,
-            Turn::Both => {
+        let path = at_path(self.old_next, self.new_next, desk);
+        self.release(path);
+        path
+    }
+
+    /// Lets go of the entries at a path that is passed on.
+    fn release(&mut self, path: AtPath<'_>)
+        ensures { (changes : List (Sided (List ℕ) Attributes)) → ShowsPath path.entry changes
+            → self.new ≡ record self.old {
+              old_next = old_after changes self.old.old_next;
+              new_next = new_after changes self.old.new_next;
+            } }
+    {
+        match path {
+            AtPath::Differs(Change::Added(_)) => self.new_next = NextEntry::Due,
+            AtPath::Differs(Change::Removed(_)) => self.old_next = NextEntry::Due,
+            AtPath::Differs(Change::Common(_, _)) | AtPath::Alike => {
                 self.old_next = NextEntry::Due;
                 self.new_next = NextEntry::Due;
             }
-            Turn::End => {}
+            AtPath::End => {}
         }
     }
 }

@@ -6,6 +6,7 @@ use Rattle.aide_db.specs.CursorView.{CursorView}
 use Rattle.aide_db.specs.Desk.{desk_entry}
 use Rattle.aide_db.specs.DeskView.{DeskView}
 use Rattle.aide_db.specs.Map.{entries_of}
+use Rattle.aide_entry.specs.Attributes.{Attributes}
 use Rattle.aide_entry.specs.Path.{path_cmp}
 use Rattle.aide_db.specs.declared.fault.DbFault.{DbFault}
 use Rattle.aide_entry.specs.declared.fault_kind.DbFaultKind.TheVariants.{Read}
@@ -16,20 +17,21 @@ use Rattle.aide_db.specs.declared.side.Side.TheVariants.{Old, New}
 use Rattle.aide_db.specs.declared.stage.Stage.TheVariants.{Ended as AtEnd}
 use Rattle.aide_text.specs.declared.pen.Pen.{Pen}
 use Rattle.aide_report.specs.Bound.{FitsAfter, FitsAfterBoth, OpensWithin, TakesWithin}
+use Rattle.aide_report.specs.Compare.{Change}
+use Rattle.aide_report.specs.code.ChangeView.{ShowsPath}
 use Rattle.aide_report.specs.code.NextEntry.{ahead, work}
 use Rattle.aide_report.specs.code.Merged.{merged}
-use Rattle.aide_report.specs.code.Merging.{IsEnded, IsReady, StandsAt, limits_at, reels_failed}
-use Rattle.aide_report.specs.code.Merging.{remaining, total_work}
+use Rattle.aide_report.specs.code.Merging.{IsEnded, IsNotDue, IsReady, StandsAt, limits_at}
+use Rattle.aide_report.specs.code.Merging.{reels_failed, remaining, total_work}
 use Rattle.aide_report.specs.Room.{IsNotMemory}
 use Rattle.aide_report.specs.Standing.{rest_of, left_of, IsUnfailed, IsFaultOf}
-use Rattle.aide_report.specs.code.Turn.{change_at}
+use Rattle.aide_report.specs.declared.change.AtPath.{AtPath}
+use Rattle.aide_report.specs.declared.change.AtPath.TheVariants.{End}
 use Rattle.aide_report.specs.declared.entries.PassFault.{PassFault}
 use Rattle.aide_report.specs.declared.entries.PassFault.TheVariants.{Database, Write}
 use Rattle.aide_report.specs.declared.merge.NextEntry.{NextEntry}
 use Rattle.aide_report.specs.declared.merge.NextEntry.TheVariants.{Due, Here, Ended}
 use Rattle.aide_report.specs.declared.merge.Merge.{Merge}
-use Rattle.aide_report.specs.declared.merge.Turn.{Turn}
-use Rattle.aide_report.specs.declared.merge.Turn.TheVariants.{End}
 
 -- ---- one cursor
 
@@ -64,7 +66,7 @@ pub record IsAdvanced {R : Type 0} (r : Reels R) (side : Side) (c n : CursorView
     (d e : DeskView) (before after : NextEntry) : Type 0 where
   -- the cursor has reported no fault
   pub unfailed : IsUnfailed n.stage
-  -- nothing is left to be read for this turn
+  -- nothing is left to be read before the next path
   pub not_due : after ≢ Due
   -- an entry that is here is on the desk
   pub here : (before ≡ Here → IsSome (desk_entry side d))
@@ -112,22 +114,31 @@ pub record KeepsMerge {R : Type 0} (r : Reels R) (m n : Merge R) (d e : DeskView
   -- a desk that fits the lines of both texts still fits them
   pub fits : FitsAfterBoth r.to_come m d e
 
--- A merge has given one path, or has come to its end.
-pub record IsStep {R : Type 0} (r : Reels R) (m n : Merge R) (d e : DeskView)
-    (turn : Turn) : Type 0 where
-  -- the merge can be asked again
+-- A merge has read the entries that were due.
+pub record HasRead {R : Type 0} (r : Reels R) (m n : Merge R) (d e : DeskView) : Type 0 where
+  -- the next path can be passed on
   pub ready : IsReady n e
+  pub not_due : IsNotDue n
+  -- the bound on the changes to come has not grown
+  pub falls : total_work n ≤ total_work m
+  -- the same changes are still to come
+  pub same : (old new : List ℕ) → StandsAt r.to_come m d Old old → StandsAt r.to_come m d New new
+      → remaining m d old new ≡ remaining n e old new
+
+-- A merge has passed on one path, or has come to its end.
+pub record IsStep {R : Type 0} (m n : Merge R) (d : DeskView) (path : AtPath) : Type 0 where
+  -- the merge can be asked again
+  pub ready : IsReady n d
   -- it comes nearer to its end
-  pub falls : turn ≢ End → total_work n < total_work m
-  -- what was still to come is the change that the desk shows, and then what still comes
-  pub gives : (old new : List ℕ) → StandsAt r.to_come m d Old old → StandsAt r.to_come m d New new
-      → remaining m d old new ≡ change_at turn (desk_entry Old e) (desk_entry New e)
-      ++ remaining n e old new
+  pub falls : path ≢ End → total_work n < total_work m
+  -- what was still to come is the change at the path, and then what still comes
+  pub changes : List (Change (List ℕ) Attributes)
+  pub shows : ShowsPath path changes
+  pub gives : (old new : List ℕ) → remaining m d old new ≡ changes ++ remaining n d old new
   -- at the end nothing was left
-  pub end : (old new : List ℕ) → StandsAt r.to_come m d Old old → StandsAt r.to_come m d New new
-      → turn ≡ End → remaining m d old new ≡ []
+  pub end : (old new : List ℕ) → path ≡ End → remaining m d old new ≡ []
   -- and both databases were read to their ends
-  pub ended : turn ≡ End → IsEnded n
+  pub ended : path ≡ End → IsEnded n
 
 -- What a fault of a merge means.
 pub record IsMergeFault {R : Type 0} (r : Reels R) (m n : Merge R) (d : DeskView)

@@ -1,5 +1,5 @@
 -- A merge of two cursors: what it stands for, and what it has still to give.
-use Rattle.std.specs.Prelude.{◌≡◌, ℕ, ◌+◌, Option, List, IsSome}
+use Rattle.std.specs.Prelude.{◌≡◌, ◌≢◌, ℕ, ◌+◌, Option, List, IsSome}
 use Rattle.aide_entry.specs.Attributes.{Attributes}
 use Rattle.aide_db.specs.CursorView.{CursorView}
 use Rattle.aide_db.specs.Desk.{desk_entry}
@@ -14,7 +14,7 @@ use Rattle.aide_report.specs.code.Merged.{merged}
 use Rattle.aide_db.specs.Answer.{Stands}
 use Rattle.aide_report.specs.Standing.{rest_of, left_of, IsUnfailed}
 use Rattle.aide_db.specs.declared.stage.Stage.TheVariants.{Ended as AtEnd}
-use Rattle.aide_report.specs.declared.merge.NextEntry.TheVariants.{Here, Ended}
+use Rattle.aide_report.specs.declared.merge.NextEntry.TheVariants.{Due, Here, Ended}
 use Rattle.aide_report.specs.declared.merge.Merge.{Merge}
 
 -- the changes that a merge has still to give, if the databases have these texts
@@ -34,6 +34,11 @@ pub record IsReady {R : Type 0} (m : Merge R) (desk : DeskView) : Type 0 where
   pub new_here : m.new_next ≡ Here → IsSome (desk_entry New desk)
   pub old_ended : m.old_next ≡ Ended → m.old_cursor.stage ≡ AtEnd
   pub new_ended : m.new_next ≡ Ended → m.new_cursor.stage ≡ AtEnd
+
+-- no side has to be read before the next path is passed on
+pub record IsNotDue {R : Type 0} (m : Merge R) : Type 0 where
+  pub old_not_due : m.old_next ≢ Due
+  pub new_not_due : m.new_next ≢ Due
 
 -- both databases have been read to their ends
 pub record IsEnded {R : Type 0} (m : Merge R) : Type 0 where

@@ -1,15 +1,18 @@
-use Rattle.std.proofs.Common.{◌^◌, refl, subst}
+use Rattle.std.proofs.Common.{◌^◌, ◌<◌, ◌∙◌, arith, refl, subst}
 use Rattle.aide_db.specs.declared.side.Side.TheVariants.{Old, New}
 use Rattle.aide_report.specs.code.ChangeView.{change_of}
 use Rattle.aide_report.specs.code.Counts.{Completes}
 use Rattle.aide_report.specs.code.Merging.{remaining, total_work}
-use Rattle.aide_report.proofs.CountLemmas.{counts_alike, counts_more, counts_same, small_alike, small_more, small_same}
+use Rattle.aide_report.proofs.CountLemmas.{counts_alike, counts_more, small_alike, small_more}
 use Rattle.aide_report.proofs.CallLemmas.{merge_fault, merge_then}
 use Rattle.aide_report.proofs.count.count.Goals as goal
 
+pub read_due-requires : goal.read_due-requires
+read_due-requires g c = c.pass.invariant.ready
+
 pub returns-in-Err-clause-keeps : goal.returns-in-Err-clause-keeps
 returns-in-Err-clause-keeps g c =
-    merge_then c.pass.invariant.keeps c.next.ensures.keeps
+    merge_then c.pass.invariant.keeps c.read_due.ensures.keeps
 
 pub returns-in-Err-clause-fault : goal.returns-in-Err-clause-fault
 returns-in-Err-clause-fault g c =
@@ -17,65 +20,41 @@ returns-in-Err-clause-fault g c =
 
 pub returns-in-End-clause-keeps : goal.returns-in-End-clause-keeps
 returns-in-End-clause-keeps g c =
-    merge_then c.pass.invariant.keeps c.next.ensures.keeps
+    merge_then c.pass.invariant.keeps (merge_then c.read_due.ensures.keeps c.next.ensures.keeps)
 
 pub returns-in-End-clause-counts : goal.returns-in-End-clause-counts
 returns-in-End-clause-counts g c old new s t =
     let stands = c.pass.invariant.keeps.stands in
     subst (λ rest. Completes c.args.options.now c.pass.counts rest (remaining c.args.merge.now c.args.desk.now old new))
-    (c.in-Ok.ensures.step.end old new (stands Old old s) (stands New new t) c.in-End.is)
+    (c.in_default.ensures.read.same old new (stands Old old s) (stands New new t) ∙ c.in-End.ensures.step.end old new refl)
     (c.pass.invariant.counts old new s t)
 
 pub pass-preserved-in-Differs : goal.pass-preserved-in-Differs
 pass-preserved-in-Differs g c =
-    let fewer = c.in-Ok.ensures.step.falls c.in_default.not-End in
+    let read = c.in_default.ensures.read in
+    let step = c.in-Differs.ensures.step in
+    let fewer : total_work c.next.new.self < total_work c.pass.merge = omega (arith, step.falls (λ e. cc), read.falls) in
     let stands = c.pass.invariant.keeps.stands in
     record {
-      ready = c.in-Ok.ensures.step.ready;
+      ready = step.ready;
       small = small_more c.args.options.now c.pass.counts c.add.new.counts (change_of c.in-Differs.change) (2 ^ 62) (total_work c.pass.merge) (total_work c.next.new.self)
           fewer c.add.ensures.added c.add.ensures.removed c.add.ensures.changed c.add.ensures.total c.add.ensures.shown c.pass.invariant.small;
-      keeps = merge_then c.pass.invariant.keeps c.next.ensures.keeps;
+      keeps = merge_then c.pass.invariant.keeps (merge_then c.read_due.ensures.keeps c.next.ensures.keeps);
       counts = λ old new s t. counts_more c.args.options.now c.pass.counts c.add.new.counts (change_of c.in-Differs.change) _ _ _ _
-          (c.in-Ok.ensures.step.gives old new (stands Old old s) (stands New new t)) c.in-Differs.ensures
+          (read.same old new (stands Old old s) (stands New new t) ∙ step.gives old new) step.shows
           c.add.ensures.added c.add.ensures.removed c.add.ensures.changed c.add.ensures.total c.add.ensures.shown (c.pass.invariant.counts old new s t);
-    }
-
-pub pass-preserved-in-Alike : goal.pass-preserved-in-Alike
-pass-preserved-in-Alike g c =
-    let fewer = c.in-Ok.ensures.step.falls c.in_default.not-End in
-    let stands = c.pass.invariant.keeps.stands in
-    let alike = c.in-Alike.ensures in
-    record {
-      ready = c.in-Ok.ensures.step.ready;
-      small = small_alike c.pass.counts _ (2 ^ 62) (total_work c.pass.merge) (total_work c.next.new.self) fewer refl c.pass.invariant.small;
-      keeps = merge_then c.pass.invariant.keeps c.next.ensures.keeps;
-      counts = λ old new s t. counts_alike c.args.options.now c.pass.counts _ alike.entry _ _ _ _
-          (c.in-Ok.ensures.step.gives old new (stands Old old s) (stands New new t)) alike.only refl (c.pass.invariant.counts old new s t);
     }
 
 pub pass-preserved : goal.pass-preserved
 pass-preserved g c =
-    let fewer = c.in-Ok.ensures.step.falls c.in_default.not-End in
+    let read = c.in_default.ensures.read in
+    let step = c.in-Alike.ensures.step in
+    let fewer : total_work c.next.new.self < total_work c.pass.merge = omega (arith, step.falls (λ e. cc), read.falls) in
     let stands = c.pass.invariant.keeps.stands in
     record {
-      ready = c.in-Ok.ensures.step.ready;
-      small = small_same c.pass.counts (2 ^ 62) (total_work c.pass.merge) (total_work c.next.new.self) fewer c.pass.invariant.small;
-      keeps = merge_then c.pass.invariant.keeps c.next.ensures.keeps;
-      counts = λ old new s t. counts_same c.args.options.now c.pass.counts _ _ _ _
-          (c.in-Ok.ensures.step.gives old new (stands Old old s) (stands New new t)) c.in-Nothing.ensures (c.pass.invariant.counts old new s t);
+      ready = step.ready;
+      small = small_alike c.pass.counts _ (2 ^ 62) (total_work c.pass.merge) (total_work c.next.new.self) fewer refl c.pass.invariant.small;
+      keeps = merge_then c.pass.invariant.keeps (merge_then c.read_due.ensures.keeps c.next.ensures.keeps);
+      counts = λ old new s t. counts_alike c.args.options.now c.pass.counts _ step.shows.entry _ _ _ _
+          (read.same old new (stands Old old s) (stands New new t) ∙ step.gives old new) step.shows.only refl (c.pass.invariant.counts old new s t);
     }
-
-pub next-requires : goal.next-requires
-next-requires g c = c.pass.invariant.ready
-
-pub returns-in-End-clause-ended : goal.returns-in-End-clause-ended
-returns-in-End-clause-ended g c = c.in-Ok.ensures.step.ended c.in-End.is
-
-pub pass-smaller-in-Differs : goal.pass-smaller-in-Differs
-pass-smaller-in-Differs g c = c.in-Ok.ensures.step.falls c.in_default.not-End
-
-pub pass-smaller-in-Alike : goal.pass-smaller-in-Alike
-pass-smaller-in-Alike g c = c.in-Ok.ensures.step.falls c.in_default.not-End
-
-pub pass-smaller : goal.pass-smaller
-pass-smaller g c = c.in-Ok.ensures.step.falls c.in_default.not-End

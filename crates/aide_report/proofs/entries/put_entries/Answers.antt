@@ -1,11 +1,9 @@
-use Rattle.std.proofs.Common.{subst}
-use Rattle.aide_db.specs.Desk.{desk_entry}
+use Rattle.std.proofs.Common.{◌∙◌, arith, refl, subst}
 use Rattle.aide_db.specs.declared.side.Side.TheVariants.{Old, New}
 use Rattle.aide_report.specs.code.ChangeView.{change_of}
-use Rattle.aide_report.specs.code.Turn.{change_at}
 use Rattle.aide_report.specs.code.Merging.{remaining}
 use Rattle.aide_report.specs.code.Passes.{on_sheet}
-use Rattle.aide_report.proofs.EntriesLemmas.{entries_alike, entries_step, entries_same, entries_end}
+use Rattle.aide_report.proofs.EntriesLemmas.{entries_alike, entries_step, entries_end}
 use Rattle.aide_report.proofs.CallLemmas.{merge_fault, merge_none, merge_then}
 use Rattle.aide_text.proofs.Sheets.{writing_start, writing_more, writing_done, writing_so_far, some_nothing, some_more}
 use Rattle.aide_text.proofs.Sheets.{some_of}
@@ -23,9 +21,18 @@ pass-init g c = record {
   some = some_nothing (on_sheet g.W.Sink c.args.out.now c.args.pen.now);
 }
 
+pub read_due-requires : goal.read_due-requires
+read_due-requires g c = c.pass.invariant.ready
+
 pub returns-in-Err-clause-keeps : goal.returns-in-Err-clause-keeps
 returns-in-Err-clause-keeps g c =
-    merge_then c.pass.invariant.keeps c.next.ensures.keeps
+    merge_then c.pass.invariant.keeps c.read_due.ensures.keeps
+
+pub returns-in-Err-clause-writes : goal.returns-in-Err-clause-writes
+returns-in-Err-clause-writes g c old new s t = writing_so_far (c.pass.invariant.writes old new s t)
+
+pub returns-in-Err-clause-some : goal.returns-in-Err-clause-some
+returns-in-Err-clause-some g c = c.pass.invariant.some
 
 pub returns-in-Err-clause-fault : goal.returns-in-Err-clause-fault
 returns-in-Err-clause-fault g c =
@@ -33,24 +40,35 @@ returns-in-Err-clause-fault g c =
 
 pub returns-in-End-clause-keeps : goal.returns-in-End-clause-keeps
 returns-in-End-clause-keeps g c =
-    merge_then c.pass.invariant.keeps c.next.ensures.keeps
+    merge_then c.pass.invariant.keeps (merge_then c.read_due.ensures.keeps c.next.ensures.keeps)
 
 pub returns-in-End-clause-writes : goal.returns-in-End-clause-writes
 returns-in-End-clause-writes g c old new s t =
     let stands = c.pass.invariant.keeps.stands in
     writing_done (entries_end c.args.options.now c.args.contents (remaining c.pass.merge c.pass.desk old new)
-    (c.in-Ok.ensures.step.end old new (stands Old old s) (stands New new t) c.in-End.is))
+    (c.in_default.ensures.read.same old new (stands Old old s) (stands New new t) ∙ c.in-End.ensures.step.end old new refl))
     (c.pass.invariant.writes old new s t)
+
+pub returns-in-End-clause-some : goal.returns-in-End-clause-some
+returns-in-End-clause-some g c = c.pass.invariant.some
+
+pub returns-in-End-clause-writes_on : goal.returns-in-End-clause-writes_on
+returns-in-End-clause-writes_on g c = c.pass.invariant.writes_on
+
+pub returns-in-End-clause-ended : goal.returns-in-End-clause-ended
+returns-in-End-clause-ended g c = c.in-End.ensures.step.ended refl
 
 pub returns-then-pen : goal.returns-then-pen
 returns-then-pen g c =
+    let read = c.in_default.ensures.read in
+    let step = c.in-Differs.ensures.step in
     let stands = c.pass.invariant.keeps.stands in
     record {
-      keeps = merge_then c.pass.invariant.keeps c.next.ensures.keeps;
+      keeps = merge_then c.pass.invariant.keeps (merge_then c.read_due.ensures.keeps c.next.ensures.keeps);
       writes = λ old new s t. writing_so_far (writing_more
           (entries_step c.args.options.now c.args.contents (change_of c.in-Differs.change) (remaining c.pass.merge c.pass.desk old new)
-          (change_at c.in-Ok.turn (desk_entry Old c.next.new.desk) (desk_entry New c.next.new.desk)) (remaining c.next.new.self c.next.new.desk old new)
-          (c.in-Ok.ensures.step.gives old new (stands Old old s) (stands New new t)) c.in-Differs.ensures)
+          step.changes (remaining c.next.new.self c.read_due.new.desk old new)
+          (read.same old new (stands Old old s) (stands New new t) ∙ step.gives old new) step.shows)
           (c.pass.invariant.writes old new s t) c.put_change.ensures);
       some = some_more c.pass.invariant.some (some_of c.put_change.ensures);
       writes_on = tt;
@@ -60,74 +78,41 @@ returns-then-pen g c =
 
 pub pass-preserved-else-pen : goal.pass-preserved-else-pen
 pass-preserved-else-pen g c =
+    let read = c.in_default.ensures.read in
+    let step = c.in-Differs.ensures.step in
     let stands = c.pass.invariant.keeps.stands in
     record {
-      ready = c.in-Ok.ensures.step.ready;
+      ready = step.ready;
       writes_on = c.if-pen.false;
-      keeps = merge_then c.pass.invariant.keeps c.next.ensures.keeps;
+      keeps = merge_then c.pass.invariant.keeps (merge_then c.read_due.ensures.keeps c.next.ensures.keeps);
       writes = λ old new s t. writing_more
           (entries_step c.args.options.now c.args.contents (change_of c.in-Differs.change) (remaining c.pass.merge c.pass.desk old new)
-          (change_at c.in-Ok.turn (desk_entry Old c.next.new.desk) (desk_entry New c.next.new.desk)) (remaining c.next.new.self c.next.new.desk old new)
-          (c.in-Ok.ensures.step.gives old new (stands Old old s) (stands New new t)) c.in-Differs.ensures)
+          step.changes (remaining c.next.new.self c.read_due.new.desk old new)
+          (read.same old new (stands Old old s) (stands New new t) ∙ step.gives old new) step.shows)
           (c.pass.invariant.writes old new s t) c.put_change.ensures;
       some = some_more c.pass.invariant.some (some_of c.put_change.ensures);
     }
 
-pub pass-preserved-in-Alike : goal.pass-preserved-in-Alike
-pass-preserved-in-Alike g c =
-    let stands = c.pass.invariant.keeps.stands in
-    record {
-      ready = c.in-Ok.ensures.step.ready;
-      writes_on = c.pass.invariant.writes_on;
-      keeps = merge_then c.pass.invariant.keeps c.next.ensures.keeps;
-      writes = λ old new s t. subst (λ rest. Writing (entries_text c.args.options.now c.args.contents (remaining c.args.merge.now c.args.desk.now old new)) rest
-          (on_sheet g.W.Sink c.args.out.now c.args.pen.now) (on_sheet g.W.Sink c.pass.out c.pass.pen))
-          (entries_alike c.args.options.now c.args.contents c.in-Alike.ensures.entry (remaining c.pass.merge c.pass.desk old new)
-          (change_at c.in-Ok.turn (desk_entry Old c.next.new.desk) (desk_entry New c.next.new.desk)) (remaining c.next.new.self c.next.new.desk old new)
-          (c.in-Ok.ensures.step.gives old new (stands Old old s) (stands New new t)) c.in-Alike.ensures.only)
-          (c.pass.invariant.writes old new s t);
-      some = c.pass.invariant.some;
-    }
-
 pub pass-preserved : goal.pass-preserved
 pass-preserved g c =
+    let read = c.in_default.ensures.read in
+    let step = c.in-Alike.ensures.step in
     let stands = c.pass.invariant.keeps.stands in
     record {
-      ready = c.in-Ok.ensures.step.ready;
+      ready = step.ready;
       writes_on = c.pass.invariant.writes_on;
-      keeps = merge_then c.pass.invariant.keeps c.next.ensures.keeps;
+      keeps = merge_then c.pass.invariant.keeps (merge_then c.read_due.ensures.keeps c.next.ensures.keeps);
       writes = λ old new s t. subst (λ rest. Writing (entries_text c.args.options.now c.args.contents (remaining c.args.merge.now c.args.desk.now old new)) rest
           (on_sheet g.W.Sink c.args.out.now c.args.pen.now) (on_sheet g.W.Sink c.pass.out c.pass.pen))
-          (entries_same c.args.options.now c.args.contents (remaining c.pass.merge c.pass.desk old new)
-          (change_at c.in-Ok.turn (desk_entry Old c.next.new.desk) (desk_entry New c.next.new.desk)) (remaining c.next.new.self c.next.new.desk old new)
-          (c.in-Ok.ensures.step.gives old new (stands Old old s) (stands New new t)) c.in-Nothing.ensures)
+          (entries_alike c.args.options.now c.args.contents step.shows.entry (remaining c.pass.merge c.pass.desk old new)
+          step.changes (remaining c.next.new.self c.read_due.new.desk old new)
+          (read.same old new (stands Old old s) (stands New new t) ∙ step.gives old new) step.shows.only)
           (c.pass.invariant.writes old new s t);
       some = c.pass.invariant.some;
     }
 
-pub next-requires : goal.next-requires
-next-requires g c = c.pass.invariant.ready
-
-pub returns-in-Err-clause-writes : goal.returns-in-Err-clause-writes
-returns-in-Err-clause-writes g c old new s t = writing_so_far (c.pass.invariant.writes old new s t)
-
-pub returns-in-Err-clause-some : goal.returns-in-Err-clause-some
-returns-in-Err-clause-some g c = c.pass.invariant.some
-
-pub returns-in-End-clause-some : goal.returns-in-End-clause-some
-returns-in-End-clause-some g c = c.pass.invariant.some
-
-pub returns-in-End-clause-writes_on : goal.returns-in-End-clause-writes_on
-returns-in-End-clause-writes_on g c = c.pass.invariant.writes_on
-
-pub returns-in-End-clause-ended : goal.returns-in-End-clause-ended
-returns-in-End-clause-ended g c = c.in-Ok.ensures.step.ended c.in-End.is
-
 pub pass-smaller-else-pen : goal.pass-smaller-else-pen
-pass-smaller-else-pen g c = c.in-Ok.ensures.step.falls c.in_default.not-End
-
-pub pass-smaller-in-Alike : goal.pass-smaller-in-Alike
-pass-smaller-in-Alike g c = c.in-Ok.ensures.step.falls c.in_default.not-End
+pass-smaller-else-pen g c = omega (arith, c.in-Differs.ensures.step.falls (λ e. cc), c.in_default.ensures.read.falls)
 
 pub pass-smaller : goal.pass-smaller
-pass-smaller g c = c.in-Ok.ensures.step.falls c.in_default.not-End
+pass-smaller g c = omega (arith, c.in-Alike.ensures.step.falls (λ e. cc), c.in_default.ensures.read.falls)

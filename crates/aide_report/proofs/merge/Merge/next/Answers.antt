@@ -1,81 +1,46 @@
-use Rattle.std.specs.Prelude.{IsSome}
-use Rattle.std.proofs.Common.{rules, ◌≡◌, ◌∙◌, is_some, arith, ap, refl, sym}
-use Rattle.std.proofs.lemmas.Result.{err_from_is_err_and}
 use Rattle.aide_db.specs.Desk.{desk_entry}
 use Rattle.aide_db.specs.declared.side.Side.TheVariants.{Old, New}
-use Rattle.aide_report.specs.declared.merge.NextEntry.TheVariants.{Here}
+use Rattle.aide_report.specs.code.NextEntry.{next_entry}
+use Rattle.aide_report.specs.code.NextPath.{next_change}
 use Rattle.aide_report.specs.Standing.{rest_of, left_of}
-use Rattle.aide_report.proofs.CallLemmas.{advanced_at, both_keep, cursor_none, new_fault, old_fault}
-use Rattle.aide_report.proofs.StandingLemmas.{kept_entry, stands_across}
-use Rattle.aide_report.proofs.Steps.{next_gives, all_done, step_falls, ended_at}
+use Rattle.aide_report.proofs.CallLemmas.{passed_on}
+use Rattle.aide_report.proofs.Steps.{merged_step, step_falls, old_kept, new_kept, some_change, no_change, ended_at, end_gives}
 use Rattle.aide_report.proofs.merge.Merge.next.Goals as goal
-
-pub returns-in_err-self-clause-keeps : goal.returns-in_err-self-clause-keeps
-returns-in_err-self-clause-keeps g c =
-    both_keep g.R.Reel c.args.self.now _ c.args.desk.now c.advance.new.desk c.advance.new.desk
-    c.requires.old_side c.requires.new_side (rw c.requires.old_side at c.advance.ensures.other) (refl, refl)
-    c.advance.ensures.keeps (cursor_none g.R.Reel c.args.self.now.new_cursor c.advance.new.desk)
-
-pub returns-in_err-self-clause-fault : goal.returns-in_err-self-clause-fault
-returns-in_err-self-clause-fault g c =
-    let p = err_from_is_err_and c.from_residual.result c.from_residual.ensures.1 in
-    rw p.1 (old_fault g.R.Reel c.args.self.now _ c.args.desk.now _ c.requires.old_side (rw p.2 c.in_err-self.ensures.fault))
-
-pub returns-in_err-self-2-clause-keeps : goal.returns-in_err-self-2-clause-keeps
-returns-in_err-self-2-clause-keeps g c =
-    both_keep g.R.Reel c.args.self.now _ c.args.desk.now c.advance.new.desk c.advance-2.new.desk
-    c.requires.old_side c.requires.new_side (rw c.requires.old_side at c.advance.ensures.other)
-    (rw c.requires.new_side at c.advance-2.ensures.other) c.advance.ensures.keeps c.advance-2.ensures.keeps
-
-pub returns-in_err-self-2-clause-fault : goal.returns-in_err-self-2-clause-fault
-returns-in_err-self-2-clause-fault g c =
-    let p = err_from_is_err_and c.from_residual-in_err-self-2.result c.from_residual-in_err-self-2.ensures.1 in
-    rw p.1 (new_fault g.R.Reel c.args.self.now _ c.args.desk.now c.advance.new.desk _ c.requires.new_side
-    (rw c.requires.old_side at c.advance.ensures.other) c.advance.ensures.keeps.room (rw p.2 c.in_err-self-2.ensures.fault))
 
 pub returns-clause-keeps : goal.returns-clause-keeps
 returns-clause-keeps g c =
-    rw c.release.ensures (both_keep g.R.Reel c.args.self.now _ c.args.desk.now c.advance.new.desk c.advance-2.new.desk
-    c.requires.old_side c.requires.new_side (rw c.requires.old_side at c.advance.ensures.other)
-    (rw c.requires.new_side at c.advance-2.ensures.other) c.advance.ensures.keeps c.advance-2.ensures.keeps)
+    rw (c.release.ensures _ c.at_path-path.ensures) (passed_on g.R.Reel c.args.self.now c.args.desk.now _ _)
 
 pub returns-clause-step : goal.returns-clause-step
 returns-clause-step g c =
-    let kept_new = rw c.requires.old_side at c.advance.ensures.other in
-    let kept_old = rw c.requires.new_side at c.advance-2.ensures.other in
-    let one = advanced_at c.requires.old_side c.in_ok-self.ensures.advanced in
-    let two = advanced_at c.requires.new_side c.in_ok-self-2.ensures.advanced in
-    let same_new = kept_entry New c.args.desk.now c.advance.new.desk kept_new in
-    let same_old = kept_entry Old c.advance.new.desk c.advance-2.new.desk kept_old in
-    let old_here : c.in_ok-self.field-0 ≡ Here → IsSome (desk_entry Old c.advance-2.new.desk) = λ h. ap is_some same_old ∙ one.here c.requires.old_here h in
-    let new_here : c.in_ok-self-2.field-0 ≡ Here → IsSome (desk_entry New c.advance-2.new.desk) =
-    two.here (λ h. ap is_some same_new ∙ c.requires.new_here h) in
-    rw c.release.ensures (record {
-      ready = search rules;
-      falls = λ going. let less = step_falls c.in_ok-self.field-0 c.in_ok-self-2.field-0 (desk_entry Old c.advance-2.new.desk) (desk_entry New c.advance-2.new.desk) c.next_turn-turn.result
-          (left_of c.advance.new.cursor) (left_of c.advance-2.new.cursor) one.not_due two.not_due
-          c.next_turn-turn.ensures going in
-          omega (arith, less, one.falls, two.falls);
-      gives = λ old new stands_old stands_new. next_gives c.next_turn-turn.result c.args.self.now.old_next c.in_ok-self.field-0 c.args.self.now.new_next c.in_ok-self-2.field-0
-          (desk_entry Old c.args.desk.now) (desk_entry Old c.advance.new.desk) (desk_entry Old c.advance-2.new.desk)
-          (desk_entry New c.args.desk.now) (desk_entry New c.advance.new.desk) (desk_entry New c.advance-2.new.desk)
-          (rest_of c.args.self.now.old_cursor old) (rest_of c.advance.new.cursor old)
-          (rest_of c.args.self.now.new_cursor new) (rest_of c.advance-2.new.cursor new)
-          one.not_due two.not_due old_here new_here (one.same_ahead old stands_old)
-          (two.same_ahead new (stands_across g.R.Reel.to_come c.args.self.now.new_cursor New c.args.desk.now c.advance.new.desk new c.requires.new_side kept_new stands_new))
-          same_new same_old
-          c.next_turn-turn.ensures;
-      end = λ old new stands_old stands_new is. all_done c.args.self.now.old_next c.in_ok-self.field-0 c.args.self.now.new_next c.in_ok-self-2.field-0
-          (desk_entry Old c.args.desk.now) (desk_entry Old c.advance.new.desk) (desk_entry Old c.advance-2.new.desk)
-          (desk_entry New c.args.desk.now) (desk_entry New c.advance.new.desk) (desk_entry New c.advance-2.new.desk)
-          (rest_of c.args.self.now.old_cursor old) (rest_of c.advance.new.cursor old)
-          (rest_of c.args.self.now.new_cursor new) (rest_of c.advance-2.new.cursor new)
-          one.not_due two.not_due old_here new_here (one.same_ahead old stands_old)
-          (two.same_ahead new (stands_across g.R.Reel.to_come c.args.self.now.new_cursor New c.args.desk.now c.advance.new.desk new c.requires.new_side kept_new stands_new))
-          same_new same_old
-          (sym is ∙ c.next_turn-turn.ensures);
-      ended = λ is. let both = ended_at c.in_ok-self.field-0 c.in_ok-self-2.field-0 (desk_entry Old c.advance-2.new.desk) (desk_entry New c.advance-2.new.desk)
-          one.not_due two.not_due old_here new_here
-          (sym is ∙ c.next_turn-turn.ensures) in
-          record { old_ended = one.ended c.requires.old_ended both.0; new_ended = two.ended c.requires.new_ended both.1 };
+    let m = c.args.self.now in
+    let old_shown = desk_entry Old c.args.desk.now in
+    let new_shown = desk_entry New c.args.desk.now in
+    let changes = next_change (next_entry m.old_next old_shown) (next_entry m.new_next new_shown) in
+    let shows = c.at_path-path.ensures in
+    let ready = c.requires.ready in
+    let old_not_due = c.requires.not_due.old_not_due in
+    let new_not_due = c.requires.not_due.new_not_due in
+    let both_ended = ended_at m.old_next m.new_next old_shown new_shown old_not_due new_not_due ready.old_here ready.new_here in
+    rw (c.release.ensures changes shows) (record {
+      ready = record {
+        old_side = ready.old_side;
+        new_side = ready.new_side;
+        old_unfailed = ready.old_unfailed;
+        new_unfailed = ready.new_unfailed;
+        old_here = λ is. ready.old_here (old_kept changes m.old_next _ (λ e. cc) is);
+        new_here = λ is. ready.new_here (new_kept changes m.new_next _ (λ e. cc) is);
+        old_ended = λ is. ready.old_ended (old_kept changes m.old_next _ (λ e. cc) is);
+        new_ended = λ is. ready.new_ended (new_kept changes m.new_next _ (λ e. cc) is);
+      };
+      falls = λ going. step_falls m.old_next m.new_next old_shown new_shown (left_of m.old_cursor) (left_of m.new_cursor) old_not_due new_not_due
+          (some_change c.at_path-path.result changes shows going);
+      changes = changes;
+      shows = shows;
+      gives = λ old new. merged_step m.old_next m.new_next old_shown new_shown (rest_of m.old_cursor old) (rest_of m.new_cursor new)
+          old_not_due new_not_due ready.old_here ready.new_here;
+      end = λ old new is. end_gives m.old_next m.new_next old_shown new_shown (rest_of m.old_cursor old) (rest_of m.new_cursor new)
+          (both_ended (no_change c.at_path-path.result changes shows is));
+      ended = λ is. let both = both_ended (no_change c.at_path-path.result changes shows is) in
+          record { old_ended = ready.old_ended both.0; new_ended = ready.new_ended both.1 };
     })
