@@ -1,4 +1,4 @@
 -- Definitions for steps inside the code. No clause of a public call cites them.
 pub mod Config
-pub mod Devices
+pub mod Parts
 pub mod Premises

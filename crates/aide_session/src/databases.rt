@@ -5,23 +5,23 @@ ghost use Rattle.aide_db.specs.declared.side.Side.{Side};
 ghost use Rattle.aide_report.specs.Asked.{asked};
 ghost use Rattle.aide_session.specs.Answer.{Compares};
 ghost use Rattle.aide_session.specs.Closing.{AsksAndReads};
-ghost use Rattle.aide_session.specs.code.Devices.{ClosesFor, EndsWith, HoldsWith, KeepsPeak};
-ghost use Rattle.aide_session.specs.code.Devices.{devices_between};
+ghost use Rattle.aide_session.specs.code.Parts.{AreSame, ClosesFor, EndsWith, HoldsWith};
+ghost use Rattle.aide_session.specs.code.Parts.{KeepsPeak, part_between};
 ghost use Rattle.aide_session.specs.Held.{IsPeakOf};
 ghost use Rattle.aide_session.specs.Lines.{run_fault_line};
 ghost use Rattle.aide_session.specs.code.Premises.{AsksForSides, ComparesSides};
 ghost use Rattle.aide_session.specs.Put.{PutOn};
 
+use crate::devices::Devices;
 use crate::lines::{
     put_changed_line, put_database_line, put_memory_line, put_open_line, put_outcome_lines,
     put_write_line,
 };
 use crate::site::Site;
 use aide_conf::{Settings, Task};
-use aide_db::{DbFaultKind, Desk, Limits, Side, Sources};
+use aide_db::{DbFaultKind, Limits, Side, Sources};
 use aide_report::{RunFault, Sink, run};
 use aide_words::Memory;
-use std::alloc::Global;
 
 /// The most bytes of a line of a database, without its newline.
 const LONGEST: u32 = 1_048_576;
@@ -61,35 +61,32 @@ fn put_run_fault<E: Sink>(err: &mut E, task: &Task<'_>, fault: RunFault)
 /// Compares the databases that the sides of a site are pointed at. The desk has room for any line.
 fn compare_sides<S: Site, W: Sink, E: Sink>(
     task: &Task<'_>,
-    desk: &mut Desk<Global>,
-    site: &mut S,
-    out: &mut W,
-    err: &mut E,
+    devices: &mut Devices<'_, S, W, E>,
 ) -> u8
-    requires room { 1048576 ≤ desk.old.room }
-    ensures ends { EndsWith (ComparesSides (S.bytes_of site.old) (S.is_missing site.old)
-        (asked task.now)) result
-        (devices_between S.Sources W.delivered W.failures W.flushes W.is_flushed
-        E.delivered E.failures site.old site.new out.old out.new err.old err.new) }
+    requires room { 1048576 ≤ devices.old.desk.now.room }
+    ensures same { AreSame devices.old devices.new }
+    ensures ends { EndsWith (λ files. ComparesSides (S.bytes_of devices.old.site.now)
+        (S.is_missing devices.old.site.now) (asked task.now)) result
+        (part_between S.Sources W.Sink E.Sink devices.old devices.new) }
     ensures closes { (words : List (List ℕ))
-        → AsksForSides (S.file_at site.old) (S.bytes_of site.old) words (asked task.now)
+        → AsksForSides (S.file_at devices.old.site.now) (S.bytes_of devices.old.site.now) words
+        (asked task.now)
         → ClosesFor words result
-        (devices_between S.Sources W.delivered W.failures W.flushes W.is_flushed
-        E.delivered E.failures site.old site.new out.old out.new err.old err.new) }
-    ensures site_never_falls { S.failures site.old ≤ S.failures site.new }
-    ensures lookups { S.lookups site.new ≡ S.lookups site.old }
-    ensures peak { KeepsPeak desk.old.peak desk.new.peak }
-    ensures bound { (old new : List ℕ) → S.bytes_of site.old Side.Old ≡ Some old
-        → S.bytes_of site.old Side.New ≡ Some new
-        → IsPeakOf old new desk.old.peak desk.new.peak }
+        (part_between S.Sources W.Sink E.Sink devices.old devices.new) }
+    ensures site_never_falls { S.failures devices.old.site.now ≤ S.failures devices.new.site.now }
+    ensures lookups { S.lookups devices.new.site.now ≡ S.lookups devices.old.site.now }
+    ensures peak { KeepsPeak (part_between S.Sources W.Sink E.Sink devices.old devices.new) }
+    ensures bound { (old new : List ℕ) → S.bytes_of devices.old.site.now Side.Old ≡ Some old
+        → S.bytes_of devices.old.site.now Side.New ≡ Some new
+        → IsPeakOf old new devices.old.desk.now.peak devices.new.desk.now.peak }
 {
-    match run(task, LIMITS, desk, site, out) {
+    match run(task, LIMITS, devices.desk, devices.site, devices.out) {
         Ok(outcome) => {
-            put_outcome_lines(err, &outcome);
+            put_outcome_lines(devices.err, &outcome);
             outcome.status()
         }
         Err(fault) => {
-            put_run_fault(err, task, fault);
+            put_run_fault(devices.err, task, fault);
             fault.status()
         }
     }
@@ -98,42 +95,37 @@ fn compare_sides<S: Site, W: Sink, E: Sink>(
 /// Points a site at the databases that the settings name, reserves what a comparison may hold, and
 /// compares the databases.
 pub(crate) fn compare<S: Site, W: Sink, E: Sink>(
-    alloc: Global,
     settings: &Settings,
-    desk: &mut Desk<Global>,
-    site: &mut S,
-    out: &mut W,
-    err: &mut E,
+    devices: &mut Devices<'_, S, W, E>,
 ) -> u8
     requires { IsSome settings.now.old_path × IsSome settings.now.new_path }
-    ensures ends { EndsWith (Compares (S.file_at site.old) settings.now) result
-        (devices_between S.Sources W.delivered W.failures W.flushes W.is_flushed
-        E.delivered E.failures site.old site.new out.old out.new err.old err.new) }
+    ensures same { AreSame devices.old devices.new }
+    ensures ends { EndsWith (λ files. Compares files settings.now) result
+        (part_between S.Sources W.Sink E.Sink devices.old devices.new) }
     ensures closes { (words : List (List ℕ)) (config : List ℕ)
-        → AsksAndReads (S.file_at site.old) words config true (Ok settings.now)
+        → AsksAndReads (S.file_at devices.old.site.now) words config true (Ok settings.now)
         → ClosesFor words result
-        (devices_between S.Sources W.delivered W.failures W.flushes W.is_flushed
-        E.delivered E.failures site.old site.new out.old out.new err.old err.new) }
-    ensures site_never_falls { S.failures site.old ≤ S.failures site.new }
-    ensures lookups { S.lookups site.new ≡ S.lookups site.old }
-    ensures peak { KeepsPeak desk.old.peak desk.new.peak }
-    ensures bound { HoldsWith (Compares (S.file_at site.old) settings.now) (S.file_at site.old)
-        desk.old.peak desk.new.peak }
+        (part_between S.Sources W.Sink E.Sink devices.old devices.new) }
+    ensures site_never_falls { S.failures devices.old.site.now ≤ S.failures devices.new.site.now }
+    ensures lookups { S.lookups devices.new.site.now ≡ S.lookups devices.old.site.now }
+    ensures peak { KeepsPeak (part_between S.Sources W.Sink E.Sink devices.old devices.new) }
+    ensures bound { HoldsWith (λ files. Compares files settings.now)
+        (part_between S.Sources W.Sink E.Sink devices.old devices.new) }
 {
     let Some(task) = settings.task() else {
         unreachable!()
     };
-    if let Err(Memory) = site.point(alloc, Side::Old, task.old_path) {
-        put_memory_line(err);
+    if let Err(Memory) = devices.site.point(devices.alloc, Side::Old, task.old_path) {
+        put_memory_line(devices.err);
         return 22;
     }
-    if let Err(Memory) = site.point(alloc, Side::New, task.new_path) {
-        put_memory_line(err);
+    if let Err(Memory) = devices.site.point(devices.alloc, Side::New, task.new_path) {
+        put_memory_line(devices.err);
         return 22;
     }
-    let Ok(()) = desk.reserve(LONGEST) else {
-        put_memory_line(err);
+    let Ok(()) = devices.desk.reserve(LONGEST) else {
+        put_memory_line(devices.err);
         return 22;
     };
-    compare_sides(&task, desk, site, out, err)
+    compare_sides(&task, devices)
 }

@@ -3,6 +3,7 @@
 
 mod config_file;
 mod databases;
+mod devices;
 mod file_site;
 mod lines;
 mod machine;

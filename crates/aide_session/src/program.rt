@@ -7,8 +7,8 @@ ghost use Rattle.aide_report.specs.Failures.{Rose};
 ghost use Rattle.aide_session.specs.Answer.{Answer, Named, IsAnswer, IsJobAnswer, IsTextAnswer};
 ghost use Rattle.aide_session.specs.Answer.{need_of};
 ghost use Rattle.aide_session.specs.Closing.{Closes, course_between};
-ghost use Rattle.aide_session.specs.code.Devices.{ClosesFor, EndsWith, HoldsWith, KeepsPeak};
-ghost use Rattle.aide_session.specs.code.Devices.{devices_between};
+ghost use Rattle.aide_session.specs.code.Parts.{AreSame, ClosesFor, EndsWith, HoldsWith};
+ghost use Rattle.aide_session.specs.code.Parts.{KeepsPeak, part_between};
 ghost use Rattle.aide_session.specs.Ends.{Ends, HasFailed, Whole, Starved, sinks_between};
 ghost use Rattle.aide_session.specs.Existence.{HasSessionAnswer, TellsNamed};
 ghost use Rattle.aide_session.specs.Held.{HoldsWithin, most_held};
@@ -18,6 +18,7 @@ ghost use Rattle.aide_session.specs.Put.{HasNoFailure};
 
 use crate::config_file::{ConfigFault, read_config};
 use crate::databases::compare;
+use crate::devices::Devices;
 use crate::lines::{
     put_conf_line, put_memory_line, put_too_large_line, put_unread_line, put_usage_line,
 };
@@ -60,44 +61,40 @@ fn read_settings(alloc: Global, prepared: &PreparedJob<'_>) -> Result<Settings, 
 
 /// Runs the session of a job whose configuration has been read.
 fn run_prepared<S: Site, W: Sink, E: Sink>(
-    alloc: Global,
     prepared: &PreparedJob<'_>,
-    desk: &mut Desk<Global>,
-    site: &mut S,
-    out: &mut W,
-    err: &mut E,
+    devices: &mut Devices<'_, S, W, E>,
 ) -> u8
-    ensures ends { EndsWith (IsTextAnswer (S.file_at site.old) (text_of_job prepared.now.job.now)
-        prepared.now.text.now) result
-        (devices_between S.Sources W.delivered W.failures W.flushes W.is_flushed
-        E.delivered E.failures site.old site.new out.old out.new err.old err.new) }
+    ensures same { AreSame devices.old devices.new }
+    ensures ends { EndsWith
+        (λ files. IsTextAnswer files (text_of_job prepared.now.job.now) prepared.now.text.now)
+        result (part_between S.Sources W.Sink E.Sink devices.old devices.new) }
     ensures closes { (words : List (List ℕ))
-        → HasRead (S.file_at site.old) words (text_of_job prepared.now.job.now)
+        → HasRead (S.file_at devices.old.site.now) words (text_of_job prepared.now.job.now)
         prepared.now.text.now
         → ClosesFor words result
-        (devices_between S.Sources W.delivered W.failures W.flushes W.is_flushed
-        E.delivered E.failures site.old site.new out.old out.new err.old err.new) }
-    ensures site_never_falls { S.failures site.old ≤ S.failures site.new }
-    ensures lookups { S.lookups site.new ≡ S.lookups site.old }
-    ensures peak { KeepsPeak desk.old.peak desk.new.peak }
-    ensures bound { HoldsWith (IsTextAnswer (S.file_at site.old) (text_of_job prepared.now.job.now)
-        prepared.now.text.now) (S.file_at site.old) desk.old.peak desk.new.peak }
+        (part_between S.Sources W.Sink E.Sink devices.old devices.new) }
+    ensures site_never_falls { S.failures devices.old.site.now ≤ S.failures devices.new.site.now }
+    ensures lookups { S.lookups devices.new.site.now ≡ S.lookups devices.old.site.now }
+    ensures peak { KeepsPeak (part_between S.Sources W.Sink E.Sink devices.old devices.new) }
+    ensures bound { HoldsWith
+        (λ files. IsTextAnswer files (text_of_job prepared.now.job.now) prepared.now.text.now)
+        (part_between S.Sources W.Sink E.Sink devices.old devices.new) }
 {
-    match read_settings(alloc, prepared) {
+    match read_settings(devices.alloc, prepared) {
         Ok(settings) => {
             if prepared.job.compare {
-                compare(alloc, &settings, desk, site, out, err)
+                compare(&settings, devices)
             } else {
                 0
             }
         }
         Err(fault) => match fault.kind {
             ConfFaultKind::Memory => {
-                put_memory_line(err);
+                put_memory_line(devices.err);
                 22
             }
             _ => {
-                put_conf_line(err, fault);
+                put_conf_line(devices.err, fault);
                 17
             }
         },
@@ -105,78 +102,85 @@ fn run_prepared<S: Site, W: Sink, E: Sink>(
 }
 
 /// Runs the session of a job.
-fn run_job<S: Site, W: Sink, E: Sink>(
-    alloc: Global,
-    job: &Job,
-    desk: &mut Desk<Global>,
-    site: &mut S,
-    out: &mut W,
-    err: &mut E,
-) -> u8
-    ensures ends { EndsWith (IsJobAnswer (S.file_at site.old) (text_of_job job.now)) result
-        (devices_between S.Sources W.delivered W.failures W.flushes W.is_flushed
-        E.delivered E.failures site.old site.new out.old out.new err.old err.new) }
+fn run_job<S: Site, W: Sink, E: Sink>(job: &Job, devices: &mut Devices<'_, S, W, E>) -> u8
+    ensures same { AreSame devices.old devices.new }
+    ensures ends { EndsWith (λ files. IsJobAnswer files (text_of_job job.now)) result
+        (part_between S.Sources W.Sink E.Sink devices.old devices.new) }
     ensures closes { (words : List (List ℕ)) → job_of words ≡ Some (text_of_job job.now)
         → ClosesFor words result
-        (devices_between S.Sources W.delivered W.failures W.flushes W.is_flushed
-        E.delivered E.failures site.old site.new out.old out.new err.old err.new) }
-    ensures lookups { S.lookups site.new ≤ one_more (S.lookups site.old) }
-    ensures peak { KeepsPeak desk.old.peak desk.new.peak }
-    ensures bound { HoldsWith (IsJobAnswer (S.file_at site.old) (text_of_job job.now))
-        (S.file_at site.old) desk.old.peak desk.new.peak }
+        (part_between S.Sources W.Sink E.Sink devices.old devices.new) }
+    ensures lookups { S.lookups devices.new.site.now ≤ one_more (S.lookups devices.old.site.now) }
+    ensures peak { KeepsPeak (part_between S.Sources W.Sink E.Sink devices.old devices.new) }
+    ensures bound { HoldsWith (λ files. IsJobAnswer files (text_of_job job.now))
+        (part_between S.Sources W.Sink E.Sink devices.old devices.new) }
 {
     let path = job.config.as_str();
-    match read_config(alloc, site, path) {
+    match read_config(devices.alloc, devices.site, path) {
         Ok(text) => {
             let text = text.as_slice();
-            run_prepared(alloc, &PreparedJob { job, text }, desk, site, out, err)
+            run_prepared(&PreparedJob { job, text }, devices)
         }
         Err(ConfigFault::TooLarge) => {
-            put_too_large_line(err);
+            put_too_large_line(devices.err);
             17
         }
         Err(ConfigFault::Unread) => {
-            put_unread_line(err, path);
+            put_unread_line(devices.err, path);
             18
         }
         Err(ConfigFault::Memory) => {
-            put_memory_line(err);
+            put_memory_line(devices.err);
             22
         }
     }
 }
 
-/// Runs the session of these arguments. Its lines may still wait in `err` afterwards.
-fn run_words<S: Site, W: Sink, E: Sink>(
-    alloc: Global,
-    words: &Words,
-    desk: &mut Desk<Global>,
-    site: &mut S,
-    out: &mut W,
-    err: &mut E,
-) -> u8
-    ensures ends { EndsWith (IsAnswer (S.file_at site.old) words.now) result
-        (devices_between S.Sources W.delivered W.failures W.flushes W.is_flushed
-        E.delivered E.failures site.old site.new out.old out.new err.old err.new) }
+/// Runs the session of these arguments. Its lines may still wait in standard error
+/// afterwards.
+fn run_words<S: Site, W: Sink, E: Sink>(words: &Words, devices: &mut Devices<'_, S, W, E>) -> u8
+    ensures same { AreSame devices.old devices.new }
+    ensures ends { EndsWith (λ files. IsAnswer files words.now) result
+        (part_between S.Sources W.Sink E.Sink devices.old devices.new) }
     ensures closes { ClosesFor words.now result
-        (devices_between S.Sources W.delivered W.failures W.flushes W.is_flushed
-        E.delivered E.failures site.old site.new out.old out.new err.old err.new) }
-    ensures lookups { S.lookups site.new ≤ one_more (S.lookups site.old) }
-    ensures peak { KeepsPeak desk.old.peak desk.new.peak }
-    ensures bound { HoldsWith (IsAnswer (S.file_at site.old) words.now) (S.file_at site.old)
-        desk.old.peak desk.new.peak }
+        (part_between S.Sources W.Sink E.Sink devices.old devices.new) }
+    ensures lookups { S.lookups devices.new.site.now ≤ one_more (S.lookups devices.old.site.now) }
+    ensures peak { KeepsPeak (part_between S.Sources W.Sink E.Sink devices.old devices.new) }
+    ensures bound { HoldsWith (λ files. IsAnswer files words.now)
+        (part_between S.Sources W.Sink E.Sink devices.old devices.new) }
 {
-    match read_words(alloc, words) {
-        Ok(job) => run_job(alloc, &job, desk, site, out, err),
+    match read_words(devices.alloc, words) {
+        Ok(job) => run_job(&job, devices),
         Err(WordsFault::Usage) => {
-            put_usage_line(err);
+            put_usage_line(devices.err);
             15
         }
         Err(WordsFault::Memory) => {
-            put_memory_line(err);
+            put_memory_line(devices.err);
             22
         }
     }
+}
+
+/// Runs the session of these arguments, and passes its lines on.
+fn run_and_pass_on<S: Site, W: Sink, E: Sink>(
+    words: &Words,
+    devices: &mut Devices<'_, S, W, E>,
+) -> u8
+    ensures same { AreSame devices.old devices.new }
+    ensures ends { EndsWith (λ files. IsAnswer files words.now) result
+        (part_between S.Sources W.Sink E.Sink devices.old devices.new) }
+    ensures passed_on { HasNoFailure (E.failures devices.old.err.now)
+        (E.failures devices.new.err.now) → E.is_flushed devices.new.err.now ≡ true }
+    ensures closes { ClosesFor words.now result
+        (part_between S.Sources W.Sink E.Sink devices.old devices.new) }
+    ensures lookups { S.lookups devices.new.site.now ≤ one_more (S.lookups devices.old.site.now) }
+    ensures peak { KeepsPeak (part_between S.Sources W.Sink E.Sink devices.old devices.new) }
+    ensures bound { HoldsWith (λ files. IsAnswer files words.now)
+        (part_between S.Sources W.Sink E.Sink devices.old devices.new) }
+{
+    let status = run_words(words, devices);
+    pass_on(devices.err);
+    status
 }
 
 /// Runs the whole program over any site, on this desk. Reads the arguments, then the configuration,
@@ -253,9 +257,8 @@ pub fn session_on<S: Site, W: Sink, E: Sink>(
     ensures bound { (named : Named) (a : Answer) → IsAnswer (S.file_at site.old) words.now named a
         → HoldsWithin (S.file_at site.old) named desk.old.peak desk.new.peak }
 {
-    let status = run_words(alloc, words, desk, site, out, err);
-    pass_on(err);
-    status
+    let mut devices = Devices::new(alloc, desk, site, out, err);
+    run_and_pass_on(words, &mut devices)
 }
 
 /// Runs the whole program over any site like [`session_on`], with a desk of its own that has held

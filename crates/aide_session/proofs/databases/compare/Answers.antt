@@ -26,7 +26,7 @@ returns-in-Err-point-clause-closes g c = λ words config read. closes_starved _ 
 
 pub returns-clause-ends : goal.returns-clause-ends
 returns-clause-ends g c = λ named a is.
-    let first = c.args.site.now in
+    let first = c.args.devices.now.site.now in
     let middle = c.point.new.self in
     let last = c.point-2.new.self in
     let files = g.S.Sources.file_at first in
@@ -57,14 +57,14 @@ returns-clause-ends g c = λ named a is.
 
 pub returns-clause-closes : goal.returns-clause-closes
 returns-clause-closes g c = λ words config read.
-    let files = g.S.Sources.file_at c.args.site.now in
+    let files = g.S.Sources.file_at c.args.devices.now.site.now in
     let named : Named = record { config = config; old_path = c.in-Some.task.old_path.now; new_path = c.in-Some.task.new_path.now } in
     let same = c.point-2.ensures.files ∙ c.point.ensures.files in
     let texts = pointed_texts files (g.S.Sources.file_at c.point.new.self) named (g.S.Sources.bytes_of c.point.new.self) (g.S.Sources.bytes_of c.point-2.new.self)
     c.point.ensures.files c.in_default-point.ensures.pointed c.in_default-point-2.ensures.pointed (c.point-2.ensures.other Old old_is_not_new) in
     let asks : AsksToCompare files words named = record { settings = c.args.settings.now; asks = read; old_is = c.in-Some.ensures.some.0; new_is = c.in-Some.ensures.some.1 } in
     closes_over files (g.S.Sources.file_at c.point-2.new.self) words _ _ _ _ _ _ _ _ same
-    (same_course g.S.Sources.openings g.S.Sources.was_given g.W.Sink.flushes g.W.Sink.is_flushed c.args.site.now c.point-2.new.self c.compare_sides.new.site c.args.out.now c.compare_sides.new.out (c.point-2.ensures.openings ∙ c.point.ensures.openings))
+    (same_course g.S.Sources.openings g.S.Sources.was_given g.W.Sink.flushes g.W.Sink.is_flushed c.args.devices.now.site.now c.point-2.new.self c.compare_sides.new.devices.site.now c.args.devices.now.out.now c.compare_sides.new.devices.out.now (c.point-2.ensures.openings ∙ c.point.ensures.openings))
     (c.point-2.ensures.failures ∙ c.point.ensures.failures)
     (c.compare_sides.ensures.closes words (record {
       named = named;
@@ -79,17 +79,17 @@ pub returns-in_default-reserve-clause-closes : goal.returns-in_default-reserve-c
 returns-in_default-reserve-clause-closes g c = λ words config read. closes_starved _ words _ _ _ _ _ _ _ _ c.put_memory_line-in_default-reserve.ensures (c.point-2.ensures.openings ∙ c.point.ensures.openings) refl
 
 pub returns-in-Err-clause-bound : goal.returns-in-Err-clause-bound
-returns-in-Err-clause-bound g c = λ named a is. same_held (g.S.Sources.file_at c.args.site.now) named c.args.desk.now.peak
+returns-in-Err-clause-bound g c = λ named a is. same_held (g.S.Sources.file_at c.args.devices.now.site.now) named c.args.devices.now.desk.now.peak
 
 pub returns-in-Err-point-clause-bound : goal.returns-in-Err-point-clause-bound
-returns-in-Err-point-clause-bound g c = λ named a is. same_held (g.S.Sources.file_at c.args.site.now) named c.args.desk.now.peak
+returns-in-Err-point-clause-bound g c = λ named a is. same_held (g.S.Sources.file_at c.args.devices.now.site.now) named c.args.devices.now.desk.now.peak
 
 pub returns-in_default-reserve-clause-bound : goal.returns-in_default-reserve-clause-bound
-returns-in_default-reserve-clause-bound g c = λ named a is. held_still (g.S.Sources.file_at c.args.site.now) named _ _ c.reserve.ensures.peak
+returns-in_default-reserve-clause-bound g c = λ named a is. held_still (g.S.Sources.file_at c.args.devices.now.site.now) named _ _ c.reserve.ensures.peak
 
 pub returns-clause-bound : goal.returns-clause-bound
 returns-clause-bound g c = λ named a is old new has_old has_new.
-    let files = g.S.Sources.file_at c.args.site.now in
+    let files = g.S.Sources.file_at c.args.devices.now.site.now in
     let middle = c.point.new.self in
     let last = c.point-2.new.self in
     let settings = c.args.settings.now in
@@ -99,7 +99,7 @@ returns-clause-bound g c = λ named a is old new has_old has_new.
     let pointed : Named = record { config = named.config; old_path = task.old_path.now; new_path = task.new_path.now } in
     let texts = pointed_texts files (g.S.Sources.file_at middle) pointed (g.S.Sources.bytes_of middle) (g.S.Sources.bytes_of last)
     c.point.ensures.files c.in_default-point.ensures.pointed c.in_default-point-2.ensures.pointed (c.point-2.ensures.other Old old_is_not_new) in
-    subst (λ (peak : ℕ). IsPeakOf old new peak c.compare_sides.new.desk.peak) c.reserve.ensures.peak
+    subst (λ (peak : ℕ). IsPeakOf old new peak c.compare_sides.new.devices.desk.now.peak) c.reserve.ensures.peak
     (c.compare_sides.ensures.bound old new
     (texts Old old (subst (λ (path : List ℕ). files path ≡ Some (Some old)) is_old has_old))
     (texts New new (subst (λ (path : List ℕ). files path ≡ Some (Some new)) is_new has_new)))

@@ -8,7 +8,7 @@ use Rattle.aide_session.proofs.databases.compare_sides.Goals as goal
 
 pub returns-in-Ok-clause-ends : goal.returns-in-Ok-clause-ends
 returns-in-Ok-clause-ends g c = λ named a is.
-    let by_run = run_of (g.S.Sources.bytes_of c.args.site.now) (g.S.Sources.is_missing c.args.site.now) (asked c.args.task.now) named a is in
+    let by_run = run_of (g.S.Sources.bytes_of c.args.devices.now.site.now) (g.S.Sources.is_missing c.args.devices.now.site.now) (asked c.args.task.now) named a is in
     ends_as a (answer_by named by_run.0) named _ _ _ _ by_run.2
     (ends_status (answer_by named by_run.0) named _ _ _ _ _ c.status.ensures
     (ends_well by_run.0 c.in-Ok.outcome named _ _ _ _ _ _ _ _ (c.in-Ok.ensures.over is.old_file is.new_file is.old_told is.new_told by_run.0 by_run.1) c.put_outcome_lines.ensures))
@@ -32,10 +32,10 @@ returns-in-Ok-clause-closes g c = λ words for. record {
 pub returns-in-Err-clause-ends : goal.returns-in-Err-clause-ends
 returns-in-Err-clause-ends g c = λ named a is.
     let fault = c.in-Err.fault in
-    let site = c.args.site.now in
-    let by_run = run_of (g.S.Sources.bytes_of c.args.site.now) (g.S.Sources.is_missing c.args.site.now) (asked c.args.task.now) named a is in
+    let site = c.args.devices.now.site.now in
+    let by_run = run_of (g.S.Sources.bytes_of c.args.devices.now.site.now) (g.S.Sources.is_missing c.args.devices.now.site.now) (asked c.args.task.now) named a is in
     let rose = Rose (g.S.Sources.failures site) (g.S.Sources.failures c.run.new.sources) in
-    let out = Rose (g.W.Sink.failures c.args.out.now) (g.W.Sink.failures c.run.new.out) in
+    let out = Rose (g.W.Sink.failures c.args.devices.now.out.now) (g.W.Sink.failures c.run.new.out) in
     ends_as a (answer_by named by_run.0) named _ _ _ _ by_run.2
     (ends_status (answer_by named by_run.0) named _ _ _ _ _ c.status-in-Err.ensures
     (ends_fault fault by_run.0 named (g.S.Sources.is_reliable site) rose out _ _ (g.S.Sources.bytes_of site) (g.S.Sources.is_missing site) is.old_file is.new_file _ _ _ _ _ _ is.old_told is.new_told
@@ -45,8 +45,8 @@ returns-in-Err-clause-ends g c = λ named a is.
 pub returns-in-Err-clause-closes : goal.returns-in-Err-clause-closes
 returns-in-Err-clause-closes g c = λ words for.
     let fault = c.in-Err.fault in
-    let files = g.S.Sources.file_at c.args.site.now in
-    let bytes_of = g.S.Sources.bytes_of c.args.site.now in
+    let files = g.S.Sources.file_at c.args.devices.now.site.now in
+    let bytes_of = g.S.Sources.bytes_of c.args.devices.now.site.now in
     record {
       closing = bad_run c.args.task.now.options fault;
       named = for.named;

@@ -28,7 +28,7 @@ returns-in-Ok-clause-closes g c = λ words has.
     closes_good_config _ words _ c.in-Ok.settings _ _ _ _ _ _ (asks_and_reads _ words _ _ false (Ok c.in-Ok.settings) has c.if-prepared.false c.in-Ok.ensures.ok) refl refl
 
 pub returns-in-Ok-clause-bound : goal.returns-in-Ok-clause-bound
-returns-in-Ok-clause-bound g c = λ named a is. same_held (g.S.Sources.file_at c.args.site.now) named c.args.desk.now.peak
+returns-in-Ok-clause-bound g c = λ named a is. same_held (g.S.Sources.file_at c.args.devices.now.site.now) named c.args.devices.now.desk.now.peak
 
 pub returns-in-Memory-clause-ends : goal.returns-in-Memory-clause-ends
 returns-in-Memory-clause-ends g c = λ named a is. ends_starved a named _ _ _ _ _ _ _ c.put_memory_line.ensures
@@ -37,7 +37,7 @@ pub returns-in-Memory-clause-closes : goal.returns-in-Memory-clause-closes
 returns-in-Memory-clause-closes g c = λ words has. closes_starved _ words _ _ _ _ _ _ _ _ c.put_memory_line.ensures refl refl
 
 pub returns-in-Memory-clause-bound : goal.returns-in-Memory-clause-bound
-returns-in-Memory-clause-bound g c = λ named a is. same_held (g.S.Sources.file_at c.args.site.now) named c.args.desk.now.peak
+returns-in-Memory-clause-bound g c = λ named a is. same_held (g.S.Sources.file_at c.args.devices.now.site.now) named c.args.devices.now.desk.now.peak
 
 pub returns-clause-ends : goal.returns-clause-ends
 returns-clause-ends g c = λ named a is.
@@ -48,4 +48,4 @@ returns-clause-closes g c = λ words has.
     closes_bad_config _ words _ _ c.in-Err.fault _ _ _ _ _ _ _ _ (asks_and_reads _ words _ _ _ (Err c.in-Err.fault) has refl (c.in-Err.ensures.err c.in_default.not-Memory)) c.put_conf_line.ensures refl refl
 
 pub returns-clause-bound : goal.returns-clause-bound
-returns-clause-bound g c = λ named a is. same_held (g.S.Sources.file_at c.args.site.now) named c.args.desk.now.peak
+returns-clause-bound g c = λ named a is. same_held (g.S.Sources.file_at c.args.devices.now.site.now) named c.args.devices.now.desk.now.peak

@@ -34,7 +34,7 @@ pub returns-in-Ok-clause-bound : goal.returns-in-Ok-clause-bound
 returns-in-Ok-clause-bound g c = λ named a is. c.run_job.ensures.bound named a (job_is _ c.args.words.now (text_of_job c.in-Ok.job) named a c.in-Ok.ensures.ok is)
 
 pub returns-in-Err-Usage-clause-bound : goal.returns-in-Err-Usage-clause-bound
-returns-in-Err-Usage-clause-bound g c = λ named a is. same_held (g.S.Sources.file_at c.args.site.now) named c.args.desk.now.peak
+returns-in-Err-Usage-clause-bound g c = λ named a is. same_held (g.S.Sources.file_at c.args.devices.now.site.now) named c.args.devices.now.desk.now.peak
 
 pub returns-in-Err-Memory-clause-bound : goal.returns-in-Err-Memory-clause-bound
-returns-in-Err-Memory-clause-bound g c = λ named a is. same_held (g.S.Sources.file_at c.args.site.now) named c.args.desk.now.peak
+returns-in-Err-Memory-clause-bound g c = λ named a is. same_held (g.S.Sources.file_at c.args.devices.now.site.now) named c.args.devices.now.desk.now.peak

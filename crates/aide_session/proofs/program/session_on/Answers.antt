@@ -1,32 +1,15 @@
-use Rattle.std.proofs.Common.{arith}
-use Rattle.aide_session.proofs.Closings.{closes_passed}
-use Rattle.aide_session.proofs.Endings.{ends_exactly, ends_passed, ends_reliably}
+use Rattle.std.proofs.Common.{rules}
+use Rattle.aide_session.proofs.Endings.{ends_exactly, ends_reliably}
 use Rattle.aide_session.proofs.Existence.{answered}
 use Rattle.aide_session.proofs.program.session_on.Goals as goal
 
-pub returns-clause-ends : goal.returns-clause-ends
-returns-clause-ends g c = λ named a is.
-    ends_passed a named _ _ _ _ _ _ _ _ _ _ _ c.pass_on.ensures.kept c.pass_on.ensures.never_falls (c.run_words-status.ensures.ends named a is)
-
 pub returns-clause-exact : goal.returns-clause-exact
 returns-clause-exact g c = λ named a is unfailed_site unfailed_out.
-    ends_exactly a named _ _ _ _ _ _ _ unfailed_site unfailed_out
-    (ends_passed a named _ _ _ _ _ _ _ _ _ _ _ c.pass_on.ensures.kept c.pass_on.ensures.never_falls (c.run_words-status.ensures.ends named a is))
+    ends_exactly a named (g.S.Sources.is_reliable c.args.site.now) _ _ _ _ _ _ unfailed_site unfailed_out (search rules)
 
 pub returns-clause-reliable : goal.returns-clause-reliable
 returns-clause-reliable g c = λ named a is reliable unfailed_out.
-    ends_reliably a named _ _ _ _ _ _ _ reliable unfailed_out
-    (ends_passed a named _ _ _ _ _ _ _ _ _ _ _ c.pass_on.ensures.kept c.pass_on.ensures.never_falls (c.run_words-status.ensures.ends named a is))
-
-pub returns-clause-passed_on : goal.returns-clause-passed_on
-returns-clause-passed_on g c = λ unfailed.
-    let before = c.run_words-status.ensures.closes.put.never_falls in
-    let after = c.pass_on.ensures.never_falls in
-    c.pass_on.ensures.flushed (omega (arith, before, after, unfailed.0), unfailed.1)
+    ends_reliably a named _ _ _ (g.S.Sources.failures c.args.site.now) (g.S.Sources.failures c.run_and_pass_on.new.devices.site.now) _ _ reliable unfailed_out (search rules)
 
 pub returns-clause-answered : goal.returns-clause-answered
 returns-clause-answered g c = λ tells. answered _ c.args.words.now tells
-
-pub returns-clause-closes : goal.returns-clause-closes
-returns-clause-closes g c =
-    closes_passed _ c.args.words.now _ _ _ _ _ _ _ _ _ _ _ _ c.pass_on.ensures.kept c.pass_on.ensures.never_falls c.run_words-status.ensures.closes

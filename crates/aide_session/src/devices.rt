@@ -1,0 +1,45 @@
+//! What a session works with.
+ghost use Rattle.std.specs.Prelude.{◌≡◌};
+
+use crate::site::Site;
+use aide_db::Desk;
+use aide_report::Sink;
+use std::alloc::Global;
+
+/// The devices of a session: its site, its output and standard error. Beside them is what it keeps in memory: the desk
+/// for the bytes of the databases, and the allocator for everything else.
+#[derive(Drop)]
+pub(crate) struct Devices<'a, S: Site, W: Sink, E: Sink> {
+    pub(crate) alloc: Global,
+    pub(crate) desk: &'a mut Desk<Global>,
+    pub(crate) site: &'a mut S,
+    pub(crate) out: &'a mut W,
+    pub(crate) err: &'a mut E,
+}
+
+impl<'a, S: Site, W: Sink, E: Sink> Devices<'a, S, W, E> {
+    /// Returns these devices as one.
+    pub(crate) fn new(
+        alloc: Global,
+        desk: &'a mut Desk<Global>,
+        site: &'a mut S,
+        out: &'a mut W,
+        err: &'a mut E,
+    ) -> Devices<'a, S, W, E>
+        ensures { result ≡ record {
+          alloc = alloc;
+          desk = desk.entry;
+          site = site.entry;
+          out = out.entry;
+          err = err.entry;
+        } }
+    {
+        Devices {
+            alloc,
+            desk,
+            site,
+            out,
+            err,
+        }
+    }
+}
