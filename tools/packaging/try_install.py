@@ -10,7 +10,7 @@ import shutil
 import sys
 
 from tools.lib.arguments import add_program, parser_of
-from tools.packaging.installing import completions, packages, targets, texts
+from tools.packaging.installing import byte_code, completions, packages, targets, texts
 from tools.packaging.installing.trial import Trial
 
 # The first one installs what others look at.
@@ -22,6 +22,7 @@ PARTS = [
     targets.try_interrupted,
     targets.try_refusals,
     targets.try_build,
+    byte_code.try_code,
     texts.try_programs,
     texts.try_pages,
     texts.try_documents,

@@ -3,6 +3,7 @@ import os
 import re
 import shutil
 
+from tools.packaging.installing import byte_code
 from tools.packaging.installing.trial import texts, tree
 
 TIMER = "aide-compare.timer"
@@ -11,7 +12,15 @@ WANTED = "etc/systemd/system/timers.target.wants/" + TIMER
 RULES = "etc/aide/aide.conf.d/31_aide_aide-compare"
 NOTES = "var/lib/systemd/deb-systemd-helper-enabled/"
 BASELINE = "var/lib/aide-compare/hosts/www/aide.db"
+LIBRARY = "usr/lib/aide-compare/python"
 DAILY = "var/lib/aide-compare/daily/mail/waiting"
+
+# What dpkg is told of the packages that this one depends on.
+NEEDED = "".join(
+    "Package: %s\nStatus: install ok installed\nMaintainer: nobody\nArchitecture: amd64\nMulti-Arch: %s\n"
+    "Version: %s\nDescription: needed\n\n" % row
+    for row in (("libc6", "same", "2.36-9"), ("python3", "allowed", "3.11.2-1"))
+)
 
 
 def try_texts(trial, folder):
@@ -46,7 +55,7 @@ def try_stop(trial, folder):
     more = dict(os.environ, PATH=trial.path("debian-stubs") + ":" + os.environ["PATH"])
     more.pop("DPKG_ROOT", None)
     with open(os.path.join(folder, "DEBIAN", "prerm")) as file:
-        script = file.read().replace("/run/systemd/system", machine)
+        script = file.read().replace("/run/systemd/system", machine).replace("/usr/lib/aide-compare", machine)
     shipped = sorted(os.listdir(os.path.join(folder, "usr/lib/systemd/system")))
     trial.holds("the units of the package", shipped == UNITS, shipped)
     for words in (["upgrade", "2"], ["remove"]):
@@ -70,8 +79,8 @@ class Machine:
         self.trial, self.package, self.root = trial, package, trial.path("debian-root")
         for name in ("info", "updates", "triggers"):
             os.makedirs(os.path.join(self.root, "var/lib/dpkg", name))
-        for name in ("status", "available"):
-            trial.write("debian-root/var/lib/dpkg/" + name, "")
+        trial.write("debian-root/var/lib/dpkg/status", NEEDED)
+        trial.write("debian-root/var/lib/dpkg/available", "")
 
     def dpkg(self, action, what):
         done = self.trial.run(
@@ -80,7 +89,6 @@ class Machine:
                 "--root=" + self.root,
                 "--log=/dev/null",
                 "--force-script-chrootless",
-                "--force-depends",
                 "--force-confold",
                 action,
                 what,
@@ -119,6 +127,7 @@ def try_life(trial, package):
     trial.holds("dpkg installs the documents", machine.has("usr/share/doc/aide-compare/copyright"))
     trial.holds("the timer is off after a first installation", not machine.has(WANTED))
     trial.holds("an installation notes which link an administrator may make", machine.has(NOTES + TIMER + ".dsh-also"))
+    code(trial, machine)
     again(trial, machine)
     kept(trial, machine)
     machine.dpkg("--purge", "aide-compare")
@@ -130,6 +139,32 @@ def try_life(trial, package):
     machine.write(DAILY, "mail\n")
     machine.dpkg("--purge", "aide-compare")
     trial.holds("a purge leaves no empty folder", not machine.has("var/lib/aide-compare"))
+
+
+def code(trial, machine):
+    """The package makes byte code when it is installed, upgraded, and when Python is; it leaves none of its own behind."""
+    folder = os.path.join(machine.root, LIBRARY)
+    former = LIBRARY + "/aide_compare/__pycache__/former.cpython-39.pyc"
+    for name in ("installed", "upgraded", "after an upgrade of Python"):
+        machine.write(former, "made by another version\n")
+        if name == "upgraded":
+            machine.install()
+        elif name != "installed":
+            words = [
+                "dpkg-trigger",
+                "--admindir=" + os.path.join(machine.root, "var/lib/dpkg"),
+                "--by-package=python3-minimal",
+            ]
+            done = trial.run([*words, "/usr/bin/python3"])
+            trial.holds("dpkg-trigger", done[0] == 0, done)
+            machine.dpkg("--triggers-only", "aide-compare")
+        else:
+            os.remove(os.path.join(machine.root, former))
+        byte_code.holds_code(trial, name + " by dpkg", folder, machine.root)
+    machine.write(former, "made by another version\n")
+    machine.dpkg("--remove", "aide-compare")
+    trial.holds("a removal leaves no byte code", not machine.has("usr/lib/aide-compare"))
+    machine.install()
 
 
 def again(trial, machine):
