@@ -7,7 +7,7 @@ from aide_compare.baseline import Baseline
 from aide_compare.ending import Fault, Status, say, write_all
 from aide_compare.escapes import shown
 from aide_compare.files import reopened
-from aide_compare.kept_records import Records
+from aide_compare.kept_records import SUFFIX, Records
 from aide_compare.options import Parser, size, some_text
 from aide_compare.state import read_state
 from aide_compare.times import date_of
@@ -108,9 +108,7 @@ def accept(digest, new, path, most=MOST_BYTES, keeps_records=True):
         done = Accepted(offered, former)
         done.records = records.keep() if records and not records.are_there() else ""
         return done
-    if records:
-        records.remove()
-    belongs = baseline.replace(offered.fd)
+    belongs = baseline.replace(offered.fd, SUFFIX if records else "")
     done = Accepted(offered, former, belongs, found and (found.st_uid, found.st_gid))
     done.records = records.keep() if records else ""
     return done

@@ -115,18 +115,6 @@ class Baseline:
         except OSError as error:
             raise Fault(Status.DEVICE, reason(error))
 
-    def has_beside(self, suffix):
-        """Whether there is a file beside the baseline whose name ends so."""
-        try:
-            os.stat(self.name + suffix, dir_fd=self.folder, follow_symlinks=False)
-            return True
-        except FileNotFoundError:
-            return False
-
-    def remove_beside(self, suffix):
-        """Removes the file beside the baseline whose name ends so, if it is there."""
-        self._work(lambda: self._unlink(self.name + suffix), self.folder)
-
     def reading_beside(self, suffix):
         """A descriptor to read the file beside the baseline whose name ends so; None if that is no readable plain file."""
         try:
@@ -144,10 +132,11 @@ class Baseline:
         self._rename(part, name)
         os.fsync(self.folder)
 
-    def replace(self, source):
-        """Makes a copy of an open file the baseline. Returns the numbers of the user and group that it belongs to."""
+    def replace(self, source, suffix=""):
+        """Makes a copy of an open file the baseline. Returns the numbers of the user and group that it belongs to. The file
+        beside the former one whose name ends with the suffix goes right before that one does."""
         try:
-            answer = self._work(lambda: self._replace(source), source)
+            answer = self._work(lambda: self._replace(source, suffix), source)
             self._check_place(answer)
         except Fault as fault:
             raise self.fault(fault.text)
@@ -162,17 +151,25 @@ class Baseline:
         if list(identity(found)) != [int(number) for number in answer.split()[:2]]:
             raise Fault(Status.DEVICE, CHANGED)
 
-    def _replace(self, source):
+    def _replace(self, source, suffix):
         """The work in the folder. From here on only names in the open folder and descriptors are used."""
         self._unlink(self.part)
         try:
             found = self._named_copy(source, self.part)
+            if suffix:
+                self._remove_beside(suffix)
             self._put_in_place(found)
             os.fsync(self.folder)
         except BaseException:
             self._unlink(self.part)
             raise
         return b"%d %d %d %d" % (identity(found) + (found.st_uid, found.st_gid))
+
+    def _remove_beside(self, suffix):
+        try:
+            self._unlink(self.name + suffix)
+        except OSError as error:
+            raise failure(error.errno, "its %s cannot be removed: %s" % (suffix, reason(error)))
 
     def _named_copy(self, source, part):
         """Copies an open file, on the disk before it gets a name. Returns what fstat says of it."""

@@ -69,8 +69,9 @@ def misfit(path, digest):
 
 
 class Records:
-    """The packages' records beside a baseline. The former ones go before the baseline does, and the new ones come after it, so that
-    at no moment the records of an older time are beside a newer baseline."""
+    """The packages' records beside a baseline. The former ones go right before the baseline does, when nothing but names has to
+    change any more, and the new ones come after it: so at no moment the records of an older time are beside a newer
+    baseline, and a baseline that stays keeps its own."""
 
     def __init__(self, baseline, digest):
         self.baseline, self.digest, self.why, self.fd = baseline, digest, "", None
@@ -89,13 +90,6 @@ class Records:
             return digest_in(descriptor) == self.digest
         finally:
             os.close(descriptor)
-
-    def remove(self):
-        try:
-            if self.baseline.has_beside(SUFFIX):
-                self.baseline.remove_beside(SUFFIX)
-        except OSError as error:
-            raise self.baseline.fault("its %s cannot be removed: %s" % (SUFFIX, reason(error)))
 
     def keep(self):
         """Writes the records, if there are any. Returns a line that says what was done; nothing without dpkg and rpm."""

@@ -148,15 +148,20 @@ class Comparison:
 
 
 def owner_hint(text):
-    """The command that mends a baseline that aideinit, as root, has left for root only."""
-    found = re.search(rb"cannot open the old database ([\w/.+-]+): Permission denied", text)
+    """The command that mends a database that aideinit, as root, has left for root only."""
+    found = re.search(rb"cannot open the (old|new) database ([\w/.+-]+): Permission denied", text)
     if not found or os.geteuid() == 0:
         return b""
     import pwd
 
+    try:
+        user = pwd.getpwuid(os.geteuid()).pw_name
+    except KeyError:
+        user = str(os.geteuid())
+    what = "baseline" if found.group(1) == b"old" else "new database"
     return (
-        "%s: the baseline is not readable for this user, as aideinit leaves it. As root: chown %s: %s\n"
-        % (NAME, pwd.getpwuid(os.geteuid()).pw_name, os.fsdecode(found.group(1)))
+        "%s: the %s is not readable for this user, as aideinit leaves it. As root: chown %s: %s\n"
+        % (NAME, what, user, os.fsdecode(found.group(2)))
     ).encode()
 
 
@@ -210,9 +215,9 @@ def simple(given, subject, text):
 def quiet_text(runs, explained):
     """The subject and the text of a sign of life."""
     if not explained:
-        return "no difference in %d runs" % runs, "%d comparisons found no difference.\n" % runs
-    return "%d quiet runs, %s explained" % (runs, counted(explained, "change")), (
-        "In %d comparisons nothing was unexplained. %s had a reason.\n" % (runs, counted(explained, "change"))
+        return "no difference in %s" % counted(runs, "run"), "%s found no difference.\n" % counted(runs, "comparison")
+    return "%s, %s explained" % (counted(runs, "quiet run"), counted(explained, "change")), (
+        "In %s nothing was unexplained. %s had a reason.\n" % (counted(runs, "comparison"), counted(explained, "change"))
     )
 
 

@@ -3,7 +3,7 @@ import os
 import stat
 import time
 
-from aide_compare.ending import Fault, Status
+from aide_compare.ending import Fault, Status, reason
 from aide_compare.escapes import shown
 from aide_compare.files import Replacement, open_folder
 from aide_compare.sending import alert, deliver
@@ -64,5 +64,7 @@ def send_all(path, way):
                 os.unlink(name, dir_fd=folder.fd)
             except Fault as fault:
                 failed = fault
+            except OSError as error:
+                failed = Fault(Status.DEVICE, "cannot send or remove the mail %s: %s" % (shown(name), reason(error)))
     if failed:
         raise failed

@@ -29,6 +29,7 @@ def count(state, day, explained, send):
     is called and both counts begin anew."""
     path, now = state + ".quiet", int(time.time())
     runs, sent, changes = _read(path)
+    sent = sent if sent <= now else 0  # A clock that was ahead must not silence the signs of life.
     runs += 1
     changes += explained
     is_day = DAYS[time.localtime(now).tm_wday] == day and time.localtime(now)[:3] != time.localtime(sent)[:3]

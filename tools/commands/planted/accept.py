@@ -4,7 +4,7 @@ from .plant import Plant
 ACCEPT, BASELINE, FOLDERS, RIGHTS = (
     "commands/lib/aide_compare/%s.py" % name for name in ("accept", "baseline", "folders", "rights")
 )
-REPLACE = "    belongs = baseline.replace(offered.fd)\n"
+REPLACE = '    belongs = baseline.replace(offered.fd, SUFFIX if records else "")\n'
 LINK_RULE = "        if owner not in (0, os.geteuid()) or not self.folder.is_safe():"
 # The baseline is written by its name, so a link there is followed; or a new file takes its place in a folder that is
 # opened anew by its name.
@@ -35,7 +35,20 @@ OTHER_ORDER = """        if exchange(self.folder, self.part, self.name):
             self._rename(self.part, self.previous)
             self._exchange_by_links()
 """
+RECORDS_FIRST = """            if suffix:
+                self._remove_beside(suffix)
+            found = self._named_copy(source, self.part)
+"""
 PLANTED = [
+    Plant(
+        file=BASELINE,
+        old="""            found = self._named_copy(source, self.part)
+            if suffix:
+                self._remove_beside(suffix)
+""",
+        new=RECORDS_FIRST,
+        seen_by="accept.try_full_disk",
+    ),
     Plant(file=ACCEPT, old="return digest.startswith(self.digits)", new="return True", seen_by="accept.try_refusals"),
     Plant(
         file=ACCEPT,

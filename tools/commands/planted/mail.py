@@ -5,6 +5,27 @@ MAIL, MESSAGE, SENDING, QUEUE, WEEKLY = (
     "commands/lib/aide_compare/%s.py" % name for name in ("mail", "message", "sending", "queue", "weekly")
 )
 PLANTED = [
+    Plant(
+        file=QUEUE,
+        old="            except OSError as error:\n",
+        new="            except FileNotFoundError as error:\n",
+        seen_by="mail.try_queue",
+    ),
+    Plant(
+        file=WEEKLY,
+        old="    sent = sent if sent <= now else 0",
+        new="    pass",
+        seen_by="mail.try_test_and_weekly",
+    ),
+    Plant(
+        file=MAIL, old='b"cannot open the (old|new) database', new='b"cannot open the (old) database', seen_by="mail.try_hint"
+    ),
+    Plant(
+        file=MAIL,
+        old="    except KeyError:\n        user",
+        new="    except IndexError:\n        user",
+        seen_by="mail.try_hint",
+    ),
     Plant(file=MESSAGE, old="MOST_PATHS = 1000", new="MOST_PATHS = 10**9", seen_by="mail.try_bounds"),
     Plant(file=MESSAGE, old="if not text or len(text) > most - most // 4:", new="if False:", seen_by="mail.try_bounds"),
     Plant(file=MESSAGE, old="            self.left_out += is_entry\n", new="", seen_by="mail.try_bounds"),

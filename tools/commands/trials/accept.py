@@ -4,11 +4,13 @@ import fcntl
 import gzip
 import hashlib
 import os
+import shutil
 import stat
+import subprocess
 import time
 
-from .accepting import BASE, OLDER, accept, contents, fresh, is_tried
-from .sandbox import AS_NOBODY, NEW, NOBODY, OLD, UMASK, sha256
+from .accepting import BASE, OLDER, accept, contents, fresh, is_tried, marked, records_of, small_dpkg
+from .sandbox import AS_NOBODY, END, HEAD, NEW, NOBODY, OLD, UMASK, sha256
 
 TOOL = "aide-compare-accept"
 STATE = (
@@ -20,7 +22,7 @@ STATE = (
 def try_accept(sandbox):
     if not is_tried(sandbox):
         return
-    for trial in (try_digests, try_told, try_refusals, try_places, try_modes, try_owner, try_at_once):
+    for trial in (try_digests, try_told, try_refusals, try_places, try_modes, try_owner, try_full_disk, try_at_once):
         trial(sandbox)
 
 
@@ -150,6 +152,30 @@ def try_owner(sandbox):
     sandbox.write("readable", NEW)
     done = sandbox.call(TOOL, "--sha256", sha256(NEW), "readable", "base/aide.db", before=AS_NOBODY)
     sandbox.expect("no right", done, 18, b"", b"cannot")
+    fresh(sandbox)
+
+
+def try_full_disk(sandbox):
+    """A baseline that cannot be replaced for want of room keeps its records: nobody could make them once more."""
+    small_dpkg(sandbox)
+    shutil.rmtree(sandbox.path("base"), ignore_errors=True)
+    os.mkdir(sandbox.path("base"))
+    words = ["mount", "-t", "tmpfs", "-o", "size=64k,mode=755", "none", sandbox.path("base")]
+    if os.getuid() != 0 or subprocess.call(words, stderr=subprocess.DEVNULL) != 0:
+        return print("skipped: a baseline on a full disk (no small disk can be mounted)")
+    try:
+        sandbox.write("base/aide.db", OLD, 0o600)
+        sandbox.write("base/aide.db.packages", marked(OLD), 0o600)
+        large = HEAD + b"".join(b"/x%05d 36 100644 1\n" % number for number in range(9000)) + END
+        sandbox.write("large.db", large)
+        done = sandbox.call(TOOL, "--sha256", sha256(large), "large.db", "base/aide.db")
+        sandbox.expect("a full disk", done, 18, b"", b"No space left on device")
+        found = sorted(os.listdir(sandbox.path("base")))
+        sandbox.holds("both files stay", found == ["aide.db", "aide.db.packages"], found)
+        sandbox.holds("as they were", sandbox.read("base/aide.db") == OLD and records_of(sandbox) == sha256(OLD))
+    finally:
+        subprocess.call(["umount", sandbox.path("base")])
+        shutil.rmtree(sandbox.path("dpkg"))
     fresh(sandbox)
 
 

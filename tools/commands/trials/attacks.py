@@ -272,6 +272,9 @@ def try_places(sandbox):
         compared(answer) and b"conf: 2 lines that include" in answer.errors and b"@@include /etc/aide.d/x" in answer.errors,
         answer,
     )
+    sandbox.write("one", "@@include /etc/aide.d/x\n")
+    answer = sandbox.call(TOOL, "-c", "one", "old.db", "new.db")
+    sandbox.holds("one line that includes", b"one: 1 line that includes other files is passed over" in answer.errors, answer)
     answer = sandbox.call(TOOL, "-c", "conf", "--", "-B", "# @@{HOSTNAME}\nreport_level=x")
     sandbox.expect("the line of -B", answer, 17, b"", [b"aide: before:2: bad value\n", b"line 2: report_level=x\n"])
     answer = sandbox.call(TOOL, "-c", "conf", "old.db", "new.db", before=UMASK % 0o77)

@@ -1,16 +1,18 @@
 """aide-compare-mail: which mail goes out, whole and readable, within its bound, and what its status says."""
 import email
 import os
+import pwd
 import shutil
 import socket
 import stat
 import subprocess
 import time
 
-from .sandbox import END, HEAD, HERE, NEW, OLD, Answer, sha256
+from .sandbox import END, HEAD, HERE, NEW, NOBODY, OLD, Answer, sha256
 
 TOOL = "aide-compare-mail"
 SUBJECT = "aide on %s: " % "".join(letter for letter in os.uname().nodename if letter.isalnum() or letter in "._-")
+UNNAMED = 12345  # A user that the system has no name for.
 COUNTS = "differences (1 added, 1 removed, 2 changed)"
 
 
@@ -22,6 +24,7 @@ def try_mail(sandbox):
         try_hostile,
         try_bounds,
         try_refusals,
+        try_hint,
         try_journal,
         try_room,
         try_queue,
@@ -233,6 +236,26 @@ def try_refusals(sandbox):
     take_mail(sandbox)
 
 
+def try_hint(sandbox):
+    """Of a database that only root can read, the mail names the command that mends it, also for a user without a name."""
+    if os.geteuid() != 0:
+        return
+    prepare(sandbox)
+    os.mkdir(sandbox.path("out"))
+    os.chmod(sandbox.path("out"), 0o777)
+    mail = sandbox.path("out/mail")
+    sandbox.stub("sendmail", 'cat > "%s"' % mail)
+    sandbox.write("secret.db", OLD, 0o600)
+    for user, name in ((NOBODY, pwd.getpwuid(NOBODY).pw_name), (UNNAMED, str(UNNAMED))):
+        for words, what in ((("secret.db", "new.db"), "baseline"), (("old.db", "secret.db"), "new database")):
+            answer = sandbox.call(TOOL, *words, before="os.setgroups([]); os.setgid(%d); os.setuid(%d)" % (user, user))
+            sandbox.expect("%s reads no %s" % (name, what), answer, 18, b"", b"")
+            text = body(email.message_from_bytes(sandbox.read("out/mail"))).decode() if os.path.exists(mail) else "no mail"
+            hint = "the %s is not readable for this user, as aideinit leaves it. As root: chown %s: secret.db\n" % (what, name)
+            sandbox.holds("the hint for %s and the %s" % (name, what), hint in text, text)
+            sandbox.write("out/mail", b"", 0o666)
+
+
 def try_journal(sandbox):
     """Without any mail, a line at priority alert goes to the system log, or to systemd's journal."""
     prepare(sandbox)
@@ -295,10 +318,20 @@ def try_queue(sandbox):
     sandbox.holds("a link that waits", call(sandbox, "--send-queue", "queue").status == 18 and sent(sandbox) is None)
     if os.path.lexists(sandbox.path("queue/1.mail")):
         os.remove(sandbox.path("queue/1.mail"))
+    call(sandbox, "old.db", "new.db", *queue)
+    os.symlink("none", sandbox.path("queue/0.1.mail"))
+    os.mkdir(sandbox.path("queue/0.2.mail"))
+    os.mkfifo(sandbox.path("queue/0.3.mail"))
+    answer = call(sandbox, "--send-queue", "queue")
+    sandbox.expect("what is no mail, before one that is", answer, 18, b"", b"aide-compare-mail: ")
+    sandbox.holds("the mail behind it", subject(sent(sandbox)) == SUBJECT + COUNTS, answer)
+    sandbox.holds("only that is taken", sorted(os.listdir(sandbox.path("queue"))) == ["0.1.mail", "0.2.mail", "0.3.mail"])
+    shutil.rmtree(sandbox.path("queue"))
     failed = {"MONITOR_SERVICE_RESULT": "exit-code", "MONITOR_UNIT": "x.service", "MONITOR_EXIT_STATUS": "18"}
     call(sandbox, "--send-queue", "queue", environment=failed)
     message = sent(sandbox)
     sandbox.holds("a unit that failed", "failed" in (subject(message) or "") and b"x.service" in body(message), message)
+    os.makedirs(sandbox.path("queue"), exist_ok=True)
     for number in range(64):
         sandbox.write("queue/%d.mail" % number, "x")
     sandbox.expect("a full queue", call(sandbox, "old.db", "new.db", *queue), 18, b"", [b"64 mails wait already"])
@@ -318,6 +351,16 @@ def try_test_and_weekly(sandbox):
     sandbox.holds("the sign of life", subject(sent(sandbox)) == SUBJECT + "no difference in 3 runs")
     sandbox.expect("the day again", call(sandbox, *words, day), 0, b"", b"")
     sandbox.holds("only once a day", sent(sandbox) is None)
+    call(sandbox, "old.db", "old.db", "--state", "first.state", "--weekly", day)
+    sandbox.holds("the sign of life of a single run", subject(sent(sandbox)) == SUBJECT + "no difference in 1 run")
+    for label, number in (
+        ("no time at all", 10**30),
+        ("later than now, by a clock that was ahead", int(time.time()) + 86400),
+    ):
+        sandbox.write("weekly.state.quiet", "7 %d 0\n" % number)
+        sandbox.expect("the last sign of life: " + label, call(sandbox, *words, day), 0, b"", b"")
+        sandbox.holds("a sign of life after " + label, subject(sent(sandbox)) == SUBJECT + "no difference in 8 runs")
+        sandbox.holds("the time is that of now", abs(int(sandbox.read("weekly.state.quiet").split()[1]) - time.time()) < 60)
 
 
 def try_pages(sandbox):
