@@ -8,7 +8,8 @@ from aide_compare.hosts_text import ORDERS, WHY, counts_text, headline, not_list
 from aide_compare.json_lines import KINDS, LABELS, Entry, rows_of
 from aide_compare.page import POLICY, blocks_of, digest_of, filled, part_of
 from aide_compare.page_heading import card
-from aide_compare.page_items import VARIOUS, head_of, number, table
+from aide_compare.page_items import head_of, number, table
+from aide_compare.page_streams import VARIOUS
 from aide_compare.shown_text import shown_note, shown_path
 
 # The most bytes of a page, and of each of its lists of hosts.

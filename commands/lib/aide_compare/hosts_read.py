@@ -1,10 +1,11 @@
 """What the store knows of each host of a file: its state, and the changes of the report that was kept of it."""
+import errno
 import fcntl
 import os
 import time
 
 from aide_compare.cut_reports import KeptReport
-from aide_compare.ending import Fault, Status
+from aide_compare.ending import Fault, Status, reason
 from aide_compare.escapes import shown
 from aide_compare.files import open_regular
 from aide_compare.fleet_store import Place, check_name
@@ -15,6 +16,8 @@ from aide_compare.reports import HEAD_BYTES, counts_of
 from aide_compare.times import age_in_words, date_of
 
 WHOLE, CUT, NO_LIST, UNREADABLE = "whole", "cut", "no list", "unreadable"
+# What a disk says of a place that is damaged, and a file system of the network of a file that is gone there.
+DAMAGED = (errno.EIO, errno.EBADMSG, errno.EUCLEAN, errno.ESTALE)
 
 
 class Host:
@@ -80,11 +83,16 @@ def changes_of(host, place):
     except Fault:
         host.report = UNREADABLE
         return
-    report = KeptReport(descriptor)
+    report = None
     try:
+        report = KeptReport(descriptor)
         yield from entries_of(host, report, descriptor)
+    except OSError as error:
+        if error.errno not in DAMAGED:  # No room for what is read, for one, is no fault of this host.
+            raise
+        host.report = UNREADABLE
     finally:
-        report.close()
+        report.close() if report else os.close(descriptor)
 
 
 def read_host(name, given, take):
@@ -99,6 +107,8 @@ def read_host(name, given, take):
         host = state_of(place, name, given.age)
     except Fault as fault:
         host = Host(name, fault.status, fault.text)
+    except OSError as error:
+        host = Host(name, Status.DEVICE, "cannot be read: %s" % reason(error))
     try:
         for fields in changes_of(host, place) if host.differs else ():
             take(fields)

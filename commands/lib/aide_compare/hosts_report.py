@@ -38,6 +38,16 @@ def pattern(text):
         raise Fault(Status.USAGE, "--only-path: %s" % fault)
 
 
+def words_of(given):
+    """The command that prints all that this one leaves out, with the options that say what it is about."""
+    words = [sys.argv[0], "--store", os.path.abspath(given.store)]
+    for each in given.only_path:
+        words += ["--only-path", os.fsdecode(each.text)]
+    if given.age != AGE:
+        words += ["--age", str(given.age)]
+    return words + [os.path.abspath(given.file)]
+
+
 def is_wanted(fields, patterns):
     pieces = path_in(fields)[1:].split(b"/")
     return not patterns or any(each.matches(pieces) for each in patterns)
@@ -207,11 +217,10 @@ def main(arguments):
 
     def work():
         report = HostsReport(names, given)
-        words = [sys.argv[0], "--store", os.path.abspath(given.store), os.path.abspath(given.file)]
         if given.to:
-            report.mail(given, shlex.join(words))
+            report.mail(given, shlex.join(words_of(given)))
         elif given.html:
-            report.write_html(shlex.join(words))
+            report.write_html(shlex.join(words_of(given)))
         else:
             (report.write_json if given.json else report.write_text)()
         return report.worst

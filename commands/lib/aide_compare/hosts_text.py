@@ -1,27 +1,10 @@
 """The report of all hosts as text: which were not compared, which differ, and each change with the hosts that have it."""
 from aide_compare.escapes import guarded, shown
 from aide_compare.hosts_read import CUT, NO_LIST, UNREADABLE
+from aide_compare.report_values import STRENGTH
 from aide_compare.shown_text import letters_of
 
 MOST_VALUE = 200
-DIGESTS = (
-    "SHA256",
-    "SHA512",
-    "SHA3-256",
-    "SHA3-512",
-    "SHA512/256",
-    "STRIBOG256",
-    "STRIBOG512",
-    "WHIRLPOOL",
-    "SHA1",
-    "RMD160",
-    "MD5",
-    "TIGER",
-    "HAVAL",
-    "GOST",
-    "CRC32",
-    "CRC32B",
-)
 WHY = {
     CUT: ("its report was cut (--most-report of compare-hosts)", ", not all with values"),
     NO_LIST: ("its report has no list of them", ""),
@@ -57,9 +40,9 @@ def value_of(both, side, label):
 def values(fields):
     """The attributes of a change, one by one. One digest says as much as all of them, and the type is said already."""
     attributes = fields.get("attributes", {})
-    digest = next((label for label in DIGESTS if label in attributes), None)
+    digest = next((label for label in STRENGTH if label in attributes), None)
     for label, both in attributes.items():
-        if label == "Type" and fields["kind"] != "changed" or label in DIGESTS and label != digest:
+        if label == "Type" and fields["kind"] != "changed" or label in STRENGTH and label != digest:
             continue
         old, new = (value_of(both, side, label) for side in ("old", "new"))
         if fields["kind"] == "changed":

@@ -20,6 +20,18 @@ PLANTED = [
         file=LIB + "host_changes.py", old="self.is_old_same &= old == self.old", new="pass", seen_by="hosts_report.try_same"
     ),
     Plant(file=LIB + "host_changes.py", old="self.own |= own", new="pass", seen_by="hosts_report.try_same"),
+    Plant(
+        file=LIB + "hosts_report.py", old="    if given.age != AGE:\n", new="    if False:\n", seen_by="hosts_report.try_mail"
+    ),
+    Plant(
+        file=LIB + "hosts_report.py", old="in given.only_path:", new="in given.only_path[:1]:", seen_by="hosts_report.try_mail"
+    ),
+    Plant(
+        file=LIB + "page_streams.py",
+        old="    if any(row[side] is VARIOUS for row in entry.rows):\n        return VARIOUS\n",
+        new="",
+        seen_by="hosts_page.try_removed",
+    ),
     Plant(file=LIB + "host_changes.py", old='.replace(b"%", b"%25")', new="", seen_by="hosts_report.try_hostile_names"),
     Plant(file=LIB + "host_changes.py", old="if len(self.names) < most:", new="if True:", seen_by="hosts_report.try_orders"),
     Plant(
@@ -58,6 +70,24 @@ PLANTED = [
         old='if not os.path.lexists("%s/hosts/%s" % (given.store, name)):',
         new="if False:",
         seen_by="hosts_report.try_not_compared",
+    ),
+    Plant(
+        file=LIB + "hosts_read.py",
+        old="    except OSError as error:\n        host = ",
+        new="    except FileNotFoundError as error:\n        host = ",
+        seen_by="hosts_report.try_broken",
+    ),
+    Plant(
+        file=LIB + "hosts_read.py",
+        old="        if error.errno not in DAMAGED:",
+        new="        if True:",
+        seen_by="hosts_report.try_broken",
+    ),
+    Plant(
+        file=LIB + "hosts_read.py",
+        old="        if error.errno not in DAMAGED:",
+        new="        if False:",
+        seen_by="hosts_ends.try_ends",
     ),
     Plant(
         file=LIB + "hosts_read.py",

@@ -63,7 +63,10 @@ def try_ends(sandbox):
         wait_for(lambda: any(name.startswith(".aide-compare-sort-") for name in os.listdir(sandbox.room)))
         time.sleep(0.2)
         run.send_signal(number)
-        run.communicate(timeout=30)
+        try:
+            run.communicate(timeout=30)
+        except subprocess.TimeoutExpired:  # What it has started holds its output.
+            run.kill()
         os.killpg(lock.pid, signal.SIGKILL)
         lock.wait()
         got = run.returncode, sandbox.leftovers()

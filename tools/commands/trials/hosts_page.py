@@ -16,7 +16,7 @@ SMALL += "hosts_page.page.__defaults__ = (60000,); sys.exit(ending.command('repo
 
 
 def try_hosts_page(sandbox):
-    for trial in (try_values, try_markup, try_room):
+    for trial in (try_values, try_removed, try_markup, try_room):
         trial(sandbox)
 
 
@@ -53,6 +53,17 @@ def try_values(sandbox):
     sandbox.holds("old values that are not the same", good, various)
     common = items_of(hosts.report("--html", "--order", "common")[1])
     sandbox.holds("another order", len(common) == 5 and "on 1 of 6 hosts" in common[-1], common)
+
+
+def try_removed(sandbox):
+    """Of a file that went and was not the same on all hosts, its line says one word for all that."""
+    hosts = Hosts(sandbox)
+    texts = {"good%d" % number: (database(line(b"/gone", b"x" * number), line(b"/same")), database()) for number in (1, 2)}
+    hosts.compared(texts)
+    heads = [each.partition("</summary>")[0] for each in items_of(hosts.report("--html")[1])]
+    found = {re.search("<code>(.*?)</code>", head).group(1): re.search("<i>(.*?)</i>", head).group(1) for head in heads}
+    wanted = {"/gone": "various", "/same": "-rw-r--r--  0:0  0 bytes"}
+    sandbox.holds("the lines of files that went", found == wanted, found)
 
 
 def try_markup(sandbox):

@@ -4,6 +4,7 @@ import hashlib
 import json
 import os
 import re
+import shlex
 import shutil
 import signal
 import subprocess
@@ -85,7 +86,7 @@ def path_of(fields):
 
 
 def try_hosts_report(sandbox):
-    for trial in (try_same, try_orders, try_not_compared, try_hostile_names, try_mail):
+    for trial in (try_same, try_orders, try_not_compared, try_broken, try_hostile_names, try_mail):
         trial(sandbox)
 
 
@@ -221,6 +222,28 @@ def try_not_compared(sandbox):
         sandbox.holds("the folder of another user", good, found["good1"])
 
 
+def try_broken(sandbox):
+    """What cannot be read of one host, such as on a damaged disk, keeps no other host from the report."""
+    hosts = Hosts(sandbox)
+    hosts.compared({name: (OLD, NEW) for name in ("good1", "good2", "good3", "good4", "good5")})
+    for name, make in (("good1", os.mkdir), ("good2", lambda path: os.symlink("none", path))):
+        os.remove(sandbox.path("store/hosts/%s/lock" % name))
+        make(sandbox.path("store/hosts/%s/lock" % name))
+    shutil.rmtree(sandbox.path("store/hosts/good3"))
+    sandbox.write("store/hosts/good3", "")
+    os.remove(sandbox.path("store/hosts/good4/report"))
+    os.symlink("/proc/self/mem", sandbox.path("store/hosts/good4/report"))
+    summary, found, changes = hosts.objects()
+    counts = [summary.get(key) for key in ("differ", "not_compared", "not_listed", "changes")]
+    sandbox.holds("broken hosts", counts == [2, 3, 1, 4], (summary, found))
+    sandbox.holds("the one that is whole", {name for each in changes for name in each["names"]} == {"good5"}, changes)
+    sandbox.holds("a report that cannot be read", found.get("good4", {}).get("report") == "unreadable", found)
+    errors = [found.get(name, {}).get("error", "") for name in ("good1", "good2", "good3")]
+    good = "Is a directory" in errors[0] and "Too many levels" in errors[1] and errors[2]
+    sandbox.holds("what is said of them", good, errors)
+    shutil.rmtree(sandbox.path("store"))
+
+
 def try_hostile_names(sandbox):
     """Names that hosts have chosen: in the order of paths, exact in JSON, escaped in the text, and always last in a line."""
     hosts = Hosts(sandbox)
@@ -259,6 +282,11 @@ def try_mail(sandbox):
     command = mail.decode().rstrip("\n").split("\n")[-1].strip()
     done = subprocess.run(["sh", "-c", command], stdout=subprocess.PIPE, env=sandbox.environment())
     sandbox.holds("the command that prints all", done.stdout.count(b"\nadded on 2 of 4 hosts: File /n") == 500, command)
+    words = ["--only-path", "/n*", "--only-path", "/it's/**", "--age", "2d", "--to", "root", "--most-mail", "30k"]
+    hosts.report(*words)
+    command = sandbox.read("mail").decode().rstrip("\n").split("\n")[-1].strip()
+    good = shlex.split(command)[3:-1] == ["--only-path", "/n*", "--only-path", "/it's/**", "--age", "172800"]
+    sandbox.holds("the command has the options that were given", good, command)
     hosts.compared({"good1": (database(), new), "good3": (database(), database(line(b"/zz")))})
     hosts.report("--to", "root", "--most-mail", "30k")
     good = b"\nadded on 1 of 2 hosts: File /zz\n    on good3\n" in sandbox.read("mail")
