@@ -65,6 +65,10 @@ class Wanted:
     def __bool__(self):
         return self.lines is not None or self.sources is not None
 
+    def explain(self, comparison, left_out):
+        """Explains a comparison and writes what is wanted. Returns the ReasonCounts, None if there are none."""
+        return explain(comparison, self, left_out)
+
     def write_nothing(self):
         """Without a comparison both files are empty, so that nobody reads those of an earlier one."""
         for output in (self.lines, self.brief):

@@ -107,8 +107,8 @@ PLANTED = [
     ),
     Plant(
         file="commands/lib/aide_compare/accept.py",
-        old="        records.remove()\n",
-        new="        pass\n",
+        old='SUFFIX if records else ""',
+        new='""',
         seen_by="accept_kills.try_kills_of_records",
     ),
     Plant(

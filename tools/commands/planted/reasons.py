@@ -1,5 +1,5 @@
 """Bugs of aide-compare-reasons: each takes away one check of the evidence, so that something forged is believed."""
-from .plant import Plant
+from .plant import seen_by
 
 LIB = "commands/lib/aide_compare/reasons/"
 GROWING, MOVES, ENTRIES, PACKAGES, MADE, PARENTS, PROTECTED, RULES, SEVERITY, DPKG, GATHERED, DEB, INDEXES, ARCHIVE = (
@@ -27,11 +27,6 @@ CONTENT, TRUSTED, RECORDS, LINES, EXPLAINER, PACKED, TABLE, LINKS, MERGED = (
 )
 
 
-def seen_by(trial, *edits):
-    """Bugs that one trial sees: each is a file, a text in it, and what is in its place."""
-    return [Plant(file=file, old=old, new=new, seen_by=trial) for file, old, new in edits]
-
-
 PLANTED = (
     seen_by(
         "reasons_logs.try_growing",
@@ -40,7 +35,10 @@ PLANTED = (
         (GROWING, 'GROWS = DIGESTS | TIMES | {"size", "bcount"}', 'GROWS = DIGESTS | TIMES | {"size", "bcount", "inode"}'),
         (GROWING, "return differ <= GROWS and _is_later", "return _is_later"),
         (GROWING, "    if not (old.bits & GROWING and old.is_file()", "    if not (new.bits & GROWING and old.is_file()"),
-        (GROWING, "old.bits & GROWING and old.is_file() and new.is_file() and", "old.bits & GROWING and"),
+        (GROWING, "old.bits & GROWING and old.is_file() and", "old.bits & GROWING and"),
+        (GROWING, "(before is None) == (after is None) and ", ""),
+        (GROWING, ' and old.places.keys() >= {"size"}', ""),
+        (GROWING, 'if "size" in differ:', "if differ & DIGESTS:"),
         (ENTRIES, '    if (old.bits ^ new.bits) & ~SPECIAL:\n        found.add("attributes")\n', ""),
         (ENTRIES, "    if (old.bits ^ new.bits) & ~SPECIAL:\n", "    if old.bits ^ new.bits:\n"),
         (GROWING, "    return UNCHANGED if old.digests() else LATER\n", "    return UNCHANGED\n"),
@@ -61,7 +59,7 @@ PLANTED = (
     )
     + seen_by(
         "reasons_logs.try_rotated",
-        (GROWING, "    if not (old.bits & SAME_INODE and old.is_file() and new.is_file()):\n        return None\n", ""),
+        (GROWING, "    if not (old.bits & SAME_INODE and old.is_file()):\n        return None\n", ""),
         (
             GROWING,
             "    if old.bits & GROWING and has_grown(old, new, differ):\n        return Reason",
@@ -78,6 +76,11 @@ PLANTED = (
             'self.by_inode.get((change.folder(), new.field("inode")))',
             'next((value for (_, inode), value in self.by_inode.items() if inode == new.field("inode")), None)',
         ),
+        (MOVES, "inode != ABSENT and ", ""),
+        (MOVES, " and (folder, inode) not in self.by_inode", ""),
+        (MOVES, "change.reason is None and change.is_replaced", "change.reason is None"),
+        (MOVES, "stat.S_ISREG(change.new_mode) and not change.is_never", "stat.S_ISREG(change.new_mode)"),
+        (MOVES, "source.new_at is not None and not source.is_never", "source.new_at is not None"),
         (MOVES, "new.bits & NEW_FILES and new.is_file() and", "new.is_file() and"),
         (MOVES, '        if not differences(old, new) <= GROWS | {"inode"}:\n            return None\n', ""),
     )
@@ -88,12 +91,16 @@ PLANTED = (
         (MOVES, '("perm", "uid", "gid",', '("uid", "gid",'),
         (MOVES, " and sizes[1] <= sizes[0] + MOST_HEAD", ""),
         (MOVES, "not new.bits & COMPRESSED or ", ""),
+        (MOVES, ' or new.time("mtime") is None', ""),
+        (MOVES, ' and old.number("inode") != new.number("inode")', ""),
+        (MOVES, " and None not in sizes", ""),
         (MOVES, "self.by_stem.get((change.folder(), stem), ())", "sum(self.by_stem.values(), [])"),
     )
     + seen_by(
         "reasons_packages.try_content",
         (PACKAGES, "        if old and not differ <= CONTENT:\n            return None\n", ""),
         (PACKAGES, "(old is None and not new.is_plain())", "False"),
+        (MOVES, "change.reason is None and change.is_replaced", "change.is_replaced"),
         (ENTRIES, 'self.number("uid") == 0 and (', "("),
         (PROTECTED, "is_open(new) and not is_open(old)", "is_open(new)"),
         (ENTRIES, "self.is_link() or not (has_more or has_list)", "self.is_link() or not has_more"),
@@ -156,6 +163,17 @@ PLANTED = (
         ),
     )
     + seen_by(
+        "reasons_packages.try_came",
+        (GATHERED, "            if before:\n", "            if True:\n"),
+        (GATHERED, "path in self.now or path in self.before", "path in self.now"),
+        (GATHERED, "path in self.now or path in self.before", "path in self.before"),
+        (GATHERED, "if stat.S_ISLNK(change.old_mode) or stat", "if stat"),
+        (GATHERED, "owners[path] + alone if path in owners else alone", "alone"),
+        (DPKG, 'if b"Package" in fields:', "if True:"),
+        (DPKG, "keys = old.packages.keys() | new.packages.keys()", "keys = old.packages.keys()"),
+        (DPKG, "if before is None or after is None or", "if after is None or"),
+    )
+    + seen_by(
         "reasons_packages.try_read",
         (
             CONTENT,
@@ -182,10 +200,20 @@ PLANTED = (
         (MADE, 'path.startswith(b"/etc/rc") and self._is_listed(target)', "self._is_listed(target)"),
         (MADE, "row and (self._is_listed(target) or next(self.table.rows(target), None))", "row"),
         (MADE, "        if takes_no_pattern(path):\n            return None\n", ""),
-        (MADE, "return new is None or (new.is_plain() and (may_run", "return new is None or ((may_run"),
+        (MADE, "return new.is_plain() and (may_run", "return (may_run"),
         (MADE, "(may_run or not (new.is_file() and new.mode & 0o111))", "True"),
-        (MADE, "return differ <= CONTENT or (new.is_link()", "return True or (new.is_link()"),
+        (MADE, 'return differ <= CONTENT | {"lname"}', "return True"),
         (MADE, "not self.names or ", ""),
+    )
+    + seen_by(
+        "reasons_made.try_made_links",
+        (MADE, 'return differ <= CONTENT | {"lname"}', "return differ <= CONTENT"),
+        (MADE, "path[: -len(CACHE)] if path.endswith(CACHE) else None", "None"),
+        (MADE, "        if not target:\n            return None\n", ""),
+        (MADE, "if STARTED.fullmatch(path) and target:", "if STARTED.fullmatch(path):"),
+        (MADE, "if self.known.is_owned(target) or is_script else None", "if self.known.is_owned(target) else None"),
+        (MADE, '(": " + why if why else "")', '(": " + why)'),
+        (MADE, '(": " + why if why else "")', '""'),
     )
     + seen_by(
         "reasons_places.try_folders",
@@ -230,6 +258,43 @@ PLANTED = (
         ("commands/share/severity.conf", "high    executable      /usr/bin/*\n", ""),
     )
     + seen_by(
+        "reasons_severity.try_tests",
+        (
+            SEVERITY,
+            "bool(set_id(new) & ~set_id(old)) if stat.S_IFMT(old) == stat.S_IFMT(new) else bool(set_id(new))",
+            "bool(set_id(new) & ~set_id(old))",
+        ),
+        (SEVERITY, "is_open(new) and not is_open(old)", "is_open(new)"),
+        (SEVERITY, "(stat.S_ISDIR(mode) and mode & stat.S_ISVTX)", "mode & stat.S_ISVTX"),
+        (SEVERITY, "and not stat.S_ISLNK(mode) and", "and"),
+        (SEVERITY, "set_id(old) | set_id(new)", "set_id(new)"),
+        (SEVERITY, "set_id(old) | set_id(new)", "set_id(old)"),
+        (SEVERITY, "stat.S_ISREG(mode) and mode & RUN_BITS", "mode & RUN_BITS"),
+        (SEVERITY, "for mode in (old, new))", "for mode in (new,))"),
+        (SEVERITY, "stat.S_ISREG(new or old)", "stat.S_ISREG(new)"),
+        (SEVERITY, "stat.S_ISDIR(new or old)", "stat.S_ISDIR(new)"),
+        (SEVERITY, "stat.S_ISLNK(new or old)", "stat.S_ISLNK(old or new)"),
+        (SEVERITY, "bool(old and new) and stat", "stat"),
+        (SEVERITY, "bool(old and new) and old", "old"),
+        (SEVERITY, "bool(old and new) and old != new", "bool(old and new)"),
+        (SEVERITY, "bool(old and new),\n", "bool(new),\n"),
+    )
+    + seen_by(
+        "reasons_severity.try_tables",
+        (SEVERITY, "len(parts) != 3 or", "len(parts) > 3 or"),
+        (SEVERITY, "    if not found:\n", "    if False:\n"),
+    )
+    + seen_by(
+        "reasons_contents.try_contents",
+        (CONTENT, "bool(common) and ", ""),
+        (CONTENT, "common = given.keys() & wanted.keys()", "common = wanted.keys()"),
+        (CONTENT, "(known.keys() | wanted.keys()) & COMPUTED.keys()", "known.keys() | wanted.keys()"),
+        (CONTENT, "not known.keys() & COMPUTED.keys() or ", ""),
+        (CONTENT, " or (size or 0) > self.left", ""),
+        (CONTENT, "(size or 0) > self.left", "size > self.left"),
+        (CONTENT, "        if not wanted:\n            return False\n", ""),
+    )
+    + seen_by(
         "reasons_archive.try_signed",
         (
             PACKAGES,
@@ -261,6 +326,43 @@ PLANTED = (
         ),
     )
     + seen_by(
+        "reasons_indexes.try_said",
+        (INDEXES, '{b"GOODSIG", b"VALIDSIG"} <= said', 'b"VALIDSIG" in said'),
+        (INDEXES, '{b"GOODSIG", b"VALIDSIG"} <= said', 'b"GOODSIG" in said'),
+        (INDEXES, ' and not said & {b"BADSIG", b"ERROR", b"UNEXPECTED"}', ""),
+        (INDEXES, '{b"BADSIG", b"ERROR", b"UNEXPECTED"}', '{b"ERROR", b"UNEXPECTED"}'),
+        (INDEXES, '{b"BADSIG", b"ERROR", b"UNEXPECTED"}', '{b"BADSIG", b"UNEXPECTED"}'),
+        (INDEXES, '{b"BADSIG", b"ERROR", b"UNEXPECTED"}', '{b"BADSIG", b"ERROR"}'),
+        (INDEXES, " and done.returncode in (0, 2) else None", " else None"),
+        (INDEXES, "done.returncode in (0, 2)", "done.returncode == 0"),
+        (INDEXES, ' if line.startswith(b"[GNUPG:] ")}', " if line}"),
+    )
+    + seen_by(
+        "reasons_indexes.try_listed",
+        (INDEXES, 'digest == digests.get(ending) or plain_digest == digests.get("")', "digest == digests.get(ending)"),
+        (INDEXES, 'digest == digests.get(ending) or plain_digest == digests.get("")', 'plain_digest == digests.get("")'),
+        (INDEXES, ' and ".." not in path:', ":"),
+        (INDEXES, 'rb"^SHA256:\\s*', 'rb"^SHA[0-9]*:\\s*'),
+    )
+    + seen_by(
+        "reasons_indexes.try_wanted",
+        (INDEXES, "if key in keys and re", "if re"),
+        (INDEXES, ' and re.fullmatch(rb"[0-9a-f]{64}", digest) and', " and"),
+        (INDEXES, " and size.isdigit():", ":"),
+        (ARCHIVE, "copied(descriptor, wanted.size, MOST_PACKAGE)", "copied(descriptor, None, MOST_PACKAGE)"),
+    )
+    + seen_by(
+        "reasons_indexes.try_odd_files",
+        (INDEXES, "        if not stat.S_ISREG(os.fstat(descriptor).st_mode):\n", "        if False:\n"),
+        (
+            INDEXES,
+            "        except OSError:\n            return []\n",
+            "        except FileNotFoundError:\n            return []\n",
+        ),
+        (ARCHIVE, "path in self.files or path in self.links", "path in self.files"),
+        (ARCHIVE, 'for base in (package.name, package.name + b":" + package.arch):', "for base in (package.name,):"),
+    )
+    + seen_by(
         "reasons_archive.try_forms",
         (DEB, "begin + size + size % 2", "begin + size"),
         (
@@ -281,6 +383,9 @@ PLANTED = (
         (LINES, "if not good or not self.last < names:", "if not good:"),
         (LINES, '== "entry" and not self.databases:', '== "entry":'),
         (EXPLAINER, 'if present != PRESENT[fields["kind"]] and (', "if False and ("),
+        (EXPLAINER, ' and ("uncertain" not in fields or not any(present)):', ":"),
+        (EXPLAINER, '("uncertain" not in fields or not any(present))', '"uncertain" not in fields'),
+        (EXPLAINER, '("uncertain" not in fields or not any(present))', "not any(present)"),
         (LIB + "database.py", "if len(fields) != len(places):", "if False:"),
     )
     + seen_by(

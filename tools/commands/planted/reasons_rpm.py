@@ -1,5 +1,6 @@
 """Bugs of aide-compare-reasons with records of rpm: each takes away one check, so that something forged is believed."""
-from .reasons import CONTENT, LIB, LINKS, RECORDS, seen_by
+from .plant import seen_by
+from .reasons import CONTENT, LIB, LINKS, RECORDS
 
 RPM, NIGHT, PACKAGES, EVIDENCE = (LIB + name + ".py" for name in ("rpm", "rpm_night", "rpm_packages", "evidence"))
 
@@ -29,8 +30,8 @@ PLANTED = (
         (PACKAGES, " and self.contents.fits(path, new, file.digests)", ""),
         (
             CONTENT,
-            "        if not wanted or not known:\n            return False\n",
-            "        if not known:\n            return True\n",
+            "        if not wanted:\n            return False\n",
+            "        if not wanted:\n            return True\n",
         ),
         (NIGHT, "user == group == b", "group == b"),
         (NIGHT, "user == group == b", "user == b"),

@@ -1,5 +1,17 @@
 """All trials of aide-compare-reasons, in groups that run side by side."""
-from . import reasons_archive, reasons_lines, reasons_logs, reasons_packages, reasons_places, reasons_rpm, reasons_rpm_records
+from . import (
+    reasons_archive,
+    reasons_contents,
+    reasons_indexes,
+    reasons_lines,
+    reasons_logs,
+    reasons_made,
+    reasons_packages,
+    reasons_places,
+    reasons_rpm,
+    reasons_rpm_records,
+    reasons_severity,
+)
 from .reasons_nights import try_nights
 
 
@@ -10,10 +22,13 @@ def try_reasons(sandbox):
         reasons_logs.try_rotated,
         reasons_logs.try_packed,
         reasons_places.try_made,
+        reasons_made.try_made_links,
         reasons_places.try_folders,
         reasons_places.try_rules,
         reasons_places.try_never,
         reasons_places.try_severity,
+        reasons_severity.try_tests,
+        reasons_severity.try_tables,
         reasons_places.try_shipped_rules,
     ):
         trial(sandbox)
@@ -26,7 +41,9 @@ def try_reasons_packages(sandbox):
         reasons_packages.try_names,
         reasons_packages.try_links,
         reasons_packages.try_removed,
+        reasons_packages.try_came,
         reasons_packages.try_read,
+        reasons_contents.try_contents,
         reasons_rpm.try_content,
         reasons_rpm.try_unchanged,
         reasons_rpm.try_links,
@@ -38,6 +55,10 @@ def try_reasons_packages(sandbox):
         reasons_archive.try_owners,
         reasons_archive.try_forged,
         reasons_archive.try_forms,
+        reasons_indexes.try_said,
+        reasons_indexes.try_listed,
+        reasons_indexes.try_wanted,
+        reasons_indexes.try_odd_files,
     ):
         trial(sandbox)
 

@@ -216,10 +216,10 @@ def try_forged(sandbox):
     write_archive(sandbox, "archive")
     expect(sandbox, "another key", BELIEVED, "--archive", "archive", "--keyring", "other.gpg")
     expect(sandbox, "no archive", BELIEVED)
-    os.remove(sandbox.path("archive/tool_2_amd64.deb"))
-    sandbox.write("elsewhere.deb", tool())
-    os.symlink("../elsewhere.deb", sandbox.path("archive/tool_2_amd64.deb"))
-    expect(sandbox, "a link in place of the package", BELIEVED, "--archive", "archive", "--keyring", "archive.gpg")
+    write_archive(sandbox, "linked")
+    os.replace(sandbox.path("linked/tool_2_amd64.deb"), sandbox.path("elsewhere.deb"))
+    os.symlink("../elsewhere.deb", sandbox.path("linked/tool_2_amd64.deb"))
+    expect(sandbox, "a link in place of the package", BELIEVED, "--archive", "linked", "--keyring", "archive.gpg")
     for label, words, status in (
         ("no packages", ("--archive", "archive"), 15),
         ("no such folder", ("--archive", "none"), 18),

@@ -122,7 +122,7 @@ class Night:
                 for path, content in contents.items()
                 if content is not None
             )
-        files["status"] = b"\n".join(status)
+        files["status"] = b"".join(paragraph + b"\n" for paragraph in status)
         return packed(files)
 
 

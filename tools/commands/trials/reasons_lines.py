@@ -121,6 +121,13 @@ def try_damage(sandbox):
         ("swapped", ("--databases", "n.db", "o.db")),
     ):
         sandbox.expect(label, sandbox.call(NAME, *words, text=lines), 24, b"", [b"not those of the report"])
+    doubtful = lines.replace(b'"kind":"added","path":"/a"', b'"kind":"changed","path":"/a","uncertain":["kind"]')
+    answer = sandbox.call(NAME, *GIVEN, text=doubtful)
+    sandbox.expect(
+        "an entry of which the kind is uncertain", answer, 0, [b'"kind":"changed","path":"/a","uncertain":["kind"],']
+    )
+    answer = sandbox.call(NAME, *GIVEN, text=doubtful.replace(b'"/a"', b'"/aa"'))
+    sandbox.expect("an uncertain one that is nowhere", answer, 24, b"", [b"not those of the report"])
     sandbox.write("short.db", NEW.replace(b"/a 36 100644 5", b"/a 36 100644"))
     sandbox.expect(
         "a line that lacks a field", sandbox.call(NAME, "--databases", "o.db", "short.db", text=lines), 24, b"", [b"fields"]

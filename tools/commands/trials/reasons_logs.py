@@ -30,13 +30,13 @@ class Logs:
                 night.file(log(self.number, name), **{"mode": 0o100640, **both, **given})
         self.wanted[label, log(self.number, name)] = want
 
-    def rotation(self, label, want, old, new, left=None, to=b"log.1", source=b"log", want_left=MOVED, **more):
-        """A file of the old night with the inode 7, and one of the new night under another name; `left` is the file that has
-        the old name now."""
+    def rotation(self, label, want, old, new, left=None, to=b"log.1", source=b"log", want_left=MOVED, **both):
+        """A file of the old night, and one of the new night under another name, which has its inode; `left` is the file that
+        has the old name now."""
         self.number += 1
         inode = 100000 + self.number
-        self.host.old.file(log(self.number, source), **{"mode": 0o100640, "inode": inode, "bits": LOG, **old})
-        self.host.new.file(log(self.number, to), **{"mode": 0o100640, "inode": inode, **new})
+        self.host.old.file(log(self.number, source), **{"mode": 0o100640, "inode": inode, "bits": LOG, **both, **old})
+        self.host.new.file(log(self.number, to), **{"mode": 0o100640, "inode": inode, **both, **new})
         if left is not None:
             self.host.new.file(
                 log(self.number, source),
@@ -70,8 +70,21 @@ def try_growing(sandbox):
         {"md5": "0", "sha256": "0", "mtime": LATER},
         bits=LOG,
     )
+    case("larger, with the digests of before", GREW, {"content": b"one"}, {**grown, "content": b"one", "size": 9}, bits=LOG)
+    case("no time before", "-", {"content": b"one", "mtime": "0"}, grown, bits=LOG)
+    case("no time now", "-", {"content": b"one"}, {**grown, "mtime": "0"}, bits=LOG)
     logs.host.both(lambda night: night.folder(b"/var/log/folder", bits=LOG, size=4096 if night is logs.host.old else 8192))
     logs.wanted["a folder does not grow", b"/var/log/folder"] = "-"
+    logs.host.expect(sandbox, logs.wanted, records=False)
+    _try_without_size(sandbox)
+
+
+def _try_without_size(sandbox):
+    """Where the databases have no sizes, nobody knows whether a log grew."""
+    logs = Logs()
+    touched = {"md5": "0", "sha256": "0", "mtime": LATER}
+    logs.case("touched, without sizes", "-", {"md5": "0", "sha256": "0"}, touched, bits=LOG)
+    logs.host.both(lambda night: setattr(night, "columns", [name for name in night.columns if name != "size"]))
     logs.host.expect(sandbox, logs.wanted, records=False)
 
 
@@ -137,6 +150,25 @@ def try_rotated(sandbox):
         want_left="-",
     )
     logs.host.expect(sandbox, logs.wanted, records=False)
+    _try_no_rename(sandbox)
+
+
+def _try_no_rename(sandbox):
+    """What has the inode of a log, and is no renamed log all the same."""
+    logs, same = Logs(), {"content": b"one"}
+    logs.rotation("everybody can write it", "-", same, same, mode=0o100666)
+    logs.rotation("no inode in the rule", "-", {**same, "inode": "0"}, {**same, "inode": "0"})
+    logs.rotation("one more name of the inode", "-", same, same)
+    logs.host.new.file(log(logs.number, b"log"), b"one", inode=100000 + logs.number, mode=0o100600, bits=LOG)
+    logs.rotation("two names before", "-", same, same)
+    logs.host.old.file(log(logs.number, b"log.0"), b"one", inode=100000 + logs.number, mode=0o100640, bits=LOG)
+    logs.host.both(lambda night: night.folder(b"/root").folder(b"/root/.ssh"))
+    logs.host.old.file(b"/root/.ssh/authorized_keys", b"one", inode=9, bits=LOG)
+    logs.host.new.file(b"/root/.ssh/keys", b"one", inode=9)
+    logs.host.new.file(b"/root/.ssh/authorized_keys", b"two", inode=10, bits=LOG, mtime=LATER, ctime=LATER)
+    logs.wanted["renamed", b"/root/.ssh/keys"] = MOVED_SAME
+    logs.wanted["nothing explains the keys under the name that was left", b"/root/.ssh/authorized_keys"] = "-"
+    logs.host.expect(sandbox, logs.wanted, records=False)
 
 
 def try_packed(sandbox):
@@ -162,4 +194,10 @@ def try_packed(sandbox):
     case("compressed, another owner", "-", {"uid": 1000})
     case("compressed, a program", "-", {"mode": 0o100755})
     case("compressed under another name", "-", {}, to=b"blog.2.gz")
+    open_to_all = {"mode": 0o100646, "inode": 6}
+    logs.rotation("everybody can write it", "-", {**source, "mode": 0o100646}, {**small, **open_to_all}, to=b"log.2.gz")
+    case("compressed, of a size that is none", "-", {"size": -1})
+    case("with the inode of its source", "-", {"inode": 100001 + logs.number})
+    timeless = {"mtime": "0"}
+    logs.rotation("without times", "-", {**source, **timeless}, {**small, **timeless, "inode": 5}, to=b"log.2.gz")
     logs.host.expect(sandbox, logs.wanted, records=False)

@@ -6,6 +6,7 @@ from .reasons_host import MORE_ACL, Entry, Host, base64_of
 BY_DPKG, MADE = "package dpkg!", "package_made dpkg"
 ONE, TWO = b"one", b"two, of the upgraded package"
 INFO = b"/var/lib/dpkg/info/"
+LINK = b"/usr/lib/lib.so"
 
 
 class Upgrade:
@@ -84,6 +85,8 @@ def try_content(sandbox):
     upgrade.host.new.link(b"/usr/bin/type", b"/usr/local/sbin/.x")
     upgrade.contents["new"][b"/usr/bin/type"] = TWO
     upgrade.wanted["a file that is a link now", b"/usr/bin/type"] = "-"
+    upgrade.host.old.file(b"/usr/bin/went", ONE, inode=77)
+    case("new, with the inode of a file that went", BY_DPKG, b"/usr/bin/o", old=None, after={"inode": 77})
     upgrade.host.new.file(b"/usr/bin/open", TWO, mode=0o100666)
     upgrade.contents["new"][b"/usr/bin/open"] = TWO
     upgrade.wanted["new, and everybody can write it", b"/usr/bin/open"] = "-"
@@ -228,6 +231,32 @@ def try_removed(sandbox):
             ("removed, though the upgraded package has it", b"/usr/still"): "-",
             ("of a package that stays", b"/usr/kept"): "-",
             ("of no package", b"/etc/alien"): "-",
+        },
+    )
+
+
+def try_came(sandbox):
+    """Packages that only one of the nights has, and paths of two packages."""
+    host, library, unit = Host(), b"/usr/lib/python3/", b"/usr/lib/systemd/system/"
+    wants = b"/etc/systemd/system/multi-user.target.wants/"
+    host.old.package("gone", "1", {library + b"gone.py": ONE, unit + b"gone.service": ONE})
+    host.new.package("came", "1", {library + b"came.py": ONE, b"/usr/bin/came": ONE, b"/usr/lib/lib.so.1": ONE}, listed=[LINK])
+    host.both(lambda night: night.package("double", "1" if night is host.old else "2", listed=[LINK]))
+    host.old.file(library + b"gone.py", ONE).file(library + b"__pycache__/gone.cpython-311.pyc", TWO)
+    host.old.link(wants + b"gone.service", unit + b"gone.service")
+    host.new.file(b"/usr/bin/came", ONE).file(library + b"__pycache__/came.cpython-311.pyc", TWO)
+    host.new.file(b"/usr/lib/lib.so.1", ONE).link(LINK, b"lib.so.1")
+    host.old.file(b"/usr/bin/alien", ONE)
+    host.expect(
+        sandbox,
+        {
+            ("of a package that came", b"/usr/bin/came"): BY_DPKG,
+            ("compiled from a file of it", library + b"__pycache__/came.cpython-311.pyc"): MADE,
+            ("gone with a package", library + b"gone.py"): BY_DPKG,
+            ("compiled from a file that went with it", library + b"__pycache__/gone.cpython-311.pyc"): MADE,
+            ("a link that started its unit, which no rule watches", wants + b"gone.service"): MADE,
+            ("a link of two packages, to a file of one", LINK): BY_DPKG,
+            ("gone, of no package", b"/usr/bin/alien"): "-",
         },
     )
 

@@ -1,8 +1,9 @@
 """The command aide-compare-reasons: the lines of aide-compare-json with reasons and severities."""
 import os
 
+from aide_compare.evidence_options import add_evidence_options
 from aide_compare.options import size
-from aide_compare.reasons.evidence import add_evidence_options, evidence_of
+from aide_compare.reasons.evidence import evidence_of
 from aide_compare.reasons.explainer import Explainer
 from aide_compare.reasons.lines import Lines
 from aide_compare.unpack import copy_database

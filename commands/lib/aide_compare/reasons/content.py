@@ -46,7 +46,7 @@ class Contents:
     def fits(self, path, entry, wanted):
         """Whether an entry has the wanted digests. Without one in common, the file itself has to have both."""
         known = entry.digests()
-        if not wanted or not known:
+        if not wanted:
             return False
         return do_agree(known, wanted) if known.keys() & wanted.keys() else self.agrees(path, entry, wanted)
 

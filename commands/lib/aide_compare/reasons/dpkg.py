@@ -67,7 +67,7 @@ class Night:
     def paths(self, package):
         """The paths of a package."""
         for path in self._read(package, "list").split(b"\n"):
-            if path.startswith(b"/") and path != b"/.":
+            if path.startswith(b"/"):
                 yield self.place_of(path, package)
 
     def digests(self, package):

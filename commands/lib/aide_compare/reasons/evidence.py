@@ -1,6 +1,5 @@
 """The evidence that the command line names: packages, archives, rules and the table of severities."""
 from aide_compare.ending import Fault, Status
-from aide_compare.options import some_text
 from aide_compare.reasons.archive import Archive
 from aide_compare.reasons.packages import Packages
 from aide_compare.reasons.records import KeptRecords, records_now
@@ -15,42 +14,6 @@ class Evidence:
 
     def __init__(self, rules, severity, packages=None):
         self.rules, self.severity, self.packages = rules, severity, packages
-
-
-def add_evidence_options(parser):
-    """Adds the options that name evidence to the options of a command."""
-    parser.add_argument(
-        "--packages",
-        metavar="FILE",
-        type=some_text,
-        help="the packages' records of the time of the old database, as aide-compare-accept keeps them",
-    )
-    parser.add_argument(
-        "--packages-now",
-        metavar="FILE",
-        type=some_text,
-        help="the packages' records of the time of the new database, if they are not those of this machine",
-    )
-    parser.add_argument(
-        "--archive",
-        metavar="FOLDER",
-        action="append",
-        default=[],
-        type=some_text,
-        help="packages and signed indexes, such as /var/lib/apt/lists and /var/cache/apt/archives, or a mirror",
-    )
-    parser.add_argument(
-        "--keyring",
-        metavar="FILE",
-        action="append",
-        default=[],
-        type=some_text,
-        help="the keys of the archive, for gpgv (those of Debian)",
-    )
-    parser.add_argument(
-        "--rules", metavar="FILE", type=some_text, help="reasons of your own: what may differ, patterns and texts"
-    )
-    parser.add_argument("--severity", metavar="FILE", type=some_text, help="a table of severities in place of the shipped one")
 
 
 def _packages_of(given):

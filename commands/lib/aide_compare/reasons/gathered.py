@@ -4,7 +4,7 @@ import stat
 from aide_compare.reasons import made
 from aide_compare.reasons.dpkg import Night, changed_packages
 
-PREFIXES = frozenset(prefix for _, prefix in made.ROWS if prefix != made.ANY)
+PREFIXES = frozenset(prefix for _, prefix in made.ROWS)
 
 
 class Gathered:

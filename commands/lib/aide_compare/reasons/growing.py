@@ -21,16 +21,17 @@ def _is_later(old, new):
 
 
 def has_grown(old, new, differ):
-    """Whether nothing but the content differs, and only as it does when text is added at the end of a file."""
+    """Whether nothing but the content differs, and only as it does when text is added at the end of a file. Both are of one
+    type then."""
     grew = "size" in differ
     return differ <= GROWS and _is_later(old, new) and old.places.keys() >= {"size"} and (grew or not differ & DIGESTS)
 
 
 def explain_growing(old, new, differ):
     """The reason for a file that grew under a rule with `growing`, or None. Without its inode it is another file."""
-    if not (old.bits & GROWING and old.is_file() and new.is_file() and has_grown(old, new, differ)):
+    if not (old.bits & GROWING and old.is_file() and has_grown(old, new, differ)):
         return None
-    if "size" in differ or differ & DIGESTS:
+    if "size" in differ:
         return GREW
     return UNCHANGED if old.digests() else LATER
 
@@ -46,7 +47,7 @@ def explain_removed(old):
 
 def explain_move(source, old, new, differ):
     """The reason for a file that has the inode of another one of its folder, which was there before, or None."""
-    if not (old.bits & SAME_INODE and old.is_file() and new.is_file()):
+    if not (old.bits & SAME_INODE and old.is_file()):
         return None
     name = shown(source.rpartition(b"/")[2], 200)
     if differ <= {"ctime"}:

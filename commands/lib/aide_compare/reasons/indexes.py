@@ -56,13 +56,19 @@ class ArchiveFolder:
         names = os.listdir(self.fd)[:MOST_NAMES]
         yield from ((name, name[: -len(RELEASE)], "_") for name in sorted(names) if name.endswith("_" + RELEASE))
         yield RELEASE, "", "/"
-        if "dists" in names:
+        for suite in self._suites():
+            yield "dists/%s/%s" % (suite, RELEASE), "dists/%s/" % suite, "/"
+
+    def _suites(self):
+        """The suites of a mirror; none if `dists` is no folder."""
+        try:
             suites = os.open("dists", PIECE | os.O_DIRECTORY, dir_fd=self.fd)
-            try:
-                for suite in sorted(os.listdir(suites)[:MOST_NAMES]):
-                    yield "dists/%s/%s" % (suite, RELEASE), "dists/%s/" % suite, "/"
-            finally:
-                os.close(suites)
+        except OSError:
+            return []
+        try:
+            return sorted(os.listdir(suites)[:MOST_NAMES])
+        finally:
+            os.close(suites)
 
 
 def signed_text(descriptor, keyrings):

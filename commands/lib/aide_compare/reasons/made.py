@@ -107,9 +107,9 @@ class Made:
     @staticmethod
     def _is_harmless(old, new, differ, may_run):
         """Whether nothing but content or the target of a link differs, and what is new is root's, and no program."""
-        if old and new:
-            return differ <= CONTENT or (new.is_link() and differ <= CONTENT | {"lname"})
-        return new is None or (new.is_plain() and (may_run or not (new.is_file() and new.mode & 0o111)))
+        if old:
+            return differ <= CONTENT | {"lname"}
+        return new.is_plain() and (may_run or not (new.is_file() and new.mode & 0o111))
 
     def _is_listed(self, path):
         return path in self.known.listed

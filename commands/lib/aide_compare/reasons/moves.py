@@ -3,7 +3,7 @@ import re
 import stat
 
 from aide_compare.escapes import shown
-from aide_compare.reasons.entries import COMPRESSED, NEW_FILES, differences
+from aide_compare.reasons.entries import ABSENT, COMPRESSED, NEW_FILES, differences
 from aide_compare.reasons.growing import GROWS, explain_move
 from aide_compare.reasons.reason import Reason
 
@@ -29,20 +29,21 @@ class Moves:
         self.read, self.by_inode, self.by_stem = read, {}, {}
         self.open = [change for change in changes if change.reason is None and change.is_replaced]
         for change in self.open:
-            if change.old_at is not None and stat.S_ISREG(change.old_mode):
+            if change.old_at is not None:
                 self._add(change)
 
     def _add(self, change):
-        """Notes a file that has left its name. Of two names for one inode nothing can be said."""
-        key = (change.folder(), self.read(change)[0].field("inode"))
-        self.by_inode[key] = None if key in self.by_inode else change
-        self.by_stem.setdefault((key[0], _stem(change.path, NUMBERED)), []).append(change)
+        """Notes an entry that has left its name. Of two names for one inode, or without inodes, nothing can be said."""
+        folder, inode = change.folder(), self.read(change)[0].field("inode")
+        is_known = inode != ABSENT and (folder, inode) not in self.by_inode
+        self.by_inode[folder, inode] = change if is_known else None
+        self.by_stem.setdefault((folder, _stem(change.path, NUMBERED)), []).append(change)
 
     def explain(self):
         """Gives reasons. What was renamed, or packed, leaves its old name to a new file, which is explained after it."""
         came_from = {}
         for change in self.open:
-            if change.new_at is not None and stat.S_ISREG(change.new_mode) and not change.is_never:
+            if stat.S_ISREG(change.new_mode) and not change.is_never:
                 source = self._renamed(change) or self._packed(change)
                 if source:
                     came_from[source] = change
@@ -54,7 +55,7 @@ class Moves:
         """The file that has this name now, and had another one; the reason is given if all else is as it was."""
         new = self.read(change)[1]
         source = self.by_inode.get((change.folder(), new.field("inode")))
-        if source is None or source is change:
+        if source is None:
             return None
         old = self.read(source)[0]
         change.reason = explain_move(source.path, old, new, differences(old, new))
@@ -63,11 +64,13 @@ class Moves:
     def _packed(self, change):
         """The file whose packed form this is: packers keep the time, the mode and the owner of their source."""
         stem = _stem(change.path, PACKED)
-        new = self.read(change)[1] if stem else None
-        if not stem or not new.bits & COMPRESSED or new.time("mtime") is None:
+        if not stem:
+            return None
+        new = self.read(change)[1]
+        if not new.bits & COMPRESSED or new.time("mtime") is None:
             return None
         for source in self.by_stem.get((change.folder(), stem), ()):
-            if source is not change and self._is_packed(self.read(source)[0], new):
+            if self._is_packed(self.read(source)[0], new):
                 change.reason = Reason(
                     "moved", "compressed from %s, content not verified" % shown(name_of(source.path), 200), False, "databases"
                 )

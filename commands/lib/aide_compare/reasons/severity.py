@@ -66,7 +66,7 @@ def _row(line, place):
     unknown = [test for test in tests if test not in TESTS]
     if unknown:
         raise Fault(Status.USAGE, "%s: unknown test: %s" % (place, shown(unknown[0], 100)))
-    return Row(parts[0].decode(), [TESTS[test] for test in tests if test != "any"], pattern_of(parts[2], place))
+    return Row(parts[0].decode(), [TESTS[test] for test in tests], pattern_of(parts[2], place))
 
 
 class Severity:
