@@ -16,9 +16,11 @@ import shutil
 import subprocess
 import sys
 import tempfile
+import traceback
 
 from tools.commands import planted
 from tools.commands.trials.sandbox import HERE, Sandbox
+from tools.lib import signals
 from tools.lib.tally import Tally, program_of
 
 FAILED = re.compile("[0-9]+ passed, [1-9][0-9]* failed")
@@ -44,11 +46,14 @@ def run_trial(folder, trial, program):
 
 
 def one_trial(trial, program):
+    """Runs a trial. If it breaks off, that is a failure, as in try_tools.py."""
     tally = Tally()
     sandbox = Sandbox(program, ["sh"], tally)
     module, function = trial.rsplit(".", 1)
     try:
         getattr(importlib.import_module("tools.commands.trials." + module), function)(sandbox)
+    except Exception:
+        tally.add(trial, [traceback.format_exc()])
     finally:
         sandbox.remove()
     tally.end()
@@ -83,6 +88,7 @@ def main():
     parser.add_argument("--trial", help=argparse.SUPPRESS)
     parser.add_argument("program")
     given = parser.parse_args()
+    signals.heed()
     program = program_of(given.program)
     if given.trial:
         return one_trial(given.trial, program)

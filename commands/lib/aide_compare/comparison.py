@@ -92,10 +92,9 @@ class Comparison:
     def _read_texts(self):
         config, included = without_includes(read_configuration(self.path))
         if included:
-            self.outcome.notes.append(
-                "%s: %d lines that include other files are passed over, the first: %s"
-                % (shown(self.path), len(included), shown(included[0], 200))
-            )
+            count = len(included)
+            lines = "1 line that includes other files is" if count == 1 else "%d lines that include other files are" % count
+            self.outcome.notes.append("%s: %s passed over, the first: %s" % (shown(self.path), lines, shown(included[0], 200)))
         before, after = ((text or "").encode("utf-8", "surrogateescape") for text in (self.request.before, self.request.after))
         self.given = Texts(before, config, after)
         return self.given.unfixed(("config",)) if after else self.given

@@ -5,7 +5,7 @@ from collections import namedtuple
 from functools import lru_cache
 
 from aide_compare.report_lines import Refused
-from aide_compare.report_values import FORMS
+from aide_compare.report_values import FORMS, STRENGTH
 from aide_compare.shown_text import PLAIN, notes_of, shown, shown_note, shown_path
 
 # An entry has at most the bytes of two lines of databases, and six times as many in JSON, some of them in base 16 too.
@@ -20,25 +20,6 @@ NOTED = frozenset(place for label, place in PLACES.items() if FORMS[label] != "n
 LETTERS, PERMISSIONS = re.compile("[A-Za-z?!<>=:.+ -]{18}"), re.compile("[0-7]{4}")
 DATE = re.compile("[0-9]{4}-[0-9]{2}-[0-9]{2}T[0-9]{2}:[0-9]{2}:[0-9]{2}Z")
 TEXTS = frozenset((str, type(None)))
-# The digest that people look at first, if an entry has it, and so on.
-STRENGTH = (
-    "SHA256",
-    "SHA512",
-    "SHA3-256",
-    "SHA3-512",
-    "SHA512/256",
-    "STRIBOG256",
-    "STRIBOG512",
-    "WHIRLPOOL",
-    "RMD160",
-    "SHA1",
-    "GOST",
-    "TIGER",
-    "HAVAL",
-    "MD5",
-    "CRC32",
-    "CRC32B",
-)
 ADDED_BY_COUNTS = ["explained", "not_verified", "unexplained"] + SEVERITIES
 
 # An entry; `names` are the pieces of its path, `name` is the path as it is shown, `size` the length of the line. A row is

@@ -2,7 +2,7 @@
 from html import escape
 
 from aide_compare.json_lines import KINDS, LABELS, SEVERITIES
-from aide_compare.page_streams import facts_of
+from aide_compare.page_streams import VARIOUS, facts_of
 from aide_compare.page_view import DIGESTS_NAME
 
 SIGNS = ["+", "\N{MINUS SIGN}", "~"]
@@ -13,8 +13,6 @@ GRADES = {
     "archive": "the archive says so",
     "rules": "a rule says so",
 }
-# In place of an old value, if hosts with the same change had several. No text of a host is this object.
-VARIOUS = type("Various", (str,), {})("various")
 HEADS = "<tr><th>Attribute<th>Old<th>New"
 
 

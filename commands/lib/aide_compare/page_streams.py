@@ -23,6 +23,8 @@ MOST_LETTERS = 1 << 26
 ENCODE = json.JSONEncoder(separators=(",", ":"), ensure_ascii=False).encode
 SIGNS = "0123456789abcdefghijklmnopqrstuvwxyz"
 ATTRIBUTE_SIGNS = [SIGNS[ATTRIBUTES.index(label if label in ATTRIBUTES else DIGESTS_NAME)] for label in LABELS]
+# In place of an old value, if hosts with the same change had several. No text of a host is this object.
+VARIOUS = type("Various", (str,), {})("various")
 SIZE, PERM, UID, GID = (PLACES[label] for label in ("Size", "Perm", "UID", "GID"))
 
 
@@ -115,6 +117,8 @@ def told(row, side):
 def facts_of(entry):
     """Permissions, owner and size of an entry that is there on one side only."""
     side = 2 if entry.kind == 0 else 1
+    if any(row[side] is VARIOUS for row in entry.rows):
+        return VARIOUS
     values = {row[0]: told(row, side) for row in entry.rows}
     owner = [values[place] for place in (UID, GID) if values.get(place)]
     size = values.get(SIZE)

@@ -54,6 +54,25 @@ FORMS = {
     "E2FSAttrs": "bytes",
     "Caps": "bytes",
 }
+# The digest that people look at first, if an entry has it, and so on.
+STRENGTH = (
+    "SHA256",
+    "SHA512",
+    "SHA3-256",
+    "SHA3-512",
+    "SHA512/256",
+    "STRIBOG256",
+    "STRIBOG512",
+    "WHIRLPOOL",
+    "RMD160",
+    "SHA1",
+    "GOST",
+    "TIGER",
+    "HAVAL",
+    "MD5",
+    "CRC32",
+    "CRC32B",
+)
 
 EPOCH = datetime(1970, 1, 1)
 NUMBER = re.compile(rb"0|-?[1-9][0-9]{0,19}")

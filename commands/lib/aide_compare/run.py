@@ -5,11 +5,10 @@ import sys
 from aide_compare.comparison import MOST, MOST_REPORT, Comparison, Outcome, Request
 from aide_compare.ending import Fault, Status, reason, say, write_all
 from aide_compare.escapes import shown, shown_lines
-from aide_compare.explaining import Sources, Wanted, explain
+from aide_compare.evidence_options import add_evidence_options
 from aide_compare.files import Replacement, copy_file
 from aide_compare.options import Parser, duration, size, some_text
 from aide_compare.outcome_state import left_out_of, state_of
-from aide_compare.reasons import add_evidence_options
 from aide_compare.rights import give_up
 from aide_compare.times import date_of
 from aide_compare.without import Rules, read_rules
@@ -133,6 +132,26 @@ def request_of(given, words, beside):
     )
 
 
+class NothingWanted:
+    """What a run is asked to write beside its report, if it is asked for nothing."""
+
+    def write_nothing(self):
+        pass
+
+    def explain(self, comparison, left_out):
+        return None
+
+
+def wanted_of(given):
+    """What is to be written beside the report. The modules for it are more than all others together, and loaded only if it is
+    asked for."""
+    if not given.reasons and not given.lines:
+        return NothingWanted()
+    from aide_compare.explaining import Sources, Wanted
+
+    return Wanted(given.lines, given.brief, Sources(given) if given.reasons else None)
+
+
 def introduce(outcome):
     """Says which databases differ: a report names only their descriptors."""
     for side in ("old", "new"):
@@ -168,7 +187,7 @@ def _compared(request, outcome, wanted):
     if outcome.status > 7:
         wanted.write_nothing()
         return None
-    reasons = explain(comparison, wanted, left_out_of(outcome))
+    reasons = wanted.explain(comparison, left_out_of(outcome))
     if reasons:
         say("%s: %s" % (reasons.words(), reasons.line()))
     return reasons
@@ -200,5 +219,5 @@ def main(arguments):
     if given.user:
         give_up(given.user)
     request = request_of(given, arguments[cut + 1 :], os.path.dirname(os.path.realpath(sys.argv[0])))
-    wanted = Wanted(given.lines, given.brief, Sources(given) if given.reasons else None)
+    wanted = wanted_of(given)
     return _run(request, Replacement(given.state, what="the state file").begin() if given.state else None, wanted)

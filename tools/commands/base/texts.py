@@ -1,4 +1,5 @@
 """Escapes, times, the command line, the state file, the head of reports, and how a command ends."""
+import json
 import os
 import subprocess
 import sys
@@ -6,7 +7,8 @@ import sys
 from tools.commands.base import TOP
 from tools.commands.base.calls import expect, expect_fault, outcome
 
-from aide_compare import VERSION, ending, escapes, options, reports, state, times
+from aide_compare import VERSION, ending, escapes, options, report_values, reports, state, times
+from aide_compare.reasons import entries
 
 ESCAPED = (
     (b"a b", "a b"),
@@ -35,8 +37,19 @@ NO_TIMES = ("", "x", "h", "1h2", "1.5h", "-1", "+1", " 1", "1 ", "1_0", "\u0663"
 
 
 def try_texts(tally, folder):
-    for part in (try_escapes, try_times, try_options, try_state, try_reports, try_ends):
+    for part in (try_escapes, try_times, try_options, try_state, try_reports, try_ends, try_attributes):
         part(tally, folder)
+
+
+def try_attributes(tally, _):
+    """The tables of attributes say the same: each digest is in the order of strength, in the reasons and in the schema."""
+    labels = [label for label, form in report_values.FORMS.items() if isinstance(form, tuple)]
+    columns = sorted(label.lower().replace("-", "_").replace("/", "_") for label in labels)
+    with open(os.path.join(TOP, "contrib", "json", "aide-compare-lines.schema.json"), encoding="utf-8") as file:
+        schema = json.load(file)
+    expect(tally, "digests by strength", sorted(report_values.STRENGTH), sorted(labels))
+    expect(tally, "digests of the reasons", sorted(entries.DIGESTS), columns)
+    expect(tally, "attributes of the schema", list(schema["$defs"]["attributes"]["properties"]), list(report_values.FORMS))
 
 
 def try_escapes(tally, _):

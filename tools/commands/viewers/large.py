@@ -3,6 +3,7 @@ import base64
 import os
 import random
 import subprocess
+import sys
 import tempfile
 import time
 
@@ -23,6 +24,12 @@ DIGESTS = {
     "whirlpool": 64,
     "gost": 32,
 }
+# The memory of a command that a large process starts would be counted with that of the large one.
+MEASURE = """import resource, subprocess, sys
+status = subprocess.call(sys.argv[1:])
+used = resource.getrusage(resource.RUSAGE_CHILDREN)
+sys.stderr.write("used %f %d" % (used.ru_utime + used.ru_stime, used.ru_maxrss))
+sys.exit(status)"""
 FOLDERS = [
     "usr/lib/x86_64-linux-gnu",
     "usr/share/doc",
@@ -72,9 +79,9 @@ def measured(words, source, target):
     """Status, seconds by the clock, seconds of the processor, and megabytes of a command."""
     with open(source, "rb") as text, open(target, "wb") as output:
         began = time.time()
-        process = subprocess.Popen(words, stdin=text, stdout=output)
-        _, status, usage = os.wait4(process.pid, 0)
-    return status, time.time() - began, usage.ru_utime + usage.ru_stime, usage.ru_maxrss / 1024
+        done = subprocess.run([sys.executable, "-c", MEASURE, *words], stdin=text, stdout=output, stderr=subprocess.PIPE)
+    seconds, kilobytes = done.stderr.split()[-2:]
+    return done.returncode, time.time() - began, float(seconds), int(kilobytes) / 1024
 
 
 def try_large(program, count, tally):

@@ -3,12 +3,10 @@ import base64
 import json
 import os
 import random
-import subprocess
-import sys
 import time
 
 from tools.commands.viewers import HTML
-from tools.commands.viewers.large import paths_of
+from tools.commands.viewers.large import measured, paths_of
 
 DIGESTS = (
     ("MD5", 16),
@@ -25,12 +23,6 @@ DIGESTS = (
 )
 MOST_BYTES, MOST_SECONDS, MOST_ANSWER = 20000000, 3, 0.2
 FIRST = 1700000000
-# The memory of a command that a large process starts would be counted with that of the large one.
-MEASURE = """import resource, subprocess, sys
-status = subprocess.call(sys.argv[1:])
-used = resource.getrusage(resource.RUSAGE_CHILDREN)
-sys.stderr.write("used %f %d" % (used.ru_utime + used.ru_stime, used.ru_maxrss))
-sys.exit(status)"""
 SEARCHES = ("package-00", "zzz", "file-07.so")
 SEARCH = """(async () => {
   const field = document.getElementById('search'), before = document.getElementById('found').textContent;
@@ -89,10 +81,8 @@ def write_lines(path, count):
 
 def made(source, target, *words):
     """Status, seconds of the processor and megabytes that a page takes, and how many bytes it has."""
-    with open(source, "rb") as text, open(target, "wb") as output:
-        done = subprocess.run([sys.executable, "-c", MEASURE, HTML, *words], stdin=text, stdout=output, stderr=subprocess.PIPE)
-    seconds, kilobytes = done.stderr.split(b"used ")[-1].split()
-    return done.returncode, float(seconds), float(kilobytes) / 1024, os.path.getsize(target)
+    status, _, seconds, megabytes = measured([HTML, *words], source, target)
+    return status, seconds, megabytes, os.path.getsize(target)
 
 
 def try_large(browser, count, folder, tally):

@@ -52,22 +52,6 @@ TABLE = [
         b"2,user.demo,dHdv,user.bin,AAECAwQFBgcICQoLDA0ODxAREhM=",
         'user.demo: "two"; user.bin: 0sAAECAwQFBgcICQoLDA0ODxAREhM=',
     ),
-    ("XAttrs", b"1,security.capability,AQAAAgAgAAAAAAAAAAAAAAAAAAA=", "security.capability: cap_net_raw=ep"),
-    ("XAttrs", b"1,security.capability,AAAAAgAgAAAAAAAAAAAAAAAAAAA=", "security.capability: cap_net_raw=p"),
-    ("XAttrs", b"1,security.capability,AQAAAv////8AAAAA/wEAgAAAAAA=", "security.capability: =ep 63+ep"),
-    (
-        "XAttrs",
-        b"1,security.capability,AQAAAwEAAAAGAAAAAAEAAAAAAADoAwAA",
-        "security.capability: cap_dac_override,cap_dac_read_search=ei cap_chown,cap_checkpoint_restore+ep [rootid=1000]",
-    ),
-    (
-        "XAttrs",
-        b"1,security.capability,AQAAAgAwAAABAAAAAAAAAAAAAAA=",
-        "security.capability: cap_chown=ei cap_net_admin,cap_net_raw+ep",
-    ),
-    ("XAttrs", b"1,security.capability,AQAAAv//3/8AAAAA/wEAAAAAAAA=", "security.capability: =ep cap_sys_admin-ep"),
-    ("XAttrs", b"1,security.capability,AAAAAgAAAAAAAAAAAAAAAAAAAAA=", "security.capability: ="),
-    ("XAttrs", b"1,security.capability,AQAAAgAAAAAAAAAAACAAAAAAAAA=", "security.capability: = 45+ep"),
     ("SELinux", b"c3lzdGVtX3U6b2JqZWN0X3I6ZXRjX3Q6czA=", "system_u:object_r:etc_t:s0"),
     ("SELinux", b"c3lzdGVtX3U6b2JqZWN0X3I6ZXRjX3Q6czAA", "system_u:object_r:etc_t:s0"),
     ("E2FSAttrs", b"524288", "--------------e-------"),
@@ -112,6 +96,21 @@ TABLE = [
     ("SELinux", b"4oCuG1sybQ==", "\\342\\200\\256\\033[2m"),
     ("ACL", b"POSIX,dXNlcjr/OnJ3LQo=,0", "user:\\377:rw-"),
 ]
+# Capabilities of files, as their extended attribute has them.
+CAPABILITIES = [
+    (b"AQAAAgAgAAAAAAAAAAAAAAAAAAA=", "cap_net_raw=ep"),
+    (b"AAAAAgAgAAAAAAAAAAAAAAAAAAA=", "cap_net_raw=p"),
+    (b"AQAAAv////8AAAAA/wEAgAAAAAA=", "=ep 63+ep"),
+    (
+        b"AQAAAwEAAAAGAAAAAAEAAAAAAADoAwAA",
+        "cap_dac_override,cap_dac_read_search=ei cap_chown,cap_checkpoint_restore+ep [rootid=1000]",
+    ),
+    (b"AQAAAgAwAAABAAAAAAAAAAAAAAA=", "cap_chown=ei cap_net_admin,cap_net_raw+ep"),
+    (b"AQAAAv//3/8AAAAA/wEAAAAAAAA=", "=ep cap_sys_admin-ep"),
+    (b"AAAAAgAAAAAAAAAAAAAAAAAAAAA=", "="),
+    (b"AQAAAgAAAAAAAAAAACAAAAAAAAA=", "= 45+ep"),
+]
+TABLE += [("XAttrs", b"1,security.capability," + value, "security.capability: " + text) for value, text in CAPABILITIES]
 # Values that would take long or be large if something were not bounded, and the most characters that a text has.
 LONG = [
     ("XAttrs", b"100000" + b",a,0" * 100000),
@@ -178,14 +177,10 @@ def try_zones(seed, tally):
         changes = [seconds + pick.randrange(21600) for seconds, one, other in zip(hours, offsets, offsets[1:]) if one != other]
         around = [seconds + step for seconds in changes for step in range(-22000, 22000, 450)]
         faults = [
-            "%d is %r" % (seconds, decoded_times.time_text(seconds))
+            "%d is %r" % (seconds, given(seconds))
+            for given, wanted in ((decoded_times.time_text, local_text), (decoded_times.date_of, utc_date))
             for seconds in times + around
-            if decoded_times.time_text(seconds) != local_text(seconds)
-        ]
-        faults += [
-            "%d is %r" % (seconds, decoded_times.date_of(seconds))
-            for seconds in times + around
-            if decoded_times.date_of(seconds) != utc_date(seconds)
+            if given(seconds) != wanted(seconds)
         ]
         tally.add("times in " + zone, faults[:5])
     os.environ.pop("TZ") if before is None else os.environ.update(TZ=before)
