@@ -6,12 +6,13 @@ stands, over prepared databases and with the folders that it names put below tha
 what the page says of it, are compared. `ssh`, `sendmail`, `logger` and `rt` are small programs of this script.
 page_blocks/rows.py says of each display how it is tried, or why it is not and what tries it instead. A display without a row
 fails, and so does a row without a display. The messages that the pages of the tools list under DIAGNOSTICS are looked for
-in the text of the tools. Prints what fails and, at the end, `N passed, M failed`.
+in the text of the tools, and the options of each `--help` in its page. Prints what fails and, at the end, `N passed, M failed`.
 """
 import sys
 
 from tools.lib.arguments import add_program, parser_of
 from tools.pages.page_blocks.messages import try_messages
+from tools.pages.page_blocks.options import try_options
 from tools.pages.page_blocks.pages import all_displays
 from tools.pages.page_blocks.sandbox import Sandbox
 from tools.pages.page_blocks.rows import ROWS
@@ -57,6 +58,7 @@ def main():
             try_one(sandbox, display, row)
         try_statuses(sandbox)
         try_messages(sandbox.holds)
+        try_options(sandbox.holds)
     finally:
         sandbox.trial.close()
     return sandbox.trial.status()

@@ -16,7 +16,9 @@ import tempfile
 
 from tools.lib.arguments import add_program, parser_of
 from tools.lib.tally import Tally
+from tools.oracle.attributes import ATTRIBUTES
 from tools.oracle.configuration import LEVELS
+from tools.oracle.session import CONFIGURATION_WORDS, DATABASE_WORDS
 
 HERE = os.path.dirname(os.path.dirname(os.path.dirname(os.path.abspath(__file__))))
 PAGE = os.path.join(HERE, "man", "aide-compare.1")
@@ -217,24 +219,7 @@ def attributes_of(page):
 
 def try_forms(column):
     """Two different fields of a column that is no number."""
-    lengths = {
-        "md5": 16,
-        "sha1": 20,
-        "rmd160": 20,
-        "sha256": 32,
-        "stribog256": 32,
-        "sha512_256": 32,
-        "sha3_256": 32,
-        "sha512": 64,
-        "whirlpool": 64,
-        "stribog512": 64,
-        "sha3_512": 64,
-        "tiger": 24,
-        "crc32": 4,
-        "crc32b": 4,
-        "haval": 32,
-        "gost": 32,
-    }
+    lengths = {each.column: each.form[1] for each in ATTRIBUTES if isinstance(each.form, tuple)}
     if column in lengths:
         return [base64.b64encode(bytes([value]) * lengths[column]).decode() for value in (1, 2)]
     if column == "perm":
@@ -274,7 +259,7 @@ def try_attribute(trial, row):
 
 def try_attributes(trial, page):
     rows = attributes_of(page)
-    trial.holds("attributes of the page", len(rows) == 33 and {row[3] for row in rows} == set(SLOTS), len(rows))
+    trial.holds("attributes of the page", len(rows) == len(ATTRIBUTES) and {row[3] for row in rows} == set(SLOTS), len(rows))
     for row in rows:
         try_attribute(trial, row)
     columns = sorted({row[1] for row in rows})
@@ -404,7 +389,7 @@ def try_faults(trial, page):
         unescaped(words).strip('"')
         for words in re.findall(r"^\.It Li (.*)$", section(page, "Faults of the configuration", "Ss").split(".Ss")[0], re.M)
     ]
-    trial.holds("faults of the configuration", len(named) == 17, len(named))
+    trial.holds("faults of the configuration", sorted(named) == sorted(CONFIGURATION_WORDS.values()), named)
     for words in named:
         text = faults_of_configuration(words)
         status, errors = trial.read(text, "-E" if words.startswith("no ") else "-D")
@@ -417,7 +402,8 @@ def try_faults(trial, page):
         unescaped(words).strip('"')
         for words in re.findall(r"^\.It Li (.*)$", section(page, "Faults of a database", "Ss"), re.M)
     ]
-    trial.holds("faults of a database", len(named) == 14, len(named))
+    wanted = sorted([words + " N" * words.endswith("column") for words in DATABASE_WORDS.values()] + ["read failed"])
+    trial.holds("faults of a database", sorted(named) == wanted, named)
     for words in named:
         text = faults_of_database(words)
         if text is None:
