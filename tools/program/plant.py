@@ -17,6 +17,7 @@ import subprocess
 import sys
 import tempfile
 
+from tools.lib import signals
 from tools.lib.tally import Tally, program_of
 from tools.program.planted import machine, oracle
 
@@ -110,6 +111,7 @@ def main():
     parser.add_argument("--trial", choices=sorted(PARTS), help="run this part of end_to_end.py alone")
     parser.add_argument("program")
     given = parser.parse_args()
+    signals.heed()
     program, tally, tried = program_of(given.program), Tally(), set()
     if given.trial:
         run_part(given.trial, program)

@@ -8,11 +8,14 @@ the same. Of random configurations with blocks and variables the definitions alo
 passed, M failed'.
 """
 import argparse
+import base64
 import collections
 import random
+import re
 
 from tools.program.configurations import accepted, limits, refused
 from tools.program.configurations.random_blocks import random_texts
+from tools.oracle.attributes import ATTRIBUTES
 from tools.oracle.session import CONFIGURATION_WORDS, Answer
 from tools.program.real_files.folder import NEW, OLD, Folder
 from tools.lib.tally import Tally, difference, program_of, run, shown, wanted
@@ -24,6 +27,10 @@ ACCEPTED = Answer(b"", b"", 0)
 # An entry in which nothing but the owner changed: the details have a further line only if one is forced.
 OWNED = b"@@begin_db\n@@db_spec name attr perm size uid\n/c 44 100644 10 %d\n@@end_db\n"
 FORCED_LINES = {"Perm": b"  Perm      : 0644 ", "Size": b"  Size      : 10 "}
+
+# An entry that has every attribute, and in which nothing but the owner changes.
+DETAIL = re.compile(rb"^  (\S+?) *: ", re.M)
+VALUES = {"type": b"120644", "perm": b"120644", "number": b"7", "time": base64.b64encode(b"7"), "link": b"x", "opaque": b"x"}
 
 # What random texts are refused for: in so many configurations each of these has to come.
 ENOUGH = 1000
@@ -49,6 +56,17 @@ EXPECTED = {
 
 def refusal(said):
     return Answer(b"", b"aide: %s\n" % said.encode(), 17)
+
+
+def with_all(owner):
+    """A database of one entry with all attributes."""
+    fields = {
+        each.column: VALUES[each.form] if each.form in VALUES else base64.b64encode(bytes(each.form[0])) for each in ATTRIBUTES
+    }
+    bits = sum(1 << each.bit for each in ATTRIBUTES if each.bit)
+    fields.update(name=b"/c", attr=b"%d" % bits, uid=b"%d" % owner)
+    lines = (b"@@begin_db", b"@@db_spec " + " ".join(fields).encode(), b" ".join(fields.values()), b"@@end_db")
+    return b"".join(line + b"\n" for line in lines)
 
 
 class Trials:
@@ -125,6 +143,18 @@ def try_forced(trials):
         trials.check(shown(text), words, answer)
 
 
+def try_names(trials):
+    """What each predefined name stands for."""
+    trials.pair(with_all(0), with_all(1))
+    for text, names in accepted.NAMES:
+        words = trials.compared(b"report_force_attrs=" + text)
+        answer = run(trials.program, words)
+        details = answer.output.partition(b"Detailed information")[2].partition(b"The attributes of the databases")[0]
+        got = {name.decode() for name in DETAIL.findall(details)}
+        trials.tally.add(shown(text), [] if got == {"UID"} | set(names) else ["forced are %r" % sorted(got)])
+        trials.check(shown(text), words, answer)
+
+
 def try_random(trials, seed, count):
     """Random texts, checked and compared."""
     seen = collections.Counter()
@@ -157,6 +187,7 @@ def main():
         try_limits(trials)
         try_accepted(trials)
         try_forced(trials)
+        try_names(trials)
         try_random(trials, given.seed, given.count)
     trials.tally.end()
 

@@ -115,4 +115,29 @@ FORCED = [
     ("Size", b"@@define L x\nL = s\nreport_force_attrs=L@@{NOPE}"),
     ("Size", b"my = s\n@@ifdef A\nmy = p\n@@endif\nreport_force_attrs=my"),
     ("Size", b"my = s\nreport_force_attrs=my\n@@define A x\n@@ifdef A\nmy = p\n@@endif"),
+    ("Perm", b"report_force_attrs=p-p+p"),
+    ("Size", b"my = s-p+p\nreport_force_attrs=p-s-my+my-p"),
+]
+
+# The predefined names, and the details of an entry with all attributes that each of them forces.
+RIGHTS = ["ACL", "XAttrs", "SELinux", "E2FSAttrs", "Caps"]
+INODE = ["Type", "Lname", "Perm", "UID", "GID", "Inode", "Linkcount"]
+DIGESTS = ["MD5", "SHA1", "SHA256", "SHA512", "RMD160", "TIGER", "CRC32", "CRC32B", "HAVAL", "GOST", "WHIRLPOOL"]
+DIGESTS += ["STRIBOG256", "STRIBOG512", "SHA512/256", "SHA3-256", "SHA3-512"]
+NAMES = [
+    (b"E", []),
+    (b"X", RIGHTS),
+    (b"L", INODE + RIGHTS),
+    (b"R", INODE + ["Size", "Mtime", "Ctime", "MD5"] + RIGHTS),
+    (b">", INODE + RIGHTS),
+    (b"H", DIGESTS),
+    (b"S", []),
+    (b"I", []),
+    (b"ANF", []),
+    (b"ARF", []),
+    (b"growing", []),
+    (b"compressed", []),
+    (b"R-H", INODE + ["Size", "Mtime", "Ctime"] + RIGHTS),
+    (b"H-R+compressed", DIGESTS[1:]),
+    (b"X+L-X+growing", INODE),
 ]
