@@ -5,9 +5,10 @@
 - Each file that a page names in backquotes exists: below the top, a crate, or a crate's src/. Built files (`out/`) and
   names with `NAME` in them are left out.
 - A block of code below `<!-- from: FILE -->` is FILE, letter for letter.
-- The table in docs/ARCHITECTURE.md of files that say what is promised has the files that tools/public_specs.py finds.
+- Each file of a crate's specs/ is reached from the contract of a public call, as tools/source/public_specs.py finds, or
+  cited by the laws of the crate, and no file of specs/code/ is.
 - Each clause that docs/LIBRARY.md names for a call is a clause of this call.
-- Each kind of change in CONTRIBUTING.md names all files that have the text of its example, and no others.
+- Each kind of change in CONTRIBUTING.md names all files that have a text of its example, and no others.
 
 Prints what fails and, at the end, `N passed, M failed`.
 """
@@ -27,7 +28,7 @@ ENDINGS = r"(?:rt|antt|py|md|sh|c|txt|conf|edit|[15])"
 NAMED = re.compile(r"`((?:[\w.-]+/)*[\w.-]+\.%s)`" % ENDINGS)
 BELOW = re.compile(r"`((?:tools|packaging|commands|docs|crates|examples|contrib|man|bench)/[\w./-]*)`")
 
-COPIES = re.compile(r"tools/wrong_bodies/(bodies|results)/|docs/WRONG_BODIES\.md$")
+COPIES = re.compile(r"tools/wrong_bodies/(base|bodies|results)/|docs/WRONG_BODIES\.md$")
 
 
 class Kinds(Tally):
@@ -108,29 +109,36 @@ def check_copies(page, text, tally):
 
 
 def check_promised(tally):
+    """A folder `specs/` has just the files that public contracts reach or laws cite, and `specs/code/` has the others."""
     found = public_specs.met(public_specs.crates())
-    page = read("docs/ARCHITECTURE.md")
-    table = page[page.index("| Crate | Files of `specs/`") :].split("\n\n")[0]
-    for crate, files in re.findall(r"^\| `(\w+)` \| (.*) \|$", table, re.M):
-        named = sorted(re.findall(r"`([\w.]+)`", files))
-        differing = " ".join(sorted(set(named) ^ set(found.get(crate, []))))
-        tally.is_so("file that says what is promised", "%s: %s" % (crate, differing), named == found.get(crate))
+    for crate in public_specs.crates():
+        folder, laws = os.path.join(TOP, "crates", crate, "specs"), os.path.join("crates", crate, "proofs", "Laws.antt")
+        cited = read(laws) if os.path.exists(os.path.join(TOP, laws)) else ""
+        reached = found.get(crate, [])
+        promised = set(reached) | set(re.findall(r"^use Rattle\.%s\.specs\.(\w+)\." % crate, cited, re.M))
+        for path in sorted(glob.glob(os.path.join(folder, "**", "*.antt"), recursive=True)):
+            name = os.path.relpath(path, folder)[: -len(".antt")].replace(os.sep, ".")
+            if name not in ("Lib", "code.Lib", "code"):
+                holds = name not in reached if name.startswith("code.") else name in promised
+                tally.is_so("place of a definition", "%s: %s" % (crate, name), holds)
 
 
 def check_changes(tally):
-    """Each kind of change in CONTRIBUTING names just the files that have the text of its example: no other file has it, and
-    each file or pattern finds one that has it. Wrong bodies copy the text of functions; what is stale there is told by
+    """Each kind of change in CONTRIBUTING names just the files that have one of the texts of its example: no other file has
+    one, and each file or pattern finds one that has. Wrong bodies copy the text of functions; what is stale there is told by
     tools/wrong_bodies/check.py."""
     page = read("CONTRIBUTING.md")
     part = page[page.index("## What a change touches") :].split("\n## ")[0]
     texts = {name: read_text(name) for name in tracked() if name != "CONTRIBUTING.md" and not COPIES.match(name)}
-    for literal, rows in re.findall(r"^### .*\(`([^`]+)`\)\n\n((?:[-|  ].*\n)+)", part, re.M):
+    for example, rows in re.findall(r"^### .*\((`[^`]+`(?:, `[^`]+`)*)\)\n\n((?:[-|  ].*\n)+)", part, re.M):
+        literals = re.findall(r"`([^`]+)`", example)
         patterns = [pattern for pattern in re.findall(r"`([^`\s]+)`", rows) if "/" in pattern or pattern.endswith(".md")]
-        having = [name for name, text in texts.items() if literal in text]
+        having = [name for name, text in texts.items() if any(literal in text for literal in literals)]
         missed = [name for name in having if not any(fnmatch.fnmatch(name, pattern) for pattern in patterns)]
         idle = [pattern for pattern in patterns if not any(fnmatch.fnmatch(name, pattern) for name in having)]
-        tally.is_so("kind of change", "`%s` is also in %s" % (literal, " ".join(missed)), having and not missed)
-        tally.is_so("kind of change", "`%s` is not in %s" % (literal, " ".join(idle)), not idle)
+        tally.is_so("kind of change", "a file has %s" % example, having)
+        tally.is_so("kind of change", "%s is also in %s" % (example, " ".join(missed)), not missed)
+        tally.is_so("kind of change", "%s is not in %s" % (example, " ".join(idle)), not idle)
 
 
 def read_text(name):
@@ -163,7 +171,7 @@ def main():
     check_promised(tally)
     check_clauses(tally)
     check_changes(tally)
-    return tally.status_of(["link", "file", "copied code", "file that says what is promised", "clause", "kind of change"])
+    return tally.status_of(["link", "file", "copied code", "place of a definition", "clause", "kind of change"])
 
 
 if __name__ == "__main__":
