@@ -62,7 +62,13 @@ class Memory(threading.Thread):
 
 
 def install(root, program):
-    words = [os.path.join(HERE, "packaging", "install"), "--destdir", root, "--program", os.path.abspath(program)]
+    words = [
+        os.path.join(HERE, "packaging", "install"),
+        "--prefix",
+        root + "/usr/local",
+        "--program",
+        os.path.abspath(program),
+    ]
     subprocess.run(words, check=True, stdout=subprocess.DEVNULL)
 
 
