@@ -5,8 +5,8 @@ A list has a block for each body, and a blank line between two blocks:
     body: rest_of_new_left_out
     why: what the new database still has when the old one has ended is not reported
     file: src/merge.rt
-    old:         None => Turn::New,
-    new:         None => Turn::Ended,
+    old:         (None, Some(new)) => AtPath::Differs(Change::Added(new)),
+    new:         (None, Some(_)) => AtPath::End,
 
 `file`, `old` and `new` mean what they mean in a must-fail edit: each `old` is on one line and stands once in its file,
 and a further pair applies to what the earlier ones made. A line `in: FUNCTION`, or `in: TYPE::FUNCTION`, asks for texts

@@ -2,7 +2,7 @@
 
 Fails when a list cannot be read, an `old` text does not stand once where it must, a body has no stored result, it or its
 function was changed since, a proved crate has too few bodies, a body proves without a reason, a kept answer is not told
-in a line `differs`, or a page is not what the results say. The last line is `N passed, M failed`.
+in a line `differs` of its list, or a page is not what the results say. The last line is `N passed, M failed`.
 """
 import argparse
 import sys
@@ -15,15 +15,15 @@ PROVED = ("aide_attr", "aide_conf", "aide_db", "aide_entry", "aide_report", "aid
 FEWEST = {crate: 25 if crate == "aide_words" else 30 for crate in PROVED}
 
 
-def fault_of(body, found, row):
-    """What is wrong with a body and its stored result, or None."""
+def fault_of(body, found, row, is_edit=False):
+    """What is wrong with a body and its stored result, or None. The file of a must-fail edit has no line `differs`."""
     try:
         place = found.place_of(body)
     except bodies.ListError as error:
         return str(error)
     why = results.stale(row, body, found.sum_of(place))
     why = why or verdicts.is_wrong(body, verdicts.Verdict(row["kind"], row["by"]))
-    if not why and bool(body.differs) != (row["kind"] == verdicts.ANSWER):
+    if not why and not is_edit and bool(body.differs) != (row["kind"] == verdicts.ANSWER):
         why = f"has a line `differs`, but its verdict is {row['kind']}" if body.differs else "needs a line `differs`"
     return f"{body.place}: `{body.name}` {why}" if why else None
 
@@ -36,7 +36,7 @@ def faults_of(crate):
         listed = bodies.listed(crate, edits)
         for body in listed:
             if not edits or body.name in rows:
-                yield fault_of(body, found, rows.get(body.name))
+                yield fault_of(body, found, rows.get(body.name), edits)
         for name in sorted(set(rows) - {body.name for body in listed}):
             yield f"{crate}: `{name}` has a stored result, and no list has it"
 

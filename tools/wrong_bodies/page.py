@@ -8,7 +8,7 @@ TRIALS = bodies.ROOT / "docs" / "TRIALS.md"
 BEGINNING = "[WRONG_BODIES.md](WRONG_BODIES.md) lists"
 LONGEST = 160
 GOAL = re.compile(r"`[^`]*`|")
-EDITS = "The crates' must-fail edits, judged in the same way by `--edits`. Those of the other crates were not."
+EDITS = "The crates' must-fail edits, judged in the same way by `--edits`. Those that are not counted here were not."
 
 HEAD = """# Wrong bodies, and how the prover refuses them
 
@@ -38,8 +38,9 @@ its bodies again. What the lemmas of a crate say may have changed since.
 
 No body can break some clauses, so none is listed for them. `answered` of `session` and `session_on` speaks of the definitions
 alone. No call can make a count of failures fall (`sources_never_fall` of `run`), close a side so that `lookups` of `run`
-rises, or make the peak of a desk fall (`peak` of `run` and `Cursor::next`). What a test sees of a body that proves is tried by
-`python3 -m tools.wrong_bodies.seen`, which plants the body in the place of the function and runs the crate's tests.
+rises, or make the peak of a desk fall (`peak` of `run` and `Cursor::next`). No body of `run` itself is listed yet: its right
+body alone, without its stored answers, takes more than four minutes of processor time. What a test sees of a body that proves
+is tried by `python3 -m tools.wrong_bodies.seen`, which plants the body in the place of the function and runs the crate's tests.
 """
 
 
