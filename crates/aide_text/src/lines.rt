@@ -1,6 +1,6 @@
 //! Writes lines of padded and cut text.
 ghost use Rattle.std.specs.Prelude.{◌≡◌, ◌≤◌, replicate, take, drop, if◌then◌else◌, []};
-ghost use Rattle.aide_text.specs.PenSheet.{sheet};
+ghost use Rattle.aide_text.specs.PenSheet.{on_sheet};
 ghost use Rattle.aide_text.specs.Sheet.{Wrote};
 ghost use Rattle.aide_text.specs.Layout.{padded, margin, indent, heading, single_line, alone, bar};
 ghost use Rattle.aide_text.specs.Layout.{left_part, pair_body, pair_line, next_line, has_lines};
@@ -25,8 +25,8 @@ fn blanks(count: usize) -> &'static [u8]
 /// Writes a text, aligned to the left and padded with blanks to a width.
 fn put_padded<W: Sink>(out: &mut W, pen: &mut Pen, width: usize, text: &[u8])
     requires { width ≤ 32 }
-    ensures { Wrote (padded width text.now) (sheet W.delivered W.failures W.flushes out.old pen.old)
-        (sheet W.delivered W.failures W.flushes out.new pen.new) }
+    ensures { Wrote (padded width text.now) (on_sheet W.Sink out.old pen.old)
+        (on_sheet W.Sink out.new pen.new) }
 {
     put(out, pen, text);
     put(out, pen, blanks(width.saturating_sub(text.len())));
@@ -34,24 +34,22 @@ fn put_padded<W: Sink>(out: &mut W, pen: &mut Pen, width: usize, text: &[u8])
 
 #[tactic(auto, unfolding(crate::specs::Layout::margin))]
 fn put_margin<W: Sink>(out: &mut W, pen: &mut Pen)
-    ensures { Wrote margin (sheet W.delivered W.failures W.flushes out.old pen.old)
-        (sheet W.delivered W.failures W.flushes out.new pen.new) }
+    ensures { Wrote margin (on_sheet W.Sink out.old pen.old) (on_sheet W.Sink out.new pen.new) }
 {
     put(out, pen, b"              ");
 }
 
 #[tactic(auto, unfolding(crate::specs::Layout::indent))]
 fn put_indent<W: Sink>(out: &mut W, pen: &mut Pen)
-    ensures { Wrote indent (sheet W.delivered W.failures W.flushes out.old pen.old)
-        (sheet W.delivered W.failures W.flushes out.new pen.new) }
+    ensures { Wrote indent (on_sheet W.Sink out.old pen.old) (on_sheet W.Sink out.new pen.new) }
 {
     put(out, pen, b"  ");
 }
 
 /// Writes the head of a line: a name, aligned to the left in ten columns.
 fn put_heading<W: Sink>(out: &mut W, pen: &mut Pen, name: &[u8])
-    ensures { Wrote (heading name.now) (sheet W.delivered W.failures W.flushes out.old pen.old)
-        (sheet W.delivered W.failures W.flushes out.new pen.new) }
+    ensures { Wrote (heading name.now) (on_sheet W.Sink out.old pen.old)
+        (on_sheet W.Sink out.new pen.new) }
 {
     put_indent(out, pen);
     put_padded(out, pen, 10, name);
@@ -74,8 +72,7 @@ fn behind(text: &[u8]) -> &[u8]
 
 fn put_first<W: Sink>(out: &mut W, pen: &mut Pen, name: &[u8], text: &[u8])
     ensures { Wrote (single_line (heading name.now) (take 32 text.now))
-        (sheet W.delivered W.failures W.flushes out.old pen.old)
-        (sheet W.delivered W.failures W.flushes out.new pen.new) }
+        (on_sheet W.Sink out.old pen.old) (on_sheet W.Sink out.new pen.new) }
 {
     put_heading(out, pen, name);
     put_ended(out, pen, piece(text));
@@ -83,8 +80,7 @@ fn put_first<W: Sink>(out: &mut W, pen: &mut Pen, name: &[u8], text: &[u8])
 
 fn put_more<W: Sink>(out: &mut W, pen: &mut Pen, text: &[u8])
     ensures { Wrote (single_line margin (take 32 text.now))
-        (sheet W.delivered W.failures W.flushes out.old pen.old)
-        (sheet W.delivered W.failures W.flushes out.new pen.new) }
+        (on_sheet W.Sink out.old pen.old) (on_sheet W.Sink out.new pen.new) }
 {
     put_margin(out, pen);
     put_ended(out, pen, piece(text));
@@ -93,8 +89,7 @@ fn put_more<W: Sink>(out: &mut W, pen: &mut Pen, text: &[u8])
 /// Writes a text, cut into pieces of 32 bytes, next to a name.
 pub(crate) fn put_alone<W: Sink>(out: &mut W, pen: &mut Pen, name: &[u8], text: &[u8])
     ensures { Wrote (alone name.now text.now)
-        (sheet W.delivered W.failures W.flushes out.old pen.old)
-        (sheet W.delivered W.failures W.flushes out.new pen.new) }
+        (on_sheet W.Sink out.old pen.old) (on_sheet W.Sink out.new pen.new) }
 {
     put_first(out, pen, name, text);
     let mut rest = behind(text);
@@ -106,16 +101,15 @@ pub(crate) fn put_alone<W: Sink>(out: &mut W, pen: &mut Pen, name: &[u8], text: 
 
 #[tactic(auto, unfolding(crate::specs::Layout::bar))]
 fn put_bar<W: Sink>(out: &mut W, pen: &mut Pen)
-    ensures { Wrote bar (sheet W.delivered W.failures W.flushes out.old pen.old)
-        (sheet W.delivered W.failures W.flushes out.new pen.new) }
+    ensures { Wrote bar (on_sheet W.Sink out.old pen.old) (on_sheet W.Sink out.new pen.new) }
 {
     put(out, pen, b" | ");
 }
 
 /// Writes the old piece, aligned to the left in 32 columns, and the bar between it and the new piece.
 fn put_left<W: Sink>(out: &mut W, pen: &mut Pen, text: &[u8])
-    ensures { Wrote (left_part text.now) (sheet W.delivered W.failures W.flushes out.old pen.old)
-        (sheet W.delivered W.failures W.flushes out.new pen.new) }
+    ensures { Wrote (left_part text.now) (on_sheet W.Sink out.old pen.old)
+        (on_sheet W.Sink out.new pen.new) }
 {
     put_padded(out, pen, 32, text);
     put_bar(out, pen);
@@ -123,8 +117,7 @@ fn put_left<W: Sink>(out: &mut W, pen: &mut Pen, text: &[u8])
 
 fn put_pair<W: Sink>(out: &mut W, pen: &mut Pen, old_piece: &[u8], new_piece: &[u8])
     ensures { Wrote (pair_body old_piece.now new_piece.now)
-        (sheet W.delivered W.failures W.flushes out.old pen.old)
-        (sheet W.delivered W.failures W.flushes out.new pen.new) }
+        (on_sheet W.Sink out.old pen.old) (on_sheet W.Sink out.new pen.new) }
 {
     put_left(out, pen, old_piece);
     put_ended(out, pen, new_piece);
@@ -138,8 +131,7 @@ fn put_first_line<W: Sink>(
     new_piece: &[u8],
 )
     ensures { Wrote (pair_line (heading name.now) old_piece.now new_piece.now)
-        (sheet W.delivered W.failures W.flushes out.old pen.old)
-        (sheet W.delivered W.failures W.flushes out.new pen.new) }
+        (on_sheet W.Sink out.old pen.old) (on_sheet W.Sink out.new pen.new) }
 {
     put_heading(out, pen, name);
     put_pair(out, pen, old_piece, new_piece);
@@ -147,8 +139,7 @@ fn put_first_line<W: Sink>(
 
 fn put_more_line<W: Sink>(out: &mut W, pen: &mut Pen, old_piece: &[u8], new_piece: &[u8])
     ensures { Wrote (pair_line margin old_piece.now new_piece.now)
-        (sheet W.delivered W.failures W.flushes out.old pen.old)
-        (sheet W.delivered W.failures W.flushes out.new pen.new) }
+        (on_sheet W.Sink out.old pen.old) (on_sheet W.Sink out.new pen.new) }
 {
     put_margin(out, pen);
     put_pair(out, pen, old_piece, new_piece);
@@ -171,8 +162,7 @@ fn put_name_line<W: Sink, B: Feed, C: Feed>(
 )
     ensures wrote { Wrote (pair_line (heading name.now) (take 32 (B.rest old_text.old))
         (take 32 (C.rest new_text.old)))
-        (sheet W.delivered W.failures W.flushes out.old pen.old)
-        (sheet W.delivered W.failures W.flushes out.new pen.new) }
+        (on_sheet W.Sink out.old pen.old) (on_sheet W.Sink out.new pen.new) }
     ensures old_rest { B.rest old_text.new ≡ drop 32 (B.rest old_text.old) }
     ensures new_rest { C.rest new_text.new ≡ drop 32 (C.rest new_text.old) }
 {
@@ -184,8 +174,7 @@ fn put_name_line<W: Sink, B: Feed, C: Feed>(
 fn put_pieces<W: Sink>(out: &mut W, pen: &mut Pen, more: bool, old_piece: &Piece, new_piece: &Piece)
     ensures { Wrote (if more
         then pair_line margin (piece_text old_piece.now) (piece_text new_piece.now) else [])
-        (sheet W.delivered W.failures W.flushes out.old pen.old)
-        (sheet W.delivered W.failures W.flushes out.new pen.new) }
+        (on_sheet W.Sink out.old pen.old) (on_sheet W.Sink out.new pen.new) }
 {
     if more {
         put_more_line(out, pen, old_piece.bytes(), new_piece.bytes());
@@ -200,8 +189,7 @@ fn put_next_line<W: Sink, B: Feed, C: Feed>(
     new_text: &mut C,
 ) -> bool
     ensures wrote { Wrote (next_line (B.rest old_text.old) (C.rest new_text.old))
-        (sheet W.delivered W.failures W.flushes out.old pen.old)
-        (sheet W.delivered W.failures W.flushes out.new pen.new) }
+        (on_sheet W.Sink out.old pen.old) (on_sheet W.Sink out.new pen.new) }
     ensures old_rest { B.rest old_text.new ≡ drop 32 (B.rest old_text.old) }
     ensures new_rest { C.rest new_text.new ≡ drop 32 (C.rest new_text.old) }
     ensures more { result ≡ has_lines (B.rest old_text.old) (C.rest new_text.old) }
@@ -223,8 +211,7 @@ pub fn put_side_by_side<W: Sink, B: Feed, C: Feed>(
     mut new_text: C,
 )
     ensures { Wrote (side_by_side name.now (B.rest old_text) (C.rest new_text))
-        (sheet W.delivered W.failures W.flushes out.old pen.old)
-        (sheet W.delivered W.failures W.flushes out.new pen.new) }
+        (on_sheet W.Sink out.old pen.old) (on_sheet W.Sink out.new pen.new) }
 {
     put_name_line(out, pen, name, &mut old_text, &mut new_text);
     'lines: loop {

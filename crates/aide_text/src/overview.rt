@@ -4,7 +4,7 @@ ghost use Rattle.aide_attr.specs.declared.level.Level.{Level as AnyLevel};
 ghost use Rattle.aide_text.specs.Overview.{head_of, summary_title, number_line, first_numbers};
 ghost use Rattle.aide_text.specs.Overview.{last_numbers, summary_of, overview_by, when};
 ghost use Rattle.aide_attr.specs.Level.{reaches};
-ghost use Rattle.aide_text.specs.PenSheet.{sheet};
+ghost use Rattle.aide_text.specs.PenSheet.{on_sheet};
 ghost use Rattle.aide_text.specs.Sheet.{Wrote};
 
 use crate::counts::Counts;
@@ -15,8 +15,8 @@ use aide_attr::Level;
 /// Writes the first line: whether the databases differ.
 #[tactic(auto, unfolding(crate::specs::Overview::head_of))]
 fn put_head<W: Sink>(out: &mut W, pen: &mut Pen, differ: bool)
-    ensures { Wrote (head_of differ) (sheet W.delivered W.failures W.flushes out.old pen.old)
-        (sheet W.delivered W.failures W.flushes out.new pen.new) }
+    ensures { Wrote (head_of differ) (on_sheet W.Sink out.old pen.old)
+        (on_sheet W.Sink out.new pen.new) }
 {
     if differ {
         put(
@@ -35,16 +35,15 @@ fn put_head<W: Sink>(out: &mut W, pen: &mut Pen, differ: bool)
 
 #[tactic(auto, unfolding(crate::specs::Overview::summary_title))]
 fn put_summary_title<W: Sink>(out: &mut W, pen: &mut Pen)
-    ensures { Wrote summary_title (sheet W.delivered W.failures W.flushes out.old pen.old)
-        (sheet W.delivered W.failures W.flushes out.new pen.new) }
+    ensures { Wrote summary_title (on_sheet W.Sink out.old pen.old)
+        (on_sheet W.Sink out.new pen.new) }
 {
     put(out, pen, b"\nSummary:\n");
 }
 
 fn put_number_line<W: Sink>(out: &mut W, pen: &mut Pen, label: &[u8], number: u64)
     ensures { Wrote (number_line label.now number)
-        (sheet W.delivered W.failures W.flushes out.old pen.old)
-        (sheet W.delivered W.failures W.flushes out.new pen.new) }
+        (on_sheet W.Sink out.old pen.old) (on_sheet W.Sink out.new pen.new) }
 {
     put(out, pen, label);
     put_number(out, pen, number);
@@ -53,8 +52,7 @@ fn put_number_line<W: Sink>(out: &mut W, pen: &mut Pen, label: &[u8], number: u6
 
 fn put_first_numbers<W: Sink>(out: &mut W, pen: &mut Pen, total: u64, added: u64)
     ensures { Wrote (first_numbers total added)
-        (sheet W.delivered W.failures W.flushes out.old pen.old)
-        (sheet W.delivered W.failures W.flushes out.new pen.new) }
+        (on_sheet W.Sink out.old pen.old) (on_sheet W.Sink out.new pen.new) }
 {
     put_number_line(out, pen, b"  Total number of entries: ", total);
     put_number_line(out, pen, b"  Added entries:           ", added);
@@ -62,8 +60,7 @@ fn put_first_numbers<W: Sink>(out: &mut W, pen: &mut Pen, total: u64, added: u64
 
 fn put_last_numbers<W: Sink>(out: &mut W, pen: &mut Pen, removed: u64, changed: u64)
     ensures { Wrote (last_numbers removed changed)
-        (sheet W.delivered W.failures W.flushes out.old pen.old)
-        (sheet W.delivered W.failures W.flushes out.new pen.new) }
+        (on_sheet W.Sink out.old pen.old) (on_sheet W.Sink out.new pen.new) }
 {
     put_number_line(out, pen, b"  Removed entries:         ", removed);
     put_number_line(out, pen, b"  Changed entries:         ", changed);
@@ -73,8 +70,7 @@ fn put_last_numbers<W: Sink>(out: &mut W, pen: &mut Pen, removed: u64, changed: 
 fn put_summary<W: Sink>(out: &mut W, pen: &mut Pen, counts: &Counts)
     ensures { Wrote (summary_of
         counts.now.total counts.now.added counts.now.removed counts.now.changed)
-        (sheet W.delivered W.failures W.flushes out.old pen.old)
-        (sheet W.delivered W.failures W.flushes out.new pen.new) }
+        (on_sheet W.Sink out.old pen.old) (on_sheet W.Sink out.new pen.new) }
 {
     put_summary_title(out, pen);
     put_first_numbers(out, pen, counts.total, counts.added);
@@ -84,8 +80,7 @@ fn put_summary<W: Sink>(out: &mut W, pen: &mut Pen, counts: &Counts)
 fn put_wanted_summary<W: Sink>(out: &mut W, pen: &mut Pen, level: Level, counts: &Counts)
     ensures { Wrote (when (reaches level AnyLevel.Summary)
         (summary_of counts.now.total counts.now.added counts.now.removed counts.now.changed))
-        (sheet W.delivered W.failures W.flushes out.old pen.old)
-        (sheet W.delivered W.failures W.flushes out.new pen.new) }
+        (on_sheet W.Sink out.old pen.old) (on_sheet W.Sink out.new pen.new) }
 {
     if level.reaches(Level::Summary) {
         put_summary(out, pen, counts);
@@ -95,8 +90,7 @@ fn put_wanted_summary<W: Sink>(out: &mut W, pen: &mut Pen, level: Level, counts:
 /// Writes the head, and the summary if the level asks for it.
 pub fn put_overview<W: Sink>(out: &mut W, pen: &mut Pen, level: Level, counts: &Counts)
     ensures { Wrote (overview_by level counts.now)
-        (sheet W.delivered W.failures W.flushes out.old pen.old)
-        (sheet W.delivered W.failures W.flushes out.new pen.new) }
+        (on_sheet W.Sink out.old pen.old) (on_sheet W.Sink out.new pen.new) }
 {
     put_head(out, pen, counts.databases_differ());
     put_wanted_summary(out, pen, level, counts);

@@ -3,7 +3,7 @@ ghost use Rattle.std.specs.Prelude.{◌≡◌, ◌++◌, ◌∷◌, [], false, d
 ghost use Rattle.std.specs.Io.KnownBytes.{Appends};
 ghost use Rattle.aide_text.specs.Failures.{CountsFault};
 ghost use Rattle.aide_text.specs.Layout.{empty_line, colon_blank, ended};
-ghost use Rattle.aide_text.specs.PenSheet.{sheet};
+ghost use Rattle.aide_text.specs.PenSheet.{on_sheet};
 ghost use Rattle.aide_text.specs.Printed.{printed};
 ghost use Rattle.aide_text.specs.Sent.{IsCut};
 ghost use Rattle.aide_text.specs.Sheet.{Wrote};
@@ -38,8 +38,7 @@ impl Pen {
 
 /// Writes these bytes.
 pub fn put<W: Sink>(out: &mut W, pen: &mut Pen, bytes: &[u8])
-    ensures { Wrote bytes.now (sheet W.delivered W.failures W.flushes out.old pen.old)
-        (sheet W.delivered W.failures W.flushes out.new pen.new) }
+    ensures { Wrote bytes.now (on_sheet W.Sink out.old pen.old) (on_sheet W.Sink out.new pen.new) }
 {
     if pen.failed {
         return;
@@ -55,8 +54,8 @@ pub fn put<W: Sink>(out: &mut W, pen: &mut Pen, bytes: &[u8])
 
 /// Writes the bytes of a feed in the way that a path is printed.
 pub fn put_path<W: Sink, B: Feed>(out: &mut W, pen: &mut Pen, path: B)
-    ensures { Wrote (printed (B.rest path)) (sheet W.delivered W.failures W.flushes out.old pen.old)
-        (sheet W.delivered W.failures W.flushes out.new pen.new) }
+    ensures { Wrote (printed (B.rest path)) (on_sheet W.Sink out.old pen.old)
+        (on_sheet W.Sink out.new pen.new) }
 {
     let mut text = Printed::of(path);
     'pieces: loop {
@@ -85,8 +84,8 @@ pub fn emit_path<W: Sink>(out: &mut W, bytes: &[u8]) -> Result<(), u64>
 
 /// Writes a number in decimal.
 pub fn put_number<W: Sink>(out: &mut W, pen: &mut Pen, number: u64)
-    ensures { Wrote (decimal number) (sheet W.delivered W.failures W.flushes out.old pen.old)
-        (sheet W.delivered W.failures W.flushes out.new pen.new) }
+    ensures { Wrote (decimal number) (on_sheet W.Sink out.old pen.old)
+        (on_sheet W.Sink out.new pen.new) }
 {
     let mut buffer = Buffer::new();
     put(out, pen, buffer.format(number).as_bytes());
@@ -95,16 +94,15 @@ pub fn put_number<W: Sink>(out: &mut W, pen: &mut Pen, number: u64)
 /// Writes the end of a line.
 #[tactic(auto, unfolding(crate::specs::Layout::empty_line))]
 pub fn put_newline<W: Sink>(out: &mut W, pen: &mut Pen)
-    ensures { Wrote empty_line (sheet W.delivered W.failures W.flushes out.old pen.old)
-        (sheet W.delivered W.failures W.flushes out.new pen.new) }
+    ensures { Wrote empty_line (on_sheet W.Sink out.old pen.old) (on_sheet W.Sink out.new pen.new) }
 {
     put(out, pen, b"\n");
 }
 
 /// Writes these bytes and the end of the line.
 pub(crate) fn put_ended<W: Sink>(out: &mut W, pen: &mut Pen, bytes: &[u8])
-    ensures { Wrote (ended bytes.now) (sheet W.delivered W.failures W.flushes out.old pen.old)
-        (sheet W.delivered W.failures W.flushes out.new pen.new) }
+    ensures { Wrote (ended bytes.now) (on_sheet W.Sink out.old pen.old)
+        (on_sheet W.Sink out.new pen.new) }
 {
     put(out, pen, bytes);
     put_newline(out, pen);
@@ -113,8 +111,8 @@ pub(crate) fn put_ended<W: Sink>(out: &mut W, pen: &mut Pen, bytes: &[u8])
 /// Writes a colon and a blank.
 #[tactic(auto, unfolding(crate::specs::Layout::colon_blank))]
 pub(crate) fn put_colon_blank<W: Sink>(out: &mut W, pen: &mut Pen)
-    ensures { Wrote colon_blank (sheet W.delivered W.failures W.flushes out.old pen.old)
-        (sheet W.delivered W.failures W.flushes out.new pen.new) }
+    ensures { Wrote colon_blank (on_sheet W.Sink out.old pen.old)
+        (on_sheet W.Sink out.new pen.new) }
 {
     put(out, pen, b": ");
 }
@@ -122,8 +120,7 @@ pub(crate) fn put_colon_blank<W: Sink>(out: &mut W, pen: &mut Pen)
 /// Writes a colon, a path and the end of the line.
 pub fn put_path_end<W: Sink, B: Feed>(out: &mut W, pen: &mut Pen, path: B)
     ensures { Wrote (colon_blank ++ ended (printed (B.rest path)))
-        (sheet W.delivered W.failures W.flushes out.old pen.old)
-        (sheet W.delivered W.failures W.flushes out.new pen.new) }
+        (on_sheet W.Sink out.old pen.old) (on_sheet W.Sink out.new pen.new) }
 {
     put_colon_blank(out, pen);
     put_path(out, pen, path);

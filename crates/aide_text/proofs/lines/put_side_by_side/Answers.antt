@@ -1,5 +1,5 @@
 use Rattle.std.proofs.Common.{arith, ◌≡◌, true, false, List, ℕ, sym}
-use Rattle.aide_text.specs.PenSheet.{sheet}
+use Rattle.aide_text.specs.PenSheet.{on_sheet}
 use Rattle.aide_text.specs.Layout.{side_by_side, has_lines}
 use Rattle.aide_text.proofs.Pieces.{later_lines, first_line, next_and_later, lines_ended, lines_fall}
 use Rattle.aide_text.proofs.Sheets.{writing_start, writing_more, writing_as, writing_done}
@@ -10,7 +10,7 @@ lines-init g c =
     let a : List ℕ = g.B.Feed.rest c.args.old_text in
     let b : List ℕ = g.C.Feed.rest c.args.new_text in
     writing_as (λ i. later_lines (sym c.put_name_line.ensures.old_rest i) (sym c.put_name_line.ensures.new_rest i))
-    (writing_more (first_line c.args.name.now a b) (writing_start (side_by_side c.args.name.now a b) (sheet g.W.Sink.delivered g.W.Sink.failures g.W.Sink.flushes c.args.out.now c.args.pen.now)) c.put_name_line.ensures.wrote)
+    (writing_more (first_line c.args.name.now a b) (writing_start (side_by_side c.args.name.now a b) (on_sheet g.W.Sink c.args.out.now c.args.pen.now)) c.put_name_line.ensures.wrote)
 
 pub returns-then-not-more : goal.returns-then-not-more
 returns-then-not-more g c =

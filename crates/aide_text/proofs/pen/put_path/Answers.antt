@@ -1,5 +1,5 @@
 use Rattle.std.proofs.Common.{◌∙◌, sym}
-use Rattle.aide_text.specs.PenSheet.{sheet}
+use Rattle.aide_text.specs.PenSheet.{on_sheet}
 use Rattle.aide_text.specs.code.PieceText.{piece_text}
 use Rattle.aide_text.specs.Printed.{printed}
 use Rattle.aide_text.specs.PrintedRest.{printed_rest}
@@ -10,7 +10,7 @@ use Rattle.aide_text.proofs.pen.put_path.Goals as goal
 pub pieces-init : goal.pieces-init
 pieces-init g c =
     writing_as (sym c.of-text.ensures)
-    (writing_start (printed (g.B.Feed.rest c.args.path)) (sheet g.W.Sink.delivered g.W.Sink.failures g.W.Sink.flushes c.args.out.now c.args.pen.now))
+    (writing_start (printed (g.B.Feed.rest c.args.path)) (on_sheet g.W.Sink c.args.out.now c.args.pen.now))
 
 pub pieces-smaller : goal.pieces-smaller
 pieces-smaller g c =
