@@ -9,23 +9,23 @@ use Rattle.aide_entry.specs.declared.fault_kind.DbFaultKind.TheVariants.{BadNumb
 use Rattle.aide_entry.specs.declared.fault_kind.DbFaultKind.TheVariants.{BadDigest, NoEnd, Memory}
 use Rattle.aide_entry.specs.declared.fault_kind.DbFaultKind.TheVariants.{Read, TooManyBytes}
 
--- the number of a kind of fault
-abbrev pub number_of_kind : DbFaultKind → ℕ
-number_of_kind LineTooLong = 1
-number_of_kind NoBegin = 2
-number_of_kind BadDirective = 3
-number_of_kind BadSpec = 4
-number_of_kind NoSpec = 5
-number_of_kind FieldCount = 6
-number_of_kind BadName = 7
-number_of_kind OutOfOrder = 8
-number_of_kind (BadNumber column) = 9
-number_of_kind (BadTime column) = 10
-number_of_kind (BadDigest column) = 11
-number_of_kind NoEnd = 12
-number_of_kind Memory = 13
-number_of_kind Read = 14
-number_of_kind TooManyBytes = 15
+-- the code of a kind of fault
+abbrev pub code_of_kind : DbFaultKind → ℕ
+code_of_kind LineTooLong = 1
+code_of_kind NoBegin = 2
+code_of_kind BadDirective = 3
+code_of_kind BadSpec = 4
+code_of_kind NoSpec = 5
+code_of_kind FieldCount = 6
+code_of_kind BadName = 7
+code_of_kind OutOfOrder = 8
+code_of_kind (BadNumber column) = 9
+code_of_kind (BadTime column) = 10
+code_of_kind (BadDigest column) = 11
+code_of_kind NoEnd = 12
+code_of_kind Memory = 13
+code_of_kind Read = 14
+code_of_kind TooManyBytes = 15
 
 -- the words of a kind of fault, before the number of a column
 unfoldable pub words_of_kind : DbFaultKind → List ℕ

@@ -1,6 +1,6 @@
 //! Why a database is refused.
 ghost use Rattle.std.specs.Prelude.{◌≡◌};
-ghost use Rattle.aide_entry.specs.Fault.{column_of_kind, number_of_kind, words_of_kind};
+ghost use Rattle.aide_entry.specs.Fault.{column_of_kind, code_of_kind, words_of_kind};
 
 /// Why a database is refused.
 #[derive(Clone, Copy, Debug, PartialEq, Eq)]
@@ -38,10 +38,10 @@ pub enum DbFaultKind {
 }
 
 impl DbFaultKind {
-    /// Returns the number of the kind. If a line has more than one fault, the one with the least number is reported.
+    /// Returns the code of the kind. If a line has more than one fault, the one with the least code is reported.
     /// Of the faults of fields it is the one of the first column.
-    pub fn number(self) -> u8
-        ensures { result ≡ number_of_kind self }
+    pub fn code(self) -> u8
+        ensures { result ≡ code_of_kind self }
     {
         match self {
             DbFaultKind::LineTooLong => 1,

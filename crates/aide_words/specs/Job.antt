@@ -87,7 +87,7 @@ text_of_job j = record {
   after = j.after;
 }
 
--- the number of a reason to refuse arguments, from 1
-abbrev pub number_of_refusal : WordsFault → ℕ
-number_of_refusal refusal.Usage = 1
-number_of_refusal refusal.Memory = 2
+-- the code of a reason to refuse arguments, from 1
+abbrev pub code_of_refusal : WordsFault → ℕ
+code_of_refusal refusal.Usage = 1
+code_of_refusal refusal.Memory = 2

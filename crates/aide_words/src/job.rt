@@ -1,7 +1,7 @@
 //! What a command line asks for.
 ghost use Rattle.std.specs.Prelude.{◌≡◌, ◌≢◌, [], false, Some, None, IfOk, IsErrOf};
 ghost use Rattle.aide_words.specs.Job.{aide_command, flag_of, option_rule, job_of, job_of_rows};
-ghost use Rattle.aide_words.specs.Job.{number_of_refusal, text_of, text_of_job, with_flags};
+ghost use Rattle.aide_words.specs.Job.{code_of_refusal, text_of, text_of_job, with_flags};
 ghost use Rattle.aide_words.specs.Job.{with_texts};
 ghost use Rattle.clap.specs.Words.{app_of, fault_of, found_of, matches_of, rows_of, rule_of};
 
@@ -33,9 +33,9 @@ pub enum WordsFault {
 }
 
 impl WordsFault {
-    /// Returns the number of the reason, from 1.
-    pub fn number(self) -> u8
-        ensures { result ≡ number_of_refusal self }
+    /// Returns the code of the reason, from 1.
+    pub fn code(self) -> u8
+        ensures { result ≡ code_of_refusal self }
     {
         match self {
             WordsFault::Usage => 1,

@@ -72,7 +72,7 @@ fn refuses_a_line_beyond_the_limit(rt: HostRuntime) -> Result<(), DeskFault> {
         Ok(_) => assert!(rt; false),
     }
     cursor.into_reel();
-    assert!(rt; Desk::new(rt.alloc()).room() == 0 && DeskFault::Memory.number() == 1);
+    assert!(rt; Desk::new(rt.alloc()).room() == 0 && DeskFault::Memory.code() == 1);
     Ok(())
 }
 

@@ -221,7 +221,7 @@ fn define(groups: &mut Groups<Global>, row: &Definition) -> u8 {
     };
     match groups.define(row.name, set) {
         Ok(()) => 0,
-        Err(fault) => fault.number(),
+        Err(fault) => fault.code(),
     }
 }
 
@@ -260,7 +260,7 @@ fn faults(rt: HostRuntime) -> Result<(), Fail> {
     let groups = defined(&rt, rt.alloc());
     for row in &FAULTY {
         let fault = fault_of(row.number, row.at);
-        assert!(rt; fault.number() == row.number && groups.eval(row.text) == Err(fault));
+        assert!(rt; fault.code() == row.number && groups.eval(row.text) == Err(fault));
     }
     Ok(())
 }
@@ -272,6 +272,6 @@ fn looks(rt: HostRuntime) -> Result<(), Fail> {
     assert!(rt; mine.is_some() && groups.look(b">") == mine);
     assert!(rt; groups.look(b"L") == None && groups.look(b"p") == None);
     assert!(rt; groups.look(b"a-b") == None);
-    assert!(rt; GroupFault::Full.number() == 2 && GroupFault::Memory.number() == 3);
+    assert!(rt; GroupFault::Full.code() == 2 && GroupFault::Memory.code() == 3);
     Ok(())
 }

@@ -91,7 +91,7 @@ fn a_fault_and_its_words(rt: HostRuntime) -> Result<(), Fail> {
     }
     assert!(rt; ConfText::File.word() == "config");
     assert!(rt; Kind::BadUrl.words() == "bad database URL");
-    assert!(rt; Kind::NoNewDatabase.number() == 17);
+    assert!(rt; Kind::NoNewDatabase.code() == 17);
     let shown = format!(in rt.alloc(); "{}: {}", ConfText::After, Kind::BadLine)?;
     assert!(rt; shown.as_str() == "after: line not understood");
     Ok(())

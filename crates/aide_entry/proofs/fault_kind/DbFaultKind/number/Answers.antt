@@ -1,6 +1,0 @@
-use Rattle.std.proofs.Common.{ap, sym}
-use Rattle.aide_entry.specs.Fault.{number_of_kind}
-use Rattle.aide_entry.proofs.fault_kind.DbFaultKind.number.Goals as goal
-
-pub returns-in-OutOfOrder : goal.returns-in-OutOfOrder
-returns-in-OutOfOrder c = ap number_of_kind (sym c.in-OutOfOrder.is)
