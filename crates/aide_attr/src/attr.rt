@@ -115,7 +115,7 @@ impl Row {
 }
 
 impl Attr {
-    /// Every attribute, in the order.
+    /// Every attribute, in the order in which sets and reports list them.
     pub const ALL: [Attr; 33] = [
         Attr::Ftype,
         Attr::Lname,
@@ -216,7 +216,7 @@ impl Attr {
         Attr::ALL.iter().copied().find(|a| a.row().column == name)
     }
 
-    /// Returns the index in the order, from 0.
+    /// Returns the index in the order of [`Attr::ALL`], from 0.
     #[tactic(auto, unfolding(crate::specs::Attr::row_of, crate::specs::Attr::row))]
     pub fn number(self) -> u32
         ensures { result ≡ number self }

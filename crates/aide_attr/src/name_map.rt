@@ -69,8 +69,8 @@ impl<V: Drop, A: Allocator + Copy> NameMap<V, A> {
         self.values.get(name)
     }
 
-    /// Sets this name to this value, in place of an earlier value. If the call refuses, the map
-    /// is as before.
+    /// Sets this name to this value, in place of an earlier value. A new name after 1,024 others, and
+    /// a failed allocation, are refused. The map is then as before.
     pub fn define(&mut self, name: &[u8], value: V) -> Result<(), NameMapFault>
         ensures space { OnOk result (HasSpace self.old name.now) }
         ensures ok { OnOk result (self.new ≡ map.insert self.old name.now value) }

@@ -15,7 +15,7 @@ pub(crate) enum Directive<Bytes> {
     Undef(Bytes),
     IfDef(Bytes),
     IfNotDef(Bytes),
-    /// An `@@if` whose condition has a wrong form.
+    /// An `@@if` whose condition is malformed.
     IfOther,
     Else,
     EndIf,

@@ -15,7 +15,7 @@ use aide_attr::{Level, is_group_name};
 /// What a line says, if it has no fault. Names and expressions are bytes of the line.
 #[derive(Clone, Copy)]
 pub(crate) enum Effect<'a> {
-    /// Nothing with an effect.
+    /// Nothing.
     Nothing,
     /// The path of a database.
     NamesDatabase(Side, &'a str),

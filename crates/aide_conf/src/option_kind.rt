@@ -21,13 +21,13 @@ pub(crate) enum OptionKind {
     Attributes(AttrList),
     ReportUrl,
     ReportFormat,
-    /// An option of AIDE that has no effect here.
+    /// An option of AIDE that sets nothing here.
     Accepted,
     /// A name that AIDE no longer has.
     Older,
 }
 
-/// Returns the option of a name, if the option has a form or an effect.
+/// Returns the option of a name, if the value of this option is read.
 #[tactic(auto, unfolding(crate::specs::Effect::main_option))]
 fn main_option(name: &[u8]) -> Option<OptionKind>
     ensures { result ≡ main_option name.now }
@@ -51,7 +51,7 @@ fn main_option(name: &[u8]) -> Option<OptionKind>
     }
 }
 
-/// The names of AIDE's options that have no effect here.
+/// The names of AIDE's options that set nothing here.
 const ACCEPTED_NAMES: [&[u8]; 17] = [
     b"database_out",
     b"database_gzip",
@@ -72,7 +72,7 @@ const ACCEPTED_NAMES: [&[u8]; 17] = [
     b"syslog_format",
 ];
 
-/// Returns whether this is the name of an option of AIDE that has no effect here.
+/// Returns whether this is the name of an option of AIDE that sets nothing here.
 fn is_accepted(name: &[u8]) -> bool
     ensures { result ≡ is_accepted name.now }
 {

@@ -294,7 +294,7 @@ fn open_block<A: Allocator + Copy>(
     }
 }
 
-/// Opens a block whose condition has a wrong form. Such a block is refused in a used part.
+/// Opens a block whose condition is malformed. Such a block is refused in a used part.
 fn open_other<A: Allocator + Copy>(blocks: &mut Blocks<A>) -> Result<(), ConfFaultKind>
     ensures answered { IsAnswered (line_fault [] (length (frames_of blocks.old))
         (top_divided (frames_of blocks.old))

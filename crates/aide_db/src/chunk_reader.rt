@@ -88,7 +88,7 @@ impl<R: Reel> ChunkReader<R> {
         &self.chunk[self.start..self.end]
     }
 
-    /// Returns the SHA-256 of all bytes that the reel gave.
+    /// Returns the SHA-256 (FIPS 180-4) of all bytes that the reel gave.
     pub fn digest(&self) -> Option<[u8; 32]>
         ensures whole { (text : List ℕ) → Holds256 self.now.hash text
             → result ≡ Some (sha256 text) }
@@ -162,7 +162,7 @@ impl<R: Reel> ChunkReader<R> {
     }
 }
 
-/// Takes at most `size` bytes from a reel into the front of a chunk. Returns how many it took.
+/// Takes at most `size` bytes from a reel into the beginning of a chunk. Returns how many it took.
 fn take_front<R: Reel>(reel: &mut R, chunk: &mut [u8], size: usize) -> Result<usize, DeviceFault>
     requires some { 0 < size }
     requires space { size ≤ length chunk.old }

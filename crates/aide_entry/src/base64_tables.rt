@@ -32,7 +32,7 @@ impl Base64Tables {
         Base64Tables { engine: STANDARD }
     }
 
-    /// Decodes a field into the front of a buffer, if the decoded bytes fit. Returns how many there are.
+    /// Decodes a field into the first bytes of a buffer, if the decoded bytes fit. Returns how many there are.
     pub(crate) fn decode(&self, field: &[u8], buffer: &mut [u8; 64]) -> Option<usize>
         ensures { IsDecoded (decoded_of standard field.now) 64 result buffer.new }
     {
@@ -42,7 +42,7 @@ impl Base64Tables {
         }
     }
 
-    /// Decodes a field of at most 44 bytes into the front of a buffer. The buffer has space for every such field.
+    /// Decodes a field of at most 44 bytes into the first bytes of a buffer. The buffer has space for every such field.
     pub(crate) fn decode_short(
         &self,
         field: &[u8],

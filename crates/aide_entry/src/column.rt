@@ -12,7 +12,7 @@ pub enum Column {
     Name,
     /// `attr`, the bits that say which attributes an entry has.
     Bits,
-    /// The column of an attribute, or of the first one if the column holds two.
+    /// The column of an attribute, or of the first one if the column has two.
     Of(Attr),
     /// An unknown column.
     Skipped,

@@ -15,7 +15,8 @@ use crate::view::{View, ViewWithBits, with_if};
 use aide_attr::{Attr, AttrSet, Delta, Form};
 use std::cmp::Ordering;
 
-/// Compares the paths of two entries, piece by piece.
+/// Compares the decoded paths of two entries in path order: component by component, each by its bytes. A path comes
+/// before those that go on after it.
 pub fn cmp_names(x: &View<'_>, y: &View<'_>) -> Ordering
     ensures { result ≡ path_cmp (entry_in x.now).0 (entry_in y.now).0 }
 {
@@ -146,7 +147,7 @@ fn order(old: Option<i128>, new: Option<i128>) -> Ordering
 }
 
 /// Returns how two entries of one path differ: the attributes of each entry, the attributes with different values, the
-/// order of the sizes, and the types.
+/// order of the sizes, and the types. Values are compared by what they mean, and not as they are written.
 pub fn delta_of(old: &View<'_>, new: &View<'_>) -> Delta
     ensures in_old { (attr : Attr) → (sides_of result).in_old attr
         ≡ (sides_between (entry_in old.now).1 (entry_in new.now).1).in_old attr }

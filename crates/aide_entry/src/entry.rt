@@ -164,7 +164,7 @@ fn first_bad(
     first_misshapen(tables, columns.shapes(), line, spans.as_slice(), known)
 }
 
-/// Returns whether there is no last entry, or its path comes before the path of the line's entry.
+/// Returns whether there is no last entry, or its path comes before the path of the line's entry in path order.
 pub fn follows(columns: &Columns, last: &HeldEntry<'_>, next: &SpannedLine<'_>) -> bool
     ensures { result ≡ follows (columns_in columns.now) last.now.line.now next.now.line.now }
 {
@@ -183,7 +183,8 @@ pub fn follows(columns: &Columns, last: &HeldEntry<'_>, next: &SpannedLine<'_>) 
 }
 
 /// Returns the fault of a line as the entry after the last one, if it has one. If it has none, the spans are those of
-/// its fields. A line of 2^32 bytes or more is never an entry.
+/// its fields. The fault is the first of these that the line has: the wrong number of fields (also of any line of 2^32
+/// bytes or more), a bad name, the wrong order, a field that is not one of its column.
 pub fn entry_fault(
     tables: &Base64Tables,
     columns: &Columns,

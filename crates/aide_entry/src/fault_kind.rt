@@ -21,11 +21,14 @@ pub enum DbFaultKind {
     BadName,
     /// The path of an entry does not come after the path of the entry before it.
     OutOfOrder,
-    /// The field of this column, counted from 1, is not a number.
+    /// The field of this column, counted from 1, is not a number: decimal and from -2^63 to 2^64 - 1, octal and below
+    /// 2^32 in the column `perm`, and not below 0 in the column `attr`.
     BadNumber { column: u32 },
-    /// The field of this column, counted from 1, is not a time.
+    /// The field of this column, counted from 1, is not a time: a decimal number from -2^63 to 2^64 - 1, or base64
+    /// (RFC 4648 section 4) of one.
     BadTime { column: u32 },
-    /// The field of this column, counted from 1, is not a digest.
+    /// The field of this column, counted from 1, is not a digest: base64 (RFC 4648 section 4) of as many bytes as such
+    /// a digest has, or `0`.
     BadDigest { column: u32 },
     /// The text ends before `@@end_db`.
     NoEnd,

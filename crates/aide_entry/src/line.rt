@@ -7,7 +7,7 @@ use crate::fields::next_field;
 /// The kind of a line, which its first field decides.
 #[derive(Clone, Copy)]
 pub enum LineKind {
-    /// No field, or a comment.
+    /// No field, or a first field that begins with `#`.
     Blank,
     /// `@@begin_db`.
     Begin,

@@ -101,7 +101,7 @@ fn is_between_escapes(text: &[u8], at: usize) -> bool
     (at < 1 || text[at - 1] != b'%') && (at < 2 || text[at - 2] != b'%')
 }
 
-/// Returns a number of first bytes that two texts have in common. No escape reaches over their end.
+/// Returns a number of first bytes in which two texts agree. No escape reaches over their end.
 fn common_front(x: &[u8], y: &[u8]) -> usize
     ensures left { result ≤ length x.now }
     ensures right { result ≤ length y.now }
@@ -115,7 +115,7 @@ fn common_front(x: &[u8], y: &[u8]) -> usize
     count
 }
 
-/// Compares the paths in two fields, piece by piece.
+/// Compares the paths in two fields, component by component.
 pub fn cmp_paths(x: &[u8], y: &[u8]) -> Ordering
     ensures { result ≡ path_cmp (percent_decode x.now) (percent_decode y.now) }
 {

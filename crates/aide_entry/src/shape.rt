@@ -87,7 +87,7 @@ fn is_time_beside(tables: &Base64Tables, field: &[u8], time: &[u8]) -> bool
 }
 
 /// Returns the last field of a line that was found to be a time, if this field is of its shape. An entry has two times
-/// or more, which are often written alike. Then only one of them is decoded.
+/// or more, which are often the same bytes. Then only one of them is decoded.
 pub fn last_time<'a>(
     tables: &Base64Tables,
     shape: Shape,

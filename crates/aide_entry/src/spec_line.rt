@@ -61,7 +61,8 @@ fn are_columns(columns: &[Column]) -> bool
     columns.len() <= 64 && stands_in(Column::Name, columns) && are_distinct(columns)
 }
 
-/// Returns the columns of a spec line, if a database may have them.
+/// Returns the columns of a spec line, if a database may have them: at most 64, with `name` among them, and no known
+/// column twice.
 pub fn read_columns(line: &[u8]) -> Option<Columns>
     ensures none { IfNone result (are_columns (columns_of line.now) ≡ false) }
     ensures some { IfSome result (λ c. (columns_in c ≡ columns_of line.now)

@@ -104,7 +104,7 @@ pub fn is_time(tables: &Base64Tables, field: &[u8]) -> bool
     }
 }
 
-/// Decodes a digest into the front of a buffer. Returns how many bytes there are.
+/// Decodes a digest into the first bytes of a buffer. Returns how many bytes there are.
 #[tactic(auto, unfolding(crate::specs::Values::digest_of))]
 pub fn read_digest(
     tables: &Base64Tables,

@@ -146,7 +146,8 @@ impl<'a> View<'a> {
         }
     }
 
-    /// Returns the value of an attribute that is a number, if the entry has it.
+    /// Returns the value of an attribute that is a number, if the entry has it: the number, the low twelve bits of a
+    /// mode, or seconds since 1970-01-01 UTC.
     pub fn number(&self, attr: Attr) -> Option<i128>
         ensures { result ≡ number_in ((entry_in self.now).1 attr) }
     {
@@ -165,7 +166,7 @@ impl<'a> View<'a> {
     }
 
     #[tactic(auto, unfolding(aide_attr::specs::Attr::row_of, aide_attr::specs::Attr::row))]
-    /// Returns the name in a symbolic link, if the entry has one or says that there is none.
+    /// Returns the path in a symbolic link, if the entry has the attribute: `Some(None)` if it says that there is none.
     pub fn link(&self) -> Option<Option<Decoded<'a>>>
         ensures { option_map lent_link result ≡ link_in ((entry_in self.now).1 Attr.Lname) }
     {
@@ -175,7 +176,8 @@ impl<'a> View<'a> {
         }
     }
 
-    /// Decodes a digest into the front of a buffer, if the entry has it. Returns how many bytes there are.
+    /// Decodes a digest (base64, RFC 4648 section 4) into the first bytes of a buffer, if the entry has it. Returns how
+    /// many bytes there are.
     pub fn digest(&self, attr: Attr, buffer: &mut [u8; 64]) -> Option<usize>
         ensures { IsDigest (digest_in ((entry_in self.now).1 attr)) result buffer.new }
     {
@@ -194,7 +196,8 @@ impl<'a> View<'a> {
         }
     }
 
-    /// Returns the bytes of an attribute whose bytes have no further meaning, if the entry has it.
+    /// Returns the bytes of an attribute whose bytes have no further meaning here, such as `acl`, as they are written,
+    /// if the entry has it.
     pub fn field(&self, attr: Attr) -> Option<&'a [u8]>
         ensures { option_copied result ≡ opaque_in ((entry_in self.now).1 attr) }
     {

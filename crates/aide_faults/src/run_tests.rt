@@ -131,7 +131,7 @@ fn run_over<S: Sources, W: Sink, A: Allocator + Copy>(
     run(&task, limits, desk, sources, out)
 }
 
-/// A run over these sources whose report goes into an array. The answer, and what the array holds then.
+/// A run over these sources whose report goes into an array. The answer, and what the array has then.
 fn run_into<const SPACE: usize, S: Sources, A: Allocator + Copy>(
     options: Options,
     desk: &mut Desk<A>,

@@ -1,4 +1,4 @@
-//! Configurations: what their settings tell, and what follows a failed allocation.
+//! Configurations: what their settings say, and what follows a failed allocation.
 use aide_conf::{ConfFault, Need, Options, Settings};
 use std::alloc::{Allocator, Global};
 

@@ -18,7 +18,7 @@ const OLD: &[u8] =
 const NEW: &[u8] =
     b"@@begin_db\n@@db_spec name attr perm size\n/a 36 100644 5\n/c 36 100600 7\n@@end_db\n";
 
-/// A line without effect, longer than a block in which a configuration is read.
+/// A comment that is longer than what is read of a configuration at one time.
 const LONG: &[u8] = &[b'#'; 20_000];
 
 const DEFINITIONS: &[u8] = b"@@define DIR file:

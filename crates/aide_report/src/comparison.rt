@@ -95,11 +95,14 @@ fn compare<S: Sources, A: Allocator + Copy>(
 ///   before the new one's), or a side that no longer gives what it first gave. After the first reading of a side, a
 ///   fault of its text or another digest is [`RunFault::Changed`]. A side whose openings all agree is never called
 ///   changed.
-/// - Each side is opened twice, and once more for each section of entries: at most six times.
+/// - In a run that ends with `Ok` each side is opened twice, and once more for each section of entries. No run opens a
+///   side more than six times.
 /// - The desk is emptied before anything is read. At no moment does it hold more than the entry line of each side
 ///   and the line that is being read, even if the answer is a fault. A moment is between two calls of the desk; its
 ///   peak is the most that it ever held.
 /// - If `limits.line` is at most the room that was reserved on the desk, the run never lacks memory for a line.
+///
+/// `limits.line` has to be at least 14, and `limits.bytes` at most 2^60.
 pub fn run<S: Sources, W: Sink, A: Allocator + Copy>(
     task: &Task<'_>,
     limits: Limits,

@@ -3,7 +3,7 @@ use crate::finding::Finding;
 use aide_conf::Task;
 use aide_db::Limits;
 
-/// What all passes of a report have in common: the task, the limits of the readings, and what was found before.
+/// What all passes of a report share: the task, the limits of the readings, and what was found before.
 #[derive(Clone, Copy)]
 pub(crate) struct Plan<'a> {
     pub(crate) task: &'a Task<'a>,

@@ -46,8 +46,8 @@ fn run_session(rt: &HostRuntime, alloc: Global) -> Result<u8, Memory> {
 }
 
 /// Runs the session of the command line over the machine's files. The report goes to standard
-/// output, and the lines go to standard error. Returns the exit status. The status is 22 if an
-/// allocation for the arguments or for a page fails.
+/// output, and the lines go to standard error. Returns the exit status. The status is 22 if the
+/// arguments cannot be taken, for example because one is not UTF-8, or if a page cannot be allocated.
 pub fn start(rt: &HostRuntime) -> u8 {
     match run_session(rt, rt.alloc()) {
         Ok(status) => status,

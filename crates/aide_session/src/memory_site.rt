@@ -29,8 +29,8 @@ impl<'a> Model for StoredFile<'a> {
 }
 
 /// Files in memory, lent to the site. If several files have one path, the file added last counts.
-/// The site tells what is at every path. On this site only one thing can fail: opening a file that
-/// is not there.
+/// The site tells what is at every path. Only the opening of a file that is not there fails. `add` and
+/// `point` may run out of memory.
 #[derive(Drop)]
 pub struct MemorySite<'a> {
     files: Vec<StoredFile<'a>>,
@@ -114,7 +114,7 @@ impl<'a> MemorySite<'a> {
     }
 
     /// Adds a file. From now on these are the bytes at its path, and of each side that is pointed
-    /// at this path.
+    /// at this path. If an allocation fails, the site is as before.
     pub fn add(&mut self, path: &'a str, bytes: &'a [u8]) -> Result<(), Memory>
         ensures ok { OnOk result (self.new
             ≡ record self.old {

@@ -15,8 +15,8 @@ use std::marker::Model;
 /// most 4,096 bytes, and each is printed as at most four.
 const PAGE: usize = 32_768;
 
-/// Gathers bytes in a page of fixed size. When the page is full or the sink is flushed, the page is
-/// passed on to another sink. Memory for the page is reserved when the sink is made. Later calls
+/// Gathers bytes in a page of 32,768 bytes. A write that finds the page full, and a flush, pass the
+/// page on to another sink. Memory for the page is reserved when the sink is made. Later calls
 /// allocate nothing.
 ///
 /// Bytes on the page count as delivered. After a failure the bytes that were not passed on stay on
@@ -44,7 +44,7 @@ impl<W> Model for PagedSink<W> {
 }
 
 impl<W: Sink> PagedSink<W> {
-    /// Makes an empty page in front of a sink. Only this call takes memory.
+    /// Makes an empty page before a sink. Only this call takes memory.
     pub fn new(alloc: Global, sink: W) -> Result<PagedSink<W>, Memory>
     where
         W: Drop,

@@ -35,7 +35,7 @@ pub trait Site: Sources {
         ensures fault { OnErr result (Self.failures self.new ≡ one_more (Self.failures self.old)) };
 
     /// Points a side at a path: the bytes of the side are then those at the path. The site keeps a
-    /// copy of the path.
+    /// copy of the path. If an allocation fails, the side is pointed at the same path as before.
     fn point(&mut self, alloc: Global, side: Side, path: &str) -> Result<(), Memory>
         ensures pointed { OnOk result ((bytes : List ℕ)
             → Self.file_at self.old path.now ≡ Some (Some bytes)

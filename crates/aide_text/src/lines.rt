@@ -201,8 +201,9 @@ fn put_next_line<W: Sink, B: Feed, C: Feed>(
     more
 }
 
-/// Writes two texts side by side, cut into pieces of 32 bytes, next to a name. The columns of the first line are those
-/// of the others if the name has at most ten bytes.
+/// Writes two texts side by side, cut into pieces of 32 bytes, next to a name. There are as many lines as the longer
+/// text has pieces, and at least one. The columns of the first line are those of the others if the name has at most ten
+/// bytes.
 pub fn put_side_by_side<W: Sink, B: Feed, C: Feed>(
     out: &mut W,
     pen: &mut Pen,

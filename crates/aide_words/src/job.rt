@@ -151,8 +151,8 @@ fn job_from(alloc: Global, found: &ArgMatches<'_>) -> Result<Job, WordsFault>
 /// Reads the arguments of a command line. The first one is the program's name:
 /// `aide (-E | --compare | -D | --config-check) (-c | --config) FILE [-B | --before TEXT] [-A | --after TEXT]`.
 ///
-/// Exactly one of `-E` and `-D` has to be given, and each option at most once. Everything else is
-/// `Usage`, including a request for help.
+/// FILE and exactly one of `-E` and `-D` have to be given, and each option at most once. Everything else
+/// is `Usage`, including a request for help. Out of memory is `WordsFault::Memory`.
 #[inline(never)]
 pub fn read_words(alloc: Global, words: &Words) -> Result<Job, WordsFault>
     ensures ok { IfOk result (λ job. job_of words.now ≡ Some (text_of_job job)) }

@@ -22,7 +22,7 @@ impl Model for Word {
 }
 
 impl Word {
-    /// Copies a text.
+    /// Returns a copy of a text, or `Memory` if the allocation fails.
     pub fn new(alloc: Global, text: &str) -> Result<Word, Memory>
         ensures { IfOk result (λ word. word ≡ text.now) }
     {
@@ -73,7 +73,7 @@ impl Words {
         }
     }
 
-    /// Adds a copy of an argument at the end.
+    /// Adds a copy of an argument at the end. If an allocation fails, the list is as before.
     pub fn push(&mut self, word: &str) -> Result<(), Memory>
         ensures ok { OnOk result (self.new ≡ self.old ++ word.now ∷ []) }
         ensures err { OnErr result (self.new ≡ self.old) }

@@ -1,6 +1,6 @@
 //! Parts of a report: its overview, and the sections that cost an opening of both sides.
 
-/// The last bytes of the title lines of a section of entries. Behind them both sides are opened.
+/// The last bytes of the title lines of a section of entries. After them both sides are opened.
 const ADDED: &[u8] = b"Added entries:\n---------------------------------------------------\n\n";
 
 const REMOVED: &[u8] = b"Removed entries:\n---------------------------------------------------\n\n";
@@ -40,7 +40,7 @@ pub(super) struct Titles {
 }
 
 impl Titles {
-    /// Those of a report. A section that is not there is opened behind all bytes.
+    /// Those of a report. A section that is not there is opened after all bytes.
     pub(super) fn of(report: &[u8]) -> Titles {
         let end = |title: &[u8]| bytes_before(report, title).saturating_add(title.len());
         Titles {

@@ -1,4 +1,4 @@
-//! What settings tell: the options, the paths of the databases, or a fault and its words.
+//! What settings say: the options, the paths of the databases, or a fault and its words.
 use super::{options_of_file, read};
 use aide_attr::{Attr, AttrSet, Level};
 use aide_conf::{ConfFaultKind as Kind, ConfText, Need, Options};
