@@ -37,13 +37,13 @@ no_fault_of_a_meaning look text set e m f =
     only.sound look text (meant look (λ _. false) m.0)
     (only.read look (λ _. false) BeforeName true 0 text m.0 (from_expression text m.0 m.1) m.2) e f
 
--- the name of each level names it; the second line stands for every further level
+-- the name of each level names it; the second line covers every further level
 pub level_of_its_name : (l : Level) → level_named (level_name l) ≡ Some l
 unfolding level_named
 level_of_its_name level.Minimal = refl
 level_of_its_name _ = refl
 
--- the list of all levels has each one, at its index in the order; the second line stands for every further level
+-- the list of all levels has each one, at its index in the order; the second line covers every further level
 pub level_at_its_rank : (l other : Level) → get_or all_levels (rank l) other ≡ l
 level_at_its_rank level.Minimal other = refl
 level_at_its_rank _ other = refl

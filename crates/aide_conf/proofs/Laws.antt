@@ -42,7 +42,7 @@ pub what_is_compared_is_named : (before file after : List ℕ) (c : Configured) 
     → IsSome c.old_path × IsSome c.new_path
 what_is_compared_is_named = both_named
 
--- The name of each switch sets this switch; the second line stands for every further one.
+-- The name of each switch sets this switch; the second line covers every further one.
 pub name_of_a_switch_sets_it : (s : Switch) → option_named (switch_name s) ≡ Some (option.Flag s)
 unfolding option_named main_option switch_named
 name_of_a_switch_sets_it Grouped = refl

@@ -27,7 +27,7 @@ negated rest =
     else IfOther
 
 -- The directive of an `@@if` with this condition.
--- The right forms are `defined NAME` and `not defined NAME`.
+-- The two that are known are `defined NAME` and `not defined NAME`.
 unfoldable pub condition : List ℕ → Directive (List ℕ)
 condition rest =
     if same (bytes_before is_blank rest) (codes "defined") then IfDef (after_blank rest)

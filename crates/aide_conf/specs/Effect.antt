@@ -32,8 +32,8 @@ same xs ys = pointwise nat_eq xs ys
 abbrev pub begins : List ℕ → List ℕ → Bool
 begins bs text = starts_with nat_eq bs text
 
--- What a line says: something without effect, a fault that its bytes show by themselves, what it
--- sets, or what it does to blocks.
+-- What a line says: nothing, a fault that its bytes show by themselves, what it sets, or what it
+-- does to blocks.
 pub data Effect : Type 0 where
   Nothing : Effect
   Faulty : ConfFaultKind → Effect
@@ -51,15 +51,15 @@ pub data Effect : Type 0 where
   DefinesVariable : List ℕ → List ℕ → Effect
   -- the name of a variable that is no longer defined
   DropsVariable : List ℕ → Effect
-  -- a block begins; false if its name is read and has a wrong form
+  -- a block begins; false if its name is read and is no word
   OpensBlock : Bool → Effect
   DividesBlock : Effect
   ClosesBlock : Effect
 
 -- ---- options
 
--- The options that have a form or an effect and are neither switches nor sets of attributes, each
--- with its name.
+-- The options whose value is read and that are neither switches nor sets of attributes, each with
+-- its name.
 abbrev pub other_options : List (List ℕ × OptionKind)
 other_options =
     (codes "database_in", option.Url Old)
@@ -76,11 +76,11 @@ report_option n =
     option_or (option_map (λ s. option.Flag s) (switch_named n))
     (option_map (λ l. option.Attributes l) (list_named n))
 
--- the option that a name sets, if the option has a form or an effect
+-- the option that a name sets, if the value of this option is read
 unfoldable pub main_option : List ℕ → Option OptionKind
 main_option n = option_or (look_up other_options n) (report_option n)
 
--- the names of options that have no effect here
+-- the names of options that are accepted and set nothing here
 abbrev pub accepted_names : List (List ℕ)
 accepted_names =
     codes "database_out" ∷ codes "database_gzip" ∷ codes "gzip_dbout" ∷ codes "database_attrs"
@@ -166,7 +166,7 @@ switch_effect s (Some b) = SetsSwitch s b
 abbrev pub url_effect : Side → List ℕ → Effect
 url_effect d v = if is_left_out v then Faulty LeftOut else path_effect d (path_of v)
 
--- What `report_format` says: plain reports have no effect, and JSON is left out.
+-- What `report_format` says: for plain reports nothing, and JSON is left out.
 abbrev pub format_effect : List ℕ → Effect
 format_effect v = if same v (codes "json") then Faulty LeftOut
     else if same v (codes "plain") then Nothing else Faulty BadValue

@@ -96,8 +96,8 @@ assignment_of used _ expanded = Silent
 
 -- ---- faults of directives
 
--- The directive has a word that this program does not know, or a condition of a wrong form. In an unused part only a
--- word counts that begins with `if`.
+-- The directive has a word that this program does not know, or a condition that is not one of the two known ones. In an
+-- unused part only a word counts that begins with `if`.
 abbrev pub is_bad_directive : Bool → Option (Directive (List ℕ)) → Bool
 is_bad_directive used (Some IfOther) = used
 is_bad_directive used (Some (Unknown begins_if)) = used || begins_if
@@ -203,7 +203,7 @@ abbrev pub has_unknown_name : Option (Result AttrSet ExprFault) → Bool
 has_unknown_name (Some (Err (expression.UnknownName at))) = true
 has_unknown_name _ = false
 
--- the expression of the line has a wrong form; an expression is judged only if its line has no fault before that
+-- the expression of the line is malformed; an expression is judged only if its line has no fault before that
 abbrev pub has_bad_form : Option (Result AttrSet ExprFault) → Bool
 has_bad_form (Some (Err (expression.BadExpression at))) = true
 has_bad_form _ = false

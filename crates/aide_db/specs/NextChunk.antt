@@ -26,7 +26,7 @@ after_filled Some n = n
 after_filled Nothing n = n
 after_filled Failed n = one_more n
 
--- this many bytes have come, and they are at the front of the chunk
+-- this many bytes have come, and they are at the beginning of the chunk
 abbrev pub IsChunkFront : ℕ → List ℕ → List ℕ → List ℕ → Type 0
 IsChunkFront count chunk bytes left = bytes ≡ take count chunk ++ left
 

@@ -7,12 +7,12 @@ use Rattle.percent_encoding.specs.declared.PercentDecode.{PercentDecode}
 use Rattle.aide_attr.specs.declared.file_type.FileType.{FileType}
 use Rattle.aide_entry.specs.Attributes.{number_of_type, same_link}
 
--- The decoded bytes are at the front of the buffer. If no count is returned, there are none, or they do not fit.
+-- The decoded bytes are the first ones of the buffer. If no count is returned, there are none, or they do not fit.
 abbrev pub IsDecoded : Option (List ℕ) → ℕ → Option ℕ → List ℕ → Type 0
 IsDecoded decoded space None buffer = (bytes : List ℕ) → decoded ≡ Some bytes → space < length bytes
 IsDecoded decoded space (Some n) buffer = (n ≤ space) × (decoded ≡ Some (take n buffer))
 
--- the digest is at the front of the buffer, if there is one
+-- the digest is at the beginning of the buffer, if there is one
 abbrev pub IsDigest : Option (List ℕ) → Option ℕ → List ℕ → Type 0
 IsDigest digest None buffer = digest ≡ None
 IsDigest digest (Some n) buffer = (n ≤ 64) × (digest ≡ Some (take n buffer))

@@ -6,11 +6,11 @@ use Rattle.std.specs.Ordering.{nat_cmp}
 use Rattle.std.specs.Cmp.Lexicographic.{slice_cmp}
 use Rattle.aide_entry.specs.Text.{is_slash}
 
--- the pieces of a path, between its slashes
+-- the components of a path, between its slashes
 abbrev pub pieces : List ℕ → List (List ℕ)
 pieces path = slice_split is_slash path
 
--- the order of paths: lexicographic by their pieces, and each piece by its bytes
+-- the order of paths: lexicographic by their components, and each component by its bytes
 unfoldable pub path_cmp : List ℕ → List ℕ → Ordering
 path_cmp x y = slice_cmp (slice_cmp nat_cmp) (pieces x) (pieces y)
 

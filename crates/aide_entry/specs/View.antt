@@ -10,7 +10,7 @@ use Rattle.aide_entry.specs.declared.view.View.{View}
 abbrev pub line_in : View → List ℕ
 line_in view = view.line.now
 
--- the columns that the line stands under
+-- the columns that the line is under
 abbrev pub columns_under : View → List Column
 columns_under view = columns_in view.columns.now
 

@@ -27,7 +27,7 @@ none_behind level first later behind below =
     let less : rank level < rank first = leb-false (rank first) (rank level) below in
     lt-leb (rank later) (rank level) (omega (arith, behind, less))
 
--- no section is of a level before that of the databases; the second line stands for every further section
+-- no section is of a level before that of the databases; the second line covers every further section
 late : (section : Section) → rank DatabaseAttributes ≤ rank (level_of section)
 unfolding row_of row
 late AddedEntries = omega arith

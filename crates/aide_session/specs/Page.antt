@@ -1,4 +1,4 @@
--- A page in front of a sink.
+-- A page before a sink.
 use Rattle.std.specs.Prelude.{ℕ, ◌==◌, Bool, List, length, Option}
 use Rattle.std.specs.Io.KnownBytes.{append_known}
 

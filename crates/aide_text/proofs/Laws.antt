@@ -7,7 +7,7 @@ use Rattle.aide_text.specs.declared.section.Section.{Section}
 use Rattle.aide_text.specs.declared.section.TheConstants.Section.{ALL}
 use Rattle.aide_text.specs.declared.section.Section.TheVariants.{AddedEntries}
 
--- Every section is in the list of all sections, and no other one has its title; the second line stands for every
+-- Every section is in the list of all sections, and no other one has its title; the second line covers every
 -- further section.
 pub section_of_its_title : (s : Section)
     → find (λ t. pointwise nat_eq (title_of t) (title_of s)) all_sections ≡ Some s

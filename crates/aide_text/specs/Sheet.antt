@@ -18,7 +18,7 @@ pub record Adds (text : List ℕ) (a b : Sheet) : Type 0 where
   pub bytes : Appends a.bytes b.bytes text
   pub count : b.sent ≡ sum_of a.sent (length text)
 
--- a front of the text has gone out, not all of it, and then the sink has failed
+-- the beginning of the text has gone out, not all of it, and then the sink has failed
 pub record Breaks (text : List ℕ) (a b : Sheet) : Type 0 where
   pub front : List ℕ
   pub rest : List ℕ
@@ -33,7 +33,7 @@ WroteBy true after text a b = (after ≡ true) × (b ≡ a)
 WroteBy false true text a b = Breaks text a b
 WroteBy false false text a b = Adds text a b × (b.failures ≡ a.failures)
 
--- The text has gone out, or a front of it has and then the sink has failed. A pen that has failed before writes
+-- The text has gone out, or its beginning has and then the sink has failed. A pen that has failed before writes
 -- nothing. The sink is not flushed.
 pub record Wrote (text : List ℕ) (a b : Sheet) : Type 0 where
   pub as_flags : WroteBy a.failed b.failed text a b
@@ -45,7 +45,7 @@ pub record Writing (text rest : List ℕ) (a b : Sheet) : Type 0 where
   pub whole : text ≡ front ++ rest
   pub wrote : Wrote front a b
 
--- a front of the text has been written
+-- the beginning of the text has been written
 pub record WritesPart (text : List ℕ) (a b : Sheet) : Type 0 where
   pub rest : List ℕ
   pub writing : Writing text rest a b

@@ -17,7 +17,7 @@ kept bytes over = record { bytes = bytes; over = over }
 abbrev pub with_byte : Bool → List ℕ → ℕ → List ℕ
 with_byte passed bytes b = if passed && (length bytes == 0) then bytes else bytes ++ b ∷ []
 
--- What is kept after one more byte. Of a line, the blanks at the front and past the limit are
+-- What is kept after one more byte. Of a line, the blanks at its beginning and past the limit are
 -- passed over.
 unfoldable pub kept_with : ℕ → Bool → Kept → ℕ → Kept
 kept_with limit is_line k b =

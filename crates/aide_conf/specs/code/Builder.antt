@@ -63,13 +63,13 @@ use Rattle.aide_conf.specs.Settings.{AreOptions, Configured, counted, fixes}
 abbrev pub text_at : {A : Type 0} → Option (String A) → Option (List ℕ)
 text_at o = option_map (λ t. string_bytes t) o
 
--- the table has the groups that these places define
+-- the map `table` has the groups that these places define
 pub record HasGroups (xs : List Marked) (table : Sets) : Type 0 where
   pub sets : (n : List ℕ) → finmap.get table n ≡ group xs n
   pub known : (n : List ℕ) → list_any (same n) (group_names xs) ≡ finmap.contains_key table n
   pub size : finmap.len table ≡ length (group_names xs)
 
--- the table has the variables that are defined after these places
+-- the map `table` has the variables that are defined after these places
 pub record HasVariables (xs : List Marked) (table : Values) : Type 0 where
   pub values : (n : List ℕ) → finmap.get table n ≡ variable xs n
   pub known : (n : List ℕ) → is_defined xs n ≡ true → list_any (same n) (variable_names xs) ≡ true

@@ -7,7 +7,7 @@ use Rattle.aide_attr.specs.NameMap.{Names, seen}
 abbrev pub Values : Type 0
 Values = Names (List ℕ)
 
--- the variables of a table, each with the bytes of its value
+-- the variables of a map, each with the bytes of its value
 abbrev pub values_of : {A : Type 0} → Names (Vec ℕ A) → Values
 values_of table = seen (λ v. v.items) table
 

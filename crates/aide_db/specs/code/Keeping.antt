@@ -31,7 +31,7 @@ pub record IsWithinLimit (limits : Limits) (used : ℕ) (ahead : List ℕ) : Typ
   -- the limit is one that a cursor may have
   pub bytes : limits.bytes ≤ 2 ^ 60
 
--- What reading leaves of a reel that tells its bytes.
+-- What taking bytes leaves of a reel that tells its bytes.
 pub record TellsOn {R : Type 0} (r : Reels R) (a b : ChunkReaderView R) : Type 0 where
   -- the reel still tells them
   pub goes_on : tells (r.to_come a.reel) ≡ true → tells (r.to_come b.reel) ≡ true
@@ -41,7 +41,7 @@ pub record TellsOn {R : Type 0} (r : Reels R) (a b : ChunkReaderView R) : Type 0
 
 -- ---- the desk
 
--- What reading a line leaves of a desk.
+-- What taking a line leaves of a desk.
 pub record HoldsLine (limits : Limits) (d e : DeskView) : Type 0 where
   -- both entry lines and their columns are as before
   pub lists : (side : Side) → list_of side e ≡ list_of side d
@@ -72,7 +72,7 @@ pub record KeepsDesk (side : Side) (limit : ℕ) (d e : DeskView) : Type 0 where
 
 -- ---- the cursor
 
--- What each reading leaves of a cursor.
+-- What taking bytes leaves of a cursor.
 pub record KeepsCursor {R : Type 0} (r : Reels R) (c e : CursorView R) : Type 0 where
   -- its side and its limits
   pub side : e.side ≡ c.side

@@ -6,7 +6,7 @@ use Rattle.aide_db.specs.declared.limits.Limits.{Limits}
 use Rattle.aide_db.specs.declared.side.Side.{Side}
 use Rattle.aide_db.specs.declared.sources.Sources.{Ghosts as AnySources}
 
--- The limits leave room for the shortest spec line, and no sum of bytes overflows.
+-- The limits allow the shortest spec line, and no sum of bytes overflows.
 pub record AreLimits (limits : Limits) : Type 0 where
   pub line : 14 ≤ limits.line
   pub bytes : limits.bytes ≤ 2 ^ 60

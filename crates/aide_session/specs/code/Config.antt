@@ -1,4 +1,4 @@
--- What the reading of a configuration leaves of a site.
+-- What is left of a site when a configuration has been read.
 use Rattle.std.specs.Prelude.{◌≡◌, ◌≤◌}
 use Rattle.aide_db.specs.Count.{one_more}
 use Rattle.aide_db.specs.declared.sources.Sources.{Ghosts as AnySources}
