@@ -106,7 +106,7 @@ fn attrs_of<'x>(old: &'x View<'_>, new: &'x View<'_>) -> &'x [Attr]
     }
 }
 
-/// Finds the attributes that two entries have and those that differ, in one pass over the attributes with a column.
+/// Finds the attributes that two entries have and those that differ, in one walk over the attributes with a column.
 fn contrasts_between(old: &View<'_>, new: &View<'_>) -> Contrasts
     ensures in_old { (attr : Attr) → has result.in_old attr ≡ is_some ((entry_in old.now).1 attr) }
     ensures in_new { (attr : Attr) → has result.in_new attr ≡ is_some ((entry_in new.now).1 attr) }

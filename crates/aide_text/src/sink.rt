@@ -24,8 +24,8 @@ pub trait Sink {
     /// Whether all delivered bytes have been flushed.
     ghost is_flushed: { Self → Bool };
 
-    /// Takes the first of these bytes, of which there has to be one, and returns how many it took: at least one. A
-    /// refusal takes no byte, and counts one failure.
+    /// Takes the first of these bytes, of which there must be one, and returns how many it took: at least one. A failed
+    /// write takes no byte, and counts one failure.
     fn write(&mut self, bytes: &[u8]) -> Result<usize, DeviceFault>
         requires { 0 < length bytes.now }
         ensures some { IfOk result (λ n. (0 < n) × (n ≤ length bytes.now)) }
@@ -33,7 +33,8 @@ pub trait Sink {
         ensures flushes { flushes self.new ≡ flushes self.old }
         ensures fault { CountsFault (failures self.old) (failures self.new) result };
 
-    /// Passes on the bytes that the device has taken so far. It adds no byte of its own. A refusal counts one failure.
+    /// Passes on the bytes that the device has taken so far. It adds no byte of its own. A failed flush counts one
+    /// failure.
     fn flush(&mut self) -> Result<(), DeviceFault>
         ensures bytes { Keeps (delivered self.old) (delivered self.new) }
         ensures flushed { OnOk result (is_flushed self.new ≡ true) }
