@@ -15,7 +15,8 @@ use crate::sink::Sink;
 use crate::slices::SliceFeed;
 use itoa::Buffer;
 
-/// Counts the bytes of a report that have gone out. Once the sink has failed, the pen writes nothing more.
+/// Counts the bytes of a report that have gone out. Once the sink has failed, the pen writes nothing more. So each
+/// function that writes with a pen writes its whole text, or only the beginning of it and then nothing.
 #[derive(Clone, Copy, Debug, PartialEq, Eq)]
 pub struct Pen {
     /// The bytes that have gone out. The count stops at `u64::MAX`.
@@ -36,7 +37,7 @@ impl Pen {
     }
 }
 
-/// Writes these bytes.
+/// Writes these bytes, and counts those that go out. A failure of the sink is noted in the pen.
 pub fn put<W: Sink>(out: &mut W, pen: &mut Pen, bytes: &[u8])
     ensures { Wrote bytes.now (on_sheet W.Sink out.old pen.old) (on_sheet W.Sink out.new pen.new) }
 {
