@@ -81,7 +81,7 @@ abbrev if_perm : Attr → Attr
 if_perm attr.Perm = attr.Ftype
 if_perm a = a
 
--- the permissions stand in the column of the type, and every other attribute in one of its own
+-- the permissions are in the column of the type, and every other attribute is in one of its own
 pub holder_is : (a : Attr) → holder_of a ≡ (if_perm a)
 unfolding row_of row
 holder_is attr.Ftype = refl

@@ -1,4 +1,4 @@
--- Two values are tested as the same exactly where they are equal.
+-- Two values are tested as the same exactly if they are equal.
 use Rattle.std.proofs.Common.{◌≡◌, ℕ, List, refl, ap, arith, Option, None, Some, eq-eqb, false}
 use Rattle.std.specs.Bool.{Decides}
 use Rattle.std.proofs.lemmas.Bool.{eqb-true}

@@ -51,7 +51,7 @@ inside_is_no_hindrance Memory sources inside hinders = cc
 inside_is_no_hindrance Read sources inside hinders = cc
 inside_is_no_hindrance kind sources inside hinders = hinders
 
--- A fault of a text, which no device and no want of memory explains, is the right answer.
+-- A fault of a database other than a failed read or out of memory is the right answer.
 pub a_fault_of_a_text_is_the_answer : (limits : Limits) (wish : Asked) (old new : List ℕ) (sources sink : Type 0)
     (fault : DbFault) (before after : Option (List ℕ))
     → EndsOverTexts limits wish old new sources sink (Err (Database fault)) before after

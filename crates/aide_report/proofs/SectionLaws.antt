@@ -1,4 +1,4 @@
--- A section that is asked for is there exactly where it has an entry.
+-- A section that is asked for is there exactly if it has an entry.
 use Rattle.std.proofs.Common.{◌≡◌, ◌∙◌, ℕ, ◌+◌, Bool, true, false, cond, List, [], ◌∷◌, refl, sym, ap, arith, length}
 use Rattle.std.specs.Prelude.{count_by, ◌==◌, ◌||◌, ◌&&◌, not}
 use Rattle.std.specs.List.{list_any}
