@@ -9,7 +9,7 @@ from aide_compare.ending import Fault, Status, reason, write_all
 from aide_compare.escapes import shown
 from aide_compare.files import kind_of, nameless, open_regular, private_folder
 
-BLOCK = 1 << 18
+BLOCK, LEAST = 1 << 18, 64
 GZIP, COMPRESS = b"\x1f\x8b", b"\x1f\x9d"
 DESCRIPTORS = ("/dev/fd/", "/proc/self/fd/")
 
@@ -96,17 +96,23 @@ def _blocks(opened, most):
 
 
 def _unzip(first, blocks, target):
-    """Unpacks one member of gzip after another. Zeros may follow a member, nothing else."""
-    member = zlib.decompressobj(31)
-    rest = first
-    while rest:
+    """Unpacks one member of gzip after another. Zeros may follow a member, nothing else. zlib copies what is behind a member,
+    so each one is given few bytes at first: otherwise a member of 20 bytes would cost a copy of a whole block."""
+    member, block, at, step, rest = zlib.decompressobj(31), first, 0, LEAST, b""
+    while rest or at < len(block):
+        if not rest:
+            rest, step = block[at : at + step], min(2 * step, BLOCK)
+            at += len(rest)
         if member.eof:
             rest = rest.lstrip(b"\0")
             member = zlib.decompressobj(31) if rest else member
         if rest:
             target.write(member.decompress(rest, BLOCK))
-            rest = member.unused_data if member.eof else member.unconsumed_tail
-        rest = rest or next(blocks, b"")
+            rest = b"" if member.eof else member.unconsumed_tail
+            if member.eof:
+                at, step = at - len(member.unused_data), LEAST
+        if not rest and at == len(block):
+            block, at = next(blocks, b""), 0
     if not member.eof:
         raise zlib.error("it ends too early")
 

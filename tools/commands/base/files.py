@@ -4,6 +4,7 @@ import hashlib
 import os
 import stat
 import time
+import zlib
 
 from tools.commands.base.calls import expect, expect_fault, outcome
 
@@ -215,6 +216,39 @@ def try_copies(tally, folder):
     with open(path, "wb") as file:
         file.write(gzip.compress(b"") * 80000)
     expect_fault(tally, "members without end", outcome(copied, path, 1000), 18, "has more than")
+    _try_small_members(tally, path)
+
+
+class Counted:
+    """An object of zlib that counts the bytes that all such objects are given."""
+
+    given, make = 0, zlib.decompressobj
+
+    def __init__(self, form):
+        self.inner = Counted.make(form)
+
+    def decompress(self, data, most):
+        Counted.given += len(data)
+        return self.inner.decompress(data, most)
+
+    def __getattr__(self, name):
+        return getattr(self.inner, name)
+
+
+def _try_small_members(tally, path):
+    """zlib copies all that is behind a member, so each of many small ones is given little more than itself."""
+    start = os.urandom(300000)
+    for label, text, behind in (("empty members", b"", b""), ("members of a byte, and zeros", b"a", b"\0")):
+        packed = gzip.compress(start) + (gzip.compress(text) + behind) * 20000
+        with open(path, "wb") as file:
+            file.write(packed)
+        Counted.given, zlib.decompressobj = 0, Counted
+        try:
+            found = outcome(copied, path)
+        finally:
+            zlib.decompressobj = Counted.make
+        expect(tally, "a copy, " + label, found, start + text * 20000)
+        expect(tally, "zlib is given little more than " + label, Counted.given < 4 * len(packed), True)
 
 
 def try_programs(tally, folder):
