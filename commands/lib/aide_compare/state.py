@@ -64,7 +64,7 @@ class State:
 
 def _number(text):
     digits = text[1:] if text.startswith("-") else text
-    if not (digits.isascii() and digits.isdigit() and len(text) <= 19):
+    if not (digits.isascii() and digits.isdigit() and len(digits) <= 19):
         raise ValueError("no number: %s" % shown(text, 50))
     return int(text)
 

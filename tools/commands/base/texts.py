@@ -104,6 +104,11 @@ def try_state(tally, _):
         text.split("\n")[:4],
         ["format=2", "status=7", "time=1795602777", "date=2026-11-25T10:32:57Z"],
     )
+    for written in (-(1 << 63), -(10**18), 1 - 10**18, (1 << 63) - 1):
+        early = state.State(0, 1, 0, 0, 0, old_written=written).text()
+        expect(
+            tally, "a file that was written at %d" % written, outcome(lambda: state.parse_state(early).old_written), written
+        )
     expect(tally, "further keys", state.parse_state(text.encode()).more, {"weekly": "3"})
     expect(tally, "a newline in a value", state.State(18, 1, error="a\nb").text().count(b"\n"), 14)
     expect(tally, "a status by its name", b"\nstatus=18\n" in state.State(ending.Status.DEVICE, 1).text(), True)
