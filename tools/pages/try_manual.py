@@ -392,7 +392,7 @@ def try_faults(trial, page):
     trial.holds("faults of the configuration", sorted(named) == sorted(CONFIGURATION_WORDS.values()), named)
     for words in named:
         text = faults_of_configuration(words)
-        status, errors = trial.read(text, "-E" if words.startswith("no ") else "-D")
+        status, errors = trial.read(text, "-E" if words.startswith("no ") else "-D") if text else (None, "no text has it")
         trial.holds(
             words,
             status == 17 and re.fullmatch(r"aide: (config|after):\d+: " + re.escape(words) + "\n", errors),

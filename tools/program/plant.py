@@ -3,9 +3,9 @@
 
 usage: python3 -m tools.program.plant [--only NAME] [--trial PART] PROGRAM
 
-A list is a module with PLANTED: bugs of the definitions (oracle), planted in their text; and bugs of what stands between
-the program and the machine (machine), planted around PROGRAM: its arguments and status are changed, or the answers of the
-C library. NAME is the name of a list, or of one bug as LIST:NUMBER from 1. A bug has to be seen: at least one check of its
+A list is a module with PLANTED: bugs of the definitions (oracle) and of the manual pages (pages), planted in their text;
+and bugs of what stands between the program and the machine (machine), planted around PROGRAM: its arguments and status are
+changed, or the answers of the C library. NAME is the name of a list, or of one bug as LIST:NUMBER from 1. A bug has to be seen: at least one check of its
 trial fails with it. Each trial is also run without a bug, and has to pass. The last line is 'N passed, M failed'.
 """
 import argparse
@@ -19,7 +19,7 @@ import tempfile
 
 from tools.lib import signals
 from tools.lib.tally import Tally, program_of
-from tools.program.planted import machine, oracle
+from tools.program.planted import machine, oracle, pages
 
 HERE = os.path.dirname(os.path.dirname(os.path.dirname(os.path.abspath(__file__))))
 FAILED = re.compile("[0-9]+ passed, [1-9][0-9]* failed")
@@ -31,7 +31,9 @@ WORDS = {
     "try_configurations": ["--count", "40"],
     "random_sessions": ["120", "7"],
     "failed_calls": [],
+    "try_manual": [],
 }
+ELSEWHERE = {"try_manual": "tools.pages.try_manual"}
 PARTS = {
     "devices": "devices.try_devices",
     "paths": "paths.try_paths",
@@ -45,7 +47,7 @@ def words_of(trial, program):
     """The command that runs a trial."""
     if trial in PARTS:
         return [sys.executable, "-m", "tools.program.plant", "--trial", trial, program]
-    return [sys.executable, "-m", "tools.program." + trial, program] + WORDS[trial]
+    return [sys.executable, "-m", ELSEWHERE.get(trial, "tools.program." + trial), program] + WORDS[trial]
 
 
 def run_part(trial, program):
@@ -67,7 +69,7 @@ def last_line(trial, program, folder):
 def copied(folder):
     """Copies what the trials read."""
     ignored = shutil.ignore_patterns("__pycache__", "out")
-    for name in ("tools", "examples", "commands"):
+    for name in ("tools", "examples", "commands", "man"):
         shutil.copytree(os.path.join(HERE, name), os.path.join(folder, name), ignore=ignored)
 
 
@@ -97,8 +99,8 @@ def fault_of(plant, program):
 
 
 def bugs(only):
-    """The bugs of both lists, by name."""
-    for module in (machine, oracle):
+    """The bugs of all lists, by name."""
+    for module in (machine, oracle, pages):
         name = module.__name__.rpartition(".")[2]
         for number, plant in enumerate(module.PLANTED, 1):
             if only in (None, name, "%s:%d" % (name, number)):
@@ -106,7 +108,7 @@ def bugs(only):
 
 
 def main():
-    parser = argparse.ArgumentParser(description="Plants bugs around the program and in the definitions.")
+    parser = argparse.ArgumentParser(description="Plants bugs around the program, in the definitions and in the manual pages.")
     parser.add_argument("--only", metavar="NAME")
     parser.add_argument("--trial", choices=sorted(PARTS), help="run this part of end_to_end.py alone")
     parser.add_argument("program")
