@@ -79,9 +79,12 @@ class Entry:
         return number(self.field(column))
 
     def time(self, column):
-        """A time in seconds, or None."""
+        """A time in seconds, or None. It is a number, or the base64 of one; before 1970 it has a sign."""
         field = self.field(column)
-        return None if field == ABSENT else number(_unpacked(field) or field)
+        text = field if field[:1] == b"-" or field[:1].isdigit() else _unpacked(field) or b""
+        sign, digits = (-1, text[1:]) if text[:1] == b"-" else (1, text)
+        seconds = None if field == ABSENT else number(digits)
+        return None if seconds is None else sign * seconds
 
     def digests(self):
         """The digests that the entry has, as bytes. An absent one is equal to nothing, so it is not among them."""
@@ -93,9 +96,11 @@ class Entry:
         return {column: value for column, value in found.items() if value}
 
     def link(self):
-        """Where a symbolic link points to, or None."""
+        """Where a symbolic link points to, or None. AIDE writes "0-" for nothing, and a nought before one that begins so."""
         field = self.field("lname")
-        return None if field == ABSENT or not stat.S_ISLNK(self.mode) else decoded(field)
+        if field == ABSENT or not stat.S_ISLNK(self.mode):
+            return None
+        return b"" if field == b"0-" else decoded(field[1:] if field.startswith(b"00") else field)
 
     def capabilities(self):
         """The text of its capabilities; empty if there are none, and None if it cannot be read."""
