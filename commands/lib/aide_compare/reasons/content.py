@@ -4,16 +4,10 @@ import os
 
 from aide_compare.ending import Fault
 from aide_compare.files import open_regular
+from aide_compare.reasons.entries import DIGESTS
 
-# The columns of digests that are computed here, by the names that Python has for them.
-COMPUTED = {
-    "md5": "md5",
-    "sha1": "sha1",
-    "sha256": "sha256",
-    "sha512": "sha512",
-    "sha3_256": "sha3_256",
-    "sha3_512": "sha3_512",
-}
+# The columns of digests that are computed here: those that every Python computes, by the same name.
+COMPUTED = DIGESTS & hashlib.algorithms_guaranteed
 BLOCK = 1 << 18
 
 
@@ -21,7 +15,7 @@ class Hashes:
     """Several digests of the same bytes."""
 
     def __init__(self, columns):
-        self.hashes = {column: hashlib.new(COMPUTED[column]) for column in columns}
+        self.hashes = {column: hashlib.new(column) for column in columns}
 
     def update(self, data):
         for each in self.hashes.values():
@@ -53,9 +47,9 @@ class Contents:
     def agrees(self, path, entry, wanted):
         """Whether the file with this path has the digests of its entry in the database and those that are wanted."""
         known = entry.digests()
-        columns = (known.keys() | wanted.keys()) & COMPUTED.keys()
+        columns = (known.keys() | wanted.keys()) & COMPUTED
         size = entry.number("size")
-        if not known.keys() & COMPUTED.keys() or (size or 0) > self.left:
+        if not known.keys() & COMPUTED or (size or 0) > self.left:
             return False
         found = self._digests(path, columns)
         return found is not None and do_agree(found, known) and do_agree(found, wanted)

@@ -29,7 +29,7 @@ class Packages:
         self.known = Gathered(self.records, (explainer.old, explainer.new), changes, explainer.read)
         after = [package for _, package in self.known.changed if package]
         if self.archive and after:
-            columns = COMPUTED.keys() & set().union({"sha256"}, *explainer.new.tables)
+            columns = COMPUTED & set().union({"sha256"}, *explainer.new.tables)
             self.archive.gather(after, Asked(self.known.paths, self.known.place_of, columns))
         self.made = made.Made(self.known)
 
