@@ -17,7 +17,7 @@ import tempfile
 from tools.lib.arguments import add_program, parser_of
 from tools.lib.tally import Tally
 from tools.oracle.attributes import ATTRIBUTES
-from tools.oracle.configuration import LEVELS
+from tools.oracle.configuration import LEVELS, OLDER_OPTIONS, OPTIONS, WITHOUT_EFFECT
 from tools.oracle.session import CONFIGURATION_WORDS, DATABASE_WORDS
 
 HERE = os.path.dirname(os.path.dirname(os.path.dirname(os.path.abspath(__file__))))
@@ -157,7 +157,9 @@ def try_options(trial, page):
         "text": [],
     }
     options = re.findall(r"^\.It Ic (\w+) Ns = Ns (Ar|Cm) (\w+)$", section(page, "OPTIONS"), re.M)
-    trial.holds("options of the page", len(options) == 14, len(options))
+    names = [name for name, _, _ in options]
+    wanted = [name for name in OPTIONS if name not in OLDER_OPTIONS + WITHOUT_EFFECT]
+    trial.holds("options of the page", sorted(names) == sorted(wanted), names)
     for name, macro, kind in options:
         for value in values[kind] if macro == "Ar" else [kind]:
             trial.good("%s=%s\n" % (name, value), "%s=%s" % (name, value))
@@ -169,7 +171,7 @@ def try_options(trial, page):
 def try_other_names(trial, page):
     """Options without effect are accepted, and what is refused by name is refused so."""
     without = re.findall(r"^\.Ic (\w+)", between(page, "without effect", "without effect"), re.M)
-    trial.holds("options without effect", len(without) == 17, len(without))
+    trial.holds("options without effect", sorted(without) == sorted(WITHOUT_EFFECT), without)
     for name in without:
         trial.good(name + "=any text\n", name)
         trial.bad(name + "=\n", "bad value", name + "=")
@@ -177,7 +179,7 @@ def try_other_names(trial, page):
     for name in re.findall(r"^\.Ic (@@\w+)", refused, re.M):
         trial.bad(name + " x\n", "left out of this profile", name)
     older = re.findall(r"^\.Ic ([a-z_]+)(?: [,;])?$", refused, re.M)
-    trial.holds("older names", len(older) == 4, older)
+    trial.holds("older names", sorted(older) == sorted(OLDER_OPTIONS), older)
     for name in older:
         trial.bad(name + "=no\n", "left out of this profile", name)
     for name, value in re.findall(r"^\.Ic (\w+) Ns = Ns Cm (\w+)", refused, re.M):
