@@ -248,12 +248,18 @@ def try_records(sandbox):
             sandbox.holds("%s that others can write" % label, refused.status == 18, refused.text)
         os.chmod(sandbox.path(name), before)
     os.remove(sandbox.path("dpkg/info/tool.list"))
-    os.symlink("/etc/passwd", sandbox.path("dpkg/info/tool.list"))
+    os.symlink("../status", sandbox.path("dpkg/info/tool.list"))
     try:
         kept()
         sandbox.holds("a link in place of a list", False, "kept")
     except fault as refused:
         sandbox.holds("a link in place of a list", refused.status == 18, refused.text)
+    try:
+        sandbox.write("dpkg/info/tool.list", b"through a link")
+    except OSError:
+        pass
+    sandbox.holds("no trial writes through a link", sandbox.read("dpkg/status") == status)
+    os.remove(sandbox.path("dpkg/info/tool.list"))
 
 
 def try_interface(sandbox):
