@@ -178,7 +178,7 @@ def try_links(sandbox):
         wanted["a link", path] = want
     host.old.file(b"/usr/lib/type", ONE)
     host.new.link(b"/usr/lib/type", b"a.so.2")
-    host.new.folder(b"/usr/share/new").folder(b"/usr/share/open", 0o40775)
+    host.new.folder(b"/usr/share/new", lcount=2).folder(b"/usr/share/open", 0o40775)
     host.old.folder(b"/usr/share/times")
     host.new.folder(b"/usr/share/times", mtime=Entry.time(2000))
     host.old.folder(b"/usr/share/file")

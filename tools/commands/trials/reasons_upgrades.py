@@ -25,6 +25,8 @@ def try_same(sandbox):
     case("the same digests, another size", "-", b"/usr/bin/d", new=ONE, said=None, after={"size": 4})
     case("the same content, another mode", "-", b"/usr/bin/e", new=ONE, said=None, after={"mode": 0o100755})
     case("of another user in both nights", BY_DPKG, b"/usr/bin/f", uid=1)
+    two = {"inode": 7, "lcount": 2}
+    case("written in its place, with another name", BY_DPKG, b"/usr/bin/g", before=two, after=two)
     for path, before, after, more, want in (
         (b"/usr/lib/same", b"/opt/x", b"/opt/x", ANEW, BY_DPKG),
         (b"/usr/lib/same-mode", b"/opt/x", b"/opt/x", {"perm": "120700"}, "-"),
