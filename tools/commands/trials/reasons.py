@@ -2,6 +2,8 @@
 from . import (
     reasons_archive,
     reasons_contents,
+    reasons_debs,
+    reasons_entries,
     reasons_indexes,
     reasons_lines,
     reasons_logs,
@@ -10,7 +12,9 @@ from . import (
     reasons_places,
     reasons_rpm,
     reasons_rpm_records,
+    reasons_rules,
     reasons_severity,
+    reasons_upgrades,
 )
 from .reasons_nights import try_nights
 
@@ -30,6 +34,13 @@ def try_reasons(sandbox):
         reasons_severity.try_tests,
         reasons_severity.try_tables,
         reasons_places.try_shipped_rules,
+        reasons_entries.try_values,
+        reasons_entries.try_plain,
+        reasons_entries.try_differences,
+        reasons_entries.try_early,
+        reasons_rules.try_words,
+        reasons_rules.try_kinds,
+        reasons_rules.try_order,
     ):
         trial(sandbox)
 
@@ -43,6 +54,9 @@ def try_reasons_packages(sandbox):
         reasons_packages.try_removed,
         reasons_packages.try_came,
         reasons_packages.try_read,
+        reasons_upgrades.try_same,
+        reasons_upgrades.try_kinds,
+        reasons_upgrades.try_words,
         reasons_contents.try_contents,
         reasons_rpm.try_content,
         reasons_rpm.try_unchanged,
@@ -55,7 +69,11 @@ def try_reasons_packages(sandbox):
         reasons_archive.try_owners,
         reasons_archive.try_forged,
         reasons_archive.try_forms,
+        reasons_debs.try_parts,
+        reasons_debs.try_paths,
+        reasons_debs.try_programs,
         reasons_indexes.try_said,
+        reasons_indexes.try_missing,
         reasons_indexes.try_listed,
         reasons_indexes.try_wanted,
         reasons_indexes.try_odd_files,

@@ -6,7 +6,7 @@ import lzma
 import os
 
 from .reasons_archive import BY_ARCHIVE, BY_DPKG, INFO, host_of, index, prepare, tool, write_archive
-from .reasons_host import Host
+from .reasons_host import NAME, Host, lines_of
 
 GOOD = b"[GNUPG:] GOODSIG 1 x\n[GNUPG:] VALIDSIG 1\n"
 STUB = """while [ "$1" != --status-fd ]; do shift; done
@@ -52,6 +52,31 @@ def try_said(sandbox):
     ):
         says(sandbox, said, None, status)
         expect(sandbox, "gpgv says: " + label, is_believed)
+
+
+def try_missing(sandbox):
+    """Where gpgv is missing, an archive cannot be verified: that is said, and no reason is given."""
+    prepare(sandbox)
+    write_archive(sandbox)
+    host = host_of()
+    host.ask(sandbox)
+    given = (
+        "--databases",
+        "host-old.db",
+        "host-new.db",
+        "--packages",
+        "host-old.packages",
+        "--packages-now",
+        "host-new.packages",
+    )
+    for label, words, status, said in (
+        ("with an archive", given + WORDS, 18, b"there is no program gpgv, so the archive's indexes cannot be verified"),
+        ("with an empty archive", given + ("--archive", "empty", "--keyring", "archive.gpg"), 0, b""),
+        ("without an archive", given, 0, b""),
+    ):
+        environment = {"PATH": sandbox.path("empty")}
+        answer = sandbox.call(NAME, *words, text=lines_of(host.old, host.new), environment=environment)
+        sandbox.expect("no gpgv, " + label, answer, status, b"" if status else [b'"reason":'], [said] if said else b"")
 
 
 def try_listed(sandbox):

@@ -1,0 +1,60 @@
+"""Bugs of aide-compare-reasons: how packages and what they are packed in are read, and what then is no evidence."""
+from .plant import seen_by
+from .reasons import DEB, INDEXES, PACKED
+
+PLANTED = (
+    seen_by(
+        "reasons_debs.try_parts",
+        (DEB, "    if os.read(descriptor, len(MAGIC)) != MAGIC:\n", "    if not os.read(descriptor, len(MAGIC)):\n"),
+        (DEB, "        if not head:\n            return\n", ""),
+        (DEB, "        if not found:\n", "        if False:\n"),
+        (DEB, "PART.fullmatch(", "PART.match("),
+        (DEB, "PART.fullmatch(", "PART.search("),
+        (DEB, "HEAD_SIZE, MOST_PARTS = 60, 10", "HEAD_SIZE, MOST_PARTS = 60, 11"),
+        (DEB, "HEAD_SIZE, MOST_PARTS = 60, 10", "HEAD_SIZE, MOST_PARTS = 60, 9"),
+        (DEB, '.rstrip(" /")', '.rstrip(" ")'),
+        (DEB, "except (tarfile.TarError, ValueError, EOFError)", "except (ValueError, EOFError)"),
+        (
+            DEB,
+            " *`\\n",
+            " *..",
+        ),
+    )
+    + seen_by(
+        "reasons_debs.try_paths",
+        (DEB, '(path[2:] if path.startswith(b"./") else path.lstrip(b"/"))', 'path.lstrip(b"./")'),
+        (DEB, '(path[2:] if path.startswith(b"./") else path.lstrip(b"/"))', '(path[2:] if path.startswith(b"./") else path)'),
+        (DEB, '(target[2:] if target.startswith(b"./") else target.lstrip(b"/"))', "target[2:]"),
+        (
+            DEB,
+            '        if place is None:\n            raise Refuted("a hard link to nothing")\n',
+            "        if not place:\n            return {}\n",
+        ),
+        (DEB, "elif member.isreg() or member.islnk():", "elif not member.isdir():"),
+        (DEB, "elif member.isreg() or member.islnk():", "elif member.isreg():"),
+        (DEB, 'tar.each(wants if name == "data" else lambda path: path != b"/")', "tar.each(wants)"),
+        (DEB, "            if wants(path):\n", "            if True:\n"),
+        (DEB, '            if name == "data":\n', "            if True:\n"),
+        (DEB, "min(BLOCK, left)", "BLOCK"),
+    )
+    + seen_by(
+        "reasons_debs.try_programs",
+        (PACKED, '            if process.wait():\n                raise Refuted("damaged")\n', ""),
+        (PACKED, "    if not program:\n", "    if False:\n"),
+        (PACKED, '"zst": ("zstd", "-dcq"), "lz4"', '"zst": ("lz4", "-dcq"), "lz4"'),
+    )
+    + seen_by(
+        "reasons_indexes.try_missing",
+        (INDEXES, "    if not program:\n", "    if False:\n"),
+        (
+            INDEXES,
+            '        raise Fault(Status.DEVICE, "there is no program gpgv, so the archive\'s indexes cannot be verified")\n',
+            "        return None\n",
+        ),
+        (
+            INDEXES,
+            '        raise Fault(Status.DEVICE, "there is no program gpgv, so the archive\'s indexes cannot be verified")\n',
+            "        return os.pread(descriptor, MOST_RELEASE, 0)\n",
+        ),
+    )
+)

@@ -1,0 +1,172 @@
+"""Odd packages: what is no part of one, what is no tar archive, and the ways in which a path can be written."""
+import hashlib
+import io
+import os
+import shutil
+import subprocess
+import sys
+import tarfile
+
+from .reasons_archive import CONTROL, TRUE, deb, tar
+from .sandbox import HERE
+
+MAGIC, LONG = b"!<arch>\n", bytes(range(256)) * 3000
+
+
+def modules():
+    path = os.path.join(HERE, "commands", "lib")
+    if path not in sys.path:
+        sys.path.append(path)
+    from aide_compare.reasons import deb, packed
+
+    return deb, packed
+
+
+def part(name, text):
+    return ("%-16s%-12d%-6d%-6d%-8s%-10d`\n" % (name, 0, 0, 0, "100644", len(text))).encode() + text + b"\n" * (len(text) % 2)
+
+
+def members(*given):
+    """A tar archive of members: each a name, a type and what it links to or has."""
+    target = io.BytesIO()
+    with tarfile.open(fileobj=target, mode="w", format=tarfile.GNU_FORMAT) as archive:
+        for name, kind, more in given:
+            member = tarfile.TarInfo(name)
+            member.type = kind
+            if kind == tarfile.REGTYPE:
+                member.size = len(more)
+                archive.addfile(member, io.BytesIO(more))
+            else:
+                member.linkname = more
+                archive.addfile(member)
+    return target.getvalue()
+
+
+def read(sandbox, text, wants=lambda path: True):
+    """What a package has, or why it is none."""
+    deb, packed = modules()
+    with open(sandbox.write("odd.deb", text), "rb") as file:
+        try:
+            found = deb.read_deb(file.fileno(), wants, {"md5"})
+        except packed.Refuted as refuted:
+            return "refuted: %s" % refuted
+    return found.digests, found.links, found.control
+
+
+def try_parts(sandbox):
+    """Heads that are none, parts that are missing, too many or of another name, and parts that are no archive."""
+    control, data = part("control.tar", tar(CONTROL)), part("data.tar", tar({"usr/bin/a": TRUE}))
+    sums = {name: {"md5": hashlib.md5(text).digest()} for name, text in CONTROL.items()}
+    file = {b"/usr/bin/a": {"md5": hashlib.md5(TRUE).digest()}}
+    other = {b"/usr/bin/a": {"md5": hashlib.md5(b"other").digest()}}
+    control_sums = {name.encode(): digests for name, digests in sums.items()}
+    for label, text, want in (
+        ("whole", MAGIC + control + data, (file, {}, control_sums)),
+        ("without files", MAGIC + control, ({}, {}, control_sums)),
+        ("without control", MAGIC + data, (file, {}, {})),
+        ("in the other order", MAGIC + data + control, (file, {}, control_sums)),
+        ("with a slash behind the name", MAGIC + data.replace(b"data.tar  ", b"data.tar/ "), (file, {}, {})),
+        ("another part", MAGIC + part("_gpgorigin", b"odd") + data, (file, {}, {})),
+        ("a part of another name", MAGIC + data.replace(b"data.tar ", b"data.tar2"), ({}, {}, {})),
+        ("a part that begins otherwise", MAGIC + data.replace(b"data.tar ", b"mdata.tar"), ({}, {}, {})),
+        ("the eleventh part", MAGIC + part("x", b"") * 10 + data, ({}, {}, {})),
+        ("the tenth part", MAGIC + part("x", b"") * 9 + data, (file, {}, {})),
+        ("a second part of files", MAGIC + data + part("data.tar", tar({"usr/bin/a": b"other"})), (other, {}, {})),
+    ):
+        got = read(sandbox, text)
+        sandbox.holds("a package, " + label, got == want, got)
+    odd = MAGIC + control + data
+    for label, text in (
+        ("empty", b""),
+        ("of another kind", b"!<arch>x" + control),
+        ("a head that is none", MAGIC + control + b"x" * 60 + data),
+        ("a head that is cut", MAGIC + control + b"x" * 9),
+        ("a size that is none", odd.replace(b"100644  ", b"1006  x ", 1)),
+        ("an end of a head that is none", odd.replace(b"`\n", b"'\n", 1)),
+        ("a part that is cut", odd[:-600]),
+        ("a size beyond the end", MAGIC + part("data.tar", b"")[:48] + b"9999999   `\n"),
+        ("files that are no tar archive", MAGIC + part("data.tar", b"x" * 1024)),
+        ("files that are packed otherwise", MAGIC + part("data.tar.gz", tar())),
+        ("control that is no tar archive", MAGIC + part("control.tar", b"x" * 1024) + data),
+    ):
+        got = read(sandbox, text)
+        sandbox.holds("a package, " + label, isinstance(got, str) and len(got) > 10, got)
+
+
+def try_paths(sandbox):
+    """A path is that behind the dot; a hard link has what its file has; folders, devices and FIFOs have nothing."""
+    sums = {"md5": hashlib.md5(TRUE).digest()}
+    plain = (
+        ("./usr/bin/a", tarfile.REGTYPE, TRUE),
+        ("usr/bin/b", tarfile.REGTYPE, TRUE),
+        ("/usr/bin/c", tarfile.REGTYPE, TRUE),
+        ("./.hidden", tarfile.REGTYPE, TRUE),
+        ("./usr/lib", tarfile.DIRTYPE, ""),
+        ("./usr/fifo", tarfile.FIFOTYPE, ""),
+        ("./usr/null", tarfile.CHRTYPE, ""),
+        ("./usr/link", tarfile.SYMTYPE, "./../x"),
+        ("./usr/bin/a2", tarfile.LNKTYPE, "./usr/bin/a"),
+        ("./usr/bin/b2", tarfile.LNKTYPE, "usr/bin/b"),
+        ("./usr/bin/c2", tarfile.LNKTYPE, "/usr/bin/c"),
+        ("./usr/large", tarfile.REGTYPE, LONG),
+        ("./usr/\udcff", tarfile.REGTYPE, TRUE),
+    )
+    names = (
+        b"/usr/bin/a",
+        b"/usr/bin/b",
+        b"/usr/bin/c",
+        b"/.hidden",
+        b"/usr/bin/a2",
+        b"/usr/bin/b2",
+        b"/usr/bin/c2",
+        b"/usr/\xff",
+    )
+    files = {**dict.fromkeys(names, sums), b"/usr/large": {"md5": hashlib.md5(LONG).digest()}}
+    got = read(sandbox, MAGIC + part("data.tar", members(*plain)))
+    sandbox.holds("the paths of a package", got == (files, {b"/usr/link": b"./../x"}, {}), got)
+    got = read(sandbox, MAGIC + part("data.tar", members(*plain)), lambda path: path in (b"/usr/bin/a2", b"/usr/link"))
+    sandbox.holds("the paths that are wanted", got == ({b"/usr/bin/a2": sums}, {b"/usr/link": b"./../x"}, {}), got)
+    link = ("./usr/bin/a2", tarfile.LNKTYPE, "./usr/bin/a")
+    for label, given in (
+        ("nothing", (link,)),
+        ("a file behind it", (link, plain[0])),
+        ("a link", (plain[7], ("./x", link[1], "./usr/link"))),
+    ):
+        got = read(sandbox, MAGIC + part("data.tar", members(*given)))
+        sandbox.holds("a hard link to " + label, got == "refuted: a hard link to nothing", got)
+    control = members(
+        ("./", tarfile.DIRTYPE, ""), ("./postinst", tarfile.REGTYPE, TRUE), ("./prerm", tarfile.LNKTYPE, "./postinst")
+    )
+    got = read(sandbox, MAGIC + part("control.tar", control), lambda path: False)
+    sandbox.holds("dpkg's files of a package", got == ({}, {}, {b"postinst": sums, b"prerm": sums}), got)
+
+
+def try_programs(sandbox):
+    """Parts that a program of the system unpacks: as it says, refuted if it fails or is not there."""
+    path = sandbox.path("stubs")
+    for label, body, good in (
+        ("that works", "exec cat", True),
+        ("that fails", "cat; exit 1", False),
+        ("that is killed", "cat; kill -9 $$", False),
+        ("that is not there", None, False),
+    ):
+        if body:
+            sandbox.stub("zstd", body)
+        before, os.environ["PATH"] = os.environ["PATH"], path + (":/bin:/usr/bin" if body else "")
+        try:
+            got = read(sandbox, MAGIC + part("data.tar.zst", tar({"usr/bin/a": TRUE})))
+        finally:
+            os.environ["PATH"] = before
+        sandbox.holds(
+            "a program %s" % label, isinstance(got, tuple) == good and (not good or list(got[0]) == [b"/usr/bin/a"]), got
+        )
+        if body:
+            os.remove(os.path.join(path, "zstd"))
+    for name in ("zstd", "lz4"):
+        if shutil.which(name):
+            packed = subprocess.run([name, "-cq"], input=tar({"usr/bin/a": TRUE}), stdout=subprocess.PIPE).stdout
+            _, module = modules()
+            with open(sandbox.write("packed", packed), "rb") as file:
+                target, digest = module.unpacked(file.fileno(), {"zstd": "zst", "lz4": "lz4"}[name], 1 << 20)
+            os.close(target)
+            sandbox.holds("unpacked by " + name, digest == hashlib.sha256(tar({"usr/bin/a": TRUE})).hexdigest(), digest)
