@@ -10,6 +10,7 @@ from . import (
     reasons_made,
     reasons_packages,
     reasons_places,
+    reasons_records,
     reasons_rpm,
     reasons_rpm_records,
     reasons_rules,
@@ -87,6 +88,9 @@ def try_reasons_lines(sandbox):
         reasons_lines.try_damage,
         reasons_lines.try_refused,
         reasons_lines.try_records,
+        reasons_records.try_kept,
+        reasons_records.try_folder,
+        reasons_records.try_now,
         reasons_lines.try_interface,
         try_nights,
     ):
