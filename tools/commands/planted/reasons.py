@@ -142,7 +142,7 @@ PLANTED = (
     )
     + seen_by(
         "reasons_packages.try_links",
-        (PACKAGES, "        if any(owner in self.known.now[path] for owner in owners):\n", "        if True:\n"),
+        (PACKAGES, "is_packages = any(owner in self.known.now[path] for owner in owners)", "is_packages = True"),
         (LINKS, "            if len(changes) < count:\n", "            if False:\n"),
         (PACKAGES, "if not link or (old and not differ", "if (old and not differ"),
         (LINKS, "if reason and new.is_file() and count > 1 and", "if new.is_file() and count > 1 and"),

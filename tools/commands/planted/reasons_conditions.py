@@ -21,6 +21,13 @@ PLANTED = (
         (PACKAGES, "if new.is_folder() and old is None else None", "if new.is_folder() else None"),
     )
     + seen_by(
+        "reasons_upgrades.try_units",
+        (PACKAGES, "        if takes_no_pattern(path) and (old or not is_packages):\n            return None\n", ""),
+        (PACKAGES, "(old or not is_packages)", "old"),
+        (PACKAGES, "(old or not is_packages)", "not is_packages"),
+        (PACKAGES, "if takes_no_pattern(path) and (old", "if (old"),
+    )
+    + seen_by(
         "reasons_upgrades.try_words",
         (
             PACKAGES,

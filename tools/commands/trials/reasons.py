@@ -57,6 +57,7 @@ def try_reasons_packages(sandbox):
         reasons_packages.try_read,
         reasons_upgrades.try_same,
         reasons_upgrades.try_kinds,
+        reasons_upgrades.try_units,
         reasons_upgrades.try_words,
         reasons_contents.try_contents,
         reasons_rpm.try_content,

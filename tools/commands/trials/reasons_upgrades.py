@@ -58,6 +58,35 @@ def try_kinds(sandbox):
     upgrade.expect(sandbox, listed=[path for path in host.new.entries if path.startswith(b"/usr/lib/")])
 
 
+def try_units(sandbox):
+    """Where only a digest counts, a link is explained by a target of its package if it is new, or if it points to the same."""
+    units, package = b"/usr/lib/systemd/system/", {}
+    host, wanted = Host(), {}
+    for name in (b"login.service", b"debug.service", b"tool"):
+        package[units + name if name != b"tool" else b"/usr/bin/tool"] = ONE
+    for path, before, after, want in (
+        (units + b"same.service", b"login.service", b"login.service", BY_DPKG),
+        (units + b"new.service", None, b"login.service", BY_DPKG),
+        (units + b"new-away.service", None, b"/tmp/evil.service", "-"),
+        (units + b"new-null.service", None, b"/dev/null", "-"),
+        (units + b"away.service", b"login.service", b"/tmp/evil.service", "-"),
+        (units + b"alias.service", b"login.service", b"debug.service", "-"),
+        (b"/etc/cron.daily/new", None, b"/usr/bin/tool", BY_DPKG),
+        (b"/etc/cron.daily/new-away", None, b"/tmp/evil", "-"),
+        (b"/etc/cron.daily/away", b"/usr/bin/tool", b"/usr/bin/other", "-"),
+        (b"/usr/bin/alias", b"other", b"tool", BY_DPKG),
+        (b"/usr/bin/alias-away", b"other", b"/tmp/evil", MADE),
+    ):
+        package[path] = None
+        if before:
+            host.old.link(path, before, inode=8)
+        host.new.link(path, after, inode=9)
+        wanted["a link to %s" % after.decode(), path] = want
+    host.old.package("tool", "1", package)
+    host.new.package("tool", "2", {**package, b"/usr/bin/other": TWO})
+    host.expect(sandbox, wanted)
+
+
 def try_words(sandbox):
     """The words of the reasons: the package, its version, and what is as before."""
     upgrade = Upgrade()

@@ -10,6 +10,7 @@ from aide_compare.reasons.dpkg import words_of
 from aide_compare.reasons.entries import CONTENT, DIGESTS, TIMES
 from aide_compare.reasons.gathered import Gathered
 from aide_compare.reasons.hard_links import HardLinks
+from aide_compare.reasons.protected import takes_no_pattern
 from aide_compare.reasons.reason import Reason
 
 SAME_CONTENT = CONTENT - DIGESTS - {"size"}
@@ -109,7 +110,10 @@ class Packages:
         if covering:
             return None
         owners = self.known.now.get(self.known.usr(made.target_of(path, link)), ())
-        if any(owner in self.known.now[path] for owner in owners):
+        is_packages = any(owner in self.known.now[path] for owner in owners)
+        if takes_no_pattern(path) and (old or not is_packages):
+            return None
+        if is_packages:
             return self._package(path)
         return made.made_by("a link of %s" % words_of(self.known.now[path][-1]))
 
