@@ -3,21 +3,14 @@ import os
 import re
 import shutil
 
+from tools.oracle.configuration import BOOL_OPTIONS, LEVELS, SET_OPTIONS
 from tools.packaging.installing.trial import HERE, texts, tree
 
 BASH = "share/bash-completion/completions/"
 ZSH = "share/zsh/site-functions/_aide-compare"
 FLEET = "lib/aide-compare/fleet/"
 FISH = "share/fish/vendor_completions.d/"
-LEVELS = [
-    "minimal",
-    "summary",
-    "database_attributes",
-    "list_entries",
-    "changed_attributes",
-    "added_removed_attributes",
-    "added_removed_entries",
-]
+REPORT_OPTIONS = ["report_level"] + BOOL_OPTIONS + SET_OPTIONS
 
 # bash-completion reads the file inside of a function of its own.
 ASK_BASH = r"""
@@ -144,6 +137,7 @@ def try_bash(trial):
             given = ask_bash(trial, name, "--state", "x", "--", "-")
             trial.holds("bash offers what %s takes after --" % name, sorted(given) == options_after(trial) != [], given)
     for words, wanted in (
+        (["aide-compare", "-E", "-A", "report_"], [name + "=" for name in REPORT_OPTIONS]),
         (["aide-compare", "-E", "-A", "report_level", "="], LEVELS),
         (["aide-compare", "-E", "-A", "report_level", "=", "su"], ["summary"]),
         (["aide-compare", "-E", "-A", "report_l"], ["report_level="]),
@@ -171,6 +165,9 @@ def try_zsh(trial):
         trial.skip("completions of zsh: it is not installed")
         return
     folder = trial.path("first/usr/local", os.path.dirname(ZSH))
+    with open(trial.path("first/usr/local", ZSH)) as file:
+        named = set(re.findall(r"\breport_\w+", file.read()))
+    trial.holds("zsh names the options of the report", named == set(REPORT_OPTIONS), named)
     for line, wanted in (
         ("aide-compare --config-c", "aide-compare --config-check"),
         ("aide-compare -E -A report_level=su", "report_level=summary"),
@@ -212,3 +209,6 @@ def try_fish(trial):
         done = trial.run(["fish", "-c", "complete -C '%s'" % line], cwd=trial.source, env=surroundings, timeout=60)
         given = [one.split("\t")[0] for one in done[1].splitlines()]
         trial.holds("fish completes " + line, done[0] == 0 and given == wanted, done)
+    done = trial.run(["fish", "-c", "complete -C 'aide-compare -A report_'"], cwd=trial.source, env=surroundings, timeout=60)
+    named = {one.split("=")[0] for one in done[1].splitlines()}
+    trial.holds("fish names the options of the report", named == set(REPORT_OPTIONS), named)
