@@ -11,8 +11,9 @@ A list has a block for each body, and a blank line between two blocks:
 `file`, `old` and `new` mean what they mean in a must-fail edit: each `old` is on one line and stands once in its file,
 and a further pair applies to what the earlier ones made. A line `in: FUNCTION`, or `in: TYPE::FUNCTION`, asks for texts
 that stand once in that function. A body that the contracts should let through has one more line, `right: REASON` or
-`test: NAME OF THE TEST THAT SEES IT`. A body that a kept answer refuses has a line `differs: SENTENCE`, which tells in what
-the two sides of its goal differ: it is written by hand, after the message was read.
+`test: NAME OF THE TEST THAT SEES IT`: `CRATE::TEST`, or `program::CASE` for a stored case of the program. A body that a
+kept answer refuses has a line `differs: SENTENCE`, which tells in what the two sides of its goal differ: it is written by
+hand, after the message was read.
 """
 import hashlib
 import pathlib

@@ -41,6 +41,7 @@ alone. No call can make a count of failures fall (`sources_never_fall` of `run`)
 rises, or make the peak of a desk fall (`peak` of `run` and `Cursor::next`). No body of `run` itself is listed yet: its right
 body alone, without its stored answers, takes more than four minutes of processor time. What a test sees of a body that proves
 is tried by `python3 -m tools.wrong_bodies.seen`, which plants the body in the place of the function and runs the crate's tests.
+A test `program::CASE` is a stored case of `tools/program/cases`, which is given to the program.
 """
 
 

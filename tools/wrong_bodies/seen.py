@@ -1,10 +1,12 @@
 """Runs the tests that are to see the bodies that prove: each body with a line `test: CRATE::TEST` is planted in the place
 of its function, in a copy of all crates, and the tests of that crate are run there by `rt try --test`, without a proof.
+A line `test: program::CASE` names a stored case of `tools/program/cases`, which `rt try` gives to the program.
 
 The named test has to fail with the body, and to pass without one. A run takes some three minutes of processor time. The
 last line is `N passed, M failed`.
 """
 import argparse
+import contextlib
 import re
 import shutil
 import subprocess
@@ -12,8 +14,12 @@ import sys
 import tempfile
 from pathlib import Path
 
+from tools.oracle.session import Answer
+from tools.program import cases
 from tools.wrong_bodies import bodies, sources
 
+PROGRAM = "program"
+ENDED = b"checked: ended status="
 PASSED = re.compile(r"^test (\S+) \.\.\. ok$", re.MULTILINE)
 STARTED = re.compile(r"^test (\S+) \.\.\. ", re.MULTILINE)
 
@@ -43,13 +49,20 @@ def plant(body, folder):
     (found.folder / place.file).write_text("\n".join(lines), encoding="utf-8")
 
 
-def tests_of(crate, body):
-    """The tests of a crate that passed and those that began, with this body planted, or with none."""
+@contextlib.contextmanager
+def copy_with(body):
+    """A copy of all crates with this body planted, or with none."""
     with tempfile.TemporaryDirectory(prefix="wrong-bodies-") as name:
         folder = Path(name)
         copied(folder)
         if body:
             plant(body, folder)
+        yield folder
+
+
+def tests_of(crate, body):
+    """The tests of a crate that passed and those that began, with this body planted, or with none."""
+    with copy_with(body) as folder:
         done = subprocess.run(
             ["rt", "try", "--test"],
             cwd=folder / "crates" / crate,
@@ -61,14 +74,43 @@ def tests_of(crate, body):
     return set(PASSED.findall(text)), set(STARTED.findall(text)), text
 
 
+def tried(folder, words, printed):
+    """What the program of a copy answers, if it ended. `printed` gets what `rt try` printed."""
+    done = subprocess.run(
+        ["rt", "try", "--", *words],
+        cwd=folder / "crates" / "aide",
+        stdin=subprocess.DEVNULL,
+        stdout=subprocess.PIPE,
+        stderr=subprocess.PIPE,
+    )
+    printed.append(done.stderr)
+    errors, mark, _ = done.stderr.partition(ENDED)
+    return Answer(done.stdout, errors, done.returncode) if mark else None
+
+
+def case_of(name, body):
+    """The same of a stored case of the program."""
+    case, printed = cases.read(next(Path(cases.FOLDER).glob(f"*/{name}.case"))), []
+    with copy_with(body) as folder, tempfile.TemporaryDirectory() as data:
+        answer = cases.answers_in(case, data.encode(), lambda words: tried(folder, words, printed))
+        is_right = answer == cases.stored(case, data.encode())
+    return {name} if is_right else set(), {name} if answer else set(), printed[0].decode("utf-8", "replace")
+
+
+def outcome_of(crate, test, body):
+    """The tests that passed and those that began, and what was printed."""
+    return case_of(test, body) if crate == PROGRAM else tests_of(crate, body)
+
+
 def fault_of(body, right):
     """Why the named test does not see a body, or None. `right` has the tests that pass without it."""
     crate, _, test = body.test.partition("::")
-    if crate not in right:
-        right[crate] = tests_of(crate, None)[0]
-    if test not in right[crate]:
+    run = body.test if crate == PROGRAM else crate
+    if run not in right:
+        right[run] = outcome_of(crate, test, None)[0]
+    if test not in right[run]:
         return f"the test {test} does not pass without the body"
-    passed, began, text = tests_of(crate, body)
+    passed, began, text = outcome_of(crate, test, body)
     if test in passed:
         return f"the test {test} passes with the body"
     return None if test in began else f"the test {test} was not run: {text[-300:]}"
