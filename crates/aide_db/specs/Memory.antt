@@ -4,8 +4,8 @@ use Rattle.aide_entry.specs.Cause.{is_memory}
 use Rattle.aide_db.specs.declared.fault.DbFault.{DbFault}
 use Rattle.aide_db.specs.declared.stage.Stage.{Stage}
 use Rattle.aide_db.specs.declared.stage.Stage.TheVariants as stages
-use Rattle.aide_db.specs.declared.stage.Progress.{Progress}
-use Rattle.aide_db.specs.declared.stage.Progress.TheVariants as steps
+use Rattle.aide_db.specs.declared.judge.Judgement.{Judgement}
+use Rattle.aide_db.specs.declared.judge.Judgement.TheVariants as judged
 use Rattle.aide_db.specs.declared.step.Step.{Step}
 use Rattle.aide_db.specs.declared.take_line.Taken.{Taken}
 use Rattle.aide_db.specs.declared.take_line.Taken.TheVariants as takes
@@ -29,8 +29,8 @@ HasMemory takes.NoMemory = ⊥
 HasMemory _ = Unit {0}
 
 -- one more line is read without running out of memory
-abbrev pub GoesOn : Progress → Type 0
-GoesOn steps.Line = Unit {0}
-GoesOn steps.Entry = Unit {0}
-GoesOn steps.End = Unit {0}
-GoesOn (steps.Fault kind) = is_memory kind ≡ false
+abbrev pub GoesOn : Judgement → Type 0
+GoesOn (judged.NoEntry stage) = Unit {0}
+GoesOn judged.Entry = Unit {0}
+GoesOn judged.End = Unit {0}
+GoesOn (judged.Fault kind) = is_memory kind ≡ false

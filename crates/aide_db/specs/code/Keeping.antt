@@ -16,7 +16,7 @@ use Rattle.aide_db.specs.declared.fault.DbFault.{DbFault}
 use Rattle.aide_db.specs.declared.limits.Limits.{Limits}
 use Rattle.aide_db.specs.declared.reel.Reel.{Ghosts as Reels}
 use Rattle.aide_db.specs.declared.side.Side.{Side}
-use Rattle.aide_db.specs.declared.stage.Progress.{Progress}
+use Rattle.aide_db.specs.declared.judge.Judgement.{Judgement}
 use Rattle.aide_db.specs.declared.step.Step.{Step}
 use Rattle.aide_db.specs.declared.take_line.Taken.{Taken}
 
@@ -109,7 +109,7 @@ pub record IsOutcomeOfTaking (limits : Limits) (room used used_now : ℕ) (ahead
 
 -- What the outcome of one more line says of the cursor and the desk.
 pub record IsOutcomeOfLine {R : Type 0} (c e : CursorView R) (d f : DeskView)
-    (result : Progress) : Type 0 where
+    (result : Judgement) : Type 0 where
   -- at an entry the side has a new entry line, and otherwise its entry is as before
   pub own : OwnAfter c.side d f e.columns c.limits.line result
   -- the number of bytes used does not fall, and at a line or an entry it rises
