@@ -23,6 +23,7 @@ pub mod Side
 pub mod MemorySources
 pub mod Again
 pub mod Count
+pub mod Opening
 pub mod Failures
 pub mod Kept
 pub mod code

@@ -2,6 +2,7 @@ pub use Rattle.aide_words.specs.Job
 pub mod Put
 pub mod Lines
 pub mod Files
+pub mod Pointing
 pub mod Sites
 pub mod Answer
 pub mod Ends

@@ -5,8 +5,9 @@ ghost use Rattle.std.specs.Option.{option_map};
 ghost use Rattle.aide_session.specs.Sites.{bytes_at, either, files_at, of_file, side_bytes};
 ghost use Rattle.aide_session.specs.Sites.{side_given, side_missing, side_openings, side_path};
 ghost use Rattle.aide_session.specs.Files.{GivesFile};
+ghost use Rattle.aide_session.specs.Pointing.{KeepsSite};
 ghost use Rattle.aide_db.specs.Count.{one_more, sum_of};
-ghost use Rattle.aide_db.specs.Side.{other_side};
+ghost use Rattle.aide_db.specs.Opening.{TellsTheSame, CountsOpening, HasOpened, HasRefused};
 
 use crate::pointed::Pointed;
 use crate::site::Site;
@@ -155,21 +156,17 @@ impl<'a> Sources for MemorySite<'a> {
     fn open(&mut self, side: Side) -> Result<&'a [u8], OpenFault>
         ensures missing { OnErr result (side_bytes self.old side ≡ None) }
         ensures there { OnOk result (IsSome (side_bytes self.old side)) }
-        ensures refused { OnErr result (side_given self.new side ≡ false) }
         ensures given { OnOk result (side_given self.new side ≡ true) }
-        ensures lookups { self.new.lookups ≡ self.old.lookups }
-        ensures refuses { OnOk result (side_missing self.old side ≡ false) }
         ensures fresh { IfOk result (λ reel. ⟦<&'a [u8] as Reel>⟧.failures reel ≡ 0) }
         ensures gives { IfOk result (λ reel. IfSome (side_bytes self.old side)
             (λ bytes. ⟦<&'a [u8] as Reel>⟧.to_come reel ≡ Some bytes)) }
-        ensures same { side_bytes self.new ≡ side_bytes self.old }
-        ensures files { files_at self.new ≡ files_at self.old }
-        ensures still_missing { side_missing self.new ≡ side_missing self.old }
-        ensures counts { side_openings self.new side ≡ one_more (side_openings self.old side) }
-        ensures others { side_openings self.new (other_side side)
-            ≡ side_openings self.old (other_side side) }
-        ensures ok { OnOk result (self.new.failures ≡ self.old.failures) }
-        ensures fault { OnErr result (self.new.failures ≡ one_more self.old.failures) }
+        ensures keeps { TellsTheSame side_bytes files_at side_missing (λ _. true)
+            self.old self.new }
+        ensures opens { CountsOpening side_openings (λ s. s.lookups) side self.old self.new }
+        ensures opened { OnOk result (HasOpened side_missing (λ s. s.failures) side
+            self.old self.new) }
+        ensures refused { OnErr result (HasRefused side_bytes (λ _. true) side_given
+            (λ s. s.failures) side self.old self.new) }
     {
         match look_side(self.files.as_slice(), self.sides.path(side)) {
             Some(bytes) => {
@@ -186,9 +183,8 @@ impl<'a> Sources for MemorySite<'a> {
 
     fn close(&mut self, reel: &'a [u8])
         ensures unchanged { self.new ≡ self.old }
-        ensures same { side_bytes self.new ≡ side_bytes self.old }
-        ensures files { files_at self.new ≡ files_at self.old }
-        ensures still_missing { side_missing self.new ≡ side_missing self.old }
+        ensures keeps { TellsTheSame side_bytes files_at side_missing (λ _. true)
+            self.old self.new }
         ensures openings { side_openings self.new ≡ side_openings self.old }
         ensures adds { self.new.failures
             ≡ sum_of self.old.failures (⟦<&'a [u8] as Reel>⟧.failures reel.entry) }
@@ -211,11 +207,7 @@ impl<'a> Site for MemorySite<'a> {
         ensures gives { IfOk result (λ reel. (file : Option (List ℕ))
             → files_at self.old path.now ≡ Some file
             → GivesFile file (⟦<&'a [u8] as Reel>⟧.to_come reel)) }
-        ensures sides { side_bytes self.new ≡ side_bytes self.old }
-        ensures paths { side_path self.new ≡ side_path self.old }
-        ensures files { files_at self.new ≡ files_at self.old }
-        ensures still_missing { side_missing self.new ≡ side_missing self.old }
-        ensures openings { side_openings self.new ≡ side_openings self.old }
+        ensures keeps { KeepsSite ⟦<MemorySite<'a> as Sources>⟧ side_path self.old self.new }
         ensures ok { OnOk result (self.new.failures ≡ self.old.failures) }
         ensures fault { OnErr result (self.new.failures ≡ one_more self.old.failures) }
     {

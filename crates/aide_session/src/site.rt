@@ -1,8 +1,8 @@
 //! Where the files of a session come from.
-ghost use Rattle.std.specs.Prelude.{◌≡◌, ◌≤◌, ◌≢◌, ℕ, true, List, Option, Some, None, IfOk, OnOk};
-ghost use Rattle.std.specs.Prelude.{OnErr};
+ghost use Rattle.std.specs.Prelude.{◌≡◌, ◌≤◌, ℕ, true, List, Option, Some, None, IfOk, OnOk, OnErr};
 ghost use Rattle.aide_db.specs.Count.{one_more};
 ghost use Rattle.aide_session.specs.Files.{GivesFile};
+ghost use Rattle.aide_session.specs.Pointing.{KeepsFiles, KeepsOthers, KeepsSides, KeepsSite};
 
 use aide_db::{OpenFault, Reel, Side, Sources};
 use aide_words::Memory;
@@ -22,14 +22,9 @@ pub trait Site: Sources {
         ensures fresh { IfOk result (λ r. Self.R.failures r ≡ 0) }
         ensures gives { IfOk result (λ r. (file : Option (List ℕ))
             → Self.file_at self.old path.now ≡ Some file → GivesFile file (Self.R.to_come r)) }
-        ensures sides { Self.bytes_of self.new ≡ Self.bytes_of self.old }
-        ensures paths { path_of self.new ≡ path_of self.old }
-        ensures files { Self.file_at self.new ≡ Self.file_at self.old }
-        ensures missing { Self.is_missing self.new ≡ Self.is_missing self.old }
-        ensures reliable { Self.is_reliable self.new ≡ Self.is_reliable self.old }
+        ensures keeps { KeepsSite Self.Sources path_of self.old self.new }
         ensures gone { Self.is_reliable self.old ≡ true
             → OnErr result (Self.file_at self.old path.now ≡ Some None) }
-        ensures openings { Self.openings self.new ≡ Self.openings self.old }
         ensures lookups { Self.lookups self.new ≤ one_more (Self.lookups self.old) }
         ensures ok { OnOk result (Self.failures self.new ≡ Self.failures self.old) }
         ensures fault { OnErr result (Self.failures self.new ≡ one_more (Self.failures self.old)) };
@@ -43,18 +38,7 @@ pub trait Site: Sources {
         ensures gone { OnOk result (Self.file_at self.old path.now ≡ Some None
             → Self.is_missing self.new side ≡ true) }
         ensures path { OnOk result (path_of self.new side ≡ Some path.now) }
-        ensures other { (s : Side) → s ≢ side → Self.bytes_of self.new s
-            ≡ Self.bytes_of self.old s }
-        ensures other_missing { (s : Side) → s ≢ side
-            → Self.is_missing self.new s ≡ Self.is_missing self.old s }
-        ensures other_path { (s : Side) → s ≢ side → path_of self.new s ≡ path_of self.old s }
-        ensures refused { OnErr result (Self.bytes_of self.new ≡ Self.bytes_of self.old) }
-        ensures refused_missing { OnErr result (Self.is_missing self.new
-            ≡ Self.is_missing self.old) }
-        ensures refused_path { OnErr result (path_of self.new ≡ path_of self.old) }
-        ensures files { Self.file_at self.new ≡ Self.file_at self.old }
-        ensures openings { Self.openings self.new ≡ Self.openings self.old }
-        ensures reliable { Self.is_reliable self.new ≡ Self.is_reliable self.old }
-        ensures lookups { Self.lookups self.new ≡ Self.lookups self.old }
-        ensures failures { Self.failures self.new ≡ Self.failures self.old };
+        ensures others { KeepsOthers Self.Sources path_of side self.old self.new }
+        ensures refused { OnErr result (KeepsSides Self.Sources path_of self.old self.new) }
+        ensures keeps { KeepsFiles Self.Sources self.old self.new };
 }

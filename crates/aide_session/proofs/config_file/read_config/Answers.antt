@@ -10,18 +10,18 @@ returns-in-Err-result-clause-large g c = λ e file is. large_file file (g.S.R.Re
 
 pub returns-in-Ok-result-clause-opens : goal.returns-in-Ok-result-clause-opens
 returns-in-Ok-result-clause-opens g c = record {
-  files = c.close.ensures.files ∙ c.config.ensures.files;
-  reliable = c.close.ensures.reliable ∙ c.config.ensures.reliable;
-  openings = c.close.ensures.openings ∙ c.config.ensures.openings;
+  files = c.close.ensures.keeps.files ∙ c.config.ensures.keeps.files;
+  reliable = c.close.ensures.keeps.reliable ∙ c.config.ensures.keeps.reliable;
+  openings = c.close.ensures.openings ∙ c.config.ensures.keeps.openings;
   lookups = lookups_after _ _ _ c.close.ensures.lookups c.config.ensures.lookups;
   never_falls = failures_after _ _ _ _ c.in-Ok.ensures.ok c.close.ensures.adds;
 }
 
 pub returns-in-Err-result-clause-opens : goal.returns-in-Err-result-clause-opens
 returns-in-Err-result-clause-opens g c = record {
-  files = c.close.ensures.files ∙ c.config.ensures.files;
-  reliable = c.close.ensures.reliable ∙ c.config.ensures.reliable;
-  openings = c.close.ensures.openings ∙ c.config.ensures.openings;
+  files = c.close.ensures.keeps.files ∙ c.config.ensures.keeps.files;
+  reliable = c.close.ensures.keeps.reliable ∙ c.config.ensures.keeps.reliable;
+  openings = c.close.ensures.openings ∙ c.config.ensures.keeps.openings;
   lookups = lookups_after _ _ _ c.close.ensures.lookups c.config.ensures.lookups;
   never_falls = failures_after _ _ _ _ c.in-Ok.ensures.ok c.close.ensures.adds;
 }

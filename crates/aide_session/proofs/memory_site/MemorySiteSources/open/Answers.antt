@@ -1,4 +1,4 @@
-use Rattle.std.proofs.Common.{◌≡◌, List, Option, Some, ap, refl, subst, sym, IsSome, ℕ}
+use Rattle.std.proofs.Common.{◌≡◌, List, Option, Some, ap, refl, subst, sym, IsSome, ℕ, rules}
 use Rattle.std.specs.Prelude.{IfSome, is_none}
 use Rattle.aide_session.proofs.SiteLemmas.{found_on_side}
 use Rattle.aide_session.proofs.memory_site.MemorySiteSources.open.Goals as goal
@@ -7,9 +7,18 @@ pub returns-in-Some-clause-there : goal.returns-in-Some-clause-there
 returns-in-Some-clause-there c =
     subst IsSome (sym (found_on_side _ _ _ _ _ _ _ _ c.as_slice.ensures.value refl refl c.self.view_is c.path.ensures c.in-Some.ensures)) refl
 
-pub returns-in-Some-clause-refuses : goal.returns-in-Some-clause-refuses
-returns-in-Some-clause-refuses c =
-    ap is_none (found_on_side _ _ _ _ _ _ _ _ c.as_slice.ensures.value refl refl c.self.view_is c.path.ensures c.in-Some.ensures)
+pub returns-in-Some-clause-opened : goal.returns-in-Some-clause-opened
+returns-in-Some-clause-opened c = record {
+  refuses = ap is_none (found_on_side _ _ _ _ _ _ _ _ c.as_slice.ensures.value refl refl c.self.view_is c.path.ensures c.in-Some.ensures);
+  ok = search rules;
+}
+
+pub returns-in-None-clause-refused : goal.returns-in-None-clause-refused
+returns-in-None-clause-refused c = record {
+  refused = search rules;
+  gives_none = λ _. found_on_side _ _ _ _ _ _ _ _ c.as_slice.ensures.value refl refl c.self.view_is c.path.ensures c.in-None.ensures;
+  fault = search rules;
+}
 
 pub returns-in-Some-clause-gives : goal.returns-in-Some-clause-gives
 returns-in-Some-clause-gives c =
