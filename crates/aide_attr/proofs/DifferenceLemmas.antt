@@ -7,10 +7,10 @@ use Rattle.std.specs.List.{list_any}
 use Rattle.aide_attr.specs.declared.attr.Attr.{Attr}
 use Rattle.aide_attr.specs.declared.set.AttrSet.{AttrSet}
 use Rattle.aide_attr.specs.declared.delta.Ignore.{Ignore}
-use Rattle.aide_attr.specs.Attr.{number, all_attrs, count}
+use Rattle.aide_attr.specs.Attr.{index, all_attrs, count}
 use Rattle.aide_attr.specs.Set.{has, is_attr}
 use Rattle.aide_attr.specs.Difference.{Sides, is_reported, any_reported}
-use Rattle.aide_attr.proofs.AttrLemmas.{at_number, number_small}
+use Rattle.aide_attr.proofs.AttrLemmas.{at_index, index_small}
 use Rattle.aide_attr.proofs.WalkLemmas.{bool_cases}
 
 -- a set and a test that agree
@@ -42,9 +42,9 @@ filled f (p ∷ slots) [] e h = absurd (omega arith)
 filled f (p ∷ slots) (l ∷ letters) e h =
     rw (h 0 (omega arith), filled f slots letters (omega arith) (λ k below. h (suc k) (omega arith))) refl
 
--- attributes with one number are one
+-- attributes with one index are one
 pub attr_is : (a b : Attr) → is_attr a b ≡ true → a ≡ b
-attr_is a b e = sym (at_number a a) ∙ ap (λ n. get_or all_attrs n a) (eqb-true (number a) (number b) e) ∙ at_number b a
+attr_is a b e = sym (at_index a a) ∙ ap (λ n. get_or all_attrs n a) (eqb-true (index a) (index b) e) ∙ at_index b a
 
 -- ---- a set that has the attributes of a list
 
@@ -68,7 +68,7 @@ all_none : (p : Attr → Bool) (xs : List Attr) → ((a : Attr) → list_any (is
     → list_any p xs ≡ false
 all_none p [] h = refl
 all_none p (x ∷ xs) h =
-    rw (h x (ap (λ b. b || list_any (is_attr x) xs) (eq-eqb (number x) (number x) refl))) (all_none p xs (λ a l. h a (ap (λ b. is_attr a x || b) l ∙ or_true (is_attr a x))))
+    rw (h x (ap (λ b. b || list_any (is_attr x) xs) (eq-eqb (index x) (index x) refl))) (all_none p xs (λ a l. h a (ap (λ b. is_attr a x || b) l ∙ or_true (is_attr a x))))
   where
     or_true : (b : Bool) → (b || true) ≡ true
     or_true true = refl
@@ -101,7 +101,7 @@ pub any_from : (s : Sides) (i : Ignore) (r : AttrSet) → ((a : Attr) → has r 
 unfolding count
 any_from s i r h k = elim (bool_cases (any_reported s i)) [
   | inl e ↦ e
-  | inr e ↦ absurd (k (λ a. h a ∙ ap (is_reported s i) (sym (at_number a a)) ∙ none_any (is_reported s i) all_attrs (number a) a e (number_small a)))
+  | inr e ↦ absurd (k (λ a. h a ∙ ap (is_reported s i) (sym (at_index a a)) ∙ none_any (is_reported s i) all_attrs (index a) a e (index_small a)))
 ]
 
 pub none_from : (s : Sides) (i : Ignore) (r : AttrSet) → ((a : Attr) → has r a ≡ is_reported s i a)

@@ -10,11 +10,11 @@ use Rattle.aide_attr.specs.declared.form.Form.{Form}
 use Rattle.aide_attr.specs.declared.form.Form.TheVariants.{Kind, Mode, Number, Time, Link}
 use Rattle.aide_attr.specs.declared.form.Form.TheVariants.{Digest, Opaque}
 
--- A row of the table: the number in the order, from 0; the names in configurations, in details and
+-- A row of the table: the index in the order, from 0; the names in configurations, in details and
 -- of the column; the bit of the column `attr`, if there is one; the letter of the slot in a
 -- summary string; and the form in which values are written.
 pub record Row : Type 0 where
-  pub number : ℕ
+  pub index : ℕ
   pub name : List ℕ
   pub detail_name : List ℕ
   pub column : List ℕ
@@ -25,7 +25,7 @@ pub record Row : Type 0 where
 -- a row by its parts
 unfoldable pub row : ℕ → List ℕ → List ℕ → List ℕ → Option ℕ → List ℕ → Form → Row
 row n name detail_name column bit slot form = record {
-  number = n;
+  index = n;
   name = name;
   detail_name = detail_name;
   column = column;
@@ -81,9 +81,9 @@ row_of attr.E2fsattrs =
 row_of attr.Caps =
     row 32 (codes "caps") (codes "Caps") (codes "capabilities") None (codes "C") Opaque
 
--- the columns of the table, first the number in the order
-abbrev pub number : Attr → ℕ
-number a = (row_of a).number
+-- the columns of the table, first the index in the order
+abbrev pub index : Attr → ℕ
+index a = (row_of a).index
 
 -- the name in configurations
 abbrev pub name_of : Attr → List ℕ
@@ -124,7 +124,7 @@ most_bits = 64
 
 -- The first attribute with the same column. The type and the permissions share one.
 abbrev pub holder_of : Attr → Attr
-holder_of a = if number a == number attr.Perm then attr.Ftype else a
+holder_of a = if index a == index attr.Perm then attr.Ftype else a
 
 -- every attribute, in the order
 abbrev pub all_attrs : List Attr

@@ -1,7 +1,7 @@
 //! The table of attributes. All code that depends on this table is here.
 
 ghost use Rattle.std.specs.Prelude.{◌≡◌, ◌<◌, ◌≤◌, IfSome, None, codes};
-ghost use Rattle.aide_attr.specs.Attr.{number, row_of, name_of, detail_name_of, column_of, bit_of};
+ghost use Rattle.aide_attr.specs.Attr.{index, row_of, name_of, detail_name_of, column_of, bit_of};
 ghost use Rattle.aide_attr.specs.Attr.{slot_of, form_of, most_bytes, longest_digest, most_bits};
 ghost use Rattle.aide_attr.specs.Attr.{attr_named, attr_of_column, holder_of};
 ghost use Rattle.aide_attr.specs.Byte.{letter};
@@ -201,7 +201,7 @@ impl Attr {
     pub fn holder(self) -> Attr
         ensures { result ≡ holder_of self }
     {
-        if self.number() == Attr::Perm.number() {
+        if self.index() == Attr::Perm.index() {
             Attr::Ftype
         } else {
             self
@@ -218,8 +218,8 @@ impl Attr {
 
     /// Returns the index in the order of [`Attr::ALL`], from 0.
     #[tactic(auto, unfolding(crate::specs::Attr::row_of, crate::specs::Attr::row))]
-    pub fn number(self) -> u32
-        ensures { result ≡ number self }
+    pub fn index(self) -> u32
+        ensures { result ≡ index self }
     {
         self as u32
     }

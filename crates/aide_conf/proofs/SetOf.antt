@@ -11,9 +11,9 @@ use Rattle.std.proofs.lemmas.Nat.Bits.{bit_at-zero, bit_at-pow_same, bit_at-pow_
 use Rattle.aide_attr.specs.declared.attr.Attr.{Attr}
 use Rattle.aide_attr.specs.declared.attr.Attr.TheVariants as attr
 use Rattle.aide_attr.specs.declared.set.AttrSet.{AttrSet}
-use Rattle.aide_attr.specs.Attr.{number, all_attrs, count}
+use Rattle.aide_attr.specs.Attr.{index, all_attrs, count}
 use Rattle.aide_attr.specs.Set.{has}
-use Rattle.aide_attr.proofs.AttrLemmas.{at_number, number_small}
+use Rattle.aide_attr.proofs.AttrLemmas.{at_index, index_small}
 use Rattle.aide_attr.proofs.SetLemmas.{bit_or_test}
 
 attr_of : ℕ → Attr
@@ -80,4 +80,4 @@ set_of f = record { bits = record { 0 = bits f count }; known = bits_small f cou
 
 pub has_set_of : (f : Attr → Bool) → has (set_of f) ≡ f
 unfolding has set_of attr_of
-has_set_of f = fun_ext (λ a. bits_are f count (number a) (number_small a) ∙ ap f (at_number a attr.Ftype))
+has_set_of f = fun_ext (λ a. bits_are f count (index a) (index_small a) ∙ ap f (at_index a attr.Ftype))

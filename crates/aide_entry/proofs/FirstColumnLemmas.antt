@@ -3,7 +3,7 @@ use Rattle.std.proofs.Common.{◌≡◌, ℕ, ◌+◌, ◌-◌, ◌<◌, ◌≢�
 use Rattle.std.proofs.Common.{Bool, true, false, if◌then◌else◌, Option, None, Some, inl, inr, arith, get_or-set_same, get_or-set_other}
 use Rattle.std.proofs.lemmas.Bool.{cases_eq, eq-eqb, ne_eqb}
 use Rattle.std.proofs.lemmas.List.{drop_all, get_or-replicate, take_more_set, map-append}
-use Rattle.aide_attr.specs.Attr.{number}
+use Rattle.aide_attr.specs.Attr.{index}
 use Rattle.aide_entry.specs.code.Codes.{code_of}
 use Rattle.aide_entry.specs.Entry.{is_on}
 use Rattle.aide_entry.specs.Fields.{field_under, is_column}
@@ -23,13 +23,13 @@ itself : (c : Column) → is_column c c ≡ true
 itself Name = refl
 itself Bits = refl
 itself Skipped = refl
-itself (Of attr) = eq-eqb (number attr) (number attr) refl
+itself (Of attr) = eq-eqb (index attr) (index attr) refl
 
 other : (a b : Column) → code_of a ≢ code_of b → is_column a b ≡ false
 other Name Name ne = absurd (ne refl)
 other Bits Bits ne = absurd (ne refl)
 other Skipped Skipped ne = absurd (ne refl)
-other (Of a) (Of b) ne = ne_eqb (number a) (number b) (λ e. ne (ap (λ n. 3 + n) e))
+other (Of a) (Of b) ne = ne_eqb (index a) (index b) (λ e. ne (ap (λ n. 3 + n) e))
 other Name Bits ne = refl
 other Name Skipped ne = refl
 other Name (Of b) ne = refl

@@ -26,7 +26,7 @@ pub fn is_column(wanted: Column, column: Column) -> bool
         Column::Name => matches!(column, Column::Name),
         Column::Bits => matches!(column, Column::Bits),
         Column::Of(attr) => match column {
-            Column::Of(other) => attr.number() == other.number(),
+            Column::Of(other) => attr.index() == other.index(),
             _ => false,
         },
         Column::Skipped => matches!(column, Column::Skipped),
@@ -43,6 +43,6 @@ pub fn code_of(column: Column) -> u8
         Column::Name => 0,
         Column::Bits => 1,
         Column::Skipped => 2,
-        Column::Of(attr) => 3 + attr.number() as u8,
+        Column::Of(attr) => 3 + attr.index() as u8,
     }
 }

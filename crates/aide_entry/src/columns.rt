@@ -47,7 +47,7 @@ fn note_attrs(attrs: &mut [Attr; 128], count: usize, column: Column) -> usize
     match column {
         Column::Of(attr) => {
             let more = add_attr(attrs, count, attr);
-            if attr.number() == Attr::Ftype.number() {
+            if attr.index() == Attr::Ftype.index() {
                 add_attr(attrs, more, Attr::Perm)
             } else {
                 more

@@ -3,13 +3,13 @@ use Rattle.std.proofs.Common.{◌≡◌, ◌∙◌, ◌<◌, ℕ, suc, zero, Boo
 use Rattle.std.proofs.Common.{ap, arith}
 use Rattle.std.specs.Prelude.{◌&&◌, ◌||◌, not}
 use Rattle.std.specs.List.{list_all}
-use Rattle.aide_attr.specs.Attr.{form_of, row_of, row, number, all_attrs, count}
+use Rattle.aide_attr.specs.Attr.{form_of, row_of, row, index, all_attrs, count}
 use Rattle.aide_attr.specs.Set.{is_attr}
 use Rattle.aide_attr.specs.declared.attr.Attr.{Attr}
 use Rattle.aide_attr.specs.declared.attr.Attr.TheVariants.{Ftype, Lname}
 use Rattle.aide_attr.specs.declared.form.Form.{Form}
 use Rattle.aide_attr.specs.declared.form.Form.TheVariants.{Kind, Link}
-use Rattle.aide_attr.proofs.AttrLemmas.{at_number, number_small}
+use Rattle.aide_attr.proofs.AttrLemmas.{at_index, index_small}
 use Rattle.aide_attr.proofs.DifferenceLemmas.{attr_is}
 use Rattle.aide_entry.specs.Attributes.{Attributes, type_in, link_in}
 use Rattle.aide_text.specs.ValueText.{option_text, type_text, printed_link, text_at, value_in}
@@ -31,7 +31,7 @@ all_at p (x ∷ xs) (suc k) d h l = all_at p xs k d (and_right (p x) (list_all p
 -- what passes for each of the table's attributes passes for any
 every_attr : (p : Attr → Bool) → list_all p all_attrs ≡ true → (a : Attr) → p a ≡ true
 unfolding count
-every_attr p h a = ap p (sym (at_number a a)) ∙ all_at p all_attrs (number a) a h (number_small a)
+every_attr p h a = ap p (sym (at_index a a)) ∙ all_at p all_attrs (index a) a h (index_small a)
 
 is_kind : Form → Bool
 is_kind Kind = true

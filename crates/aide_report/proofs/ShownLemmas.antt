@@ -6,10 +6,10 @@ use Rattle.std.specs.List.{list_any}
 use Rattle.aide_attr.specs.declared.attr.Attr.{Attr}
 use Rattle.aide_attr.specs.declared.delta.Delta.{Delta}
 use Rattle.aide_attr.specs.declared.set.AttrSet.{AttrSet}
-use Rattle.aide_attr.specs.Attr.{number, all_attrs, count}
+use Rattle.aide_attr.specs.Attr.{index, all_attrs, count}
 use Rattle.aide_attr.specs.Difference.{sides_of}
 use Rattle.aide_attr.specs.Set.{has}
-use Rattle.aide_attr.proofs.AttrLemmas.{at_number, number_small}
+use Rattle.aide_attr.proofs.AttrLemmas.{at_index, index_small}
 use Rattle.aide_attr.proofs.WalkLemmas.{bool_cases}
 use Rattle.aide_entry.specs.Attributes.{Attributes, sides_between}
 
@@ -35,7 +35,7 @@ some_of : (p : Attr → Bool) → (((a : Attr) → p a ≡ false) → ⊥) → l
 unfolding count
 some_of p k = elim (bool_cases (list_any p all_attrs)) [
   | inl e ↦ e
-  | inr e ↦ absurd (k (λ a. ap p (sym (at_number a a)) ∙ none_any p all_attrs (number a) a e (number_small a)))
+  | inr e ↦ absurd (k (λ a. ap p (sym (at_index a a)) ∙ none_any p all_attrs (index a) a e (index_small a)))
 ]
 
 -- a set is empty exactly where no attribute passes its test

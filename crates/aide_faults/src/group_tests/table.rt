@@ -323,7 +323,7 @@ fn is_in_the_table(attr: Attr) -> bool {
 #[test]
 fn each_attribute_is_in_the_table(rt: HostRuntime) {
     for attr in &Attr::ALL {
-        assert!(rt; is_in_the_table(*attr), "attribute {}", attr.number());
+        assert!(rt; is_in_the_table(*attr), "attribute {}", attr.index());
     }
 }
 
