@@ -57,4 +57,40 @@ PLANTED = (
             "        return os.pread(descriptor, MOST_RELEASE, 0)\n",
         ),
     )
+    + seen_by(
+        "reasons_packed.try_copies",
+        (PACKED, "if size is not None and size > most:", "if False:"),
+        (PACKED, "if size is not None and size > most:", "if size is not None and size >= most:"),
+        (PACKED, "if size is None and left <= 0:", "if False:"),
+        (PACKED, "most + 1 if size is None else size", "most if size is None else size"),
+        (PACKED, "            if not block and size is None:\n                break\n", ""),
+        (
+            PACKED,
+            '            if not block:\n                raise Refuted("cut short")\n',
+            "            if not block:\n                break\n",
+        ),
+    )
+    + seen_by(
+        "reasons_packed.try_unpacked",
+        (PACKED, "            if left < 0:\n", "            if left <= 0:\n"),
+        (PACKED, "            if left < 0:\n", "            if False:\n"),
+        (PACKED, "return copied(source, None, most)", "return copied(source, None, 1 << 40)"),
+        (PACKED, '"xz": lambda: lzma.LZMADecompressor(memlimit=MOST_MEMORY)', '"xz": lzma.LZMADecompressor'),
+        (PACKED, "except (lzma.LZMAError, zlib.error, OSError, EOFError)", "except (zlib.error, OSError, EOFError)"),
+        (PACKED, "except (lzma.LZMAError, zlib.error, OSError, EOFError)", "except (lzma.LZMAError, OSError, EOFError)"),
+        (PACKED, "except (lzma.LZMAError, zlib.error, OSError, EOFError)", "except (lzma.LZMAError, zlib.error, EOFError)"),
+    )
+    + seen_by("reasons_packed.try_members", (PACKED, "            if count >= most:\n", "            if count > most:\n"))
+    + seen_by(
+        "reasons_packed.try_slow",
+        (INDEXES, "except (OSError, subprocess.TimeoutExpired):", "except OSError:"),
+        (INDEXES, "except (OSError, subprocess.TimeoutExpired):", "except subprocess.TimeoutExpired:"),
+        (INDEXES, "            timeout=SECONDS,\n", ""),
+    )
+    + seen_by(
+        "reasons_packed.try_paragraphs",
+        (INDEXES, "    yield from _wanted(fields, keys)\n\n\ndef", "\n\ndef"),
+        (INDEXES, "            fields = {}\n", ""),
+        (INDEXES, '(not path or path.endswith("/")) and ', ""),
+    )
 )
