@@ -38,10 +38,12 @@ its bodies again. What the lemmas of a crate say may have changed since.
 
 No body can break some clauses, so none is listed for them. `answered` of `session` and `session_on` speaks of the definitions
 alone. No call can make a count of failures fall (`sources_never_fall` of `run`), close a side so that `lookups` of `run`
-rises, or make the peak of a desk fall (`peak` of `run` and `Cursor::next`). No body of `run` itself is listed yet: its right
-body alone, without its stored answers, takes more than four minutes of processor time. What a test sees of a body that proves
-is tried by `python3 -m tools.wrong_bodies.seen`, which plants the body in the place of the function and runs the crate's tests.
-A test `program::CASE` is a stored case of `tools/program/cases`, which is given to the program.
+rises, or make the peak of a desk fall (`peak` of `run` and `Cursor::next`; where a verdict names it, its proof was not found).
+The bodies of `run` return before its own text is reached: the whole of it takes minutes of processor time to check.
+
+What a test sees of a body that proves is tried by `python3 -m tools.wrong_bodies.seen`, which plants the body in the place of
+the function and runs the crate's tests. A test `program::CASE` is a stored case of `tools/program/cases`, which is given to
+the program.
 """
 
 
