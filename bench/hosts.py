@@ -2,8 +2,6 @@
 """Measures how many hosts compare-hosts does in a minute, and in how much memory, by the number of jobs; then what
 report-hosts needs for all of them.
 
-usage: bench/hosts.py [--hosts N] [--entries N] [--jobs N,N,..] [--differ N] [--changes N] PROGRAM
-
 Makes a pair of databases, compressed by gzip, and N simulated hosts. A small program replaces ssh and prints the new
 database. One host in a hundred (--differ) differs from its baseline, by one entry (--changes). Prints for each number of
 jobs: the seconds by the clock, the hosts a minute, the processor seconds a host, and the greatest memory of all processes
@@ -133,7 +131,7 @@ def report(root, form, hosts):
 
 
 def main():
-    parser = argparse.ArgumentParser(description=__doc__.split("\n")[0])
+    parser = argparse.ArgumentParser(description=__doc__, formatter_class=argparse.RawDescriptionHelpFormatter)
     parser.add_argument("--hosts", type=int, default=1000)
     parser.add_argument("--entries", type=int, default=2000)
     parser.add_argument("--jobs", default="1,2,4,8,16,32")

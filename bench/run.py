@@ -1,9 +1,6 @@
 #!/usr/bin/env python3
 """Measures the program beside `sha256sum` of both databases and, if AIDE is installed, beside `aide --compare`.
 
-usage: run.py PROGRAM [--entries 10000] [--larger 100000] [--seconds 5] [--least-runs 3] [--instructions]
-              [--aide-up-to 100000] [--folder FOLDER]
-
 It makes pairs of databases that differ in one way each and prints a table in Markdown, the worst row first. An opening
 is one reading of both databases: the report at `minimal` takes two, and every other report one more for each list of
 entries and one for the details. `sha256sum` reads both databases as often as the program opens them.
@@ -271,7 +268,7 @@ def print_head(program):
 
 
 def main():
-    parser = argparse.ArgumentParser(description="Measures the program beside sha256sum and AIDE.")
+    parser = argparse.ArgumentParser(description=__doc__, formatter_class=argparse.RawDescriptionHelpFormatter)
     parser.add_argument("program")
     parser.add_argument("--entries", type=int, default=10000, help="how many entries a database has")
     parser.add_argument("--larger", type=int, default=100000, help="how many it has in a few rows; 0 leaves these out")

@@ -1,8 +1,6 @@
 #!/usr/bin/env python3
 """Plants each bug of the lists in planted/ into a copy, one at a time, and runs the trial that is to see it.
 
-usage: python3 -m tools.commands.plant [--only NAME] PROGRAM
-
 A list is a module with PLANTED, a list of Plant. NAME is the name of a list, or of one bug as LIST:NUMBER from 1. A
 bug has to be seen: at least one check of its trial fails with it. Each trial is also run without a bug, and has to
 pass. The last line is 'N passed, M failed'.
@@ -18,6 +16,7 @@ import sys
 import tempfile
 import traceback
 
+from tools.lib.arguments import parser_of
 from tools.commands import planted
 from tools.commands.trials.sandbox import HERE, Sandbox
 from tools.lib import signals
@@ -83,7 +82,7 @@ def faults_of(plant, program):
 
 
 def main():
-    parser = argparse.ArgumentParser(description=__doc__, formatter_class=argparse.RawDescriptionHelpFormatter)
+    parser = parser_of("tools.commands.plant", __doc__)
     parser.add_argument("--only")
     parser.add_argument("--trial", help=argparse.SUPPRESS)
     parser.add_argument("program")

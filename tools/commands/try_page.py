@@ -1,17 +1,15 @@
 #!/usr/bin/env python3
 """Tries the page of aide-compare-html in a real browser, a headless Chromium. Run it by hand: the gate has no browser.
 
-usage: python3 -m tools.commands.try_page [--pictures FOLDER] [--large CHANGES]
-
 It tries the table of views (viewers/views.json), filters, orders, folders, the address, the keyboard, printing, pages
 without scripts, hostile names, and the time that a large page takes. It prints which browser it used. With --pictures it
 leaves pictures to look at. The last line is 'N passed, M failed'.
 """
-import argparse
 import os
 import platform
 import tempfile
 
+from tools.lib.arguments import parser_of
 from tools.commands.viewers.browser import Browser
 from tools.commands.viewers.in_browser import (
     try_address,
@@ -36,7 +34,7 @@ def write(path, text):
 
 
 def main():
-    parser = argparse.ArgumentParser(description="Tries the page of aide-compare-html in headless Chromium.")
+    parser = parser_of("tools.commands.try_page", __doc__)
     parser.add_argument("--pictures", metavar="FOLDER", help="leave pictures in a folder")
     parser.add_argument("--large", type=int, metavar="CHANGES", help="try pages of so many changes too")
     given = parser.parse_args()

@@ -1,19 +1,17 @@
 #!/usr/bin/env python3
 """Tries the commands with the built program: what their pages promise, attacks, and faults of the machine.
 
-usage: python3 -m tools.commands.try_tools [--only NAME] PROGRAM
-
 Each trial runs in a folder of its own. A small program replaces sendmail, another ssh. If root runs this, it also tries what
 an unprivileged user may do, and a full disk; otherwise the output says that these were not tried. The last line is
 'N passed, M failed'.
 """
-import argparse
 import os
 import shutil
 import sys
 import tempfile
 import traceback
 
+from tools.lib.arguments import parser_of
 from tools.lib import signals
 from tools.commands.trials.accept import try_accept
 from tools.commands.trials.accept_attacks import try_accept_attacks
@@ -94,7 +92,7 @@ def try_one(given):
 
 
 def main():
-    parser = argparse.ArgumentParser(description="Tries the commands with the built program.")
+    parser = parser_of("tools.commands.try_tools", __doc__)
     parser.add_argument("--only", metavar="NAME", help="only the trials with this name, such as try_mail")
     parser.add_argument("program", help="the built program")
     wanted = parser.parse_args()

@@ -1,13 +1,9 @@
 #!/usr/bin/env python3
 """Tries aide-compare-json and aide-compare-html: what they say of reports, and what they refuse.
 
-usage: python3 -m tools.commands.try_viewers PROGRAM [--count COUNT] [--seed SEED]
-       try_viewers.py PROGRAM --large CHANGES    time and memory for so many changes; by hand
-
 The definitions compute from the two databases what the JSON of a report has to say. The seed is printed. The last line is
 'N passed, M failed'.
 """
-import argparse
 import io
 import json
 import os
@@ -16,6 +12,7 @@ import shutil
 import subprocess
 import tempfile
 
+from tools.lib.arguments import parser_of
 from tools.oracle.attributes import NAMES as ATTRIBUTES
 from tools.oracle.configuration import BOOL_OPTIONS, DEFAULTS, LEVELS, SET_OPTIONS
 from tools.oracle.database import database_of, first_fault
@@ -315,7 +312,7 @@ def try_installed(tally):
 
 
 def main():
-    parser = argparse.ArgumentParser(description="Tries the commands that show a report in other forms.")
+    parser = parser_of("tools.commands.try_viewers", __doc__)
     parser.add_argument("program")
     parser.add_argument("--count", type=int, default=60, help="how many reports of the program")
     parser.add_argument("--seed", type=int, default=random.SystemRandom().randrange(10**9))

@@ -1,14 +1,11 @@
 #!/usr/bin/env python3
 """Compares the built program with AIDE itself, over pairs of databases made by real changes of files.
 
-usage: python3 -m tools.pages.random_beside_aide PROGRAM [--pairs COUNT] [--configurations COUNT] [--seed SEED]
-
 AIDE reads a tree of files, random operations change the tree, and AIDE reads it again. Then both programs compare the two
 databases, by random report options. Each entry is looked at: in which list it is, its summary string, and the names of its
 details. A difference passes only if docs/DIFFERENCES.md lists it. Each kind is counted. Prints what is not listed and, at
 the end, `N passed, M failed`. Needs AIDE and a file system with extended attributes; run by hand.
 """
-import argparse
 import gzip
 import os
 import random
@@ -18,6 +15,7 @@ import subprocess
 import sys
 import tempfile
 
+from tools.lib.arguments import parser_of
 from tools.lib.tally import Tally
 
 SLOTS = "YlZbpugamcinHAXSEC"
@@ -203,7 +201,7 @@ def compare_reports(program, folder, tree, chosen, tally, label):
 
 
 def main():
-    parser = argparse.ArgumentParser(description="Compares the built program with AIDE over real changes of files.")
+    parser = parser_of("tools.pages.random_beside_aide", __doc__)
     parser.add_argument("program")
     parser.add_argument("--pairs", type=int, default=100, help="how many pairs of databases")
     parser.add_argument("--configurations", type=int, default=5, help="how many report configurations for each pair")

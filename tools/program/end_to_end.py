@@ -1,16 +1,14 @@
 #!/usr/bin/env python3
 """Tries the built program over real files, as part of the gate.
 
-usage: python3 -m tools.program.end_to_end PROGRAM [--sessions COUNT] [--seed SEED] [--jobs N]
-
 It tries the examples, the stored cases, random sessions, devices that fail, files that are missing or of another kind,
 folders and arguments of unusual forms, the limits, little memory, little stack, few descriptors, and how often a database
 is opened. The right answers come from the definitions (tools/oracle), from AIDE, or from these files themselves. The last
 line is 'N passed, M failed'.
 """
-import argparse
 import random
 
+from tools.lib.arguments import parser_of
 from tools.program import cases
 from tools.program.random_sessions import try_sessions
 from tools.program.real_files.devices import try_devices
@@ -24,7 +22,7 @@ from tools.lib.tally import Tally, program_of
 
 
 def main():
-    parser = argparse.ArgumentParser(description="Tries the built program over real files.")
+    parser = parser_of("tools.program.end_to_end", __doc__)
     parser.add_argument("program")
     parser.add_argument("--sessions", type=int, default=200, help="how many random sessions")
     parser.add_argument(

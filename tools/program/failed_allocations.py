@@ -1,8 +1,6 @@
 #!/usr/bin/env python3
 """Makes each allocation of the built program fail in turn, over whole sessions.
 
-usage: python3 -m tools.program.failed_allocations PROGRAM [--in-memory OTHER] [--sessions COUNT] [--seed SEED] [--jobs N]
-
 The program asks the C library for memory, by malloc and realloc. A library that is loaded before the C library (fail_allocation.c)
 refuses the n-th of these calls, for every n until the session asks for no more: only the n-th, and the n-th with all later
 ones. After each refusal the program has to end with status 22, the one line `aide: out of memory` and no output. A session
@@ -20,13 +18,13 @@ it; with all later ones refused too it has to end with status 22 behind a front 
 The library is built by a C compiler of the machine or by that of the toolchain; with neither one trial fails. The last
 line is 'N passed, M failed'.
 """
-import argparse
 import os
 import random
 import struct
 import tempfile
 from collections import Counter, namedtuple
 
+from tools.lib.arguments import parser_of
 from tools.program import cases
 from tools.oracle.session import NO_MEMORY, USAGE, Answer, refused
 from tools.lib.preload import built, run_with
@@ -238,7 +236,7 @@ def try_allocations(program, top, given, tally):
 
 
 def main():
-    parser = argparse.ArgumentParser(description="Makes each allocation of the built program fail in turn.")
+    parser = parser_of("tools.program.failed_allocations", __doc__)
     parser.add_argument("program")
     parser.add_argument("--in-memory", metavar="OTHER", help="a program that runs sessions over files in memory")
     parser.add_argument("--sessions", type=int, default=20, help="how many random sessions")

@@ -1,8 +1,6 @@
 #!/usr/bin/env python3
 """Makes each call go wrong by which the built program opens, closes, reads or writes a file, one call in a run.
 
-usage: python3 -m tools.program.failed_calls PROGRAM [--jobs N]
-
 A library that is loaded before the C library (fail_call.c) makes the n-th call of a kind fail, take nothing or move half of
 its bytes, for every n. All later calls work again. So a failure that the program ignores, or a call that it makes once more,
 shows in its answer. The right answer to each run is exact: which file could not be opened, in which line of which database
@@ -11,12 +9,12 @@ reading failed, and which bytes had gone out before. The openings of each undist
 The library is built by a C compiler of the machine or by that of the toolchain; with neither one trial fails. The last
 line is 'N passed, M failed'.
 """
-import argparse
 import os
 import struct
 import tempfile
 from collections import Counter, namedtuple
 
+from tools.lib.arguments import parser_of
 from tools.oracle.session import BAD_DEVICE, Answer, refused
 from tools.lib.preload import built, run_with
 from tools.program.real_files.folder import NEW, OLD, SKIPPING, Folder, names
@@ -173,7 +171,7 @@ def try_calls(program, top, jobs, tally):
 
 
 def main():
-    parser = argparse.ArgumentParser(description="Lets each call go wrong by which the program uses a file.")
+    parser = parser_of("tools.program.failed_calls", __doc__)
     parser.add_argument("program")
     parser.add_argument("--jobs", type=int, default=2, help="how many runs at a time")
     given = parser.parse_args()

@@ -1,15 +1,13 @@
 #!/usr/bin/env python3
 """Tries the built program in hostile use. This takes minutes and is no part of the gate.
 
-usage: python3 -m tools.program.hostile PROGRAM [--jobs N] [--sessions COUNT] [--seed SEED]
-
 It tries a pair of databases damaged in every way that takes one step, limits from outside, files that change during the
 run, and random sessions. It prints a table of what was tried and how often. The last line is 'N passed, M failed'.
 """
-import argparse
 import collections
 import random
 
+from tools.lib.arguments import parser_of
 from tools.program.random_sessions import try_sessions
 from tools.program.real_files.damage import try_damage
 from tools.program.real_files.fifos import try_fifos
@@ -40,7 +38,7 @@ class Table(Tally):
 
 
 def main():
-    parser = argparse.ArgumentParser(description="Tries the built program in hostile use.")
+    parser = parser_of("tools.program.hostile", __doc__)
     parser.add_argument("program")
     parser.add_argument("--jobs", type=int, default=2, help="how many runs at a time")
     parser.add_argument("--sessions", type=int, default=5000, help="how many random sessions")

@@ -1,14 +1,12 @@
 #!/usr/bin/env python3
 """Plants each bug of the lists in planted/ into a copy, one at a time, and runs the trial that is to see it.
 
-usage: python3 -m tools.program.plant [--only NAME] [--trial PART] PROGRAM
-
-A list is a module with PLANTED: bugs of the definitions (oracle) and of the manual pages (pages), planted in their text;
-and bugs of what stands between the program and the machine (machine), planted around PROGRAM: its arguments and status are
-changed, or the answers of the C library. NAME is the name of a list, or of one bug as LIST:NUMBER from 1. A bug has to be seen: at least one check of its
-trial fails with it. Each trial is also run without a bug, and has to pass. The last line is 'N passed, M failed'.
+A list is a module with PLANTED: bugs of the definitions (oracle) and of a manual page (pages), planted in their text; and
+bugs of what stands between the program and the machine (machine), planted around PROGRAM: its arguments and status are
+changed, or the answers of the C library. NAME is the name of a list, or of one bug as LIST:NUMBER from 1. A bug has to be
+seen: at least one check of its trial fails with it. Each trial is also run without a bug, and has to pass. The last line is
+'N passed, M failed'.
 """
-import argparse
 import importlib
 import os
 import re
@@ -17,6 +15,7 @@ import subprocess
 import sys
 import tempfile
 
+from tools.lib.arguments import parser_of
 from tools.lib import signals
 from tools.lib.tally import Tally, program_of
 from tools.program.planted import machine, oracle, pages
@@ -108,7 +107,7 @@ def bugs(only):
 
 
 def main():
-    parser = argparse.ArgumentParser(description="Plants bugs around the program, in the definitions and in the manual pages.")
+    parser = parser_of("tools.program.plant", __doc__)
     parser.add_argument("--only", metavar="NAME")
     parser.add_argument("--trial", choices=sorted(PARTS), help="run this part of end_to_end.py alone")
     parser.add_argument("program")

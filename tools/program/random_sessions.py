@@ -1,18 +1,16 @@
 #!/usr/bin/env python3
 """Runs the program over random sessions, and compares output, errors and status with the definitions, byte by byte.
 
-usage: python3 -m tools.program.random_sessions PROGRAM [COUNT [SEED]] [--jobs N] [--first NUMBER]
-
 A session is a configuration, a command line and two databases. The seed is printed; session NUMBER of a seed is always
 the same one, so `--first NUMBER` with a count of 1 repeats it. The last line is 'N passed, M failed'.
 """
-import argparse
 import collections
 import os
 import random
 import shutil
 import tempfile
 
+from tools.lib.arguments import parser_of
 from tools.program.random_texts.configurations import random_configuration, random_words
 from tools.program.random_texts.databases import random_pair
 from tools.lib.tally import Tally, difference, program_of, run, side_by_side, wanted
@@ -63,7 +61,7 @@ def try_sessions(program, seed, numbers, jobs, tally):
 
 
 def main():
-    parser = argparse.ArgumentParser(description="Compares the program with the definitions over random sessions.")
+    parser = parser_of("tools.program.random_sessions", __doc__)
     parser.add_argument("program")
     parser.add_argument("count", nargs="?", type=int, default=1000)
     parser.add_argument("seed", nargs="?", type=int, default=random.SystemRandom().randrange(10**9))

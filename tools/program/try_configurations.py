@@ -1,18 +1,16 @@
 #!/usr/bin/env python3
 """Tries the built program over configurations: refused ones, those that are only just allowed, and random ones.
 
-usage: python3 -m tools.program.try_configurations PROGRAM [--count COUNT] [--seed SEED]
-
 The tables in configurations/ say where and why a configuration is refused, or what it sets. The definitions have to say
 the same. Of random configurations with blocks and variables the definitions alone know the answer. The last line is 'N
 passed, M failed'.
 """
-import argparse
 import base64
 import collections
 import random
 import re
 
+from tools.lib.arguments import parser_of
 from tools.program.configurations import accepted, limits, refused
 from tools.program.configurations.random_blocks import random_texts
 from tools.oracle.attributes import ATTRIBUTES
@@ -175,7 +173,7 @@ def try_random(trials, seed, count):
 
 
 def main():
-    parser = argparse.ArgumentParser(description="Tries the program over configurations.")
+    parser = parser_of("tools.program.try_configurations", __doc__)
     parser.add_argument("program")
     parser.add_argument("--count", type=int, default=ENOUGH, help="how many random configurations")
     parser.add_argument("--seed", type=int, default=random.SystemRandom().randrange(10**9))

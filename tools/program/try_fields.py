@@ -1,15 +1,13 @@
 #!/usr/bin/env python3
 """Tries what the built program makes of the fields of a database, by the details of its reports.
 
-usage: python3 -m tools.program.try_fields PROGRAM
-
 The tables in databases/fields.py say what a field means, whether two of them differ, or why one is refused. The
 definitions have to say the same. The last line is 'N passed, M failed'.
 """
-import argparse
 import base64
 import re
 
+from tools.lib.arguments import parser_of
 from tools.program import field_rows
 from tools.oracle.session import Answer
 from tools.oracle.texts import printed
@@ -113,7 +111,7 @@ def try_refused(trials):
 
 
 def main():
-    parser = argparse.ArgumentParser(description="Tries what the program makes of the fields of a database.")
+    parser = parser_of("tools.program.try_fields", __doc__)
     parser.add_argument("program")
     given = parser.parse_args()
     with Folder() as folder:

@@ -16,11 +16,12 @@ a folder. The rules:
 The last line is 'N passed, M failed': each crate counts once for each rule. The status is 1 if something failed or if
 no crate was found.
 """
-import argparse
 import collections
 import pathlib
 import re
 import sys
+
+from tools.lib.arguments import parser_of
 
 HEADING = "Exceptions of the house"
 RULES = ("cycle", "ensures", "arguments", "column", "length", "imports")
@@ -278,7 +279,7 @@ def covers(row, where):
 
 
 def main():
-    parser = argparse.ArgumentParser(description=__doc__, formatter_class=argparse.RawDescriptionHelpFormatter)
+    parser = parser_of("tools.source.check_layout", __doc__)
     parser.add_argument(
         "--root",
         type=pathlib.Path,

@@ -1,15 +1,13 @@
 #!/usr/bin/env python3
 """Checks the lists of planted bugs against the sources: the text of each stands there once, and its trial is there.
 
-usage: python3 -m tools.source.check_planted
-
 A list that no longer fits its sources would plant nothing. Whether its trial sees a bug, tools/commands/plant.py and
 tools/program/plant.py find out. The last line is 'N passed, M failed'.
 """
-import argparse
 import importlib
 import os
 
+from tools.lib.arguments import parser_of
 from tools.commands import plant as commands
 from tools.lib.tally import Tally
 from tools.program import plant as program
@@ -60,7 +58,7 @@ def check_program(tally):
 
 
 def main():
-    argparse.ArgumentParser(description="Checks that each planted bug still fits its source and its trial.").parse_args()
+    parser_of("tools.source.check_planted", __doc__).parse_args()
     tally = Tally()
     check_commands(tally)
     check_program(tally)

@@ -3,8 +3,8 @@
 arguments.
 
 - Each file is Python 3.9: the grammar of that version reads it.
-- Each tool that is run prints by `--help` what it does, beginning with `usage:`, and ends with 0. The repository is the same
-  afterwards.
+- Each tool that is run prints by `--help` how it is called, as argparse says it, and all of its own text, and ends with 0.
+  The repository is the same afterwards.
 - Each tool refuses an option that it does not have, with a status that is not 0, and changes nothing.
 
 The commands in commands/ are tried by their own trials. Prints what fails and, at the end, `N passed, M failed`.
@@ -80,6 +80,14 @@ def run(command):
     return done.returncode, done.stdout.decode("utf-8", "replace")
 
 
+def lacks(name, text, output):
+    """What the help of a tool lacks: the command itself, and the paragraphs of the tool's text."""
+    paragraphs = (ast.get_docstring(ast.parse(text)) or "no text").split("\n\n")
+    head = ["usage: python3 -m " + name[: -len(".py")].replace("/", ".")] if name.startswith("tools/") else []
+    words = " ".join(output.split())
+    return [part for part in head + [" ".join(each.split()) for each in paragraphs] if part not in words]
+
+
 def main():
     parser_of("tools.source.check_tools", __doc__).parse_args()
     tally, tools = Tally(), []
@@ -87,11 +95,12 @@ def main():
         fault = fault_of_grammar(name, text)
         tally.add("%s is Python %d.%d" % ((name,) + OLDEST), [fault] if fault else [])
         if MAIN in text.replace("'", '"') and not name.startswith("commands/"):
-            tools.append(name)
+            tools.append((name, text))
     before = tree()
-    for name in tools:
+    for name, text in tools:
         status, output = run(command_of(name) + ["--help"])
         tally.holds("%s --help" % name, status == 0 and output.startswith("usage:"), (status, output[-400:]))
+        tally.holds("%s --help has its text" % name, not lacks(name, text, output), lacks(name, text, output)[:2])
         status, output = run(command_of(name) + ["--no-such-option"])
         tally.holds("%s refuses another option" % name, status not in (0, 1), (status, output[-400:]))
     tally.holds("no file is written before the arguments are read", tree() == before)

@@ -1,20 +1,18 @@
 #!/usr/bin/env python3
 """Compares what the public calls promise at two revisions, clause by clause.
 
-usage: python3 -m tools.source.compare_promises OLD [NEW] [--all]
-
 NEW is the working tree if it is left out. The calls are those of the traits and impls of public types and the public functions
 of all crates. A clause that cites a record of specs/ is followed by the fields of this record, one level deep. Prints each call
 whose lines differ, with `-` before a line of OLD alone and `+` before one of NEW alone; with --all also the calls whose lines do
 not differ. A line that went is not yet a promise that went: a field of a record may say the same. So a reader judges. The last
 line counts the calls; the status is 1 if there are none at one of the revisions.
 """
-import argparse
 import os
 import re
 import subprocess
 import sys
 
+from tools.lib.arguments import parser_of
 from tools.source.checker import TOP, stop
 from tools.source.public_specs import owner_of
 
@@ -126,7 +124,7 @@ def print_call(call, before, after, shown):
 
 
 def main():
-    parser = argparse.ArgumentParser(description="Compares what the public calls promise at two revisions.")
+    parser = parser_of("tools.source.compare_promises", __doc__)
     parser.add_argument("old", help="a revision")
     parser.add_argument("new", nargs="?", help="another revision (the working tree)")
     parser.add_argument("--all", action="store_true", help="print the calls that do not differ too")

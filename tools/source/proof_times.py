@@ -1,8 +1,6 @@
 #!/usr/bin/env python3
 """Proves a crate from nothing, with one job, and prints how long the proof of each function took.
 
-usage: python3 -m tools.source.proof_times CRATE [--test] [--most N]
-
 The libraries below the crate have to be built: run `rt check` in its folder first. A proof consists of parts, and the check
 writes a file when a part is done. The seconds between two of these files count for the later one. A line names a function,
 or a file of specs/ or proofs/, with its seconds by the clock, and then the parts that took most of them:
@@ -14,7 +12,6 @@ or a file of specs/ or proofs/, with its seconds by the clock, and then the part
 
 The last line is the total. The status is 1 if the crate is not proved, 2 if nothing was tried.
 """
-import argparse
 import collections
 import os
 import re
@@ -22,6 +19,7 @@ import subprocess
 import sys
 import tempfile
 
+from tools.lib.arguments import parser_of
 from tools.source.checker import TOP, libraries, stop, words_of
 
 PART = re.compile(r"Rattle-\w+-(proofs|specs)\.(.*?)(?:\.decls)?\.oantt")
@@ -48,7 +46,7 @@ def print_times(times, most):
 
 
 def main():
-    parser = argparse.ArgumentParser(description="Prints how long the proof of each function of a crate takes.")
+    parser = parser_of("tools.source.proof_times", __doc__)
     parser.add_argument("crate", help="a crate of crates.txt")
     parser.add_argument("--test", action="store_true", help="prove the tests too")
     parser.add_argument("--most", type=int, default=30, help="how many lines to print (30)")

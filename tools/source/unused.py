@@ -1,19 +1,17 @@
 #!/usr/bin/env python3
 """Lists the definitions of specs/ and the lemmas of proofs/ that nothing needs.
 
-usage: python3 -m tools.source.unused [CRATE ..]
-
 Needed are: what the code names, what an answer of a function names, laws and examples (files whose names end so), what a page
 names between backquotes, and what these need in turn. The search of the prover may take a lemma that is named nowhere, so a
 line here is a candidate: take it away, and `rt check` in its crate and in those above decides. Prints a line for each, with
 its file; the last line is the number. The status is 1 if nothing was looked at.
 """
-import argparse
 import glob
 import os
 import re
 import sys
 
+from tools.lib.arguments import parser_of
 from tools.source.checker import TOP, libraries, stop
 
 IMPORT = re.compile(r"use\s+(?:Rattle|crate)\W+([\w.:]+?)(?:\.|::)\{([^}]*)\}", re.S)
@@ -165,7 +163,7 @@ def unneeded(crates):
 
 
 def main():
-    parser = argparse.ArgumentParser(description="Lists the definitions and lemmas that nothing needs.")
+    parser = parser_of("tools.source.unused", __doc__)
     parser.add_argument("crates", nargs="*", help="list those of these crates only (all)")
     given = parser.parse_args()
     crates = list(libraries())

@@ -1,14 +1,11 @@
 #!/usr/bin/env python3
 """Judges a change of one crate in minutes: proves it and what stands on it, and tries the must-fail edits that it touches.
 
-usage: python3 -m tools.source.verdict CRATE [--since REVISION] [--jobs N] [--all]
-
 First `rt check` runs in the folder of the crate and in `crates/aide`, which stands on all crates of the program. Then those
 edits of the crate are tried that are new or whose file changed since REVISION (HEAD: what is not committed), a few at a time,
 each over a copy of what the check has just proved. `rt must-fail` proves the crate once more before it tries the first one.
 This is no gate: only `tools/test` proves everything from nothing. The last line is `N passed, M failed`.
 """
-import argparse
 import os
 import re
 import shutil
@@ -17,6 +14,7 @@ import sys
 import tempfile
 from concurrent.futures import ThreadPoolExecutor
 
+from tools.lib.arguments import parser_of
 from tools.source.checker import TOP, libraries, stop, words_of
 
 PARTS = ["src", "specs", "proofs"]
@@ -104,7 +102,7 @@ class Edit:
 
 
 def main():
-    parser = argparse.ArgumentParser(description="Judges a change of one crate in minutes.")
+    parser = parser_of("tools.source.verdict", __doc__)
     parser.add_argument("crate", help="a crate of crates.txt")
     parser.add_argument("--since", default="HEAD", metavar="REVISION", help="what counts as changed (HEAD)")
     parser.add_argument("--jobs", type=int, default=3, help="how many edits at a time (3)")
