@@ -1,6 +1,6 @@
 """Bugs of aide-compare-reasons: single conditions, columns and words of what dpkg's records and rules explain."""
 from .plant import seen_by
-from .reasons import ENTRIES, LINKS, PACKAGES, RULES
+from .reasons import ENTRIES, GROWING, LINKS, PACKAGES, RULES
 
 PLANTED = (
     seen_by(
@@ -115,4 +115,9 @@ PLANTED = (
         (RULES, '("removed" if old else "added") in', '("added" if new else "added") in'),
     )
     + seen_by("reasons_rpm.try_links", (LINKS, "if reason and new.is_file() and count", "if reason and count"))
+    + seen_by(
+        "reasons_logs.try_rotated",
+        (GROWING, "is_same = bool(old.digests())", "is_same = True"),
+        (GROWING, "is_same = bool(old.digests())", 'is_same = old.field("md5") != b"0"'),
+    )
 )

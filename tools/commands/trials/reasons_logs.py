@@ -110,6 +110,8 @@ def try_rotated(sandbox):
     logs = Logs()
     case, fresh = logs.rotation, {"content": b"new"}
     case("renamed", MOVED_SAME, {"content": b"one"}, {"content": b"one"}, fresh)
+    case("renamed, without digests", MOVED, {"md5": "0", "sha256": "0"}, {"md5": "0", "sha256": "0"}, fresh)
+    case("renamed, with digests that cannot be read", MOVED, {"md5": "!", "sha256": "!"}, {"md5": "!", "sha256": "!"}, fresh)
     case("renamed, and the old name is gone", MOVED_SAME, {"content": b"one"}, {"content": b"one"})
     case("renamed and grown", MOVED, {"content": b"one"}, {"content": b"one two", "mtime": LATER}, fresh)
     case("renamed and smaller", "-", {"content": b"one two"}, {"content": b"one", "mtime": LATER}, fresh, want_left="-")

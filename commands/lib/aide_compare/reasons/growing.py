@@ -51,7 +51,9 @@ def explain_move(source, old, new, differ):
         return None
     name = shown(source.rpartition(b"/")[2], 200)
     if differ <= {"ctime"}:
-        return Reason("moved", "renamed from %s" % name, True, "databases")
+        is_same = bool(old.digests())
+        text = "renamed from %s" if is_same else "renamed from %s, content not verified"
+        return Reason("moved", text % name, is_same, "databases")
     if old.bits & GROWING and has_grown(old, new, differ):
         return Reason("moved", "renamed from %s and grew, content not verified" % name, False, "databases")
     return None
