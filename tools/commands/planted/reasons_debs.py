@@ -1,6 +1,6 @@
 """Bugs of aide-compare-reasons: how packages and what they are packed in are read, and what then is no evidence."""
 from .plant import seen_by
-from .reasons import DEB, INDEXES, PACKED
+from .reasons import ARCHIVE, DEB, INDEXES, PACKAGES, PACKED
 
 PLANTED = (
     seen_by(
@@ -92,5 +92,14 @@ PLANTED = (
         (INDEXES, "    yield from _wanted(fields, keys)\n\n\ndef", "\n\ndef"),
         (INDEXES, "            fields = {}\n", ""),
         (INDEXES, '(not path or path.endswith("/")) and ', ""),
+    )
+    + seen_by(
+        "reasons_indexes.try_without_sums",
+        (ARCHIVE, 'DPKGS_OWN = (b"list", b"md5sums")', 'DPKGS_OWN = (b"list",)'),
+        (
+            PACKAGES,
+            "[package for _, package in self.known.changed if package]",
+            "[package for _, package in self.known.changed]",
+        ),
     )
 )

@@ -85,6 +85,7 @@ def try_reasons_packages(sandbox):
         reasons_indexes.try_listed,
         reasons_indexes.try_wanted,
         reasons_indexes.try_odd_files,
+        reasons_indexes.try_without_sums,
     ):
         trial(sandbox)
 

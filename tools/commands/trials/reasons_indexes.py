@@ -5,7 +5,23 @@ import hashlib
 import lzma
 import os
 
-from .reasons_archive import BY_ARCHIVE, BY_DPKG, INFO, host_of, index, prepare, tool, write_archive
+from .reasons_archive import (
+    BY_ARCHIVE,
+    BY_DPKG,
+    CONTROL,
+    FILES,
+    HARD_LINKS,
+    INFO,
+    MADE,
+    TRUE,
+    deb,
+    host_of,
+    index,
+    prepare,
+    tar,
+    tool,
+    write_archive,
+)
 from .reasons_host import NAME, Host, lines_of
 
 GOOD = b"[GNUPG:] GOODSIG 1 x\n[GNUPG:] VALIDSIG 1\n"
@@ -160,5 +176,23 @@ def try_odd_files(sandbox):
     wanted = {
         ("of an architecture", INFO + b"tool:amd64.md5sums"): BY_ARCHIVE,
         ("forged", INFO + b"tool:amd64.postinst"): "-",
+    }
+    host.expect(sandbox, wanted, *WORDS)
+
+
+def try_without_sums(sandbox):
+    """A package without md5sums, for which dpkg makes them; and a package that went beside those of the archive."""
+    prepare(sandbox)
+    package = deb(tar(FILES, (), HARD_LINKS), tar({name: text for name, text in CONTROL.items() if name != "md5sums"}))
+    text = index(package)
+    write_archive(sandbox, index=text, package=package)
+    says(sandbox, signed=lists(("Packages", text)))
+    host = host_of()
+    host.old.file(b"/usr/bin/gone", TRUE).package("gone", "1", {b"/usr/bin/gone": TRUE})
+    wanted = {
+        ("of the package", PATH): BY_ARCHIVE,
+        ("sums that dpkg made", INFO + b"tool.md5sums"): MADE,
+        ("a script with other content", INFO + b"tool.postinst"): "-",
+        ("gone with a package", b"/usr/bin/gone"): BY_DPKG,
     }
     host.expect(sandbox, wanted, *WORDS)
