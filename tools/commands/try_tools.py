@@ -30,7 +30,7 @@ from tools.commands.trials.hosts_report import try_hosts_report
 from tools.commands.trials.faults import try_faults, try_signals
 from tools.commands.trials.lost_modules import try_lost_modules
 from tools.commands.trials.mail import try_mail
-from tools.commands.trials.reasons import try_reasons, try_reasons_lines, try_reasons_packages
+from tools.commands.trials.reasons import try_reasons, try_reasons_archive, try_reasons_lines, try_reasons_packages
 from tools.commands.trials.sandbox import Sandbox, shells
 from tools.commands.trials.run import try_run
 from tools.commands.trials.sorting import try_sorting
@@ -58,6 +58,7 @@ TRIALS = [
     try_reasons,
     try_reasons_lines,
     try_reasons_packages,
+    try_reasons_archive,
     try_without,
     try_explained,
     try_explained_readers,

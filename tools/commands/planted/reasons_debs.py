@@ -25,17 +25,20 @@ PLANTED = (
         (DEB, '(path[2:] if path.startswith(b"./") else path.lstrip(b"/"))', 'path.lstrip(b"./")'),
         (DEB, '(path[2:] if path.startswith(b"./") else path.lstrip(b"/"))', '(path[2:] if path.startswith(b"./") else path)'),
         (DEB, '(target[2:] if target.startswith(b"./") else target.lstrip(b"/"))', "target[2:]"),
+        (DEB, "elif member.isreg() or member.islnk():", "elif not member.isdir():"),
+        (DEB, "elif member.isreg() or member.islnk():", "elif member.isreg():"),
+        (DEB, "            if wants(path):\n", "            if True:\n"),
+        (DEB, "min(BLOCK, left)", "BLOCK"),
+    )
+    + seen_by(
+        "reasons_debs.try_hard_links",
         (
             DEB,
             '        if place is None:\n            raise Refuted("a hard link to nothing")\n',
             "        if not place:\n            return {}\n",
         ),
-        (DEB, "elif member.isreg() or member.islnk():", "elif not member.isdir():"),
-        (DEB, "elif member.isreg() or member.islnk():", "elif member.isreg():"),
         (DEB, 'tar.each(wants if name == "data" else lambda path: path != b"/")', "tar.each(wants)"),
-        (DEB, "            if wants(path):\n", "            if True:\n"),
         (DEB, '            if name == "data":\n', "            if True:\n"),
-        (DEB, "min(BLOCK, left)", "BLOCK"),
     )
     + seen_by(
         "reasons_debs.try_programs",

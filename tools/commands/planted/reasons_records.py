@@ -7,15 +7,18 @@ PLANTED = (
         "reasons_records.try_kept",
         (RECORDS, "if (is_rpms or kept) and member.isreg():", "if is_rpms or kept:"),
         (RECORDS, "if (is_rpms or kept) and member.isreg():", "if member.isreg():"),
+        (RECORDS, 'if "status" not in self.members and RPM_NAME not in self.members:', "if not self.members:"),
+        (RECORDS, "info/[A-Za-z0-9][A-Za-z0-9+.:~_-]*", "info/.*"),
+        (RECORDS, "KEPT.fullmatch(member.name)", "KEPT.match(member.name)"),
+        (RECORDS, '(r"(?:.*/)?(status', '(r"(status'),
+    )
+    + seen_by(
+        "reasons_records.try_large",
         (RECORDS, "if member.size > (MOST_TEXT if is_rpms else MOST_FILE):", "if False:"),
         (RECORDS, "if member.size > (MOST_TEXT if is_rpms else MOST_FILE):", "if member.size > MOST_TEXT:"),
         (RECORDS, "if member.size > (MOST_TEXT if is_rpms else MOST_FILE):", "if member.size > MOST_FILE:"),
         (RECORDS, "if member.size > (MOST_TEXT", "if member.size >= (MOST_TEXT"),
-        (RECORDS, 'if "status" not in self.members and RPM_NAME not in self.members:', "if not self.members:"),
         (RECORDS, "for member in members(self.file, MOST_FILES):", "for member in members(self.file, 1 << 30):"),
-        (RECORDS, "info/[A-Za-z0-9][A-Za-z0-9+.:~_-]*", "info/.*"),
-        (RECORDS, "KEPT.fullmatch(member.name)", "KEPT.match(member.name)"),
-        (RECORDS, '(r"(?:.*/)?(status', '(r"(status'),
     )
     + seen_by(
         "reasons_records.try_folder",

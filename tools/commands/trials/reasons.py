@@ -68,12 +68,19 @@ def try_reasons_packages(sandbox):
         reasons_rpm.try_read,
         reasons_rpm_records.try_damage,
         reasons_rpm_records.try_program,
+    ):
+        trial(sandbox)
+
+
+def try_reasons_archive(sandbox):
+    for trial in (
         reasons_archive.try_signed,
         reasons_archive.try_owners,
         reasons_archive.try_forged,
         reasons_archive.try_forms,
         reasons_debs.try_parts,
         reasons_debs.try_paths,
+        reasons_debs.try_hard_links,
         reasons_debs.try_programs,
         reasons_packed.try_copies,
         reasons_packed.try_unpacked,
@@ -97,6 +104,7 @@ def try_reasons_lines(sandbox):
         reasons_lines.try_refused,
         reasons_lines.try_records,
         reasons_records.try_kept,
+        reasons_records.try_large,
         reasons_records.try_folder,
         reasons_records.try_now,
         reasons_lines.try_interface,

@@ -7,7 +7,8 @@ import subprocess
 import sys
 import tarfile
 
-from .reasons_archive import CONTROL, TRUE, deb, tar
+from .own_module import own_module
+from .reasons_archive import CONTROL, TRUE, tar
 from .sandbox import HERE
 
 MAGIC, LONG = b"!<arch>\n", bytes(range(256)) * 3000
@@ -126,11 +127,15 @@ def try_paths(sandbox):
     sandbox.holds("the paths of a package", got == (files, {b"/usr/link": b"./../x"}, {}), got)
     got = read(sandbox, MAGIC + part("data.tar", members(*plain)), lambda path: path in (b"/usr/bin/a2", b"/usr/link"))
     sandbox.holds("the paths that are wanted", got == ({b"/usr/bin/a2": sums}, {b"/usr/link": b"./../x"}, {}), got)
-    link = ("./usr/bin/a2", tarfile.LNKTYPE, "./usr/bin/a")
+
+
+def try_hard_links(sandbox):
+    """A hard link to nothing, or to what is no file before it, is no part of a package; also among dpkg's files."""
+    link, sums = ("./usr/bin/a2", tarfile.LNKTYPE, "./usr/bin/a"), {"md5": hashlib.md5(TRUE).digest()}
     for label, given in (
         ("nothing", (link,)),
-        ("a file behind it", (link, plain[0])),
-        ("a link", (plain[7], ("./x", link[1], "./usr/link"))),
+        ("a file behind it", (link, ("./usr/bin/a", tarfile.REGTYPE, TRUE))),
+        ("a link", (("./usr/link", tarfile.SYMTYPE, "x"), ("./x", tarfile.LNKTYPE, "./usr/link"))),
     ):
         got = read(sandbox, MAGIC + part("data.tar", members(*given)))
         sandbox.holds("a hard link to " + label, got == "refuted: a hard link to nothing", got)
@@ -141,32 +146,37 @@ def try_paths(sandbox):
     sandbox.holds("dpkg's files of a package", got == ({}, {}, {b"postinst": sums, b"prerm": sums}), got)
 
 
+def unpacked(packed, path, kind):
+    """The SHA-256 of what a file has unpacked, or why it is refuted."""
+    with open(path, "rb") as file:
+        try:
+            target, digest = packed.unpacked(file.fileno(), kind, 1 << 20)
+        except packed.Refuted as refuted:
+            return "refuted: %s" % refuted
+    os.close(target)
+    return digest
+
+
 def try_programs(sandbox):
     """Parts that a program of the system unpacks: as it says, refuted if it fails or is not there."""
-    path = sandbox.path("stubs")
-    for label, body, good in (
-        ("that works", "exec cat", True),
-        ("that fails", "cat; exit 1", False),
-        ("that is killed", "cat; kill -9 $$", False),
-        ("that is not there", None, False),
+    packed, text = own_module("aide_compare.reasons.packed"), tar({"usr/bin/a": TRUE})
+    digest, programs = hashlib.sha256(text).hexdigest(), dict(packed.PROGRAMS)
+    sandbox.holds("the programs", {kind: name for kind, (name, _) in programs.items()} == {"zst": "zstd", "lz4": "lz4"})
+    for label, body, want in (
+        ("that works", "exec cat", digest),
+        ("that fails", "cat; exit 1", "refuted: damaged"),
+        ("that is killed", "cat; kill -9 $$", "refuted: damaged"),
+        ("that writes too much", "cat; exec cat /dev/zero", "refuted: too large unpacked"),
     ):
-        if body:
-            sandbox.stub("zstd", body)
-        before, os.environ["PATH"] = os.environ["PATH"], path + (":/bin:/usr/bin" if body else "")
-        try:
-            got = read(sandbox, MAGIC + part("data.tar.zst", tar({"usr/bin/a": TRUE})))
-        finally:
-            os.environ["PATH"] = before
-        sandbox.holds(
-            "a program %s" % label, isinstance(got, tuple) == good and (not good or list(got[0]) == [b"/usr/bin/a"]), got
-        )
-        if body:
-            os.remove(os.path.join(path, "zstd"))
-    for name in ("zstd", "lz4"):
+        packed.PROGRAMS = {"zst": (sandbox.stub("unpacks", body), "-dcq")}
+        got = unpacked(packed, sandbox.write("packed", text), "zst")
+        sandbox.holds("a program %s" % label, got == want, got)
+    packed.PROGRAMS = {"zst": (sandbox.path("none"), "-dcq")}
+    got = unpacked(packed, sandbox.path("packed"), "zst")
+    sandbox.holds("a program that is not there", got == "refuted: there is no program " + sandbox.path("none"), got)
+    packed.PROGRAMS = programs
+    for kind, (name, _) in programs.items():
         if shutil.which(name):
-            packed = subprocess.run([name, "-cq"], input=tar({"usr/bin/a": TRUE}), stdout=subprocess.PIPE).stdout
-            _, module = modules()
-            with open(sandbox.write("packed", packed), "rb") as file:
-                target, digest = module.unpacked(file.fileno(), {"zstd": "zst", "lz4": "lz4"}[name], 1 << 20)
-            os.close(target)
-            sandbox.holds("unpacked by " + name, digest == hashlib.sha256(tar({"usr/bin/a": TRUE})).hexdigest(), digest)
+            there = subprocess.run([name, "-cq"], input=text, stdout=subprocess.PIPE).stdout
+            got = unpacked(packed, sandbox.write("packed", there), kind)
+            sandbox.holds("unpacked by " + name, got == digest, got)

@@ -4,13 +4,13 @@ import gzip
 import hashlib
 import lzma
 import os
-import sys
 import tarfile
 
+from .own_module import own_module
 from .reasons_archive import index, prepare, tar, tool, write_archive
 from .reasons_indexes import STUB, expect, lists, says
-from .sandbox import HERE
 
+PACKED = "aide_compare.reasons.packed"
 TEXT = bytes(range(256)) * 1200
 FORMS = {
     "gz": gzip.compress,
@@ -20,22 +20,13 @@ FORMS = {
 }
 
 
-def module():
-    path = os.path.join(HERE, "commands", "lib")
-    if path not in sys.path:
-        sys.path.append(path)
-    from aide_compare.reasons import packed
-
-    return packed
-
-
 def got_of(sandbox, text, work):
     """What a copy of a file has, or why it is refuted."""
     with open(sandbox.write("part", text), "rb") as file:
         try:
             target, digest = work(file.fileno())
-        except module().Refuted as refuted:
-            return str(refuted)
+        except Exception as refuted:
+            return str(refuted) if type(refuted).__name__ == "Refuted" else repr(refuted).encode()
     with open(target, "rb") as copy:
         found = copy.read()
     return found if hashlib.sha256(found).hexdigest() == digest else "another digest"
@@ -43,7 +34,7 @@ def got_of(sandbox, text, work):
 
 def try_copies(sandbox):
     """A copy has as many bytes as are asked for, or all; more than are allowed are none."""
-    packed = module()
+    packed = own_module(PACKED)
     for size, most, want in (
         (None, len(TEXT), TEXT),
         (None, len(TEXT) + 1, TEXT),
@@ -63,7 +54,7 @@ def try_copies(sandbox):
 
 def try_unpacked(sandbox):
     """What is unpacked is bounded, in each form; what is behind it does not count, and damage is told."""
-    packed = module()
+    packed = own_module(PACKED)
     for kind, pack in FORMS.items():
         text = pack(TEXT)
         for label, given, most, want in (
@@ -81,15 +72,14 @@ def try_unpacked(sandbox):
     for most, want in ((len(TEXT), TEXT), (len(TEXT) - 1, "too large")):
         got = got_of(sandbox, TEXT, lambda file: packed.unpacked(file, "", most))
         sandbox.holds("plain, %d are allowed" % most, got == want, got[:99])
-    before, packed.MOST_MEMORY = packed.MOST_MEMORY, 1 << 20
+    packed.MOST_MEMORY = 1 << 20
     got = got_of(sandbox, lzma.compress(TEXT), lambda file: packed.unpacked(file, "xz", len(TEXT)))
     sandbox.holds("xz that takes more memory than may be", "emory" in got[:99] if isinstance(got, str) else False, got[:99])
-    packed.MOST_MEMORY = before
 
 
 def try_members(sandbox):
     """As many members of a tar archive as may be, and none is kept."""
-    packed = module()
+    packed = own_module(PACKED)
     for count, most, want in ((3, 3, 3), (3, 4, 3), (4, 3, "too many members")):
         text = tar({"file%d" % number: b"x" for number in range(count)})
         with open(sandbox.write("members", text), "rb") as file:

@@ -4,7 +4,9 @@ import io
 import os
 import tarfile
 
-from .reasons_lines import modules
+from .own_module import own_module
+
+RECORDS = "aide_compare.reasons.records"
 
 STATUS = b"Package: tool\nStatus: install ok installed\nArchitecture: all\nVersion: 2\n"
 LISTS = {"info/tool.list": b"/.\n/a\n", "info/x:amd64.md5sums": b"sums", "info/libc++-1.0~a.list": b"/.\n"}
@@ -24,25 +26,23 @@ def tar(*given):
     return gzip.compress(target.getvalue(), mtime=0)
 
 
-def kept(sandbox, text):
+def kept(sandbox, text, records):
     """What records that are kept have, by name, or why they are refused."""
-    records, fault = modules()
     try:
         read = records.KeptRecords(sandbox.write("kept.packages", text))
-    except fault as refused:
+    except records.Fault as refused:
         return refused.text
     found = {name: read.read(name) for name in read.names}
     read.close()
     return found
 
 
-def written(sandbox):
+def written(sandbox, records):
     """The names of the files that are kept of dpkg's folder, or why they are refused."""
-    records, fault = modules()
     target = io.BytesIO()
     try:
         records.write_records(target, sandbox.path("records"))
-    except fault as refused:
+    except records.Fault as refused:
         return refused.text
     with tarfile.open(fileobj=io.BytesIO(target.getvalue()), mode="r:gz") as archive:
         return archive.getnames()
@@ -56,8 +56,8 @@ def prepare(sandbox):
 
 
 def try_kept(sandbox):
-    """What is believed of a file of records: dpkg's own files under their names, and nothing that is a link or too large."""
-    records, _ = modules()
+    """What is believed of a file of records: dpkg's own files under their names, and nothing that is a link."""
+    records = own_module(RECORDS)
     file, status = tarfile.REGTYPE, ("status", tarfile.REGTYPE, STATUS)
     lists = {name: (name, file, text) for name, text in LISTS.items()}
     for label, given, want in (
@@ -71,7 +71,7 @@ def try_kept(sandbox):
         ("of rpm", (("rpm", file, b"P"),), {"rpm": b"P"}),
         ("whole", (status, *lists.values()), {"status": STATUS, **LISTS}),
     ):
-        got = kept(sandbox, tar(*given))
+        got = kept(sandbox, tar(*given), records)
         sandbox.holds("records, " + label, got == want, got)
     for label, given in (
         ("nothing", ()),
@@ -80,9 +80,16 @@ def try_kept(sandbox):
         ("another name", (("status-old", file, STATUS), *lists.values())),
         ("rpm's text in a folder", (("a/rpm", file, b"P"),)),
     ):
-        got = kept(sandbox, tar(*given))
+        got = kept(sandbox, tar(*given), records)
         sandbox.holds("records, " + label, isinstance(got, str) and "have neither" in got, got)
-    limits = records.MOST_FILE, records.MOST_TEXT, records.MOST_FILES
+
+
+def try_large(sandbox):
+    """As large and as many files as may be, and no more."""
+    records = own_module(RECORDS)
+    file, status = tarfile.REGTYPE, ("status", tarfile.REGTYPE, STATUS)
+    lists = [(name, file, text) for name, text in LISTS.items()]
+    limits = records.MOST_FILE, records.MOST_TEXT
     for label, given, most, want in (
         ("a file of dpkg's that is as large as may be", ("status", file, b"x" * 9), (9, 1000, 9), True),
         ("one that is larger", ("status", file, b"x" * 10), (9, 1000, 9), False),
@@ -90,58 +97,55 @@ def try_kept(sandbox):
         ("rpm's text that is larger", ("rpm", file, b"x" * 1001), (2000, 1000, 9), False),
     ):
         records.MOST_FILE, records.MOST_TEXT, records.MOST_FILES = most
-        got = kept(sandbox, tar(given))
+        got = kept(sandbox, tar(given), records)
         sandbox.holds("records, " + label, got == {given[0]: given[2]} if want else "a file is too large" in got, got)
-    records.MOST_FILE, records.MOST_TEXT, records.MOST_FILES = *limits[:2], 2
-    got = [kept(sandbox, tar(status, *list(lists.values())[:count])) for count in (1, 2)]
+    records.MOST_FILE, records.MOST_TEXT, records.MOST_FILES = *limits, 2
+    got = [kept(sandbox, tar(status, *lists[:count]), records) for count in (1, 2)]
     sandbox.holds("records, as many files as may be", len(got[0]) == 2, got)
     sandbox.holds("records, more files", "too many members" in got[1], got)
-    records.MOST_FILES = limits[2]
 
 
 def try_folder(sandbox):
     """Which files of dpkg's folder are kept, and in which of them nobody else may have a hand."""
-    records, _ = modules()
+    records = own_module(RECORDS)
     prepare(sandbox)
     names = sorted(["status", "diversions", *LISTS])
-    sandbox.holds("the names that are kept", written(sandbox) == names, written(sandbox))
+    sandbox.holds("the names that are kept", written(sandbox, records) == names, written(sandbox, records))
     path = sandbox.path("records/info/tool.list")
     kinds = (("a FIFO", os.mkfifo), ("a folder", os.mkdir), ("a link", lambda path: os.symlink("../status", path)))
     for kind, make in kinds:
         os.remove(path)
         make(path)
-        got = written(sandbox)
+        got = written(sandbox, records)
         sandbox.holds("%s in place of a list" % kind, isinstance(got, str) and "info/tool.list" in got, got)
         (os.rmdir if kind == "a folder" else os.remove)(path)
         sandbox.write("records/info/tool.list", LISTS["info/tool.list"])
     for mode in (0o620, 0o602, 0o666):
         os.chmod(path, mode)
-        got = written(sandbox)
+        got = written(sandbox, records)
         sandbox.holds("a list of the mode %o" % mode, isinstance(got, str) and "other users can write" in got, got)
     os.chmod(path, 0o644)
     if os.getuid() == 0:
         os.chown(path, 65534, -1)
-        got = written(sandbox)
+        got = written(sandbox, records)
         sandbox.holds("a list of another user", isinstance(got, str) and "other users can write" in got, got)
         os.chown(path, 0, -1)
-    before, records.MOST_FILES = records.MOST_FILES, len(names)
-    sandbox.holds("as many files as may be", written(sandbox) == names)
+    most, records.MOST_FILES = (records.MOST_FILES, records.MOST_ALL), len(names)
+    sandbox.holds("as many files as may be", written(sandbox, records) == names)
     records.MOST_FILES = len(names) - 1
-    sandbox.holds("more files than may be", "more than" in written(sandbox), written(sandbox))
-    records.MOST_FILES, most = before, records.MOST_ALL
-    records.MOST_ALL = sum(map(len, [STATUS, *LISTS.values()]))
-    sandbox.holds("as many bytes as may be", written(sandbox) == names, written(sandbox))
+    sandbox.holds("more files than may be", "more than" in written(sandbox, records), written(sandbox, records))
+    records.MOST_FILES, records.MOST_ALL = most[0], sum(map(len, [STATUS, *LISTS.values()]))
+    sandbox.holds("as many bytes as may be", written(sandbox, records) == names, written(sandbox, records))
     records.MOST_ALL -= 1
-    sandbox.holds("more bytes than may be", "has more than" in written(sandbox), written(sandbox))
-    records.MOST_ALL = most
+    sandbox.holds("more bytes than may be", "has more than" in written(sandbox, records), written(sandbox, records))
+    records.MOST_ALL = most[1]
     os.remove(sandbox.path("records/diversions"))
-    sandbox.holds("no diversions", written(sandbox) == names, written(sandbox))
+    sandbox.holds("no diversions", written(sandbox, records) == names, written(sandbox, records))
 
 
 def try_now(sandbox):
     """dpkg's records where dpkg has packages, also beside rpm; rpm's where dpkg is only a tool or not there."""
-    records, _ = modules()
-    before = records.has_rpm, records.RpmRecords, records.FolderRecords
+    records = own_module(RECORDS)
     records.RpmRecords, records.FolderRecords = lambda: "rpm", lambda folder: "dpkg"
     for has_rpm in (False, True):
         records.has_rpm = lambda has_rpm=has_rpm: has_rpm
@@ -152,4 +156,3 @@ def try_now(sandbox):
                 sandbox.write("now/status", text)
             got, want = records.records_now(sandbox.path("now")), "rpm" if has_rpm and label != "packages" else "dpkg"
             sandbox.holds("the records of now, %s, rpm: %s" % (label, has_rpm), got == want, got)
-    records.has_rpm, records.RpmRecords, records.FolderRecords = before
