@@ -6,8 +6,9 @@ import sys
 
 from tools.commands.base import TOP
 from tools.commands.base.calls import expect, expect_fault, outcome
+from tools.oracle.configuration import BOOL_OPTIONS, SET_OPTIONS
 
-from aide_compare import VERSION, ending, escapes, options, report_values, reports, state, times
+from aide_compare import VERSION, configuration, ending, escapes, options, report_values, reports, state, times
 from aide_compare.reasons import entries
 
 ESCAPED = (
@@ -37,12 +38,13 @@ NO_TIMES = ("", "x", "h", "1h2", "1.5h", "-1", "+1", " 1", "1 ", "1_0", "\u0663"
 
 
 def try_texts(tally, folder):
-    for part in (try_escapes, try_times, try_options, try_state, try_reports, try_ends, try_attributes):
+    for part in (try_escapes, try_times, try_options, try_state, try_reports, try_ends, try_tables):
         part(tally, folder)
 
 
-def try_attributes(tally, _):
-    """The tables of attributes say the same: each digest is in the order of strength, in the reasons and in the schema."""
+def try_tables(tally, _):
+    """The tables of attributes say the same: each digest is in the order of strength, in the reasons and in the schema. The
+    options that report_url=stdout fixes are those of the definitions."""
     labels = [label for label, form in report_values.FORMS.items() if isinstance(form, tuple)]
     columns = sorted(label.lower().replace("-", "_").replace("/", "_") for label in labels)
     with open(os.path.join(TOP, "contrib", "json", "aide-compare-lines.schema.json"), encoding="utf-8") as file:
@@ -50,6 +52,8 @@ def try_attributes(tally, _):
     expect(tally, "digests by strength", sorted(report_values.STRENGTH), sorted(labels))
     expect(tally, "digests of the reasons", sorted(entries.DIGESTS), columns)
     expect(tally, "attributes of the schema", list(schema["$defs"]["attributes"]["properties"]), list(report_values.FORMS))
+    names = sorted(name.encode() for name in ["report_level"] + BOOL_OPTIONS + SET_OPTIONS)
+    expect(tally, "options of the report", sorted(configuration.REPORT_OPTIONS), names)
 
 
 def try_escapes(tally, _):
