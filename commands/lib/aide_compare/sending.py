@@ -1,4 +1,5 @@
 """How a mail leaves this machine: sendmail with a time limit, SMTP if that is chosen, and the system log if neither takes it."""
+import contextlib
 import os
 import select
 import signal
@@ -116,8 +117,10 @@ class Smtp:
     """Hands messages to a mail server, which needs no set-ID program, but has to listen."""
 
     def __init__(self, place, seconds=SECONDS):
-        name, _, port = place.rpartition(":") if place.rpartition(":")[2].isdigit() else (place, "", "25")
-        self.host, self.port, self.seconds = name, int(port), seconds
+        name, _, port = place.rpartition(":")
+        if not port.isdigit() or (":" in name and not name.endswith("]")):  # An address of IPv6 has colons itself.
+            name, port = place, "25"
+        self.host, self.port, self.seconds = name.strip("[]"), int(port), seconds
 
     def send(self, message):
         import smtplib
@@ -127,10 +130,20 @@ class Smtp:
         sender = "aide-compare@" + (os.uname().nodename or "localhost")
         whole = ("From: %s\n" % sender).encode() + message
         try:
-            with smtplib.SMTP(self.host, self.port, timeout=self.seconds) as server:
-                server.sendmail(sender, [each.strip() for each in to.split(",")], whole.replace(b"\n", b"\r\n"))
+            server = smtplib.SMTP(self.host, self.port, timeout=self.seconds)
+            try:
+                refused = server.sendmail(sender, [each.strip() for each in to.split(",")], whole.replace(b"\n", b"\r\n"))
+            finally:
+                # The server has the mail by now, or has not: what it answers to QUIT changes nothing.
+                with contextlib.suppress(OSError, smtplib.SMTPException):
+                    server.quit()
         except (OSError, smtplib.SMTPException, UnicodeError) as error:
             return "%s:%d did not take it: %s" % (shown(self.host, 100), self.port, shown(str(error), 300))
+        if refused:  # The others have the mail, and get the second, short one, which says who has none.
+            each = (
+                "%s: %d %s" % (name, code, why.decode("ascii", "replace")) for name, (code, why) in sorted(refused.items())
+            )
+            return "%s:%d did not take it for %s" % (shown(self.host, 100), self.port, shown("; ".join(each), 300))
         return None
 
 

@@ -87,4 +87,26 @@ PLANTED = [
         seen_by="mail.try_texts",
     ),
     Plant(file=MAIL, old='if result != "success":', new="if False:", seen_by="mail.try_queue"),
+    Plant(
+        file=MESSAGE,
+        old="        return 1 <= self.status <= 7 and self.size > 0\n",
+        new="        return self.size > 0\n",
+        seen_by="mail.try_room",
+    ),
+    Plant(
+        file="contrib/systemd/aide-compare-mail.service",
+        old="KillMode=process\n",
+        new="KillMode=process\nNoNewPrivileges=yes\n",
+        seen_by="mail.try_units",
+    ),
+    Plant(file=SENDING, old='whole.replace(b"\\n", b"\\r\\n"))', new="whole)", seen_by="mail.try_smtp"),
+    Plant(file=SENDING, old='[each.strip() for each in to.split(",")]', new="[to]", seen_by="mail.try_smtp"),
+    Plant(file=SENDING, old='name.strip("[]")', new="name", seen_by="mail.try_smtp"),
+    Plant(file=SENDING, old="        if refused:  #", new="        if None:  #", seen_by="mail.try_smtp"),
+    Plant(
+        file=SENDING,
+        old="                    server.quit()\n",
+        new='                    pass\n                if server.docmd("QUIT")[0] != 221:\n                    raise OSError("no end")\n',
+        seen_by="mail.try_smtp",
+    ),
 ]
