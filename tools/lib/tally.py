@@ -6,7 +6,8 @@ from concurrent.futures import ThreadPoolExecutor
 
 from tools.oracle.session import Answer, Unread, answer_of
 
-TIME_LIMIT = 120
+# Only for a program that hangs: on a machine with much other work a run may take minutes.
+TIME_LIMIT = 600
 
 
 def file_at(path):

@@ -8,7 +8,7 @@ NUMBER = re.compile(rb"(-?)(?=[0-9])0*([0-9]*)")
 OCTAL = re.compile(rb"[0-7]+")
 ESCAPE = re.compile(rb"%([0-9A-Fa-f]{2})")
 LEAST, GREATEST, DIGITS = -(2**63), 2**64 - 1, 20
-TIME_LIMIT = 44
+LONGEST_TIME = 44
 TYPE_BITS, PERMISSION_BITS = 0o170000, 0o7777
 
 # The types of files by their bits: the letter, the title and the value in the details.
@@ -58,7 +58,7 @@ def time_of(field):
     """Seconds, as a number or as the base64 of one."""
     text = field
     if not (field[:1].isdigit() or field[:1] == b"-"):
-        text = bytes_of_base64(field) if len(field) <= TIME_LIMIT else None
+        text = bytes_of_base64(field) if len(field) <= LONGEST_TIME else None
     try:
         return number_of(text if text is not None else b"")
     except Meaningless:

@@ -217,6 +217,18 @@ def try_copies(tally, folder):
         file.write(gzip.compress(b"") * 80000)
     expect_fault(tally, "members without end", outcome(copied, path, 1000), 18, "has more than")
     _try_small_members(tally, path)
+    _try_pipes(tally, text[:999])
+
+
+def _try_pipes(tally, text):
+    """A pipe may give its first byte alone. Of these each read gives what one write has put in."""
+    for label, packed in (("plain", text), ("gzip", gzip.compress(text))):
+        reading, writing = os.pipe2(os.O_DIRECT)
+        for piece in (packed[:1], packed[1:]):
+            os.write(writing, piece)
+        os.close(writing)
+        expect(tally, "a pipe that gives a byte first, " + label, outcome(copied, "/dev/fd/%d" % reading), text)
+        os.close(reading)
 
 
 class Counted:

@@ -184,4 +184,18 @@ PLANTED = [
         new="counts",
         seen_by=READERS % "try_metrics_and_log",
     ),
+    Plant(
+        file=EXPLAINING,
+        old='{"reasons": reasons} if reasons else {}',
+        new="{}",
+        seen_by=READERS % "try_pages",
+    ),
+    Plant(
+        file=MESSAGE,
+        old='    r"^aide-compare-run: [a-z0-9 ,]+: unexplained=(\\d{1,18}) not_verified=(\\d{1,18}) explained=(\\d{1,18}) "\n'
+        '    r"high=(\\d{1,18}) medium=(\\d{1,18}) low=(\\d{1,18})\\n",\n',
+        new='    r"aide-compare-run: [a-z0-9 ,]+: unexplained=(\\d{1,18}) not_verified=(\\d{1,18}) explained=(\\d{1,18}) "\n'
+        '    r"high=(\\d{1,18}) medium=(\\d{1,18}) low=(\\d{1,18})",\n',
+        seen_by=READERS % "try_false_counts",
+    ),
 ]

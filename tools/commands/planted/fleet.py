@@ -63,4 +63,25 @@ PLANTED = [
         new='        with open(given.output, "wb") as file:\n            file.write(data)\n',
         seen_by="state.try_links",
     ),
+    Plant(
+        file=LIB + "check.py",
+        old="WARNING if state.status == 1 else CRITICAL",
+        new="WARNING if state.status & 1 else CRITICAL",
+        seen_by="state.try_check",
+    ),
+    Plant(file=LIB + "readers.py", old="= max(age, 0), age", new="= age, age", seen_by="state.try_check"),
+    Plant(
+        file=LIB + "metrics.py",
+        old="name, name, value) for name, words, value in values if value is not None)",
+        new="name, name, value or 0) for name, words, value in values)",
+        seen_by="state.try_metrics",
+    ),
+    Plant(file=LIB + "log_line.py", old=" or reading.future:", new=":", seen_by="state.try_log"),
+    Plant(file="contrib/logcheck/aide-compare", old=" changed=0$", new=" changed=0", seen_by="state.try_rules"),
+    Plant(
+        file=LIB + "check.py",
+        old='"no comparison, status %d: %s" % (state.status, state.error)',
+        new='"no comparison, status %d" % state.status',
+        seen_by="age.try_readers",
+    ),
 ]

@@ -250,6 +250,14 @@ PLANTED = (
     )
     + seen_by("reasons_places.try_never", (PROTECTED, " or next(_NEVER.rows(path), None) is not None", ""))
     + seen_by(
+        "reasons_places.try_shipped_rules",
+        (
+            "contrib/aide/debian.rules",
+            "added,removed,content,inode     /var/cache/man/** ",
+            "added,removed,content,inode     /var/** ",
+        ),
+    )
+    + seen_by(
         "reasons_places.try_severity",
         (SEVERITY, "return 0 if stat.S_ISDIR(mode) else mode & SET_ID", "return mode & SET_ID"),
         (SEVERITY, " and not stat.S_ISLNK(mode) and not (stat.S_ISDIR(mode) and mode & stat.S_ISVTX)", ""),

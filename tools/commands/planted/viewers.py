@@ -283,4 +283,29 @@ PLANTED = [
         new='fields["sha256"]',
         seen_by="viewers.try_aide_form",
     ),
+    Plant(
+        file=LIB + "report_lines.py",
+        old="        if end < 0 and length:\n",
+        new="        if end < 0 and length >= LINE_LIMIT:\n",
+        seen_by="viewers.try_cuts",
+    ),
+    Plant(
+        file=LIB + "viewers.py",
+        old="page(source, given.title, given.plain, given.only)",
+        new="page(source, given.title, False, given.only)",
+        seen_by="viewers.try_program",
+    ),
+    Plant(file=LIB + "report_parts.py", old="out = LEVELS[4:6]", new="out = LEVELS[4:5]", seen_by="viewers.try_levels"),
+    Plant(
+        file=LIB + "report_parts.py",
+        old="doubtful = len(kinds) > 1 and self.possible[kinds[0]] > self.counts[kinds[0]]",
+        new="doubtful = False",
+        seen_by="viewers.try_doubt",
+    ),
+    Plant(
+        file="commands/bin/aide-compare-json",
+        old="    sys.dont_write_bytecode = True\n",
+        new="",
+        seen_by="viewers.try_installed",
+    ),
 ]

@@ -37,4 +37,6 @@ PLANTED = [
         new="",
         seen_by="without.try_left_out",
     ),
+    Plant(file=PATTERNS, old="part.search(name, found.end())", new="part.search(name)", seen_by="without.try_random"),
+    Plant(file="contrib/aide/debian.without", old="/var/cache/**\n", new="/var/**\n", seen_by="without.try_shipped"),
 ]

@@ -74,10 +74,19 @@ def try_few_descriptors(sandbox):
         sandbox.holds("%s closed" % closed, answer.status == want and sandbox.state().get("status") == str(want), answer)
 
 
+def with_memory(sandbox, size, tool, *words):
+    return sandbox.call(tool, *words, before=LIMITED % ("AS", size << 20, size << 20))
+
+
 def try_little_memory(sandbox):
-    """From 16 MB on the interpreter itself starts."""
-    for size in range(18, 60, 3):
-        answer = sandbox.call(TOOL, "old.db", "new.db", before=LIMITED % ("AS", size << 20, size << 20))
+    """From the size on with which the interpreter reads the command itself. The first ones are too small for its modules."""
+    sandbox.write("alone/" + TOOL, sandbox.read("bin/" + TOOL), 0o755)
+    least = next(
+        (size for size in range(4, 60) if b"cannot start: " in with_memory(sandbox, size, "../alone/" + TOOL).errors), 60
+    )
+    sandbox.holds("the interpreter starts with little memory", least < 40, least)
+    for size in [*range(least + 1, least + 6), *range(least + 6, 60, 3)]:
+        answer = with_memory(sandbox, size, TOOL, "old.db", "new.db")
         sandbox.holds("%d MB of memory" % size, compared(answer) or answer.status in NO_COMPARISON, answer)
 
 
@@ -91,11 +100,13 @@ def try_no_process(sandbox):
 
 def try_each_moment(sandbox):
     """SIGTERM and SIGKILL at 60 moments of a run: it ends at once, and the state is the former one or the whole new one."""
-    wrong = []
+    wrong, begun = [], time.monotonic()
+    sandbox.call(TOOL, "old.db.gz", "new.db.gz", "--state", "state")
+    length = time.monotonic() - begun
     for turn in range(60):
         sandbox.write("state", b"as before\n")
         process = sandbox.start(TOOL, "old.db.gz", "new.db.gz", "--state", "state")
-        time.sleep(0.003 * turn)
+        time.sleep(length * turn / 50)
         process.send_signal((signal.SIGTERM, signal.SIGKILL)[turn % 2])
         process.communicate(timeout=20)
         whole = sandbox.read("state") == b"as before\n" or sandbox.state().get("status") == "7"

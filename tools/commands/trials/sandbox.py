@@ -8,7 +8,8 @@ import sys
 import tempfile
 
 HERE = os.path.dirname(os.path.dirname(os.path.dirname(os.path.dirname(os.path.abspath(__file__)))))
-TIME_LIMIT = 60
+# Only for a tool that hangs: on a machine with much other work a run may take minutes.
+TIME_LIMIT = 300
 NOBODY = 65534
 
 # What a child does before it becomes the tool: it gives up the rights of root, has another umask, or cannot write much.

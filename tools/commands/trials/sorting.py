@@ -98,7 +98,7 @@ def call(words, text, room, environment=None):
         input=text,
         stdout=subprocess.PIPE,
         stderr=subprocess.PIPE,
-        timeout=120,
+        timeout=600,
         env={**os.environ, "TMPDIR": room, **(environment or {})},
     )
     return done.returncode, done.stdout, done.stderr

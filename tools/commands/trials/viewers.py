@@ -46,6 +46,18 @@ def try_only(sandbox):
     looks.try_only(sandbox.tally)
 
 
+def try_levels(sandbox):
+    try_viewers.try_levels(sandbox.tally)
+
+
+def try_doubt(sandbox):
+    try_viewers.try_doubt(sandbox.tally)
+
+
+def try_installed(sandbox):
+    try_viewers.try_installed(sandbox.tally)
+
+
 def try_cuts(sandbox):
     try_viewers.try_cuts(sandbox.tally)
 
