@@ -1,5 +1,6 @@
 //! Sessions over files in memory, and over files of the machine.
 mod callers;
+mod desk;
 mod devices;
 mod files;
 mod pages;

@@ -27,9 +27,22 @@ fn write_pieces(rt: &impl Abort, alloc: Global, bytes: &mut Vec<u8>) -> Result<(
     Ok(())
 }
 
+/// Writes 32 pieces of 1,000 bytes. The sink below takes no byte, and is not asked before the page is full.
+fn write_on_page(rt: &impl Abort, alloc: Global, bytes: &mut Vec<u8>) -> Result<(), Memory> {
+    let below: Below<'_> = PlannedSink::new(WriteSink::new(bytes), Pace::new(4096), 0, true);
+    let mut page = PagedSink::new(alloc, below)?;
+    for _ in 0..32 {
+        assert!(rt; emit(&mut page, &[b'x'; 1000]).is_ok());
+    }
+    assert!(rt; page.flush().is_err());
+    Ok(())
+}
+
 #[test]
 fn gathers_pieces(rt: HostRuntime) -> Result<(), Fail> {
     let mut bytes = Vec::new(rt.alloc());
+    write_on_page(&rt, rt.alloc(), &mut bytes)?;
+    assert!(rt; bytes.is_empty());
     write_pieces(&rt, rt.alloc(), &mut bytes)?;
     assert!(rt; bytes.len() == 40_000 && bytes.iter().all(|byte| *byte == b'x'));
     Ok(())
