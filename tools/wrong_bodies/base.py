@@ -1,4 +1,5 @@
-"""The base of a crate: which stored answers the right bodies need, because search does not find their goals.
+"""The base of a crate: which stored answers the right bodies need, because search does not find their goals, and which
+functions' plain calls meet the contract without one.
 
 It is kept as JSON, for each function with a sum of what it rests on: the function with its proof files, the contracts
 and definitions of its crate and of the crates below, and the toolchain.
@@ -10,6 +11,7 @@ import pathlib
 from tools.wrong_bodies import answers, bodies, scratch, sources
 
 FOLDER = bodies.HERE / "base"
+CALL = " called by itself"
 KIT = pathlib.Path("/opt/rattle/KIT-ID")
 
 
@@ -35,6 +37,17 @@ def sum_of(context, found, place):
     for path in sorted(folder.rglob("*.antt")) if folder.is_dir() else []:
         sum_.update(path.read_bytes())
     return sum_.hexdigest()[:16]
+
+
+def sum_of_call(context, found, place):
+    """A sum of what the plain call of one function rests on."""
+    sum_ = hashlib.sha256(context.encode())
+    sum_.update("\n".join(found.texts[place.file][place.function.begin : place.function.body]).encode())
+    return sum_.hexdigest()[:16]
+
+
+def key_of_call(place):
+    return place.key() + CALL
 
 
 def stored(crate):
@@ -63,6 +76,18 @@ class Base:
         row = self.rows.get(place.key())
         return row is None or row["sum"] != sum_of(self.context, self.found, place)
 
+    def lacks_call(self, place):
+        """Whether a function's plain call is still to be checked."""
+        row = self.rows.get(key_of_call(place))
+        return row is None or row["sum"] != sum_of_call(self.context, self.found, place)
+
+    def learn_call(self, place, why_not):
+        """Notes that the plain call meets the contract, or why this is not known."""
+        self.rows[key_of_call(place)] = {"sum": sum_of_call(self.context, self.found, place), "needed": why_not}
+
+    def calls_well(self, place):
+        return self.rows[key_of_call(place)]["needed"] == []
+
     def learn(self, place, needed):
         self.rows[place.key()] = {"sum": sum_of(self.context, self.found, place), "needed": sorted(needed)}
 
@@ -71,4 +96,4 @@ class Base:
         return row["needed"] if row else []
 
     def keep(self):
-        store(self.found.crate, {key: row for key, row in self.rows.items() if self.found.function_of(key)})
+        store(self.found.crate, {key: row for key, row in self.rows.items() if self.found.function_of(key.removesuffix(CALL))})

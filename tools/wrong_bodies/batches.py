@@ -1,5 +1,5 @@
 """Which bodies are planted in one check, and what their checks say."""
-from tools.wrong_bodies import answers, checker, printed, scratch, verdicts
+from tools.wrong_bodies import answers, bodies, calls, checker, printed, scratch, verdicts
 
 
 class Run:
@@ -16,8 +16,9 @@ class Run:
 
     def verdicts(self, pairs):
         """Each body with its verdict."""
-        self.learn({place.key(): place for _, place in pairs if place.function}.values())
-        plants = [self.plant(place, body, self.base.needed(place)) for body, place in pairs]
+        self.learn({place.key(): place for body, place in pairs if place.function and not body.whole}.values())
+        self.learn_calls({place.key(): place for body, place in pairs if is_by_call(body, place)}.values())
+        plants = [self.plant(place, body, [] if body.whole else self.base.needed(place)) for body, place in pairs]
         for batch in in_batches([plant for plant in plants if plant.place.function], self.most):
             yield from self.judged(batch)
         for plant in plants:
@@ -34,6 +35,24 @@ class Run:
                 self.learn_one(plant, printed.seen_of(plant, said.text))
             if self.keeps:
                 self.base.keep()
+
+    def learn_calls(self, places):
+        """Checks the plain calls of functions, where that is not known."""
+        plants = [self.plant(place, self.plain(place), []) for place in places if self.base.lacks_call(place)]
+        for batch in in_batches(plants, self.most):
+            said = self.check(batch, names_of(batch))
+            self.seconds_of_base += said.seconds
+            for plant in batch:
+                seen = printed.seen_of(plant, said.text)
+                self.base.learn_call(plant.place, [] if seen.proves() else seen.open or [str(seen.line)])
+            if self.keeps:
+                self.base.keep()
+
+    def plain(self, place):
+        """The plain call as a body."""
+        body = bodies.Body(self.copy.crate, "plain_call", place.file)
+        body.file, body.whole = place.file, [calls.plain_call(self.copy.sources.texts[place.file], place)]
+        return body
 
     def learn_one(self, plant, seen):
         """Notes which answers a right body needs."""
@@ -93,6 +112,8 @@ class Run:
             batch = [plant for plant in batch if plant not in refused]
         for plant in batch:
             verdict = verdicts.verdict_of(printed.seen_of(plant, said.text), plant.needed)
+            if is_by_call(plant.body, plant.place) and not self.base.calls_well(plant.place):
+                verdict = verdicts.Verdict(verdicts.UNJUDGED, ["its function's plain call does not prove either"])
             verdict.function = plant.place.title()
             yield plant.body, verdict
 
@@ -110,6 +131,11 @@ class Run:
         if not lines:
             return verdicts.Verdict(verdicts.UNJUDGED, ["no line of a function was found"])
         return verdicts.Verdict(verdicts.OPEN if wrong else verdicts.PROVES, wrong)
+
+
+def is_by_call(body, place):
+    """Whether a body stands beside its function and may call it."""
+    return bool(body.whole) and place.function.trait is None
 
 
 def names_of(batch):

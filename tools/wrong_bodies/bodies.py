@@ -10,7 +10,20 @@ A list has a block for each body, and a blank line between two blocks:
 
 `file`, `old` and `new` mean what they mean in a must-fail edit: each `old` is on one line and stands once in its file,
 and a further pair applies to what the earlier ones made. A line `in: FUNCTION`, or `in: TYPE::FUNCTION`, asks for texts
-that stand once in that function. A body that the contracts should let through has one more line, `right: REASON` or
+that stand once in that function.
+
+A body may stand in the place of all that its function has, and call the function itself:
+
+    body: last_field_lost
+    why: the last field would never be found
+    file: src/spans.rt
+    in: Spans::find
+    whole: let found = self.find(name)?;
+    whole: if found.end == self.line.len() { None } else { Some(found) }
+
+It gets no stored answer. The plain call of the function is checked beside it, and has to meet the contract without one.
+
+A body that the contracts should let through has one more line, `right: REASON` or
 `test: NAME OF THE TEST THAT SEES IT`: `CRATE::TEST`, or `program::CASE` for a stored case of the program. A body that a
 kept answer refuses has a line `differs: SENTENCE`, which tells in what the two sides of its goal differ: it is written by
 hand, after the message was read.
@@ -21,7 +34,7 @@ import pathlib
 HERE = pathlib.Path(__file__).resolve().parent
 ROOT = HERE.parent.parent
 LISTS = HERE / "bodies"
-WORDS = ("body", "why", "file", "in", "old", "new", "right", "test", "differs")
+WORDS = ("body", "why", "file", "in", "old", "new", "whole", "right", "test", "differs")
 
 
 class ListError(Exception):
@@ -29,12 +42,13 @@ class ListError(Exception):
 
 
 class Body:
-    """A wrong body: pairs of texts, each with its file below the crate, and what is expected of it."""
+    """A wrong body: pairs of texts, each with its file below the crate, or the lines of a whole body in one file. And what
+    is expected of it."""
 
     def __init__(self, crate, name, place):
         self.crate, self.name, self.place = crate, name, place
         self.why, self.right, self.test, self.differs, self.within = "", "", "", "", ""
-        self.pairs = []
+        self.pairs, self.file, self.whole = [], "", []
 
     def is_let_through(self):
         """Whether the contracts are expected to let it through."""
@@ -42,19 +56,22 @@ class Body:
 
     def sum(self):
         """A sum of what is planted."""
-        return hashlib.sha256((repr(self.pairs) + self.within).encode()).hexdigest()[:16]
+        whole = repr((self.file, self.whole)) if self.whole else ""
+        return hashlib.sha256((repr(self.pairs) + self.within + whole).encode()).hexdigest()[:16]
 
 
 def take_line(body, word, rest, state):
     """Takes a line of a block or of an edit."""
     if word == "file":
-        state["file"] = rest.strip()
+        state["file"] = body.file = rest.strip()
     elif word == "old":
         state["old"] = rest
     elif word == "new":
         if "old" not in state or "file" not in state:
             raise ListError(f"{body.place}: a `new` needs a `file` and an `old` above it")
         body.pairs.append((state["file"], state.pop("old"), rest))
+    elif word == "whole":
+        body.whole.append(rest)
     else:
         setattr(body, "within" if word == "in" else word, rest.strip())
 
@@ -77,8 +94,10 @@ def read_list(crate, path):
         else:
             take_line(body, word, rest, state)
     for body in found:
-        if not body.pairs or not body.why:
-            raise ListError(f"{body.place}: `{body.name}` needs a `why`, a `file`, an `old` and a `new`")
+        if not body.why or bool(body.pairs) == bool(body.whole):
+            raise ListError(f"{body.place}: `{body.name}` needs a `why`, a `file`, and an `old` with its `new` or a `whole`")
+        if body.whole and not body.within:
+            raise ListError(f"{body.place}: `{body.name}`: a `whole` needs an `in`")
         if body.right and body.test:
             raise ListError(f"{body.place}: `{body.name}` is either right or seen by a test")
     return found
@@ -118,6 +137,11 @@ def refuse_doubles(found):
             if key(body) in seen:
                 raise ListError(f"{body.place}: the {kind} of `{body.name}` stands at {seen[key(body)].place} too")
             seen[key(body)] = body
+
+
+def crates_with_edits():
+    """The crates that have must-fail edits."""
+    return sorted(path.parent.name for path in (ROOT / "crates").glob("*/must-fail"))
 
 
 def crates_with_lists():

@@ -28,17 +28,15 @@ def fault_of(body, found, row, is_edit=False):
     return f"{body.place}: `{body.name}` {why}" if why else None
 
 
-def faults_of(crate):
-    """What is wrong with each body of a crate, or None, and of those of its must-fail edits that were judged."""
-    found = sources.Sources(crate)
-    for edits in (False, True):
-        rows = results.stored(crate, edits)
-        listed = bodies.listed(crate, edits)
-        for body in listed:
-            if not edits or body.name in rows:
-                yield fault_of(body, found, rows.get(body.name), edits)
-        for name in sorted(set(rows) - {body.name for body in listed}):
-            yield f"{crate}: `{name}` has a stored result, and no list has it"
+def faults_of(crate, edits):
+    """What is wrong with each body of a crate's list, or with each of its must-fail edits, or None."""
+    found, rows, listed = sources.Sources(crate), results.stored(crate, edits), bodies.listed(crate, edits)
+    for body in listed:
+        yield fault_of(body, found, rows.get(body.name), edits)
+    for name in sorted(set(rows) - {body.name for body in listed}):
+        yield f"{crate}: `{name}` has a stored result, and no list has it"
+    if not edits and len(rows) < FEWEST[crate]:
+        yield f"{crate}: {len(rows)} wrong bodies of it were judged, fewer than {FEWEST[crate]}"
 
 
 def main():
@@ -46,14 +44,12 @@ def main():
         prog="python3 -m tools.wrong_bodies.check", description=__doc__, formatter_class=argparse.RawDescriptionHelpFormatter
     ).parse_args()
     passed, failed = 0, []
-    for crate in PROVED:
+    lists = [(crate, False) for crate in PROVED] + [(crate, True) for crate in bodies.crates_with_edits()]
+    for crate, edits in lists:
         try:
-            faults = list(faults_of(crate))
+            faults = list(faults_of(crate, edits))
         except bodies.ListError as error:
             faults = [str(error)]
-        count = len(results.stored(crate))
-        if count < FEWEST[crate]:
-            faults.append(f"{crate}: {count} wrong bodies of it were judged, fewer than {FEWEST[crate]}")
         passed += faults.count(None)
         failed += [fault for fault in faults if fault]
     try:

@@ -2,7 +2,7 @@
 import re
 
 FUNCTION = re.compile(r"^( *)(pub(?:\([a-z]+\))? )?((?:const |unsafe )*)fn (\w+)")
-IMPL = re.compile(r"^impl(?:<[^>]*(?:<[^>]*>[^>]*)*>)? (?:([\w:]+)(?:<.*>)? for )?&?(?:'\w+ )?(?:mut )?([\w\[]+)")
+IMPL = re.compile(r"^(?:unsafe )?impl(?:<[^>]*(?:<[^>]*>[^>]*)*>)? (?:([\w:]+)(?:<.*>)? for )?&?(?:'\w+ )?(?:mut )?([\w\[]+)")
 TRAIT = re.compile(r"^(?:pub )?trait (\w+)")
 CLAUSE = re.compile(r"^\s*(requires|ensures|decreases|ghost)\b")
 ATTRIBUTE = re.compile(r"^\s*#\[(tactic|inline)\b")

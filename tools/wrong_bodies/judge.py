@@ -3,8 +3,9 @@ tells for each whether a goal was shown false, is open, a kept answer is refused
 broken, or the body proves.
 
 A body stands as a copy beside its function, so nothing else changes; a method of a trait is planted in its place. The
-copy gets only those stored answers that the right body needs, which a base run of the unplanted functions finds. All
-this is done in a scratch copy of the crate and of those below it, over what `rt check` left in their out/.
+copy gets only those stored answers that the right body needs, which a base run of the unplanted functions finds. A body
+that calls its function gets none, and the base run checks that the plain call needs none. All this is done in a scratch
+copy of the crate and of those below it, over what `rt check` left in their out/.
 
 The last line is `N passed, M failed`. What proves without a reason in the list, what is refused although the list
 gives one, and what could not be judged fails.

@@ -1,49 +1,61 @@
 """Writes docs/WRONG_BODIES.md from the lists and their stored results."""
 import re
 
-from tools.wrong_bodies import bodies, results, verdicts
+from tools.wrong_bodies import bodies, clauses, listed, results, verdicts
 
 PAGE = bodies.ROOT / "docs" / "WRONG_BODIES.md"
 TRIALS = bodies.ROOT / "docs" / "TRIALS.md"
 BEGINNING = "[WRONG_BODIES.md](WRONG_BODIES.md) lists"
 LONGEST = 160
 GOAL = re.compile(r"`[^`]*`|")
-EDITS = "The crates' must-fail edits, judged in the same way by `--edits`. Those that are not counted here were not."
+CLAUSES = """Each clause of a public function is named by a verdict: a body or edit was shown false at it, or left it open. Of a function with
+only one clause each verdict names it that does not rest on an invariant, a bound or what a callee asks for. The second table has the clauses that no body can break, with the reason. Clauses of
+functions that are not public are counted too; not each of them is named. A method of a trait has the clauses of the trait, which are
+not counted here."""
+EDITS = (
+    "The crates' must-fail edits, judged in the same way by `--edits`. `rt ci` refuses each of them, with all stored answers."
+)
 
 HEAD = """# Wrong bodies, and how the prover refuses them
 
-This page is written by `python3 -m tools.wrong_bodies.judge --write CRATE..`; change the lists in
-`tools/wrong_bodies/bodies/`, and not this page. A **wrong body** is a function's body with a mistake planted in it. The
-tool plants many as copies beside their functions, and checks the crate. A copy gets only those stored answers without
-which the prover does not find the right body's goals. `python3 -m tools.wrong_bodies.check` compares this page with the
-lists and the stored results; it calls no prover.
+This page is written by `python3 -m tools.wrong_bodies.judge --write CRATE..`. Change the lists in
+`tools/wrong_bodies/bodies/`, not this page. `python3 -m tools.wrong_bodies.check`, a part of the tests, compares the page
+with the lists and the stored results; it calls no prover. `python3 -m tools.wrong_bodies.sample`, another part of the tests,
+judges one body of each crate anew.
+
+A **wrong body** is a function's body with a mistake planted in it. Many are planted in one check, each as a copy beside its
+function, under another name. There are two forms:
+
+- The body calls its own function, and changes an argument or the result. It gets no stored answer. It counts only if the
+  plain call meets the contract without one, which is checked first. So whatever it leaves open comes from the mistake.
+- The body is the function's text with a change. It gets only those stored answers without which the prover does not find
+  the right body's goals.
 
 | Verdict | Means |
 |---|---|
 | shown false | the prover found values at which a goal of the body is false |
-| open | a goal of the body is not proved, and no stored answer is needed for the right body's goal |
-| kept answer | a stored answer does not prove its goal any more: the table tells in what the goal's two sides differ |
-| only a name | a stored answer names something that the body no longer has, which says little of the clause |
+| open | a goal of the body is not proved, and the right body's goal needs no stored answer |
+| kept answer | a stored answer that the right body needs does not prove its goal any more; the table says how the goal's two sides differ |
+| only a name | a stored answer names something that the body does not have, which says little about the clause |
 | law broken | a law or a lemma of the crate is not proved any more |
 | proves | the contracts let the body through; the table says why that does no harm, or which test sees it |
-| not judged | the body does not compile, or the check said nothing of it |
+| not judged | the body does not compile, or the check printed nothing about it |
 
-An open goal is no proof that the goal is false: the search may have missed its proof. So the table names the clause. The
-whole messages are in `tools/wrong_bodies/results/`. What the table tells of a kept answer was written by hand, after its
-message and the body were read.
+An open goal is no proof that the goal is false: the search may have missed its proof. So the table names the clause. To see how
+often that happens, 16 right bodies were written for `Groups::eval` and two other functions in the shapes of the wrong ones.
+Those that hand on the call's answer as it is proved, also by a `match`. Those that use `?` or take a fault apart left one
+clause open. So of several clauses that a verdict names, the body may keep one.
 
-A verdict is of a function with its contract as they were when it was taken, and is kept with a sum of both. After a change
-of the function `tools.wrong_bodies.check` fails until `python3 -m tools.wrong_bodies.judge --stale --write CRATE` has judged
-its bodies again. What the lemmas of a crate say may have changed since.
+The whole messages are in `tools/wrong_bodies/results/`. How a kept answer's goal differs was written by hand, after reading
+its message and the body.
 
-No body can break some clauses, so none is listed for them. `answered` of `session` and `session_on` speaks of the definitions
-alone. No call can make a count of failures fall (`sources_never_fall` of `run`), close a side so that `lookups` of `run`
-rises, or make the peak of a desk fall (`peak` of `run` and `Cursor::next`; where a verdict names it, its proof was not found).
-The bodies of `run` return before its own text is reached: the whole of it takes minutes of processor time to check.
+A verdict holds for a function with its contract as they were when it was taken, and is stored with a checksum of both. After
+a change of the function `tools.wrong_bodies.check` fails until `python3 -m tools.wrong_bodies.judge --stale --write CRATE`
+has judged its bodies again. The lemmas of a crate may have changed since.
 
-What a test sees of a body that proves is tried by `python3 -m tools.wrong_bodies.seen`, which plants the body in the place of
-the function and runs the crate's tests. A test `program::CASE` is a stored case of `tools/program/cases`, which is given to
-the program.
+`python3 -m tools.wrong_bodies.seen` tries whether a test sees a body that proves: it plants the body in the place of the
+function and runs the crate's tests. A test `program::CASE` is a stored case of `tools/program/cases`, which is given to the
+program.
 """
 
 
@@ -97,17 +109,33 @@ def rows_of(crate):
 
 def edit_lines():
     """The table of those must-fail edits that were judged in the same way."""
-    numbers = {crate: counts_of(crate, edits=True) for crate in bodies.crates_with_lists()}
+    numbers = {crate: counts_of(crate, edits=True) for crate in bodies.crates_with_edits()}
     numbers = {crate: counts for crate, counts in numbers.items() if sum(counts)}
     if numbers:
         yield from ("", "## Must-fail edits", "", EDITS, "")
         yield from table_of(numbers)
 
 
+def clause_lines():
+    """How many clauses the verdicts name, and those that no body can break."""
+    yield from ("", "## Clauses", "", CLAUSES, "", "| Crate | public functions | all functions |", "|---|---|---|")
+    sums = [0, 0, 0, 0]
+    for crate in bodies.crates_with_lists():
+        promises = list(clauses.promises_of(crate))
+        counts = [*clauses.counts(one for one in promises if one.is_public), *clauses.counts(promises)]
+        sums = [one + other for one, other in zip(sums, counts)]
+        yield "| `{}` | {} of {} | {} of {} |".format(crate, *counts)
+    yield "| all | {} of {} | {} of {} |".format(*sums)
+    yield from ("", "| Function | Clause | Why no body can break it |", "|---|---|---|")
+    for (title, clause), why in clauses.unbreakable().items():
+        crate, _, function = title.split(": ")
+        yield f"| `{function}` of `{crate}` | `{clause}` | {cell(why)} |"
+
+
 def text():
     """The whole page."""
     crates = bodies.crates_with_lists()
-    lines = [HEAD, *table_of({crate: counts_of(crate) for crate in crates}), *edit_lines()]
+    lines = [HEAD, *table_of({crate: counts_of(crate) for crate in crates}), *edit_lines(), *clause_lines()]
     for crate in crates:
         lines += ["", f"## {crate}", "", "| Body | Function | What is wrong | Verdict |", "|---|---|---|---|"]
         lines += rows_of(crate)
@@ -122,8 +150,8 @@ def sentence():
 
 
 def told_in_trials():
-    """TRIALS.md with this sentence in the place of the one that it has."""
-    lines = TRIALS.read_text(encoding="utf-8").split("\n")
+    """TRIALS.md with this sentence in the place of the one that it has, and the verdicts of its table."""
+    lines = listed.with_verdicts(TRIALS.read_text(encoding="utf-8")).split("\n")
     return "\n".join(sentence() if line.startswith(BEGINNING) else line for line in lines)
 
 
@@ -136,5 +164,10 @@ def faults():
     """What of both pages is not what the stored results say."""
     if not PAGE.is_file() or PAGE.read_text(encoding="utf-8") != text():
         yield f"{PAGE.relative_to(bodies.ROOT)} is not what the stored results say"
-    if sentence() not in TRIALS.read_text(encoding="utf-8").split("\n"):
+    trials = TRIALS.read_text(encoding="utf-8")
+    if sentence() not in trials.split("\n"):
         yield f"{TRIALS.relative_to(bodies.ROOT)} has not this line: {sentence()}"
+    elif trials != told_in_trials():
+        yield f"{TRIALS.relative_to(bodies.ROOT)}: the last column of its wrong programs is not what the stored results say"
+    yield from listed.faults(trials)
+    yield from clauses.faults()

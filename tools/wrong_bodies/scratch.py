@@ -27,6 +27,16 @@ def rows_below(crate):
     return wanted
 
 
+def has_library(name):
+    """Whether a crate has its proved library, as its readers need it. `rt ci` and `rt check` leave one."""
+    return (bodies.ROOT / "crates" / name / "out" / "rlib").is_dir()
+
+
+def has_work(name):
+    """Whether a crate has what `rt check` keeps for its next run."""
+    return (bodies.ROOT / "crates" / name / "out" / "incremental").is_dir()
+
+
 def copy_crate(name, to, is_checked):
     """Copies a crate, unless the copy is there. Of a crate below, only what its readers need."""
     if (to / "out" / ("incremental" if is_checked else "rlib")).is_dir():
@@ -47,6 +57,10 @@ class Plant:
         self.name = f"{name}_planted{number}" if self.is_copy else name
         self.lines = range(0)
 
+    def has_no_answers(self):
+        """Whether it gets none of the function's proof files."""
+        return self.body is not None and bool(self.body.whole)
+
     def says(self):
         """What `--only` is given."""
         owner = self.place.function.owner
@@ -54,13 +68,13 @@ class Plant:
 
 
 class Scratch:
-    """The copy. Its sources and proofs are put back after each check."""
+    """The copy. Its sources and proofs are put back after each check. A fresh one needs no work of an earlier check."""
 
-    def __init__(self, crate, folder):
+    def __init__(self, crate, folder, is_fresh=False):
         self.crate, self.root = crate, pathlib.Path(folder)
         rows = rows_below(crate)
         for name in rows:
-            if not (bodies.ROOT / "crates" / name / "out" / "incremental").is_dir():
+            if not (has_library(name) if is_fresh or name != crate else has_work(name)):
                 raise NoWork(f"crates/{name}/out has no proved work: run `rt check` in it first")
         for name in rows:
             copy_crate(name, self.root / "crates" / name, name == crate)
@@ -88,6 +102,9 @@ class Scratch:
         for plant in plants:
             if plant.place.function is None:
                 self.write_whole(plant)
+            elif plant.has_no_answers():
+                if not plant.is_copy:
+                    shutil.rmtree(answers.folder_of(self.folder / "proofs", plant.place), ignore_errors=True)
             elif plant.is_copy:
                 answers.give(self.folder / "proofs", plant.place, plant.name, plant.needed)
             else:

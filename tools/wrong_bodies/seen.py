@@ -40,12 +40,18 @@ def copied(folder):
 
 
 def plant(body, folder):
-    """Plants a body in the place of its function."""
+    """Plants a body in the place of its function. One that calls the function calls the function's own text, renamed."""
     found = sources.Sources(body.crate, folder)
     place = found.place_of(body)
     text, function = found.texts[place.file], place.function
     first, last = (function.body, function.last) if function else (0, len(text))
     lines = text[:first] + found.changed(body, text, place.file, first, last) + text[last:]
+    if body.whole:
+        name = rf"(?<!\w){function.name}(?=\(|<)"
+        lines[first : first + len(body.whole)] = [re.sub(name, f"{function.name}_itself", line) for line in body.whole]
+        own = text[function.begin : function.last + 1]
+        own[function.head - function.begin] = re.sub(name, f"{function.name}_itself", text[function.head])
+        lines[function.begin : function.begin] = [*own, ""]
     (found.folder / place.file).write_text("\n".join(lines), encoding="utf-8")
 
 

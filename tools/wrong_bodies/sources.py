@@ -34,6 +34,8 @@ class Sources:
 
     def place_of(self, body):
         """What a body changes."""
+        if body.whole:
+            return Place(body.file, self.function_in(body, body.file))
         texts, places = dict(self.texts), set()
         for file, old, new in body.pairs:
             if file not in texts:
@@ -53,11 +55,16 @@ class Sources:
         """The lines in which a body's texts stand: those of the function that it names, or all."""
         if not body.within:
             return 0, len(self.texts[file])
-        found = [function for function in self.functions[file] if function.title() == body.within]
+        function = self.function_in(body, file)
+        return function.body, function.last
+
+    def function_in(self, body, file):
+        """The function of a file that a body names."""
+        found = [function for function in self.functions.get(file, []) if function.title() == body.within]
         if len(found) != 1:
             times = f"{len(found)} functions {body.within}, not one"
             raise bodies.ListError(f"{body.place}: `{body.name}`: {file} has {times}")
-        return found[0].body, found[0].last
+        return found[0]
 
     def sum_of(self, place):
         """A sum of the function that a body changes, with its contract, or of the file if it changes no function."""
@@ -67,6 +74,8 @@ class Sources:
 
     def changed(self, body, text, file, first, last):
         """The lines from `first` to `last` of a file, as the body has them."""
+        if body.whole:
+            return list(body.whole)
         lines = list(text[first:last])
         for named, old, new in body.pairs:
             if named == file:

@@ -1,6 +1,6 @@
 """Tries the tool itself on bodies of `aide_words` whose verdicts are known: one that is right but written otherwise,
-one that does not compile, one that breaks an open goal, one in the place of a trait's method, and one that breaks a goal
-whose answer the right body needs. It takes a minute, and `rt check` has to have run in the crate.
+one that does not compile, one that breaks an open goal, one in the place of a trait's method, one that breaks a goal
+whose answer the right body needs, and two that call their function, one rightly and one wrongly. It takes a minute, and `rt check` has to have run in the crate.
 
 The last line is `N passed, M failed`.
 """
@@ -50,11 +50,34 @@ CASES = (
     ),
 )
 
+WHOLE = (
+    ("right_by_the_call", "src/words.rt", "Words::as_slice", "let lent = self.as_slice(); lent", verdicts.PROVES),
+    (
+        "front_of_the_words",
+        "src/words.rt",
+        "Words::as_slice",
+        "let lent = self.as_slice(); &lent[..lent.len() / 2]",
+        verdicts.OPEN,
+    ),
+)
+
 
 class Options:
     """What the command would be given."""
 
     most, print, write = 24, False, False
+
+
+def cases():
+    """The bodies, each with its verdict."""
+    for name, file, old, new, kind in CASES:
+        body = bodies.Body(CRATE, name, "trial.py")
+        body.pairs.append((file, old, new))
+        yield body, kind
+    for name, file, function, whole, kind in WHOLE:
+        body = bodies.Body(CRATE, name, "trial.py")
+        body.file, body.within, body.whole = file, function, [whole]
+        yield body, kind
 
 
 def main():
@@ -63,12 +86,9 @@ def main():
     )
     parser.add_argument("--scratch", metavar="FOLDER", help="a folder for the copy (default: a new one)")
     options = parser.parse_args()
-    found, wanted, pairs = sources.Sources(CRATE), {}, []
-    for name, file, old, new, kind in CASES:
-        body = bodies.Body(CRATE, name, "trial.py")
-        body.pairs.append((file, old, new))
-        wanted[name] = kind
-        pairs.append((body, found.place_of(body)))
+    found = sources.Sources(CRATE)
+    pairs = [(body, found.place_of(body)) for body, _ in cases()]
+    wanted = {body.name: kind for body, kind in cases()}
     passed = failed = 0
     with tempfile.TemporaryDirectory(prefix="wrong-bodies-") as folder:
         run = batches.Run(scratch.Scratch(CRATE, options.scratch or folder), base.Base(found), Options)
