@@ -37,6 +37,21 @@ PLANTED = [
         new="",
         seen_by="without.try_left_out",
     ),
+    Plant(
+        file=PATTERNS,
+        old="    *middle, tail = rest\n",
+        new="    whole = re.compile(b'.*'.join(_parts(piece)), re.DOTALL)\n"
+        "    return lambda name: whole.fullmatch(name) is not None\n    *middle, tail = rest\n",
+        seen_by="without.try_hostile",
+    ),
+    Plant(
+        file=PATTERNS,
+        old="                star, retry = at, given\n",
+        new="                rest = Pattern.__new__(Pattern)\n                rest.tests = self.tests[at + 1 :]\n"
+        "                return any(rest.matches(pieces[front:]) for front in range(given, len(pieces) + 1))\n"
+        "                star, retry = at, given\n",
+        seen_by="without.try_hostile",
+    ),
     Plant(file=PATTERNS, old="part.search(name, found.end())", new="part.search(name)", seen_by="without.try_random"),
     Plant(file="contrib/aide/debian.without", old="/var/cache/**\n", new="/var/**\n", seen_by="without.try_shipped"),
 ]
