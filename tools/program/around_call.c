@@ -133,5 +133,8 @@ long write(int descriptor, const void *bytes, unsigned long size)
 
 int close(int descriptor)
 {
+    char rest[4096];
+    while (is("files read to their ends") && descriptor > 2 && real_read(descriptor, rest, sizeof rest) > 0) {
+    }
     return is("nothing closed") ? 0 : real_close(descriptor);
 }

@@ -38,6 +38,7 @@ PARTS = {
     "paths": "paths.try_paths",
     "fifos": "fifos.try_openings",
     "descriptors": "outside.try_descriptors",
+    "long_lines": "outside.try_long_lines",
     "twenty_megabytes": "outside.try_twenty_megabytes",
 }
 

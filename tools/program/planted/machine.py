@@ -48,6 +48,7 @@ PLANTED = [
     changed("a failed read is the end", "devices", calls="failed read is the end"),
     changed("a file ends after 250 kB", "twenty_megabytes", calls="end after 250 kB"),
     changed("descriptors never closed", "descriptors", calls="nothing closed"),
+    changed("files read to their ends before they are closed", "long_lines", calls="files read to their ends"),
     changed("a closed pipe kills", "devices", calls="closed pipe kills"),
     changed("one byte at each write", "devices", calls="a byte at each write"),
     changed("error lines in parts", "devices", calls="error lines in parts"),

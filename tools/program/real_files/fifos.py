@@ -29,18 +29,19 @@ OPENINGS = [
     (b"", UNSORTED, NEW, 1, 0),
     (b"", OLD, UNSORTED, 1, 1),
 ]
-WAIT = b"20"
+WAIT = b"60"
 LONG = 6000
 
 
 class Feeder:
     """Gives a text to each reader that opens a path: the text of its number, or the last one.
 
-    Behind each reader stands a FIFO of its own, so that no reader is given two texts.
+    Each reader has a FIFO of its own, so that no reader is given two texts.
     """
 
     def __init__(self, path, texts):
-        self.path, self.texts, self.openings, self.is_over = path, texts, 0, False
+        self.path, self.texts, self.is_over = path, texts, False
+        self.openings = self.given = 0
         self.thread = threading.Thread(target=self.feed, daemon=True)
 
     def feed(self):
@@ -51,7 +52,7 @@ class Feeder:
             self.openings += 1
             self.put_fifo()
             try:
-                os.write(file, self.texts[min(self.openings, len(self.texts)) - 1])
+                self.given += os.write(file, self.texts[min(self.openings, len(self.texts)) - 1])
             except BrokenPipeError:
                 pass
             os.close(file)

@@ -2,11 +2,11 @@
 import os
 import resource
 import subprocess
-import time
 
 from tools.oracle.session import Answer
-from tools.lib.tally import run, side_by_side
+from tools.lib.tally import difference, run, side_by_side
 
+from .fifos import Feeder
 from .folder import NEW, OLD, Folder, names
 from .watch import Watch
 
@@ -20,7 +20,8 @@ DEVICES = [
     ("old", "/dev/full", b"line too long"),
     ("old", "/dev/null", b"no @@begin_db"),
 ]
-QUICK = 2
+# A line may have a megabyte. The program and the FIFO have room for some of the bytes after it.
+MOST_TAKEN = 2 * MEGABYTE
 KINDS = RIGHT, TOLD, UNBORN = "right", "told", "unborn"
 JOBS = 2
 # Limits of memory in kB: the steps in which the range is looked for, the last one, and the steps through the range.
@@ -144,16 +145,20 @@ def sparse(folder, name, front, size):
 
 
 def try_long_lines(program, tally):
-    """Sparse files of 2 GB that have one line, in which a line that is too long is found soon."""
+    """Sparse files of 2 GB that have one line, and FIFOs with a line of 32 MB: no more is read than shows that it is too long."""
     with Folder() as folder:
         begun = b"@@begin_db\n@@db_spec name\n"
         for front, line in ((b"", 1), (begun, 3), (begun + b"/a", 3), (b"@@begin_db\n#", 2)):
             folder.pair(options=MINIMAL)
             sparse(folder, "old", front, 2 * GIGABYTE)
-            started = time.monotonic()
-            answer = folder.run(program)
-            tally.check("a line of 2 GB", answer, (b"", b"aide: old database:%d: line too long\n" % line, 24))
-            tally.add("a line of 2 GB, soon", [] if time.monotonic() - started < QUICK else ["took long"])
+            want = Answer(b"", b"aide: old database:%d: line too long\n" % line, 24)
+            tally.check("a line of 2 GB", folder.run(program), want)
+            with Feeder(folder.at("old"), [front + b"\0" * (32 * MEGABYTE)]) as feeder:
+                answer = folder.run(program)
+            faults = difference(answer, want)
+            if not 0 < feeder.given < MOST_TAKEN:
+                faults.append("it took %d bytes" % feeder.given)
+            tally.add("a line of 32 MB", faults)
 
 
 def try_twenty_megabytes(program, tally):
