@@ -178,7 +178,7 @@ def try_rights(tally, _):
     ):
         begun = time.monotonic()
         expect_fault(tally, "work that ends by " + label, outcome(rights.with_rights_of, OTHER, work, 1), 18, part)
-        tally.add("the time of " + label, [] if time.monotonic() - begun < 10 else ["too long"])
+        tally.add("the time of " + label, [] if time.monotonic() - begun < 50 else ["too long"])
 
 
 def copied(path, most=1 << 40):

@@ -241,7 +241,7 @@ def try_closed_errors(sandbox):
 
 def until(condition):
     """Waits until something is so; whether it came so."""
-    limit = time.time() + 20
+    limit = time.time() + 60
     while not condition():
         if time.time() > limit:
             return False
@@ -292,12 +292,12 @@ def try_signals(sandbox):
             begun, number = time.time(), getattr(signal, "SIG" + name)
             process.send_signal(number)
             try:
-                process.wait(timeout=20)
+                process.wait(timeout=60)
             except subprocess.TimeoutExpired:
                 process.kill()
             process.communicate()
             label = "SIG%s during %s" % (name, stage)
-            ended = process.returncode == -number and time.time() - begun < 10
+            ended = process.returncode == -number and time.time() - begun < 50
             sandbox.holds(label, started and ended, (started, process.returncode))
             sandbox.holds("nothing is left after " + label, not sandbox.leftovers(), sandbox.leftovers())
             sandbox.holds("no child after " + label, until(lambda: not running(nap.encode())))

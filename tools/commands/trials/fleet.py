@@ -192,7 +192,7 @@ def try_slow(sandbox):
         fleet.put(host, OLD)
         begun = time.time()
         status, output, _ = fleet.call("compare-hosts", "--time", "1s", "--one", host)
-        good = status == 18 and "after 1 seconds" in output and time.time() - begun < 8
+        good = status == 18 and "after 1 seconds" in output and time.time() - begun < 40
         sandbox.holds("a host that is " + host, good and "error=%s: had not sent" % host in fleet.state(host), output)
 
 
@@ -209,15 +209,15 @@ def try_ended(sandbox):
             wait_for(lambda: os.path.exists(pid) and sandbox.read("ssh.pid").strip())
             begun = time.time()
             run.send_signal(number)
-            run.communicate(timeout=30)
+            run.communicate(timeout=60)
             ssh = int(sandbox.read("ssh.pid"))
             gone = wait_for(lambda: not is_alive(ssh))
-            good = run.returncode == -number and time.time() - begun < 5 and gone
+            good = run.returncode == -number and time.time() - begun < 30 and gone
             sandbox.holds("%s ended by signal %d" % (command, number), good, (run.returncode, gone, time.time() - begun))
 
 
 def wait_for(condition):
-    deadline = time.time() + 10
+    deadline = time.time() + 30
     while time.time() < deadline and not condition():
         time.sleep(0.02)
     return condition()
