@@ -33,6 +33,7 @@ from tools.commands.trials.mail import try_mail
 from tools.commands.trials.reasons import try_reasons, try_reasons_archive, try_reasons_lines, try_reasons_packages
 from tools.commands.trials.sandbox import Sandbox, shells
 from tools.commands.trials.run import try_run
+from tools.commands.trials.smtp import try_smtp
 from tools.commands.trials.sorting import try_sorting
 from tools.commands.trials.state import try_readers
 from tools.commands.trials.without import try_without
@@ -46,6 +47,7 @@ TRIALS = [
     try_sorting,
     try_readers,
     try_mail,
+    try_smtp,
     try_run,
     try_attacks,
     try_fleet,

@@ -16,6 +16,7 @@ from aide_compare.options import Parser, duration, size, some_text
 from aide_compare.patterns import BadPattern, Pattern
 from aide_compare.private_room import stoppable
 from aide_compare.readers import AGE
+from aide_compare.smtp import server
 
 NAME = "report-hosts"
 FORMAT = 1
@@ -138,10 +139,10 @@ class HostsReport:
         """Sends one mail about all hosts, and none if there is nothing to say."""
         from aide_compare.hosts_text import fitting, headline
         from aide_compare.message import build, clean
-        from aide_compare.sending import Sendmail, Smtp, alert, deliver
+        from aide_compare.sending import alert, deliver, way_out
 
         try:
-            way = Smtp(given.smtp, given.mail_time) if given.smtp else Sendmail(seconds=given.mail_time)
+            way = way_out(given.smtp, given.mail_time)
         except Fault as fault:
             alert("%s; %s" % (fault.text, headline(self.summary)))
             raise
@@ -201,7 +202,7 @@ def options():
     form.add_argument("--html", action="store_true", help="write one page for a browser, without a script")
     form.add_argument("--to", type=address, metavar="ADDRESS", help="mail the text, if a host differs or was not compared")
     parser.add_argument("--most-mail", type=size, default=1 << 20, metavar="SIZE", help="cut a mail that would be larger (1M)")
-    parser.add_argument("--smtp", type=some_text, metavar="HOST[:PORT]", help="send by SMTP to this server, not by sendmail")
+    parser.add_argument("--smtp", type=server, metavar="HOST[:PORT]", help="send by SMTP to this server, not by sendmail")
     parser.add_argument("--mail-time", type=duration, default=60, metavar="TIME", help="how long sending may take (60s)")
     parser.add_argument("file", metavar="HOSTS-FILE")
     return parser

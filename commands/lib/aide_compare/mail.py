@@ -12,7 +12,8 @@ from aide_compare.message import Result, build, clean, host, text_of
 from aide_compare.options import Parser, duration, size, some_text
 from aide_compare.readers import ALARMS
 from aide_compare.reason_counts import counted
-from aide_compare.sending import SECONDS, Sendmail, Smtp, alert, deliver
+from aide_compare.sending import SECONDS, alert, deliver, way_out
+from aide_compare.smtp import server
 
 NAME = "aide-compare-mail"
 DESCRIPTION = """Runs aide-compare-run with all other arguments, and mails the report if the databases differ, or the errors if
@@ -72,7 +73,7 @@ def parser():
         choices=weekly.DAYS,
         help="with --state: mail a sign of life on one day of the week (Mon)",
     )
-    add("--smtp", metavar="HOST[:PORT]", type=some_text, help="send by SMTP to this server in place of sendmail")
+    add("--smtp", metavar="HOST[:PORT]", type=server, help="send by SMTP to this server in place of sendmail")
     add("--mail-time", metavar="TIME", type=duration, default=SECONDS, help="how long sending may take (60s)")
     add("--queue", metavar="FOLDER", type=some_text, help="keep the mail in this folder; --send-queue sends it")
     add("--send-queue", metavar="FOLDER", type=some_text, help="compare nothing, and send the mails of this folder")
@@ -199,7 +200,7 @@ def way_of(given):
         from aide_compare.queue import Queue
 
         return Queue(given.queue)
-    return Smtp(given.smtp, given.mail_time) if given.smtp else Sendmail(seconds=given.mail_time)
+    return way_out(given.smtp, given.mail_time)
 
 
 def send(way, message):

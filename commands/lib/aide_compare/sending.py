@@ -1,5 +1,4 @@
 """How a mail leaves this machine: sendmail with a time limit, SMTP if that is chosen, and the system log if neither takes it."""
-import contextlib
 import os
 import select
 import signal
@@ -9,6 +8,7 @@ import time
 from aide_compare.ending import Fault, Status, reason
 from aide_compare.escapes import shown
 from aide_compare.message import shortened
+from aide_compare.smtp import Smtp
 
 SECONDS = 60
 MAILERS = ("/usr/sbin/sendmail", "/usr/lib/sendmail")  # cron's PATH does not have their folders.
@@ -113,38 +113,9 @@ def _last_line(answer):
     return shown(lines[-1], 300) if lines else "it gave no reason"
 
 
-class Smtp:
-    """Hands messages to a mail server, which needs no set-ID program, but has to listen."""
-
-    def __init__(self, place, seconds=SECONDS):
-        name, _, port = place.rpartition(":")
-        if not port.isdigit() or (":" in name and not name.endswith("]")):  # An address of IPv6 has colons itself.
-            name, port = place, "25"
-        self.host, self.port, self.seconds = name.strip("[]"), int(port), seconds
-
-    def send(self, message):
-        import smtplib
-
-        head = message.partition(b"\n\n")[0].decode("ascii", "replace")
-        to = next(line[4:] for line in head.split("\n") if line.startswith("To: "))
-        sender = "aide-compare@" + (os.uname().nodename or "localhost")
-        whole = ("From: %s\n" % sender).encode() + message
-        try:
-            server = smtplib.SMTP(self.host, self.port, timeout=self.seconds)
-            try:
-                refused = server.sendmail(sender, [each.strip() for each in to.split(",")], whole.replace(b"\n", b"\r\n"))
-            finally:
-                # The server has the mail by now, or has not: what it answers to QUIT changes nothing.
-                with contextlib.suppress(OSError, smtplib.SMTPException):
-                    server.quit()
-        except (OSError, smtplib.SMTPException, UnicodeError) as error:
-            return "%s:%d did not take it: %s" % (shown(self.host, 100), self.port, shown(str(error), 300))
-        if refused:  # The others have the mail, and get the second, short one, which says who has none.
-            each = (
-                "%s: %d %s" % (name, code, why.decode("ascii", "replace")) for name, (code, why) in sorted(refused.items())
-            )
-            return "%s:%d did not take it for %s" % (shown(self.host, 100), self.port, shown("; ".join(each), 300))
-        return None
+def way_out(server, seconds):
+    """SMTP if a server is given, otherwise sendmail."""
+    return Smtp(server, seconds) if server else Sendmail(seconds=seconds)
 
 
 def alert(text):

@@ -172,6 +172,7 @@ def try_rights(tally, _):
     os.setgroups(groups)
     for label, work, part in (
         ("a fault", lambda: files.open_regular("/etc/shadow"), "ermission denied"),
+        ("a fault, whose rights it had", lambda: files.open_regular("/etc/shadow"), " (with the rights of "),
         ("an error", lambda: 1 // 0, "division"),
         ("no answer", lambda: os._exit(0), "without an answer"),
         ("no end", lambda: time.sleep(60), "more than 1 seconds"),

@@ -126,8 +126,8 @@ PLANTED = [
     Plant(file=FOLDERS, old=LINK_RULE, new="        if False:", seen_by="accept_attacks.try_folder_in_a_loop"),
     Plant(
         file=RIGHTS,
-        old="        _become(uid, _group_of(uid), [])\n        answer",
-        new="        answer",
+        old="        _become(uid, _group_of(uid), [])\n",
+        new="",
         seen_by="accept_attacks.try_baseline_at_calls",
     ),
     Plant(file=BASELINE, old="            self._check_place(answer)\n", new="", seen_by="accept_attacks.try_moved_folder"),

@@ -1,7 +1,7 @@
 """Bugs of the modules that all commands share, each seen by a trial of those modules themselves."""
 from .plant import seen_by
 
-ESCAPES, TIMES, OPTIONS, STATE, REPORTS, ENDING, CONFIGURATION, FOLDERS, FILES, RIGHTS, UNPACK, PROGRAM = (
+ESCAPES, TIMES, OPTIONS, STATE, REPORTS, ENDING, CONFIGURATION, FOLDERS, FILES, RIGHTS, CHILD, UNPACK, PROGRAM = (
     "commands/lib/aide_compare/%s.py" % name
     for name in (
         "escapes",
@@ -14,6 +14,7 @@ ESCAPES, TIMES, OPTIONS, STATE, REPORTS, ENDING, CONFIGURATION, FOLDERS, FILES, 
         "folders",
         "files",
         "rights",
+        "child",
         "unpack",
         "program",
     )
@@ -63,7 +64,9 @@ PLANTED = (
         (FILES, "                fault = error\n                self._unlink(second)\n", "                fault = error\n"),
         (FILES, "    os.unlink(name, dir_fd=folder)\n    return descriptor\n", "    return descriptor\n"),
         (RIGHTS, "    os.setgroups(groups)\n", ""),
-        (RIGHTS, "        _close_all_but(set(keep) | {writing})\n", ""),
+        (CHILD, "        _close_all_but(set(keep) | {writing})\n", ""),
+        (CHILD, "        left = limit - time.monotonic()\n", "        left = 60\n"),
+        (CHILD, "guarded(text) + beside", "guarded(text)"),
         (UNPACK, "rest, step = block[at : at + step], min(2 * step, BLOCK)", "rest = block[at:]"),
         (UNPACK, "        if len(first) > 1:\n", "        if first:\n"),
         (UNPACK, "    if first[:2] == COMPRESS:\n", "    if False:\n"),

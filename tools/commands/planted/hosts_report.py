@@ -120,6 +120,12 @@ PLANTED = [
         seen_by="hosts_ends.try_many_hosts",
     ),
     Plant(
+        file=LIB + "hosts_report.py",
+        old='"--smtp", type=server',
+        new='"--smtp", type=some_text',
+        seen_by="hosts_report.try_orders",
+    ),
+    Plant(
         file=LIB + "hosts_text.py",
         old='fields.get("type", "Entry"), shown(path))',
         new='fields.get("type", "Entry"), path.decode("utf-8", "replace"))',

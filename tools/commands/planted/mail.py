@@ -1,8 +1,8 @@
 """Bugs of aide-compare-mail."""
 from .plant import Plant
 
-MAIL, MESSAGE, SENDING, QUEUE, WEEKLY = (
-    "commands/lib/aide_compare/%s.py" % name for name in ("mail", "message", "sending", "queue", "weekly")
+MAIL, MESSAGE, SENDING, SMTP, CHILD, QUEUE, WEEKLY = (
+    "commands/lib/aide_compare/%s.py" % name for name in ("mail", "message", "sending", "smtp", "child", "queue", "weekly")
 )
 PLANTED = [
     Plant(
@@ -99,14 +99,31 @@ PLANTED = [
         new="KillMode=process\nNoNewPrivileges=yes\n",
         seen_by="mail.try_units",
     ),
-    Plant(file=SENDING, old='whole.replace(b"\\n", b"\\r\\n"))', new="whole)", seen_by="mail.try_smtp"),
-    Plant(file=SENDING, old='[each.strip() for each in to.split(",")]', new="[to]", seen_by="mail.try_smtp"),
-    Plant(file=SENDING, old='name.strip("[]")', new="name", seen_by="mail.try_smtp"),
-    Plant(file=SENDING, old="        if refused:  #", new="        if None:  #", seen_by="mail.try_smtp"),
     Plant(
-        file=SENDING,
-        old="                    server.quit()\n",
-        new='                    pass\n                if server.docmd("QUIT")[0] != 221:\n                    raise OSError("no end")\n',
-        seen_by="mail.try_smtp",
+        file=CHILD,
+        old="        signal.setitimer(signal.ITIMER_REAL, seconds + 5)\n",
+        new="",
+        seen_by="smtp.try_killed",
     ),
+    Plant(file=SMTP, old='whole.replace(b"\\n", b"\\r\\n"))', new="whole)", seen_by="smtp.try_servers"),
+    Plant(file=SMTP, old='[each.strip() for each in to.split(",")]', new="[to]", seen_by="smtp.try_servers"),
+    Plant(file=SMTP, old='name.strip("[]")', new="name", seen_by="smtp.try_servers"),
+    Plant(file=SMTP, old="        if refused:  #", new="        if None:  #", seen_by="smtp.try_refusing_servers"),
+    Plant(
+        file=SMTP,
+        old="                connection.quit()\n",
+        new='                pass\n            if connection.docmd("QUIT")[0] != 221:\n                raise OSError("no end")\n',
+        seen_by="smtp.try_servers",
+    ),
+    Plant(file=SMTP, old="                connection.sock.settimeout(QUIT_SECONDS)\n", new="", seen_by="smtp.try_servers"),
+    Plant(file=SMTP, old="        _limit_memory(len(message))\n", new="", seen_by="smtp.try_odd_servers"),
+    Plant(
+        file=SMTP,
+        old="in_child(str(self.place), lambda: self._hand_over(message), self.seconds)",
+        new="self._hand_over(message)",
+        seen_by="smtp.try_odd_servers",
+    ),
+    Plant(file=SMTP, old="len(port) <= 5 and 0 < int(port) < 65536", new="int(port) < 65536", seen_by="smtp.try_places"),
+    Plant(file=SMTP, old="port.isascii() and ", new="", seen_by="smtp.try_places"),
+    Plant(file=SMTP, old="    if not name or not (", new="    if not (", seen_by="smtp.try_places"),
 ]

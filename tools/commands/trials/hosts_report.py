@@ -171,6 +171,7 @@ def try_orders(sandbox):
         ["--age", "31d"],
         ["--json", "--to", "root"],
         ["--most-mail", "1k"],
+        ["--smtp", "mail.example:0"],
         ["--to", "-x"],
         ["x"],
     ):

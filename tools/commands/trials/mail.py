@@ -1,13 +1,11 @@
 """aide-compare-mail: which mail goes out, whole and readable, within its bound, and what its status says."""
 import email
-import itertools
 import os
 import pwd
 import shutil
 import socket
 import stat
 import subprocess
-import threading
 import time
 
 from .sandbox import END, HEAD, HERE, NEW, NOBODY, OLD, Answer, sha256
@@ -28,7 +26,6 @@ def try_mail(sandbox):
         try_refusals,
         try_hint,
         try_journal,
-        try_smtp,
         try_room,
         try_queue,
         try_test_and_weekly,
@@ -276,69 +273,6 @@ def try_journal(sandbox):
         sandbox.holds("the line in " + name, line.startswith(wanted) and COUNTS.encode() in line, line)
     sandbox.expect("no log either", call(sandbox, "old.db", "new.db"), 18, b"", [b"no system log either"])
     take_mail(sandbox)
-
-
-def serve(listening, answer, end, told, mails):
-    """A mail server of one connection after another: it keeps its commands and mails, and answers each mail and QUIT so."""
-    while True:
-        try:
-            connection = listening.accept()[0]
-        except OSError:
-            return
-        with connection, connection.makefile("rwb", 0) as stream:
-            stream.write(b"220 here\r\n")
-            for line in stream:
-                told.append(line.lower())
-                good = b"550 nobody\r\n" if b"nobody@" in told[-1] else b"250 good\r\n"
-                stream.write({b"data\r\n": b"354 go on\r\n", b"quit\r\n": end}.get(told[-1], good))
-                if told[-1] == b"data\r\n":
-                    mails.append(b"".join(itertools.takewhile(lambda line: line != b".\r\n", stream)))
-                    stream.write(answer)
-
-
-def sent_by_smtp(sandbox, address, answer, *words, end=b"221 bye\r\n"):
-    """What the command answers that sends to a small server at this address, and the commands and mails that it got."""
-    told, mails = [], []
-    with socket.socket(socket.AF_INET6 if ":" in address else socket.AF_INET) as listening:
-        try:
-            listening.bind((address, 0))
-        except OSError:
-            return None, told, mails
-        listening.listen()
-        threading.Thread(target=serve, args=(listening, answer, end, told, mails), daemon=True).start()
-        place = ("[%s]:%d" if ":" in address else "%s:%d") % (address, listening.getsockname()[1])
-        given = call(sandbox, "old.db", "new.db", "--smtp", place, *words)
-        listening.shutdown(socket.SHUT_RDWR)
-    return given, told, mails
-
-
-def try_smtp(sandbox):
-    """A server by its name or address: each address gets the whole mail; and a server that does not take it is told."""
-    prepare(sandbox)
-    for address in ("127.0.0.1", "localhost", "::1"):
-        given, told, mails = sent_by_smtp(sandbox, address, b"250 taken\r\n", "--to", "a@b.example, c@b.example")
-        if given is None:
-            print("skipped: a mail server at %s (there is no such address here)" % address)
-            continue
-        sandbox.expect("a mail to the server at " + address, given, 7, b"", b"")
-        to = [line.partition(b" ")[2] for line in told if line.startswith(b"rcpt")]
-        sandbox.holds("who gets it from " + address, to == [b"to:<%s@b.example>\r\n" % name for name in (b"a", b"c")], told)
-        whole = b"".join(mails)
-        message = email.message_from_bytes(whole)
-        good = subject(message) == SUBJECT + COUNTS and b"New database: new.db" in body(message)
-        good = good and len(mails) == 1 and whole.count(b"\n") == whole.count(b"\r\n")
-        sandbox.holds("the mail at " + address, good and sent(sandbox) is None, mails)
-    given, told, mails = sent_by_smtp(sandbox, "127.0.0.1", b"250 taken\r\n", end=b"421 too busy\r\n")
-    sandbox.expect("a server that is busy once it has the mail", given, 7, b"", b"")
-    sandbox.holds("one mail to a busy server", len(mails) == 1, mails)
-    words = ("--to", "a@b.example, nobody@b.example")
-    given, told, mails = sent_by_smtp(sandbox, "127.0.0.1", b"250 taken\r\n", *words)
-    sandbox.expect("an address that is refused", given, 18, b"", [b"did not take it for nobody@b.example: 550 nobody"])
-    sandbox.holds("the other address learns of it", len(mails) == 2 and b"for nobody@b.example: 550" in mails[-1], mails)
-    given, told, mails = sent_by_smtp(sandbox, "127.0.0.1", b"552 too much\r\n")
-    sandbox.expect("a server that does not take it", given, 18, b"", [b"cannot send the mail: 127.0.0.1:", b"too much"])
-    sandbox.holds("the second, short mail", len(mails) == 2 and len(mails[1]) < len(mails[0]), mails)
-    sandbox.expect("no server", call(sandbox, "old.db", "new.db", "--smtp", "127.0.0.1:1"), 18, b"", [b"127.0.0.1:1 did not"])
 
 
 def try_room(sandbox):

@@ -1,0 +1,96 @@
+"""Work in a child process that holds nothing but what it needs, and is ended if it takes longer than it may."""
+import os
+import select
+import signal
+import time
+
+from aide_compare.ending import Fault, Status, reason, write_all
+from aide_compare.escapes import guarded
+
+MOST_RESULT = 1 << 20
+
+
+def _close_all_but(kept):
+    """Closes what the child does not need. Standard input, output and errors become /dev/null."""
+    null = os.open("/dev/null", os.O_RDWR)
+    for descriptor in (0, 1, 2):
+        os.dup2(null, descriptor)
+    for name in os.listdir("/proc/self/fd"):
+        if int(name) > 2 and int(name) not in kept:
+            try:
+                os.close(int(name))
+            except OSError:
+                pass
+
+
+def _live(work, seconds, writing, keep):
+    """The life of the child: its answer is "=" and the result, or "!", the status of a Fault and its text. The alarm ends it
+    if its parent was killed, and no process waits for it any more."""
+    try:
+        signal.signal(signal.SIGPIPE, signal.SIG_IGN)
+        signal.signal(signal.SIGALRM, signal.SIG_DFL)
+        signal.setitimer(signal.ITIMER_REAL, seconds + 5)
+        _close_all_but(set(keep) | {writing})
+        answer = b"=" + bytes(work() or b"")
+    except Fault as fault:
+        answer = b"!%d %s" % (fault.status, fault.text.encode("utf-8", "backslashreplace"))
+    except MemoryError:
+        answer = b"!22 out of memory"
+    except OSError as error:
+        answer = b"!18 " + reason(error).encode("utf-8", "backslashreplace")
+    except BaseException as error:
+        answer = b"!18 " + ("%s: %s" % (type(error).__name__, error)).encode("utf-8", "backslashreplace")
+    write_all(writing, answer)
+
+
+def _answer_of(reading, limit):
+    """What the child writes until it ends, or None if the time is over."""
+    answer = b""
+    while len(answer) <= MOST_RESULT:
+        left = limit - time.monotonic()
+        if left <= 0 or not select.select([reading], [], [], left)[0]:
+            return None
+        block = os.read(reading, 65536)
+        if not block:
+            return answer
+        answer += block
+    return None
+
+
+def _ended(child, seconds):
+    """Waits for the child, but not for ever: a child in a call that does not return cannot be ended."""
+    limit = time.monotonic() + seconds
+    while os.waitpid(child, os.WNOHANG) == (0, 0):
+        if time.monotonic() > limit:
+            return
+        time.sleep(0.01)
+
+
+def in_child(what, work, seconds, keep=(), beside=""):
+    """Runs `work()` in a child and returns the bytes of its result. `keep` are the descriptors that it needs. A Fault of the
+    work is raised here, with the text `beside` after it; so is the end of its time, which says what the work was."""
+    reading, writing = os.pipe()
+    child = os.fork()
+    if child == 0:
+        try:
+            _live(work, seconds, writing, keep)
+        finally:
+            os._exit(0)
+    os.close(writing)
+    try:
+        answer = _answer_of(reading, time.monotonic() + seconds)
+    finally:
+        os.close(reading)
+        try:
+            os.kill(child, signal.SIGKILL)
+        except ProcessLookupError:
+            pass
+        _ended(child, 5)
+    if answer is None:
+        raise Fault(Status.DEVICE, "%s took more than %d seconds" % (what, seconds))
+    if answer[:1] == b"=":
+        return answer[1:]
+    status, _, text = answer[1:].decode("utf-8", "replace").partition(" ")
+    if answer[:1] != b"!" or not status.isdigit() or not 8 <= int(status) <= 127:
+        raise Fault(Status.DEVICE, "%s ended without an answer" % what)
+    raise Fault(int(status), guarded(text) + beside)

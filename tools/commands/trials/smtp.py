@@ -1,0 +1,155 @@
+"""Mail by SMTP: a small server takes what is sent, refuses it, or answers slowly and without end."""
+import contextlib
+import email
+import itertools
+import socket
+import threading
+import time
+
+from .mail import COUNTS, SUBJECT, TOOL, body, call, prepare, sent, subject
+
+
+def try_smtp(sandbox):
+    if sandbox.shell != ["sh"]:  # The command is no script of a shell, so once is enough.
+        return
+    for trial in (try_servers, try_refusing_servers, try_odd_servers, try_killed, try_places):
+        trial(sandbox)
+
+
+@contextlib.contextmanager
+def listening(address, serve):
+    """A server at this address, which serves one connection after another. Its place, or None if there is no such address."""
+
+    def run():
+        with contextlib.suppress(OSError):
+            while True:
+                with taking.accept()[0] as connection, contextlib.suppress(OSError):
+                    serve(connection)
+
+    with socket.socket(socket.AF_INET6 if ":" in address else socket.AF_INET) as taking:
+        try:
+            taking.bind((address, 0))
+        except OSError:
+            yield None
+            return
+        taking.listen()
+        threading.Thread(target=run, daemon=True).start()
+        yield ("[%s]:%d" if ":" in address else "%s:%d") % (address, taking.getsockname()[1])
+        taking.shutdown(socket.SHUT_RDWR)
+
+
+class Server:
+    """A mail server that keeps its commands and mails, and answers each mail and QUIT with a line."""
+
+    def __init__(self, answer=b"250 taken\r\n", end=b"221 bye\r\n"):
+        self.answer, self.end, self.told, self.mails = answer, end, [], []
+
+    def serve(self, connection):
+        with connection.makefile("rwb", 0) as stream:
+            stream.write(b"220 here\r\n")
+            for line in stream:
+                self.told.append(line.lower())
+                good = b"550 nobody\r\n" if b"nobody@" in self.told[-1] else b"250 good\r\n"
+                stream.write({b"data\r\n": b"354 go on\r\n", b"quit\r\n": self.end}.get(self.told[-1], good))
+                if self.told[-1] == b"data\r\n":
+                    self.mails.append(b"".join(itertools.takewhile(lambda line: line != b".\r\n", stream)))
+                    stream.write(self.answer)
+
+    def sent(self, sandbox, *words, address="127.0.0.1"):
+        """What the command answers that sends to this server, or None if there is no such address."""
+        with listening(address, self.serve) as place:
+            return place and call(sandbox, "old.db", "new.db", "--smtp", place, *words)
+
+
+def try_servers(sandbox):
+    """A server by its name or address: each address gets the whole mail, once."""
+    prepare(sandbox)
+    for address in ("127.0.0.1", "localhost", "::1"):
+        server = Server()
+        given = server.sent(sandbox, "--to", "a@b.example, c@b.example", address=address)
+        if given is None:
+            print("skipped: a mail server at %s (there is no such address here)" % address)
+            continue
+        sandbox.expect("a mail to the server at " + address, given, 7, b"", b"")
+        to = [line.partition(b" ")[2] for line in server.told if line.startswith(b"rcpt")]
+        sandbox.holds("who gets it from " + address, to == [b"to:<%s@b.example>\r\n" % name for name in (b"a", b"c")], to)
+        whole = b"".join(server.mails)
+        message = email.message_from_bytes(whole)
+        good = subject(message) == SUBJECT + COUNTS and b"New database: new.db" in body(message)
+        good = good and len(server.mails) == 1 and whole.count(b"\n") == whole.count(b"\r\n")
+        sandbox.holds("the mail at " + address, good and sent(sandbox) is None, server.mails)
+    for label, end in (("is busy", b"421 too busy\r\n"), ("says nothing more", b"")):
+        server = Server(end=end)
+        sandbox.expect("a server that %s once it has the mail" % label, server.sent(sandbox), 7, b"", b"")
+        sandbox.holds("one mail to a server that " + label, len(server.mails) == 1, server.mails)
+
+
+def try_refusing_servers(sandbox):
+    """A server that does not take a mail is told, and so is one that does not take it for one of several addresses."""
+    prepare(sandbox)
+    server = Server()
+    given = server.sent(sandbox, "--to", "a@b.example, nobody@b.example")
+    sandbox.expect("an address that is refused", given, 18, b"", [b"did not take it for nobody@b.example: 550 nobody"])
+    mails = server.mails
+    sandbox.holds("the other address learns of it", len(mails) == 2 and b"for nobody@b.example: 550" in mails[-1], mails)
+    server = Server(b"552 too much\r\n")
+    given = server.sent(sandbox)
+    sandbox.expect("a server that does not take it", given, 18, b"", [b"cannot send the mail: 127.0.0.1:", b"too much"])
+    mails = server.mails
+    sandbox.holds("the second, short mail", len(mails) == 2 and len(mails[1]) < len(mails[0]), mails)
+    sandbox.expect("no server", call(sandbox, "old.db", "new.db", "--smtp", "127.0.0.1:1"), 18, b"", [b"127.0.0.1:1 did not"])
+
+
+def drip(connection):
+    while True:
+        connection.sendall(b"2")
+        time.sleep(0.2)
+
+
+def flood(connection):
+    """More than the memory that its answers may take, but not so much that a wrong command harms this machine."""
+    for _ in range(60000):
+        connection.sendall(b"220-" + b"x" * 5000 + b"\r\n")
+
+
+def try_odd_servers(sandbox):
+    """A server that answers a byte at a time, or without end: the mail has its limits of time and memory all the same."""
+    prepare(sandbox)
+    for label, serve, limit, said in (
+        ("a byte at a time", drip, "1s", b"took more than 1 seconds"),
+        ("not at all", lambda _: time.sleep(100), "1s", b"took more than 1 seconds"),
+        ("without end", flood, "60s", b"did not take it: its answers have no end"),
+        ("nothing, and ends", lambda _: None, "60s", b"did not take it: Connection unexpectedly closed"),
+    ):
+        with listening("127.0.0.1", serve) as place:
+            begun = time.monotonic()
+            given = call(sandbox, "old.db", "new.db", "--smtp", place, "--mail-time", limit)
+            sandbox.expect("a server that answers " + label, given, 18, b"", [b"cannot send the mail: 127.0.0.1:", said])
+            sandbox.holds("the time with a server that answers " + label, time.monotonic() - begun < 50)
+
+
+def try_killed(sandbox):
+    """A command that is killed while it sends: what it has started ends by itself, soon after its time."""
+    prepare(sandbox)
+    begun, ended = threading.Event(), threading.Event()
+
+    def serve(connection):
+        begun.set()
+        try:
+            drip(connection)
+        finally:
+            ended.set()
+
+    with listening("127.0.0.1", serve) as place:
+        process = sandbox.start(TOOL, "old.db", "new.db", "--smtp", place, "--mail-time", "10s")
+        is_begun = begun.wait(60)
+        process.kill()
+        process.communicate()
+        sandbox.holds("nothing is left of a command that is killed", is_begun and ended.wait(60))
+
+
+def try_places(sandbox):
+    """A server that cannot be meant is a fault of the command line."""
+    for place in ("", ":25", "[]:25", "a:", "a:0", "a:65536", "a:x", "a:\u00b2", "a:" + "9" * 99):
+        given = sandbox.call(TOOL, "--smtp", place)
+        sandbox.expect("the server %r" % place, given, 15, b"", [b"needs a host, or a host and a port from 1 to 65535"])
