@@ -124,13 +124,13 @@ class Sandbox:
         command = after(before, self.command(tool, *words))
         return subprocess.Popen(command, cwd=self.root, env=self.environment(**(environment or {})), **more)
 
-    def call(self, tool, *words, text=None, environment=None, **more):
-        """What a tool answers in this folder. `text` is its standard input."""
+    def call(self, tool, *words, text=None, environment=None, limit=TIME_LIMIT, **more):
+        """What a tool answers in this folder, in so many seconds. `text` is its standard input."""
         if text is not None:
             more["stdin"] = subprocess.PIPE
         process = self.start(tool, *words, environment=environment, **more)
         try:
-            output, errors = process.communicate(text, timeout=TIME_LIMIT)
+            output, errors = process.communicate(text, timeout=limit)
         except subprocess.TimeoutExpired:
             process.kill()
             output, errors = process.communicate()
