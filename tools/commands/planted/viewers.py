@@ -181,6 +181,12 @@ PLANTED = [
     Plant(
         file=LIB + "decoded_xattrs.py", old="and LABEL.fullmatch(data)", new="and _plain(data)", seen_by="viewers.try_table"
     ),
+    Plant(
+        file=LIB + "decoded_xattrs.py",
+        old="        if length > MOST:\n            break\n",
+        new="        cut('; '.join(parts))\n",
+        seen_by="viewers.try_table",
+    ),
     Plant(file=LIB + "decoded_xattrs.py", old="unquote_to_bytes(name)", new="name", seen_by="viewers.try_table"),
     Plant(file=LIB + "decoded_times.py", old="or first.tm_gmtoff % QUARTER", new="", seen_by="viewers.try_zones"),
     Plant(file=LIB + "decoded_times.py", old="first.tm_gmtoff != last.tm_gmtoff or ", new="", seen_by="viewers.try_zones"),
