@@ -141,13 +141,21 @@ def subject_of(message):
     return next((line[9:] for line in head if line.startswith("Subject: ")), "a mail")
 
 
+def _refusal(way, message):
+    """Why a message was not taken, or None. One such reason is that no process can be started, or no pipe made for it."""
+    try:
+        return way.send(message)
+    except OSError as error:
+        return "nothing can be started to send it: %s" % reason(error)
+
+
 def deliver(way, message):
     """Sends a message; a short one if it is refused; then a line in the system log. None if the message went out whole, or a
     text that says what went out instead; a Fault if no mail went."""
-    why = way.send(message)
+    why = _refusal(way, message)
     if why is None:
         return None
-    second = way.send(shortened(message, why))
+    second = _refusal(way, shortened(message, why))
     if second is None:
         return "only a short mail was sent: %s" % why
     is_logged = alert("no mail could be sent (%s): %s" % (why, subject_of(message)))

@@ -43,7 +43,7 @@ PLANTED = [
     Plant(file=SENDING, old="AUTH_ALERT = 4 * 8 + 1", new="AUTH_ALERT = 4 * 8 + 6", seen_by="mail.try_journal"),
     Plant(
         file=SENDING,
-        old="    second = way.send(shortened(message, why))\n",
+        old="    second = _refusal(way, shortened(message, why))\n",
         new="    second = why\n",
         seen_by="mail.try_refusals",
     ),
@@ -98,6 +98,12 @@ PLANTED = [
         old="KillMode=process\n",
         new="KillMode=process\nNoNewPrivileges=yes\n",
         seen_by="mail.try_units",
+    ),
+    Plant(
+        file=SENDING,
+        old="    why = _refusal(way, message)\n",
+        new="    why = way.send(message)\n",
+        seen_by="smtp.try_no_process",
     ),
     Plant(
         file=CHILD,

@@ -2,17 +2,34 @@
 import contextlib
 import email
 import itertools
+import os
 import socket
+import subprocess
+import sys
 import threading
 import time
 
 from .mail import COUNTS, SUBJECT, TOOL, body, call, prepare, sent, subject
 
 
+NO_PROCESS = """import os, sys
+sys.path.insert(0, sys.argv[1])
+from aide_compare import sending, smtp
+sending.LOG, way = sys.argv[2], eval(sys.argv[3])
+def refused():
+    raise OSError(24, "Too many open files")
+os.pipe = os.fork = refused
+try:
+    sending.deliver(way, b"To: root\\nSubject: x\\n\\nbody\\n")
+except sending.Fault as fault:
+    print(fault.text)
+"""
+
+
 def try_smtp(sandbox):
     if sandbox.shell != ["sh"]:  # The command is no script of a shell, so once is enough.
         return
-    for trial in (try_servers, try_refusing_servers, try_odd_servers, try_killed, try_places):
+    for trial in (try_servers, try_refusing_servers, try_odd_servers, try_killed, try_no_process, try_places):
         trial(sandbox)
 
 
@@ -146,6 +163,27 @@ def try_killed(sandbox):
         process.kill()
         process.communicate()
         sandbox.holds("nothing is left of a command that is killed", is_begun and ended.wait(60))
+
+
+def try_no_process(sandbox):
+    """A machine that has no process left for the mail: the system log has a line all the same."""
+    prepare(sandbox)
+    for way in ("smtp.Smtp(smtp.Server('127.0.0.1', 1), 5)", "sending.Sendmail('/bin/true')"):
+        with socket.socket(socket.AF_UNIX, socket.SOCK_DGRAM) as log:
+            log.bind(sandbox.path("log"))
+            log.settimeout(5)
+            words = [sys.executable, "-c", NO_PROCESS, sandbox.path("lib"), sandbox.path("log"), way]
+            done = subprocess.run(words, stdout=subprocess.PIPE, stderr=subprocess.PIPE)
+            try:
+                line = log.recv(10000)
+            except socket.timeout:
+                line = b""
+        os.remove(sandbox.path("log"))
+        said = b"nothing can be started to send it: Too many open files; the system log has a line"
+        sandbox.holds("no process for " + way, said in done.stdout, done)
+        sandbox.holds(
+            "the line of the log without " + way, line.startswith(b"<33>aide-compare-mail: no mail could be sent"), line
+        )
 
 
 def try_places(sandbox):
