@@ -70,7 +70,7 @@ class Run:
         """Checks a batch as it is planted: these functions, or all if none is named."""
         self.copy.write(batch)
         try:
-            said = checker.check(self.copy.folder, names)
+            said = checker.check(self.copy.folder, names, self.copy.command)
         finally:
             self.copy.restore()
         if self.prints:

@@ -1,11 +1,14 @@
-"""Calls `rt check` in the scratch copy."""
+"""Calls `rt check` in the scratch copy, or the checker itself over the libraries of `rt ci`."""
 import os
 import resource
 import signal
 import subprocess
 import time
 
+from tools.source import checker as toolchain
+
 LIMIT = 1800
+BY_RT = ("rt", "check", "--jobs", "1")
 
 
 class Said:
@@ -15,9 +18,15 @@ class Said:
         self.text, self.seconds, self.is_ended = text, seconds, is_ended
 
 
-def check(folder, names):
+def over_built(crate):
+    """The checker's command for a crate over the libraries that `rt ci` leaves. `rt check` would build others in their place,
+    which takes as long as their proofs."""
+    return toolchain.words_of(crate, toolchain.libraries(), "out/incremental")
+
+
+def check(folder, names, command=BY_RT):
     """Checks the named functions, or the whole crate if none is named, past open goals."""
-    words = ["rt", "check", "--allow-holes", "--jobs", "1", "--short-goals"]
+    words = [*command, "--allow-holes", "--short-goals"]
     for name in names:
         words += ["--only", name]
     before = used()

@@ -1,8 +1,7 @@
 """Judges one wrong body of each crate anew, beside the plain call of its function. The body has to be shown false or to leave a
-goal open, and the plain call has to prove. It needs only the libraries that `rt ci` leaves, so `tools/test` runs it; a crate
-takes about half a minute of processor time.
+goal open, and the plain call has to prove. It needs only the libraries that `rt ci` leaves, so `tools/test` runs it.
 
-The body is the one with the least sum among those that call their function, so another one is taken when the list changes.
+The body is one of the shortest function that has a body which calls it. Which one of these, changes with the list.
 The last line is `N passed, M failed`.
 """
 import argparse
@@ -21,6 +20,12 @@ class Options:
     most, print, write = 2, False, False
 
 
+def cost(pair):
+    """Of what a body and its function take: the lines of the function. Of several bodies the one with the least sum comes first."""
+    body, place = pair
+    return place.function.last - place.function.begin, body.sum()
+
+
 def chosen(crate):
     """A body of the crate with its place."""
     known, found = results.stored(crate), sources.Sources(crate)
@@ -31,8 +36,7 @@ def chosen(crate):
     ]
     if not fit:
         raise bodies.ListError(f"{crate}: no body calls its function and is shown false or open")
-    body = min(fit, key=lambda one: one.sum())
-    return body, found.place_of(body)
+    return min(((body, found.place_of(body)) for body in fit), key=cost)
 
 
 def faults_of(crate, folder):

@@ -2,7 +2,7 @@
 import pathlib
 import shutil
 
-from tools.wrong_bodies import answers, bodies, sources
+from tools.wrong_bodies import answers, bodies, checker, sources
 
 PARTS = ("src", "specs", "proofs")
 
@@ -72,6 +72,7 @@ class Scratch:
 
     def __init__(self, crate, folder, is_fresh=False):
         self.crate, self.root = crate, pathlib.Path(folder)
+        self.command = checker.over_built(crate) if is_fresh else checker.BY_RT
         rows = rows_below(crate)
         for name in rows:
             if not (has_library(name) if is_fresh or name != crate else has_work(name)):
