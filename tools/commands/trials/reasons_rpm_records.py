@@ -61,7 +61,7 @@ def try_program(sandbox):
             got = refused.status
         except Exception as unforeseen:
             got = repr(unforeseen)
-        return got, time.monotonic() - begin < 50
+        return got, time.monotonic() - begin < 35
 
     tell = 'printf \'%%s|\' "$#" "$1" "$2" "$3" "$HOME" "$LC_ALL" "$SUGAR" >%s; cat %s'
     os.environ["SUGAR"] = "of the caller"
