@@ -1,7 +1,7 @@
 """Judges one wrong body of each crate anew, beside the plain call of its function. The body has to be shown false or to leave a
 goal open, and the plain call has to prove. It needs only the libraries that `rt ci` leaves, so `tools/test` runs it.
 
-The body is one of the shortest function that has a body which calls it. Which one of these, changes with the list.
+The body is one of the shortest function that has a body which calls it. Another one is taken when the list changes.
 The last line is `N passed, M failed`.
 """
 import argparse
