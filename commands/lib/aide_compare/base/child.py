@@ -4,8 +4,8 @@ import select
 import signal
 import time
 
-from aide_compare.ending import Fault, Status, reason, write_all
-from aide_compare.escapes import guarded
+from aide_compare.base.ending import Fault, Status, reason, write_all
+from aide_compare.base.escapes import guarded
 
 MOST_RESULT = 1 << 20
 

@@ -3,7 +3,7 @@ import os
 import sys
 from enum import IntEnum
 
-from aide_compare.escapes import guarded
+from aide_compare.base.escapes import guarded
 
 
 class Status(IntEnum):

@@ -3,10 +3,10 @@ import os
 import shutil
 import signal
 
-from aide_compare.ending import Fault, Status
-from aide_compare.escapes import shown
-from aide_compare.files import nameless
-from aide_compare.private_room import PrivateRoom, Unbroken
+from aide_compare.base.ending import Fault, Status
+from aide_compare.base.escapes import shown
+from aide_compare.base.files import nameless
+from aide_compare.base.private_room import PrivateRoom, Unbroken
 
 # It holds 32 MB of lines; the rest is in its files, of which it reads eight at a time.
 OPTIONS = ["-s", "-S", "32M", "--parallel=1", "--batch-size=8", "-t", "\t", "-k1,1"]

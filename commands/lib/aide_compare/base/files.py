@@ -4,11 +4,18 @@ import errno
 import os
 import stat
 
-from aide_compare.ending import Fault, Status, reason, write_all
-from aide_compare.escapes import shown
-from aide_compare.folders import ANYBODY, Folder, failure, open_folder, walked  # noqa: F401 (for those who use this module)
+from aide_compare.base.ending import Fault, Status, reason, write_all
+from aide_compare.base.escapes import shown
+from aide_compare.base.folders import (
+    ANYBODY,
+    Folder,
+    failure,
+    open_folder,
+    walked,
+)  # noqa: F401 (for those who use this module)
 
 COPIED = 1 << 18
+MOST_TRIES = 100
 NO_TMPFILE = (errno.EOPNOTSUPP, errno.EISDIR, errno.EINVAL)
 NEW_FILE = os.O_CREAT | os.O_EXCL | os.O_RDWR | os.O_NOFOLLOW | os.O_CLOEXEC
 KINDS = (
@@ -151,7 +158,7 @@ class Replacement:
                 raise Fault(Status.DEVICE, reason(error))
         if len(others) > 1 or ANYBODY in others or os.geteuid() != 0:
             raise Fault(Status.DEVICE, "other users can write in its folder or above it")
-        from aide_compare.rights import with_rights_of
+        from aide_compare.base.rights import with_rights_of
 
         return with_rights_of(min(others), work, keep=(self.folder.fd,) + tuple(keep))
 
@@ -182,37 +189,49 @@ class Replacement:
         return os.open(name, NEW_FILE, 0o600, dir_fd=self.folder.fd), name
 
     def _put(self, fill):
+        """Of several commands at once each makes its file anew until it was put in place: each time that one has to, another
+        one has gone on."""
+        for _ in range(MOST_TRIES):
+            if self._was_put(fill):
+                return self._sync_folder()
+        raise failure(errno.EBUSY, "other commands write it all the time")
+
+    def _was_put(self, fill):
+        """Makes the file and puts it in place; False if another command took its name away meanwhile."""
         part, name = self._part()
         try:
             fill(part)
             os.fchmod(part, self.mode)
             os.fsync(part)
             self._refuse_other_kinds()
-            if name:
-                self._rename(name)
-            else:
-                self._link(part)
+            if not name:
+                return self._was_linked(part)
+            self._rename(name)
             name = None
-            self._sync_folder()
+            return True
         finally:
             os.close(part)
             if name:
                 self._unlink(name)
 
-    def _link(self, part):
-        """Gives the file its name. A name cannot be linked over, so an old file is replaced by way of a fixed second name:
-        what a killed command left there is replaced by the next one, and of several at once each is whole."""
-        source, second, fault = "/proc/self/fd/%d" % part, ".%s.part" % self.name, None
-        for _ in range(100):
+    def _was_linked(self, part):
+        """Gives the file its name. A name cannot be linked over, so an old file is replaced by way of a fixed second name: what
+        a killed command left there goes. Linux never links a file again that had a name once and has none, so False if the
+        second name is gone before it is renamed."""
+        source, second = "/proc/self/fd/%d" % part, ".%s.part" % self.name
+        for _ in range(MOST_TRIES):
             try:
                 os.link(source, second, dst_dir_fd=self.folder.fd)
-                return self._rename(second)
-            except FileExistsError as error:
-                fault = error
+                break
+            except FileExistsError:
                 self._unlink(second)
-            except FileNotFoundError as error:  # Another command has put it in place already, or removed it.
-                fault = error
-        raise fault
+        else:
+            raise failure(errno.EEXIST)
+        try:
+            self._rename(second)
+            return True
+        except FileNotFoundError:
+            return False
 
     def _unlink(self, name):
         try:

@@ -8,8 +8,8 @@ import errno
 import os
 import stat
 
-from aide_compare.ending import Fault, Status, reason
-from aide_compare.escapes import shown
+from aide_compare.base.ending import Fault, Status, reason
+from aide_compare.base.escapes import shown
 
 ANYBODY = -1
 MOST_LINKS = 40

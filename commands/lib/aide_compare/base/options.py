@@ -2,9 +2,9 @@
 import argparse
 
 from aide_compare import VERSION
-from aide_compare.ending import Done, Fault, Status, write_all
-from aide_compare.escapes import shown
-from aide_compare.times import seconds_of
+from aide_compare.base.ending import Done, Fault, Status, write_all
+from aide_compare.base.escapes import shown
+from aide_compare.base.times import seconds_of
 
 SIZES = {"k": 1 << 10, "M": 1 << 20, "G": 1 << 30}
 

@@ -3,18 +3,24 @@
 The folder is locked as long as the command, or the program that it started, lives. A folder without a lock was left by a
 command that was killed: the next one removes it.
 """
+import contextlib
+import errno
 import fcntl
 import os
 import re
 import signal
 import stat
+import time
 
-from aide_compare.ending import Fault, Status, reason
-from aide_compare.escapes import shown
-from aide_compare.files import open_folder, private_folder, reopened
+from aide_compare.base.ending import Fault, Status, reason
+from aide_compare.base.escapes import shown
+from aide_compare.base.files import failure, open_folder, private_folder, reopened
 
 SIGNALS = (signal.SIGHUP, signal.SIGINT, signal.SIGQUIT, signal.SIGTERM)
 AGAIN = 2
+MOST_TRIES = 3
+# What killed commands have left is removed bit by bit, so that no command works for many minutes at the leftovers of others.
+MOST_SWEPT, SWEEP_SECONDS = 1000, 2
 FOLDER = os.O_RDONLY | os.O_DIRECTORY | os.O_NOFOLLOW | os.O_CLOEXEC
 
 
@@ -87,8 +93,7 @@ class PrivateRoom:
                     self.parent = reopened(folder.fd, os.O_RDONLY | os.O_DIRECTORY)
                     if folder.is_safe():
                         self._sweep()
-                while self.fd is None:
-                    self._make()
+                self._make_in_some_tries()
             except OSError as error:
                 raise Fault(
                     Status.DEVICE,
@@ -102,23 +107,35 @@ class PrivateRoom:
             os.close(self.fd)
             os.close(self.parent)
 
+    def _make_in_some_tries(self):
+        """Another command may sweep the folder away before it is locked: then it is made once more."""
+        for _ in range(MOST_TRIES):
+            if self._make():
+                return
+        raise failure(errno.EPERM, "a folder that is made there is not its maker's alone, or does not stay")
+
     def _make(self):
-        """Makes the folder and locks it. Another command may sweep it away in between: then it is made once more."""
+        """Makes the folder and locks it; False, with nothing left, if that cannot be."""
         name = self.beginning + os.urandom(12).hex()
         os.mkdir(name, 0o700, dir_fd=self.parent)
         descriptor = self._opened(name)
-        if descriptor is None or not _locked(descriptor) or not self._is_named(name, descriptor):
-            return
-        self.name, self.fd = name, descriptor
+        if descriptor is not None and _locked(descriptor) and self._is_named(name, descriptor):
+            self.name, self.fd = name, descriptor
+            return True
+        if descriptor is not None:
+            os.close(descriptor)
+        with contextlib.suppress(OSError):
+            os.rmdir(name, dir_fd=self.parent)
+        return False
 
     def _opened(self, name):
-        """A folder of this user that nobody else may enter, or None."""
+        """A folder of this user that nobody else may enter, or None. It may have the set-group-ID bit of its parent."""
         try:
             descriptor = os.open(name, FOLDER, dir_fd=self.parent)
         except OSError:
             return None
         found = os.fstat(descriptor)
-        if found.st_uid == os.geteuid() and stat.S_IMODE(found.st_mode) == 0o700:
+        if found.st_uid == os.geteuid() and stat.S_IMODE(found.st_mode) & ~stat.S_ISGID == 0o700:
             return descriptor
         os.close(descriptor)
         return None
@@ -130,15 +147,22 @@ class PrivateRoom:
             return False
 
     def _sweep(self):
-        """Removes the folders of commands that were killed."""
-        for name in os.listdir(self.parent):
-            if not name.startswith(self.beginning):
-                continue
-            descriptor = self._opened(name)
-            if descriptor is not None:
-                if _locked(descriptor):
-                    self._remove(name, descriptor)
-                os.close(descriptor)
+        """Removes folders of commands that were killed."""
+        limit, left = time.monotonic() + SWEEP_SECONDS, MOST_SWEPT
+        with os.scandir(self.parent) as found:
+            for entry in found:
+                if left <= 0 or time.monotonic() > limit:
+                    return
+                if entry.name.startswith(self.beginning):
+                    self._sweep_one(entry.name)
+                    left -= 1
+
+    def _sweep_one(self, name):
+        descriptor = self._opened(name)
+        if descriptor is not None:
+            if _locked(descriptor):
+                self._remove(name, descriptor)
+            os.close(descriptor)
 
     def _remove(self, name, descriptor):
         for file in os.listdir(descriptor):

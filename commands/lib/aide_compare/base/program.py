@@ -5,9 +5,9 @@ import os
 import resource
 import signal
 
-from aide_compare.ending import Fault, Status, reason
-from aide_compare.escapes import shown
-from aide_compare.files import nameless
+from aide_compare.base.ending import Fault, Status, reason
+from aide_compare.base.escapes import shown
+from aide_compare.base.files import nameless
 
 OLD_DESCRIPTOR, NEW_DESCRIPTOR, CONFIGURATION_DESCRIPTOR = 3, 4, 5
 DATABASES = "database_in=file:/proc/self/fd/%d\ndatabase_new=file:/proc/self/fd/%d" % (OLD_DESCRIPTOR, NEW_DESCRIPTOR)

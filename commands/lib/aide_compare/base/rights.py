@@ -1,9 +1,9 @@
 """Work with the rights of another user, so that a user who can write in a folder gains nothing from what root does there."""
 import os
 
-from aide_compare.child import in_child
-from aide_compare.ending import Fault, Status, reason
-from aide_compare.escapes import shown
+from aide_compare.base.child import in_child
+from aide_compare.base.ending import Fault, Status, reason
+from aide_compare.base.escapes import shown
 
 
 def name_of(uid):
@@ -57,6 +57,22 @@ def give_up(user):
     except OSError as error:
         raise Fault(Status.DEVICE, "cannot become %s: %s" % (shown(user, 100), reason(error)))
     os.environ.update(HOME=entry.pw_dir or "/", USER=entry.pw_name, LOGNAME=entry.pw_name)
+
+
+def become(uid):
+    """This process becomes a user, by number, for good, with the groups of this user."""
+    import pwd
+
+    try:
+        entry = pwd.getpwuid(uid)
+        groups = os.getgrouplist(entry.pw_name, entry.pw_gid)
+    except KeyError:
+        entry, groups = None, []
+    try:
+        _become(uid, _group_of(uid), groups)
+    except OSError as error:
+        raise Fault(Status.DEVICE, "cannot become %s: %s" % (name_of(uid), reason(error)))
+    os.environ.update(HOME=entry.pw_dir if entry else "/", USER=name_of(uid), LOGNAME=name_of(uid))
 
 
 def with_rights_of(uid, work, seconds=60, keep=()):

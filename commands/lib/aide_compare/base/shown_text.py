@@ -1,7 +1,7 @@
 """How names and values are shown on a page: nothing in them is invisible, and nothing changes what stands around it."""
 import re
 
-from aide_compare import escapes
+from aide_compare.base import escapes
 
 # Printable ASCII without the backslash, and without blanks at its ends.
 PLAIN = re.compile(r"[!-\[\]-~](?:[ -\[\]-~]*[!-\[\]-~])?")

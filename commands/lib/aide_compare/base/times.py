@@ -1,8 +1,8 @@
 """Times with units, as every command takes and shows them."""
 import time
 
-from aide_compare.ending import Fault, Status
-from aide_compare.escapes import shown
+from aide_compare.base.ending import Fault, Status
+from aide_compare.base.escapes import shown
 
 UNITS = {"s": 1, "m": 60, "h": 3600, "d": 86400}
 MOST_SECONDS = 30 * 86400

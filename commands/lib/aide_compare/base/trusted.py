@@ -1,10 +1,10 @@
 """Files of the administrator, which no user but root and the caller may be able to change."""
 import os
 
-from aide_compare.ending import Fault, Status, reason
-from aide_compare.escapes import shown
-from aide_compare.files import open_regular
-from aide_compare.folders import open_folder
+from aide_compare.base.ending import Fault, Status, reason
+from aide_compare.base.escapes import shown
+from aide_compare.base.files import open_regular
+from aide_compare.base.folders import open_folder
 
 MOST_LINES = 10000
 MOST_BYTES = 1 << 20

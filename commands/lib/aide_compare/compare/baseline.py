@@ -9,10 +9,10 @@ import os
 import stat
 import time
 
-from aide_compare.ending import Fault, Status, reason, write_all
-from aide_compare.escapes import shown
-from aide_compare.exchange import exchange
-from aide_compare.files import ANYBODY, NEW_FILE, NO_TMPFILE, failure, kind_of, open_folder, reopened
+from aide_compare.base.ending import Fault, Status, reason, write_all
+from aide_compare.base.escapes import shown
+from aide_compare.base.exchange import exchange
+from aide_compare.base.files import ANYBODY, NEW_FILE, NO_TMPFILE, failure, kind_of, open_folder, reopened
 
 BLOCK = 1 << 20
 FILE_MODES = 0o666
@@ -21,7 +21,9 @@ FIRST_MODE = 0o600
 SECONDS_FOR_LOCK = 60
 SECONDS_FOR_WORK = 60
 BYTES_A_SECOND = 5 << 20
-PART = ".%s.part"
+# The new baseline until it has its name, a second name of it by which a later run knows it, and where the former one is for a
+# moment if the file system cannot exchange two names.
+PART, MARK, SPARE = ".%s.part", ".%s.new", ".%s.former"
 PREVIOUS = "%s.previous"
 CHANGED = "another process has changed it meanwhile"
 
@@ -31,13 +33,16 @@ def identity(found):
 
 
 class Baseline:
-    """The file of a path, or the place where it will be. `former` is what fstat says of it, None without a file."""
+    """The file of a path, or the place where it will be. `former` is what fstat says of it, None without a file. A file beside
+    it whose name ends with the suffix belongs to it, and goes when it is replaced."""
 
-    def __init__(self, path):
+    def __init__(self, path, suffix=""):
         self.path, self.name = path, os.path.basename(path)
         if self.name in ("", ".", ".."):
             raise Fault(Status.USAGE, "the baseline needs the name of a file: %s" % (shown(path) or "''"))
-        self.previous, self.part = PREVIOUS % self.name, PART % self.name
+        self.previous = PREVIOUS % self.name
+        self.part, self.mark, self.spare = (form % self.name for form in (PART, MARK, SPARE))
+        self.beside, self.away = (self.name + suffix, SPARE % (self.name + suffix)) if suffix else (None, None)
         self.place = os.path.dirname(path) or "."
         with open_folder(self.place) as folder:
             self.owner = self._owner_of(folder)
@@ -101,7 +106,7 @@ class Baseline:
         """Does work in the folder over an open file, with the rights that the folder asks for."""
         if self.owner is None:
             return work()
-        from aide_compare.rights import with_rights_of
+        from aide_compare.base.rights import with_rights_of
 
         seconds = SECONDS_FOR_WORK + os.fstat(source).st_size // BYTES_A_SECOND
         return with_rights_of(self.owner, work, seconds, (self.folder, source))
@@ -132,17 +137,25 @@ class Baseline:
         self._rename(part, name)
         os.fsync(self.folder)
 
-    def replace(self, source, suffix=""):
-        """Makes a copy of an open file the baseline. Returns the numbers of the user and group that it belongs to. The file
-        beside the former one whose name ends with the suffix goes right before that one does."""
+    def replace(self, source):
+        """Makes a copy of an open file the baseline. Returns the numbers of the user and group that it belongs to."""
         try:
-            answer = self._work(lambda: self._replace(source, suffix), source)
+            answer = self._work(lambda: self._replace(source), source)
             self._check_place(answer)
         except Fault as fault:
             raise self.fault(fault.text)
         except OSError as error:
             raise self.fault(reason(error))
         return tuple(map(int, answer.split()[2:]))
+
+    def settle(self):
+        """Ends what a run has left that was killed while the names changed."""
+        names = [self.part, self.mark, self.spare] + [self.away] * bool(self.away)
+        if any(self._identity(name) for name in names):
+            try:
+                self._work(self._settle, self.folder)
+            except OSError as error:
+                raise self.fault(reason(error))
 
     def _check_place(self, answer):
         """The path still leads to the new baseline. Its folder could have been renamed."""
@@ -151,25 +164,37 @@ class Baseline:
         if list(identity(found)) != [int(number) for number in answer.split()[:2]]:
             raise Fault(Status.DEVICE, CHANGED)
 
-    def _replace(self, source, suffix):
+    def _replace(self, source):
         """The work in the folder. From here on only names in the open folder and descriptors are used."""
-        self._unlink(self.part)
+        self._settle()
         try:
-            found = self._named_copy(source, self.part)
-            if suffix:
-                self._remove_beside(suffix)
+            found = self._named_copy(source, self.mark)
             self._put_in_place(found)
-            os.fsync(self.folder)
-        except BaseException:
-            self._unlink(self.part)
-            raise
+        finally:
+            self._settle()
+        os.fsync(self.folder)
         return b"%d %d %d %d" % (identity(found) + (found.st_uid, found.st_gid))
 
-    def _remove_beside(self, suffix):
+    def _settle(self):
+        """If the new file is the baseline, the former one becomes the copy that is kept, wherever it is. Otherwise all is as
+        before. Then the names of a moment go. So the former baseline is found again whatever ends a run."""
+        is_done = self._identity(self.mark) is not None and self._identity(self.mark) == self._identity(self.name)
+        for name in (self.part, self.spare):
+            if is_done and self._identity(name) not in (None, self._identity(self.name)):
+                self._rename(name, self.previous)
+            self._unlink(name)
+        if self.away and self._identity(self.away):
+            if is_done or self._identity(self.beside):
+                self._unlink(self.away)
+            else:
+                self._rename(self.away, self.beside)
+        self._unlink(self.mark)
+
+    def _identity(self, name):
         try:
-            self._unlink(self.name + suffix)
-        except OSError as error:
-            raise failure(error.errno, "its %s cannot be removed: %s" % (suffix, reason(error)))
+            return identity(os.stat(name, dir_fd=self.folder, follow_symlinks=False))
+        except FileNotFoundError:
+            return None
 
     def _named_copy(self, source, part):
         """Copies an open file, on the disk before it gets a name. Returns what fstat says of it."""
@@ -213,26 +238,34 @@ class Baseline:
                 raise
 
     def _put_in_place(self, new):
+        """The new file gets the name. A former baseline keeps a name of its own, by which it is found and then kept."""
         if self.former is None:
-            os.link(self.part, self.name, src_dir_fd=self.folder, dst_dir_fd=self.folder, follow_symlinks=False)
-            return self._unlink(self.part)
+            return self._link(self.mark, self.name)
+        self._link(self.mark, self.part)
         self._check(self.name, self.former)
-        self._rename(self.part, self.previous)
-        if not exchange(self.folder, self.previous, self.name):
-            self._exchange_by_links()
-        self._check(self.previous, self.former)
+        self._put_away()
+        if exchange(self.folder, self.part, self.name):
+            self._check(self.part, self.former)
+        else:  # The baseline has its name, or a new one, at every moment.
+            self._link(self.name, self.spare)
+            self._rename(self.part, self.name)
+            self._check(self.spare, self.former)
         self._check(self.name, new)
 
-    def _exchange_by_links(self):
-        """For file systems that cannot exchange two names. The baseline has its name, or a new one, at every moment."""
-        self._rename(self.previous, self.part)
-        os.link(self.name, self.previous, src_dir_fd=self.folder, dst_dir_fd=self.folder, follow_symlinks=False)
-        self._rename(self.part, self.name)
+    def _put_away(self):
+        """At no moment what belongs to the former baseline is beside the new one."""
+        try:
+            if self.beside and self._identity(self.beside):
+                self._rename(self.beside, self.away)
+        except OSError as error:
+            raise failure(error.errno, "%s cannot be moved: %s" % (shown(self.beside), reason(error)))
 
     def _check(self, name, wanted):
-        found = os.stat(name, dir_fd=self.folder, follow_symlinks=False)
-        if identity(found) != identity(wanted):
+        if self._identity(name) != identity(wanted):
             raise failure(errno.ESTALE, CHANGED)
+
+    def _link(self, name, other):
+        os.link(name, other, src_dir_fd=self.folder, dst_dir_fd=self.folder, follow_symlinks=False)
 
     def _rename(self, name, other):
         os.rename(name, other, src_dir_fd=self.folder, dst_dir_fd=self.folder)

@@ -3,7 +3,12 @@ import os
 import re
 import time
 
-from aide_compare.configuration import (
+from aide_compare.base.ending import Fault, Status, write_all
+from aide_compare.base.escapes import shown, shown_lines
+from aide_compare.base.files import nameless
+from aide_compare.base.program import CONFIGURATION_DESCRIPTOR, DATABASES, accepts, find_program, run_program
+from aide_compare.base.times import age_in_words
+from aide_compare.compare.configuration import (
     Texts,
     databases_of,
     default_configuration,
@@ -11,15 +16,10 @@ from aide_compare.configuration import (
     read_configuration,
     without_includes,
 )
-from aide_compare.ending import Fault, Status, write_all
-from aide_compare.escapes import shown, shown_lines
-from aide_compare.files import nameless
-from aide_compare.hints import explained
-from aide_compare.program import CONFIGURATION_DESCRIPTOR, DATABASES, accepts, find_program, run_program
-from aide_compare.reports import DIFFER, HEAD_BYTES, SAME, counts_of, lists_entries, status_of
-from aide_compare.times import age_in_words
-from aide_compare.unpack import copy_opened, open_database
-from aide_compare.without import cut_copy, left_out_words
+from aide_compare.compare.hints import explained
+from aide_compare.compare.reports import DIFFER, HEAD_BYTES, SAME, counts_of, lists_entries, status_of
+from aide_compare.compare.unpack import copy_opened, open_database
+from aide_compare.compare.without import cut_copy
 
 MOST, MOST_REPORT = 1 << 40, 1 << 30
 MOST_ERRORS = 1 << 20
@@ -34,7 +34,7 @@ LETTERS_LIST = ENTRIES + b"report_grouped=yes\nreport_summarize_changes=yes\n"
 class Request:
     """What is to be compared. `old` and `new` are paths, or None if the configuration names both. `before` and `after` are
     the texts of -B and -A. `beside` is the folder of the command. `counts`: the counts are wanted at every level. `without`:
-    the Rules of the entries that are left out, or None."""
+    the Rules of the entries that are left out, or None. `handing`: the Handing of a run of root's, or None."""
 
     def __init__(
         self,
@@ -49,18 +49,19 @@ class Request:
         most_report=MOST_REPORT,
         counts=True,
         without=None,
+        handing=None,
     ):
         self.beside, self.old, self.new, self.before, self.after = beside, old, new, before, after
         self.configuration = configuration or (default_configuration() if old is None else "/dev/null")
         self.most, self.most_age, self.most_report, self.counts = most, most_age, most_report, counts
-        self.without = without
+        self.without, self.handing = without, handing
 
 
 class Outcome:
     """What came out: the status of the program, a descriptor of its report (a file without a name), its error lines, the
     lines that explain them, the lines that say what was passed over, the counts (None if there are none), and the copies by
-    side, as far as they were made. `left_out`: by side, how many entries each rule left out. `compared`: by side, a descriptor
-    of what was compared."""
+    side, as far as they were made. `left_out`: by side, the LeftOut. `compared`: by side, a descriptor of what was compared.
+    """
 
     def __init__(self):
         self.status, self.report, self.errors, self.hints, self.notes = None, None, b"", [], []
@@ -125,6 +126,8 @@ class Comparison:
     def _copy(self):
         opened = [open_database(*names) for names in (("old", self.outcome.old), ("new", self.outcome.new))]
         check_age(opened[1], self.request.most_age)
+        if self.request.handing:
+            self.request.handing.take(self.outcome.old)
         for database in opened:
             copy = copy_opened(database, self.request.most)
             self.outcome.copies[database.side], self.outcome.compared[database.side] = copy, copy.fd
@@ -135,7 +138,7 @@ class Comparison:
         """What is compared then is a copy of the copy; digests are of the whole database, so that it can be accepted."""
         outcome = self.outcome
         outcome.compared[side], outcome.left_out[side] = cut_copy(copy.fd, self.request.without)
-        outcome.notes += left_out_words(side, outcome.left_out[side])
+        outcome.notes += outcome.left_out[side].words(side)
 
     def _compare(self):
         outcome = self.outcome

@@ -5,9 +5,9 @@ refuse means nothing.
 """
 import os
 
-from aide_compare.ending import Fault, Status, reason
-from aide_compare.escapes import shown
-from aide_compare.files import open_regular
+from aide_compare.base.ending import Fault, Status, reason
+from aide_compare.base.escapes import shown
+from aide_compare.base.files import open_regular
 
 DEFAULTS = ("/etc/aide/aide.conf", "/etc/aide.conf")
 MOST_BYTES = 4194304
@@ -78,7 +78,8 @@ class Reader:
         return (name.strip(BLANKS), value.strip(BLANKS)) if equals else None
 
     def _directive(self, line):
-        words = line.replace(b"\t", b" ").split()
+        # Other blanks of Python, such as a form feed, are a part of a word in this language.
+        words = [word for word in line.replace(b"\t", b" ").split(b" ") if word]
         word, names = words[0], words[1:] + [b""] * 3
         if word in (b"@@ifdef", b"@@ifndef"):
             self._open((names[0] in self.variables) == (word == b"@@ifdef"))

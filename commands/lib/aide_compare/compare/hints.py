@@ -2,7 +2,7 @@
 import os
 import re
 
-from aide_compare.escapes import shown
+from aide_compare.base.escapes import shown
 
 LINE = re.compile(rb"aide: (old database|new database|config|before|after):(\d+): (.*)")
 OPENING = re.compile(rb"aide: (?:cannot open the (old|new) database|the (old|new) database changed)")
@@ -53,7 +53,7 @@ def line_and_columns(descriptor, number):
 def _database_hints(side, number, words, copy):
     yield "the %s is %s" % (side, shown(copy.name))
     if not copy.size:
-        yield "it is empty"
+        yield "it is empty: does AIDE run now? It fills its new database at its end"
     line, columns = line_and_columns(copy.fd, number)
     if line:
         yield "line %d: %s" % (number, shown(line, 200))

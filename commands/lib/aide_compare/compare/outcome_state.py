@@ -1,11 +1,11 @@
 """The state of a comparison: what aide-compare-run keeps of its outcome, and what each of its lines says."""
-from aide_compare.escapes import shown
-from aide_compare.state import State
+from aide_compare.base.escapes import shown
+from aide_compare.compare.state import State
 
 
 def left_out_of(outcome):
     """How many entries were left out, by side; nothing without --without."""
-    return {side: sum(counts.values()) for side, counts in outcome.left_out.items()}
+    return {side: left_out.total for side, left_out in outcome.left_out.items()}
 
 
 def state_of(outcome, status, error, reasons=None):

@@ -2,10 +2,10 @@
 import fcntl
 import os
 
-from aide_compare.ending import Fault, Status, reason
-from aide_compare.escapes import shown
-from aide_compare.files import Replacement, copy_file
-from aide_compare.unpack import given_descriptor
+from aide_compare.base.ending import Fault, Status, reason
+from aide_compare.base.escapes import shown
+from aide_compare.base.files import Replacement, copy_file
+from aide_compare.compare.unpack import given_descriptor
 
 STREAMS = {"/dev/stdout": 1, "/dev/stderr": 2}
 PRIVATE = 0o600
@@ -33,7 +33,7 @@ class Output:
         except OSError:
             return False
 
-    def commit(self, descriptor):
+    def commit_copy(self, descriptor):
         """Writes what the file of a descriptor has."""
         if self.file:
             return self.file.commit_copy(descriptor)

@@ -1,8 +1,11 @@
 """How many changes of a comparison something explains, how many not, and how severe those are: in numbers and in words."""
 from collections import namedtuple
 
-KEYS = ("explained", "not_verified", "unexplained", "high", "medium", "low")
-SEVERITIES = KEYS[3:]
+SEVERITIES = ("high", "medium", "low")
+KEYS = ("explained", "not_verified", "unexplained") + SEVERITIES
+# The grades of evidence by which changes are explained, the strongest first, and the keys of their counts.
+GRADES = ("archive", "databases", "dpkg", "rpm")
+GRADE_KEYS = tuple("explained_" + grade for grade in GRADES)
 
 
 def counted(number, word):
@@ -10,9 +13,10 @@ def counted(number, word):
     return "%d %s%s" % (number, word, "" if number == 1 else "s")
 
 
-class ReasonCounts(namedtuple("ReasonCounts", KEYS)):
-    """The first three add up to all changes. The last three count, by severity, those that are not explained: the ones
-    that are unexplained, and the ones whose reason is not verified."""
+class ReasonCounts(namedtuple("ReasonCounts", KEYS + GRADE_KEYS, defaults=(0,) * len(GRADES))):
+    """The first three add up to all changes. The next three count, by severity, those that are not explained: the ones
+    that are unexplained, and the ones whose reason is not verified. The last ones count those that are explained by their
+    grades; a state of an earlier version has none of these."""
 
     @property
     def total(self):
@@ -25,7 +29,17 @@ class ReasonCounts(namedtuple("ReasonCounts", KEYS)):
 
     def fits(self, changes):
         """Whether these can be the counts of so many changes."""
-        return min(self) >= 0 and self.total == changes and self.high + self.medium + self.low == self.unanswered
+        by_grades = sum(self.by_grade().values())
+        is_whole = self.total == changes and self.high + self.medium + self.low == self.unanswered
+        return min(self) >= 0 and is_whole and by_grades in (0, self.explained)
+
+    def by_grade(self):
+        """How many changes are explained by each grade of evidence."""
+        return {grade: getattr(self, key) for grade, key in zip(GRADES, GRADE_KEYS)}
+
+    def grades(self):
+        """As in "archive 300, dpkg 12"; "" if nothing is explained."""
+        return ", ".join("%s %d" % pair for pair in self.by_grade().items() if pair[1])
 
     def words(self):
         """As in "3 unexplained of 512 changes, 1 high"."""
@@ -37,18 +51,20 @@ class ReasonCounts(namedtuple("ReasonCounts", KEYS)):
         return ", ".join([", ".join(parts) + " of %s" % counted(self.total, "change")] + severities)
 
     def line(self):
-        """As in "unexplained=3 not_verified=0 explained=509 high=1 medium=0 low=2"."""
-        return " ".join(
-            "%s=%d" % (key, getattr(self, key)) for key in ("unexplained", "not_verified", "explained") + SEVERITIES
-        )
+        """As in "unexplained=3 not_verified=0 explained=509 high=1 medium=0 low=2", and after it the counts of the grades by
+        which something is explained."""
+        keys = ("unexplained", "not_verified", "explained") + SEVERITIES
+        keys += tuple(key for key in GRADE_KEYS if getattr(self, key))
+        return " ".join("%s=%d" % (key, getattr(self, key)) for key in keys)
 
 
 def counts_of_keys(values):
     """The ReasonCounts in a map of texts, such as the further keys of a state; None if it has none of the keys. A ValueError
     if it has only some of them, or one that is no number."""
-    found = [values[key] for key in KEYS if key in values]
+    found = [values[key] for key in KEYS + GRADE_KEYS if key in values]
     if not found:
         return None
-    if len(found) < len(KEYS) or not all(text.isascii() and text.isdigit() and len(text) <= 18 for text in found):
+    is_whole = len(found) == len(KEYS + GRADE_KEYS) or all((key in values) == (key in KEYS) for key in KEYS + GRADE_KEYS)
+    if not is_whole or not all(text.isascii() and text.isdigit() and len(text) <= 18 for text in found):
         raise ValueError("only some counts of reasons, or no numbers")
     return ReasonCounts(*map(int, found))

@@ -1,13 +1,12 @@
 """The state file: the result of the last run of aide-compare-run, for the commands that show it."""
 import os
-import time
 
-from aide_compare.ending import Fault, Status
-from aide_compare.escapes import guarded, shown
-from aide_compare.files import open_regular
-from aide_compare.reason_counts import counts_of_keys
-from aide_compare.reports import status_of
-from aide_compare.times import date_of
+from aide_compare.base.ending import Fault, Status
+from aide_compare.base.escapes import guarded, shown
+from aide_compare.base.files import open_regular
+from aide_compare.base.times import date_of
+from aide_compare.compare.reason_counts import counts_of_keys
+from aide_compare.compare.reports import status_of
 
 MOST_BYTES = 65536
 COUNTS = ("added", "removed", "changed")
@@ -124,9 +123,3 @@ def read_state(path):
         return parse_state(data)
     except (ValueError, KeyError):
         raise Fault(Status.DEVICE, "%s is no state file of aide-compare-run" % shown(path))
-
-
-def age_of(state, now=None):
-    """How many seconds ago the run ended; a small negative age is one of clocks and is 0."""
-    age = int(time.time() if now is None else now) - state.time
-    return 0 if -600 <= age < 0 else age

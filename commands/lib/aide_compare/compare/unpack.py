@@ -5,9 +5,9 @@ import stat
 import zlib
 from hashlib import sha256
 
-from aide_compare.ending import Fault, Status, reason, write_all
-from aide_compare.escapes import shown
-from aide_compare.files import kind_of, nameless, open_regular, private_folder
+from aide_compare.base.ending import Fault, Status, reason, write_all
+from aide_compare.base.escapes import shown
+from aide_compare.base.files import kind_of, nameless, open_regular, private_folder
 
 BLOCK, LEAST = 1 << 18, 64
 GZIP, COMPRESS = b"\x1f\x8b", b"\x1f\x9d"

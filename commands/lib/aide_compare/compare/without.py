@@ -1,60 +1,47 @@
-"""Entries that are left out of a comparison, by lines of paths and patterns, and how many each line left out."""
+"""Entries that are left out of a comparison, by lines of paths and patterns, and how many each line left out.
+
+Some entries stay whatever a line says, since they give rights to whoever put them there: see `may_be_left_out`.
+"""
 import os
 import re
+import stat
 from collections import Counter
 
-from aide_compare.ending import Fault, Status, reason, write_all
-from aide_compare.escapes import shown
-from aide_compare.files import nameless, open_regular
-from aide_compare.folders import open_folder
-from aide_compare.patterns import BadPattern, Pattern
+from aide_compare.base.ending import Fault, Status, reason, write_all
+from aide_compare.base.escapes import shown
+from aide_compare.base.files import nameless
+from aide_compare.base.patterns import BadPattern, Pattern
+from aide_compare.base.trusted import lines_of
 
-MOST_BYTES = 1 << 20
 MOST_LINES = 10000
 MOST_PATH = 4096  # PATH_MAX of Linux: no path of a file is longer, so a longer one is never left out.
 LINE = (1 << 20) + 1  # The longest line of a database, with its newline. aide-compare refuses a longer one.
 FIELDS = re.compile(rb"[^ \t]+")
 ESCAPE = re.compile(rb"%([0-9A-Fa-f]{2})")
+# A line that also leaves out programs begins so: the reason is between the brackets.
+PROGRAMS = re.compile(rb"programs\(([^()]*[^() \t][^()]*)\)[ \t]+(/.*)")
 OUTPUT_BLOCK = 1 << 18
+ABSENT, RUN_BITS, SET_ID, ANY_BITS = b"0", 0o111, 0o6000, 0o777
+MEASURES_CAPABILITIES = 1 << 37  # A bit of the column `attr`.
+STAYING = "a program, a set-ID bit, capabilities, a device, or no mode"
 
 
 class Rule:
-    """A line that leaves entries out: its pattern, and where it stands."""
+    """A line that leaves entries out: its pattern, where it stands, and why it means programs too; "" if it does not."""
 
-    def __init__(self, pattern, place):
-        self.pattern, self.place = pattern, place
+    def __init__(self, pattern, place, why=""):
+        self.pattern, self.place, self.why = pattern, place, why
 
     def words(self):
-        return "%s (%s)" % (shown(self.pattern.text, 200), self.place)
-
-
-def _is_trusted(found):
-    return found.st_uid in (0, os.geteuid()) and not found.st_mode & 0o022
-
-
-def _text_of(path):
-    """The bytes of a file of rules, which no user but root and the caller may be able to change."""
-    descriptor = open_regular(path, "the file of --without ")
-    try:
-        with open_folder(os.path.dirname(path) or ".") as folder:
-            if not folder.is_safe() or not _is_trusted(os.fstat(descriptor)):
-                raise Fault(Status.DEVICE, "other users can write the file of --without %s" % shown(path))
-        data = os.read(descriptor, MOST_BYTES + 1)
-        while len(data) <= MOST_BYTES:
-            more = os.read(descriptor, MOST_BYTES + 1 - len(data))
-            if not more:
-                return data
-            data += more
-    except OSError as error:
-        raise Fault(Status.DEVICE, "cannot read %s: %s" % (shown(path), reason(error)))
-    finally:
-        os.close(descriptor)
-    raise Fault(Status.DEVICE, "the file of --without %s has more than %d bytes" % (shown(path), MOST_BYTES))
+        why = "; programs too: %s" % self.why if self.why else ""
+        return "%s (%s%s)" % (shown(self.pattern.text, 200), self.place, why)
 
 
 def _rule(text, place):
+    programs = PROGRAMS.fullmatch(text)
+    why, pattern = (shown(programs.group(1).strip(), 100), programs.group(2)) if programs else ("", text)
     try:
-        return Rule(Pattern(text), place)
+        return Rule(Pattern(pattern), place, why)
     except BadPattern as fault:
         raise Fault(Status.USAGE, "%s: %s: %s" % (place, fault, shown(text, 200)))
 
@@ -62,12 +49,7 @@ def _rule(text, place):
 def read_rules(files, patterns):
     """The rules of --without FILE and of --without-path PATTERN, in the order of the command line. Empty lines of a file and
     those that begin with # are passed over; blanks at the ends of a line do not count."""
-    rules = []
-    for path in files:
-        for number, line in enumerate(_text_of(path).split(b"\n"), 1):
-            text = line.strip(b" \t\r")
-            if text and not text.startswith(b"#"):
-                rules.append(_rule(text, "%s, line %d" % (shown(path, 200), number)))
+    rules = [_rule(*line) for path in files for line in lines_of(path, "the file of --without")]
     rules += [_rule(os.fsencode(text), "--without-path") for text in patterns]
     if len(rules) > MOST_LINES:
         raise Fault(Status.USAGE, "more than %d lines leave entries out" % MOST_LINES)
@@ -83,15 +65,16 @@ class Rules:
             self.by_start.setdefault(rule.pattern.fixed, []).append((number, rule))
         self.longest = max((len(start) for start in self.by_start), default=0)
 
-    def of(self, path):
-        """The first rule that leaves a path out, or None."""
+    def of(self, path, is_meant=lambda rule: True):
+        """The first rule that means a path, of those that `is_meant` lets pass, or None."""
         if not path.startswith(b"/") or len(path) > MOST_PATH:
             return None
         pieces = path[1:].split(b"/")
         found = []
         for size in range(min(len(pieces), self.longest) + 1):
             found += self.by_start.get(tuple(pieces[:size]), ())
-        return next((rule for _, rule in sorted(found, key=lambda pair: pair[0]) if rule.pattern.matches(pieces)), None)
+        rules = (rule for _, rule in sorted(found, key=lambda pair: pair[0]) if is_meant(rule))
+        return next((rule for rule in rules if rule.pattern.matches(pieces)), None)
 
 
 def decoded(field):
@@ -99,11 +82,48 @@ def decoded(field):
     return ESCAPE.sub(lambda found: bytes([int(found.group(1), 16)]), field) if b"%" in field else field
 
 
+class _Found:
+    """What a line of a database says of the rights that an entry gives: `field(column)` is a field, b"0" for none."""
+
+    def __init__(self, field):
+        perm, attributes = field("perm"), field("attr")
+        self.mode = int(perm, 8) if re.fullmatch(rb"[0-7]{1,7}", perm) else 0
+        self.has_capabilities = field("capabilities") != ABSENT and not stat.S_ISLNK(self.mode)
+        bits = int(attributes) if re.fullmatch(rb"[0-9]{1,19}", attributes) else 0
+        self.capabilities_are_known = bool(bits & MEASURES_CAPABILITIES)
+
+    @property
+    def is_program(self):
+        return stat.S_ISREG(self.mode) and bool(self.mode & RUN_BITS)
+
+    @property
+    def always_stays(self):
+        """Whether no line leaves it out: a set-ID bit (on a folder it only says whose group new files have), capabilities, a
+        device that somebody may open, and what has no mode, which cannot be shown to be harmless. Capabilities that were not
+        measured matter to a program only."""
+        mode = self.mode
+        is_device = stat.S_ISCHR(mode) or stat.S_ISBLK(mode)
+        return (
+            not stat.S_IFMT(mode)
+            or bool(mode & SET_ID and not stat.S_ISDIR(mode))
+            or self.has_capabilities
+            or (self.is_program and not self.capabilities_are_known)
+            or bool(is_device and mode & ANY_BITS)
+        )
+
+
+def may_be_left_out(found, rule):
+    """Whether a rule that means the path of an entry leaves it out. A program needs a rule that means programs too."""
+    return not found.always_stays and (bool(rule.why) or not found.is_program)
+
+
 class _Cut:
-    """The lines of a database one by one: which of them are entries that a rule leaves out."""
+    """The lines of a database one by one: which of them are entries that a rule leaves out. `staying` counts the entries that
+    a rule names in vain."""
 
     def __init__(self, rules):
-        self.rules, self.column, self.columns, self.is_over, self.counts = rules, None, 0, False, Counter()
+        self.rules, self.columns, self.width, self.is_over = rules, {}, 0, False
+        self.counts, self.staying = Counter(), 0
 
     def keeps(self, line):
         """Whether a line stays. Lines that are no entries stay, also those that lack a field or have one too many, which
@@ -116,14 +136,25 @@ class _Cut:
         if fields[0].startswith(b"@@"):
             self.is_over = fields[0] == b"@@end_db"
             if fields[0] == b"@@db_spec" and b"name" in fields:
-                self.column, self.columns = fields.index(b"name") - 1, len(fields) - 1
+                self.columns = {column.decode("ascii", "replace"): place for place, column in enumerate(fields[1:])}
+                self.width = len(fields) - 1
             return True
-        if self.column is None or len(fields) != self.columns:
+        if not self.columns or len(fields) != self.width:
             return True
-        rule = self.rules.of(decoded(fields[self.column]))
-        if rule:
-            self.counts[rule] += 1
-        return rule is None
+        return self._keeps_entry(fields)
+
+    def _keeps_entry(self, fields):
+        path = decoded(fields[self.columns["name"]])
+        rule = self.rules.of(path)
+        if rule is None:
+            return True
+        found = _Found(lambda column: fields[self.columns[column]] if column in self.columns else ABSENT)
+        rule = self.rules.of(path, lambda rule: may_be_left_out(found, rule))
+        if rule is None:
+            self.staying += 1
+            return True
+        self.counts[rule] += 1
+        return False
 
 
 def _cut_lines(source, cut):
@@ -135,9 +166,24 @@ def _cut_lines(source, cut):
         whole = ends
 
 
+class LeftOut:
+    """What was left out of a database: how many entries by each rule, and how many stay although a rule names them."""
+
+    def __init__(self, counts, staying):
+        self.counts, self.staying, self.total = counts, staying, sum(counts.values())
+
+    def words(self, side):
+        """The lines that say so."""
+        yield "left out of the %s database: %s" % (side, "1 entry" if self.total == 1 else "%d entries" % self.total)
+        for rule, count in sorted(self.counts.items(), key=lambda pair: -pair[1]):
+            yield "  %d by %s" % (count, rule.words())
+        if self.staying:
+            yield "  %d more that lines name stay, each for one of these: %s" % (self.staying, STAYING)
+
+
 def cut_copy(descriptor, rules):
-    """A private copy of an unpacked database without the entries that rules leave out, and how many each rule left out. The
-    database is read from its beginning."""
+    """A private copy of an unpacked database without the entries that rules leave out, and the LeftOut. The database is read
+    from its beginning."""
     cut, target, waiting, size = _Cut(rules), nameless(), [], 0
     os.lseek(descriptor, 0, os.SEEK_SET)
     try:
@@ -152,12 +198,4 @@ def cut_copy(descriptor, rules):
     except OSError as error:
         os.close(target)
         raise Fault(Status.DEVICE, "cannot copy a database without the entries that are left out: %s" % reason(error))
-    return target, cut.counts
-
-
-def left_out_words(side, counts):
-    """The lines that say what was left out of a database."""
-    total = sum(counts.values())
-    yield "left out of the %s database: %s" % (side, "1 entry" if total == 1 else "%d entries" % total)
-    for rule, count in sorted(counts.items(), key=lambda pair: -pair[1]):
-        yield "  %d by %s" % (count, rule.words())
+    return target, LeftOut(cut.counts, cut.staying)

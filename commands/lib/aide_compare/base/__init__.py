@@ -1,0 +1,1 @@
+"""What every other folder stands on: escapes, statuses, files by descriptor, rights, processes, options, times."""

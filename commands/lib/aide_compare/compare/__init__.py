@@ -1,0 +1,1 @@
+"""Two databases made ready, the program run over them, and what the run is kept as."""

@@ -1,0 +1,128 @@
+"""A baseline of which a part is left open: the new database, but of some paths what the old one says.
+
+Such a path differs again in the next comparison, as before: one that was added is left out, one that was removed stays, and
+one that has changed keeps its old line. Both databases are sound and in path order, and are read side by side.
+"""
+import os
+import re
+from collections import Counter
+from hashlib import sha256
+from heapq import merge
+from itertools import groupby
+from operator import itemgetter
+
+from aide_compare.base.ending import Fault, Status, reason, write_all
+from aide_compare.base.escapes import shown
+from aide_compare.base.files import nameless
+from aide_compare.base.path_keys import key_of, path_of
+from aide_compare.compare.unpack import Copy
+
+OLD, NEW = 0, 1
+BLOCK = 1 << 18
+FIELDS = re.compile(rb"[^ \t\n]+")
+KINDS = {(False, True): "added", (True, False): "removed", (True, True): "changed"}
+
+
+class Patterns:
+    """The paths that patterns leave open, and how many changes each of them did. Asked only of changes."""
+
+    def __init__(self, patterns):
+        self.patterns, self.counts = patterns, Counter()
+
+    def __call__(self, key):
+        pieces = path_of(key)[1:].split(b"/")
+        found = [pattern for pattern in self.patterns if pattern.matches(pieces)]
+        self.counts.update(found)
+        return bool(found)
+
+    def unused(self):
+        """The patterns that left nothing open."""
+        return [pattern for pattern in self.patterns if pattern not in self.counts]
+
+
+class Listed:
+    """The paths of a list that is in path order, by their keys. They are asked for in this order too."""
+
+    def __init__(self, keys):
+        self.keys, self.next = iter(keys), b""
+
+    def __call__(self, key):
+        while self.next is not None and self.next < key:
+            self.next = next(self.keys, None)
+        return self.next == key
+
+
+class _Database:
+    """A sound database: its entries one by one, each with its key and its side. `put` gets all other lines before the end
+    line."""
+
+    def __init__(self, copy, put=lambda line: None):
+        self.name, self.put, self.columns, self.end = copy.name, put, None, b""
+        self.file = os.fdopen(os.open("/proc/self/fd/%d" % copy.fd, os.O_RDONLY | os.O_CLOEXEC), "rb", BLOCK)
+
+    def entries(self, side):
+        for line in self.file:
+            fields = FIELDS.findall(line)
+            if fields and not fields[0].startswith((b"@@", b"#")):
+                yield key_of(fields[self.columns.index(b"name")]), side, line
+                continue
+            if fields and fields[0] == b"@@end_db":
+                self.end = line
+                return
+            if fields and fields[0] == b"@@db_spec":
+                self.columns = fields[1:]
+            self.put(line)
+
+    def refuse_other_columns(self, other):
+        if self.columns != other.columns:
+            text = "refused: %s has other columns (@@db_spec) than the baseline, so lines of both cannot stand in one database"
+            raise Fault(Status.DATABASE, text % shown(self.name), "nothing can be kept open; accept all of it")
+
+
+class _Target:
+    """The lines of the new baseline, in a private file."""
+
+    def __init__(self):
+        self.fd, self.waiting, self.room, self.size, self.digest = nameless(), [], BLOCK, 0, sha256()
+
+    def put(self, line):
+        self.waiting.append(line)
+        self.room -= len(line)
+        if self.room < 0:
+            self.flush()
+
+    def flush(self):
+        text = b"".join(self.waiting)
+        write_all(self.fd, text)
+        self.digest.update(text)
+        self.size, self.waiting, self.room = self.size + len(text), [], BLOCK
+
+
+def _merged(old, new, is_open, put):
+    """Writes the entries, and counts the changes that are left open by what they are."""
+    counts = Counter()
+    for key, group in groupby(merge(old.entries(OLD), new.entries(NEW)), itemgetter(0)):
+        lines = {side: line for _, side, line in group}
+        side = OLD if lines.get(OLD) != lines.get(NEW) and is_open(key) else NEW
+        if side == OLD:
+            counts[KINDS[OLD in lines, NEW in lines]] += 1
+        if side in lines:
+            put(lines[side])
+    return counts
+
+
+def keep_open(old, new, is_open):
+    """The Copy of the merged database, and how many of the added, removed and changed paths stay open. `is_open` is asked for
+    the key of each path whose lines differ. Columns that differ are a Fault of status 24."""
+    target = _Target()
+    try:
+        sides = _Database(old), _Database(new, target.put)
+        counts = _merged(*sides, is_open, target.put)
+        sides[NEW].refuse_other_columns(sides[OLD])
+        target.put(sides[NEW].end)
+        for block in iter(lambda: sides[NEW].file.read(BLOCK), b""):
+            target.put(block)
+        target.flush()
+    except OSError as error:
+        raise Fault(Status.DEVICE, "cannot make a database of which a part is open: %s" % reason(error))
+    return Copy(target.fd, target.size, target.digest.hexdigest(), new.name, new.written), counts
