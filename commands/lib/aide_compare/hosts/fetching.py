@@ -6,14 +6,16 @@ import select
 import signal
 import time
 
-from aide_compare.ending import Fault, Status, reason
-from aide_compare.escapes import shown
-from aide_compare.fleet_store import BLOCK, STORE, Part, Place, check_name, no_room, same_bytes, seconds_left
-from aide_compare.options import Parser, duration, size, some_text
+from aide_compare.base.ending import Fault, Status, reason, say
+from aide_compare.base.escapes import shown
+from aide_compare.base.options import Parser, duration, size, some_text
+from aide_compare.hosts.fleet_store import BLOCK, STORE, Part, Place, check_name, no_room, same_bytes, seconds_left
 
 NAME = "fetch-host"
 PATH, MOST, SECONDS = "/var/lib/aide/aide.db.new", 1 << 30, 600
 MOST_ERRORS = 65536
+RECORDS = "aide.db.new.packages"
+SEND_RECORDS = "tar -C /var/lib/dpkg -czf - status diversions info"
 SSH = (
     "ssh -n -a -x -o BatchMode=yes -o ConnectTimeout=30 -o ServerAliveInterval=30 -o LogLevel=ERROR "
     "-o ControlPath=none -o ClearAllForwardings=yes"
@@ -123,20 +125,20 @@ class Transfer:
         return "%s (ssh ended with %d)%s" % (text, status, hints)
 
 
-def receive(place, path, most, deadline, seconds, jobs):
-    """The database of a host becomes aide.db.new. The same bytes again leave the file's time, which tells how old it is."""
+def receive(place, command, name, given, deadline, jobs):
+    """What a host sends becomes a file. The same bytes again leave the file's time, which tells how old it is."""
     part = Part(place.fd)
     try:
-        transfer = Transfer(place, part, min(most, place.room(jobs)), deadline, seconds)
-        status = transfer.run(SSH + [place.host, "cat " + path])
+        transfer = Transfer(place, part, min(given.most, place.room(jobs)), deadline, given.time)
+        status = transfer.run(SSH + [place.host, command])
         if status == 127 and not transfer.errors:
             raise place.fault("there is no program ssh")
         if status != 0:
             raise place.fault(transfer.reason(status))
         if not part.size:
             raise place.fault("sent nothing")
-        if not same_bytes(part.fd, place.file("aide.db.new")):
-            part.keep("aide.db.new")
+        if not same_bytes(part.fd, place.file(name)):
+            part.keep(name)
     except OSError as error:
         raise place.fault("cannot keep what it sent: %s" % reason(error))
     finally:
@@ -146,10 +148,16 @@ def receive(place, path, most, deadline, seconds, jobs):
 def fetch(place, given, deadline, jobs=1):
     """Fetches; if that fails, the state of the host says so."""
     try:
-        receive(place, given.path, given.most, deadline, given.time, jobs)
+        receive(place, "cat " + given.path, "aide.db.new", given, deadline, jobs)
     except Fault as fault:
         place.not_compared(fault.text)
         raise
+    place.remove(RECORDS)  # Those of another night explain nothing of this one.
+    if given.reasons:
+        try:
+            receive(place, SEND_RECORDS, RECORDS, given, deadline, jobs)
+        except Fault as fault:
+            say("%s; no package explains a change of it" % fault.text)
 
 
 def remote_path(text):
@@ -180,6 +188,7 @@ def main(arguments):
     )
     add_place(parser)
     add_options(parser)
+    parser.add_argument("--reasons", action="store_true", help="fetch dpkg's records of HOST too, as evidence")
     parser.add_argument("host", metavar="HOST")
     given = parser.parse(arguments)
     deadline = time.monotonic() + given.time

@@ -5,10 +5,10 @@ import os
 import re
 import time
 
-from aide_compare.ending import Fault, Status, reason, say, write_all
-from aide_compare.files import NEW_FILE, NO_TMPFILE, Replacement, open_regular
-from aide_compare.folders import open_folder
-from aide_compare.state import State
+from aide_compare.base.ending import Fault, Status, reason, say, write_all
+from aide_compare.base.files import NEW_FILE, NO_TMPFILE, Replacement, open_regular
+from aide_compare.base.folders import open_folder
+from aide_compare.compare.state import State
 
 STORE = "/var/lib/aide-compare"
 NAME = re.compile(r"[A-Za-z0-9][A-Za-z0-9._:@-]{0,199}")
@@ -138,6 +138,12 @@ class Place:
             return True
         except FileNotFoundError:
             return False
+
+    def remove(self, name):
+        try:
+            os.unlink(name, dir_fd=self.fd)
+        except FileNotFoundError:
+            pass
 
     def room(self, jobs):
         """The most bytes that this host may take now: with so many others at work, something is left for each of them."""

@@ -6,8 +6,9 @@ count: times, inodes, and what the file system makes of a file.
 import hashlib
 import json
 
-from aide_compare.path_keys import key_of
-from aide_compare.report_values import FORMS
+from aide_compare.base.path_keys import key_of
+from aide_compare.compare.reason_counts import SEVERITIES
+from aide_compare.lines.report_values import FORMS
 
 OWN = frozenset(["Bcount", "Atime", "Mtime", "Ctime", "Inode", "Linkcount"])
 LABELS = list(FORMS)
@@ -33,6 +34,18 @@ def values_of(attributes, side):
     return [[label, both[side], both.get(side + "_hex")] for label, both in attributes.items()]
 
 
+def standing_of(fields):
+    """How much somebody has to look at a change: what nothing explains, what is not verified, what is explained; and within
+    these the severe ones first. The same for all changes without reasons."""
+    reason = fields.get("reason")
+    standing = 0 if reason is None else 1 if not reason["verified"] else 2
+    return standing, SEVERITIES.index(fields["severity"]) if "severity" in fields else 0
+
+
+def is_explained(fields):
+    return standing_of(fields)[0] == 2
+
+
 class Line:
     """An entry of a report as a line to be sorted: by its path, and then by what makes it the same change."""
 
@@ -43,7 +56,7 @@ class Line:
         new = values_of(shared, "new") if attributes is not None else fields.get("summary")
         self.key = b"%s\0%s" % (
             key_of(path_in(fields).replace(b"%", b"%25")),
-            digest_of([fields["kind"], fields.get("type"), new]),
+            digest_of([fields["kind"], fields.get("type"), new, fields.get("severity"), fields.get("reason")]),
         )
         self.old = digest_of(values_of(shared, "old"))
         self.own = sum(1 << LABELS.index(label) for label in attributes or () if label in own)

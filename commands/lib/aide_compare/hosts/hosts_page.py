@@ -1,16 +1,16 @@
 """The report of all hosts as one page without a script: the counts, the hosts, and each change with the hosts that have it."""
 from html import escape
 
-from aide_compare.decoded import decoded
-from aide_compare.files import nameless
-from aide_compare.host_changes import path_in
-from aide_compare.hosts_text import ORDERS, WHY, counts_text, headline, not_listed
-from aide_compare.json_lines import KINDS, LABELS, Entry, rows_of
-from aide_compare.page import POLICY, blocks_of, digest_of, filled, part_of
-from aide_compare.page_heading import card
-from aide_compare.page_items import head_of, number, table
-from aide_compare.page_streams import VARIOUS
-from aide_compare.shown_text import shown_note, shown_path
+from aide_compare.base.files import nameless
+from aide_compare.base.shown_text import shown_note, shown_path
+from aide_compare.hosts.host_changes import is_explained, path_in
+from aide_compare.hosts.hosts_text import ORDERS, WHY, counts_text, headline, not_listed, reason_words
+from aide_compare.lines.decoded import decoded
+from aide_compare.lines.json_lines import KINDS, LABELS, Entry, rows_of
+from aide_compare.show.page import POLICY, blocks_of, digest_of, filled, part_of
+from aide_compare.show.page_heading import card
+from aide_compare.show.page_items import head_of, number, table
+from aide_compare.show.page_streams import VARIOUS
 
 # The most bytes of a page, and of each of its lists of hosts.
 MOST, MOST_LIST, RESERVE = 20000000, 1500000, 8000
@@ -42,7 +42,9 @@ def item(fields, hosts):
     """A change: its kind, its path and its hosts are seen at once, its values on demand."""
     entry, more = entry_of(fields), fields["hosts"] - len(fields["names"])
     where = "on %s of %s hosts: %s" % (number(fields["hosts"]), number(hosts), ", ".join(fields["names"]))
-    head = head_of(entry, entry.name, where + (" and %s more" % number(more) if more else ""))
+    words = reason_words(fields) if not is_explained(fields) else "explained: " + fields["reason"]["text"]
+    where += (" and %s more" % number(more) if more else "") + ("; " + words if words else "")
+    head = head_of(entry, entry.name, where)
     own = ", ".join(fields.get("per_host", ()))
     inner = table(entry) if entry.rows or entry.digests else ""
     inner += '<p class="hint">Of each host: %s</p>' % escape(own) if own else ""

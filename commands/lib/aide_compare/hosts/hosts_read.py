@@ -1,20 +1,22 @@
 """What the store knows of each host of a file: its state, and the changes of the report that was kept of it."""
 import errno
 import fcntl
+import json
 import os
 import time
 
-from aide_compare.cut_reports import KeptReport
-from aide_compare.ending import Fault, Status, reason
-from aide_compare.escapes import shown
-from aide_compare.files import open_regular
-from aide_compare.fleet_store import Place, check_name
-from aide_compare.readers import Reading
-from aide_compare.report_lines import Lines, Refused
-from aide_compare.report_parts import read_report
-from aide_compare.reports import HEAD_BYTES, counts_of
-from aide_compare.times import age_in_words, date_of
+from aide_compare.base.ending import Fault, Status, reason
+from aide_compare.base.escapes import shown
+from aide_compare.base.files import open_regular
+from aide_compare.base.times import age_in_words, date_of
+from aide_compare.compare.reports import HEAD_BYTES, counts_of
+from aide_compare.hosts.fleet_store import Place, check_name
+from aide_compare.lines.cut_reports import KeptReport
+from aide_compare.lines.report_lines import Lines, Refused
+from aide_compare.lines.report_parts import read_report
+from aide_compare.show.readers import Reading
 
+MEMBERS = frozenset("record kind path path_hex summary type attributes uncertain severity reason".split())
 WHOLE, CUT, NO_LIST, UNREADABLE = "whole", "cut", "no list", "unreadable"
 # What a disk says of a place that is damaged, and a file system of the network of a file that is gone there.
 DAMAGED = (errno.EIO, errno.EBADMSG, errno.EUCLEAN, errno.ESTALE)
@@ -33,6 +35,12 @@ class Host:
     def differs(self):
         return 1 <= self.status <= 7
 
+    @property
+    def is_explained(self):
+        """Whether it has no change that somebody has to look at."""
+        reasons = self.state.reasons if self.differs and self.state else None
+        return self.status == 0 or bool(reasons and not reasons.unanswered)
+
     def fields(self):
         """Its object."""
         fields = {"record": "host", "host": shown(self.name, 200), "status": self.status}
@@ -42,6 +50,8 @@ class Host:
             return {**fields, "error": self.text}
         fields.update(zip(("added", "removed", "changed"), self.state.counts or (None,) * 3))
         fields["new_sha256"] = self.state.new_sha256
+        if self.state.reasons:
+            fields["reasons"] = self.state.reasons._asdict()
         return {**fields, "report": self.report, "listed": self.listed} if self.report else fields
 
 
@@ -76,8 +86,22 @@ def entries_of(host, report, descriptor):
         host.report = NO_LIST
 
 
+def lines_of(host, place):
+    """Yields the objects of the changes with their reasons, from the lines that were kept."""
+    with open(open_regular(place.file("lines")), "rb") as file:
+        for line in file:
+            fields = json.loads(line)
+            if fields["record"] == "entry":
+                host.listed += 1
+                yield {name: value for name, value in fields.items() if name in MEMBERS}
+    host.report = WHOLE if host.listed == sum(host.state.counts) else NO_LIST
+
+
 def changes_of(host, place):
     """Yields the objects of the changes of a host."""
+    if host.state.reasons and place.has("lines"):
+        yield from lines_of(host, place)
+        return
     try:
         descriptor = open_regular(place.file("report"))
     except Fault:

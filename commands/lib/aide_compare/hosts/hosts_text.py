@@ -1,10 +1,14 @@
 """The report of all hosts as text: which were not compared, which differ, and each change with the hosts that have it."""
-from aide_compare.escapes import guarded, shown
-from aide_compare.hosts_read import CUT, NO_LIST, UNREADABLE
-from aide_compare.report_values import STRENGTH
-from aide_compare.shown_text import letters_of
+from collections import Counter
 
-MOST_VALUE = 200
+from aide_compare.base.escapes import guarded, shown
+from aide_compare.base.shown_text import letters_of
+from aide_compare.compare.reason_counts import counted
+from aide_compare.hosts.host_changes import is_explained
+from aide_compare.hosts.hosts_read import CUT, NO_LIST, UNREADABLE
+from aide_compare.lines.report_values import STRENGTH
+
+MOST_VALUE, MOST_REASONS = 200, 100
 WHY = {
     CUT: ("its report was cut (--most-report of compare-hosts)", ", not all with values"),
     NO_LIST: ("its report has no list of them", ""),
@@ -18,7 +22,44 @@ ORDERS = {
 
 
 def headline(summary):
-    return "aide on %d hosts: %d differ, %d not compared" % (summary["hosts"], summary["differ"], summary["not_compared"])
+    explained = " (%d all explained)" % summary["explained"] if summary["explained"] else ""
+    return "aide on %d hosts: %d differ%s, %d not compared" % (
+        summary["hosts"],
+        summary["differ"],
+        explained,
+        summary["not_compared"],
+    )
+
+
+class Explained:
+    """The changes that are explained for certain, which have no lines of their own: how many there are by their reason."""
+
+    def __init__(self):
+        self.counts = Counter()
+
+    def take(self, changes):
+        """Yields the other changes."""
+        for fields in changes:
+            if not is_explained(fields):
+                yield fields
+                continue
+            text = fields["reason"]["text"]
+            self.counts[text if text in self.counts or len(self.counts) < MOST_REASONS else "other reasons"] += 1
+
+    def lines(self):
+        if self.counts:
+            yield "Explained:"
+            for text, count in sorted(self.counts.items(), key=lambda pair: (-pair[1], pair[0])):
+                yield "  %s: %s" % (shown(text, MOST_VALUE), counted(count, "different change"))
+            yield ""
+
+
+def reason_words(fields):
+    """The severity of a change and what is said of its reason; nothing without reasons."""
+    if "severity" not in fields:
+        return ""
+    reason = fields.get("reason")
+    return "%s, %s" % (fields["severity"], "not verified: " + shown(reason["text"], MOST_VALUE) if reason else "unexplained")
 
 
 def value_of(both, side, label):
@@ -57,6 +98,8 @@ def change_lines(fields, hosts):
     more = fields["hosts"] - len(fields["names"])
     yield "%s on %d of %d hosts: %s %s" % (fields["kind"], fields["hosts"], hosts, fields.get("type", "Entry"), shown(path))
     yield "    on " + ", ".join(fields["names"]) + (" and %d more" % more if more else "")
+    if "severity" in fields:
+        yield "    " + reason_words(fields)
     line = ", ".join(values(fields))
     if line:
         yield "    " + line
@@ -112,9 +155,11 @@ def report_lines(summary, hosts, changes, order, most=1 << 62):
     if summary["changes"]:
         yield "%d different changes, %s:" % (summary["changes"], ORDERS[order])
         yield ""
-    for fields in changes:
+    explained = Explained()
+    for fields in explained.take(changes):
         yield from change_lines(fields, summary["hosts"])
         yield ""
+    yield from explained.lines()
 
 
 def fitting(summary, hosts, changes, order, room):
@@ -122,8 +167,8 @@ def fitting(summary, hosts, changes, order, room):
     is the same take half of it at most, so that one host cannot crowd out what the others have."""
     lines, left_out, taken = list(report_lines(summary, hosts, (), order, max(room // 2000, 10))), 0, {}
     room -= size_of(lines)
-    share = room // 2
-    for fields in changes:
+    share, explained = room // 2, Explained()
+    for fields in explained.take(changes):
         block = list(change_lines(fields, summary["hosts"])) + [""]
         size, first = size_of(block), fields["names"][0]
         if size > room or taken.get(first, 0) + size > share:
@@ -132,7 +177,7 @@ def fitting(summary, hosts, changes, order, room):
             room -= size
             taken[first] = taken.get(first, 0) + size
             lines += block
-    return lines, left_out
+    return lines + list(explained.lines())[:MOST_REASONS], left_out
 
 
 def size_of(lines):

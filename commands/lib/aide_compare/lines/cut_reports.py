@@ -2,7 +2,7 @@
 import os
 import re
 
-from aide_compare.report_lines import LINE_LIMIT, RULE
+from aide_compare.lines.report_lines import LINE_LIMIT, RULE
 
 # The last line of a report that was cut. No line of a report itself begins so.
 CUT_WORDS = "compare-host: cut here: the report has %d bytes, and --most-report allows %d\n"

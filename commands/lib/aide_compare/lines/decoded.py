@@ -5,14 +5,14 @@ in any case. Bytes of others are escaped in every text.
 """
 from functools import lru_cache
 
-from aide_compare.decoded_acl import acl_text
-from aide_compare.decoded_base import exact_bytes
-from aide_compare.decoded_caps import named_capabilities
-from aide_compare.decoded_flags import flags_text
-from aide_compare.decoded_times import time_text
-from aide_compare.decoded_xattrs import label_text, xattrs_text
-from aide_compare.escapes import shown
-from aide_compare.shown_text import letters_of
+from aide_compare.base.escapes import shown
+from aide_compare.base.shown_text import letters_of
+from aide_compare.lines.decoded_acl import acl_text
+from aide_compare.lines.decoded_base import exact_bytes
+from aide_compare.lines.decoded_caps import named_capabilities
+from aide_compare.lines.decoded_flags import flags_text
+from aide_compare.lines.decoded_times import time_text
+from aide_compare.lines.decoded_xattrs import label_text, xattrs_text
 
 # The first letter of a mode by the type of the file in words, as reports name it.
 TYPE_LETTERS = {

@@ -1,8 +1,8 @@
 """Access control lists: `POSIX,` and the two lists of a file in base 64, each in the long text form of acl(5)."""
 import re
 
-from aide_compare.decoded_base import MOST, cut, from_base64
-from aide_compare.escapes import shown
+from aide_compare.base.escapes import shown
+from aide_compare.lines.decoded_base import MOST, cut, from_base64
 
 # An entry; what a mask takes away of it stands behind it, as getfacl prints it. A name has no byte that ends it.
 ENTRY = re.compile(rb"((?:user|group|mask|other):[^\x00-\x20:,#\x7f]{0,300}:[r-][w-][x-])(?:[\t ]+(#effective:[r-][w-][x-]))?")

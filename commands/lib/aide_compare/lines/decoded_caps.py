@@ -2,7 +2,7 @@
 import re
 import struct
 
-from aide_compare.decoded_base import cut, from_base64
+from aide_compare.lines.decoded_base import cut, from_base64
 
 # capabilities(7), in the order of their numbers.
 NAMES = (

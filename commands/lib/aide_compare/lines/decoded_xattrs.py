@@ -3,9 +3,9 @@ import base64
 import re
 from urllib.parse import unquote_to_bytes
 
-from aide_compare.decoded_base import MOST, cut, from_base64
-from aide_compare.decoded_caps import file_capabilities
-from aide_compare.escapes import shown
+from aide_compare.base.escapes import shown
+from aide_compare.lines.decoded_base import MOST, cut, from_base64
+from aide_compare.lines.decoded_caps import file_capabilities
 
 NUMBER = re.compile(rb"0|[1-9][0-9]{0,5}")
 TEXT = re.compile(rb"[^\x00-\x08\x0b-\x1f\x7f]*\x00?")

@@ -3,11 +3,11 @@ import base64
 import json
 import re
 
-from aide_compare.decoded import decoded
-from aide_compare.decoded_acl import acl_lists
-from aide_compare.decoded_base import exact_bytes
-from aide_compare.decoded_xattrs import attributes_of
-from aide_compare.files import nameless
+from aide_compare.base.files import nameless
+from aide_compare.lines.decoded import decoded
+from aide_compare.lines.decoded_acl import acl_lists
+from aide_compare.lines.decoded_base import exact_bytes
+from aide_compare.lines.decoded_xattrs import attributes_of
 
 BLOCK = 1 << 18
 KINDS = ("added", "removed", "changed")

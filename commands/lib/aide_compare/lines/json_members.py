@@ -4,12 +4,12 @@ import os
 import re
 import time
 
-from aide_compare.ending import Fault, Status
-from aide_compare.escapes import shown
-from aide_compare.report_lines import put_bytes
-from aide_compare.reports import status_of
-from aide_compare.state import read_state
-from aide_compare.times import date_of
+from aide_compare.base.ending import Fault, Status
+from aide_compare.base.escapes import shown
+from aide_compare.base.times import date_of
+from aide_compare.compare.reports import status_of
+from aide_compare.compare.state import read_state
+from aide_compare.lines.report_lines import put_bytes
 
 REFUSED = 65
 NAME = re.compile("[A-Za-z_@][A-Za-z0-9_.@-]{0,63}")

@@ -2,7 +2,7 @@
 import json
 import re
 
-from aide_compare.report_shapes import Written
+from aide_compare.lines.report_shapes import Written
 
 encode = json.JSONEncoder(separators=(",", ":")).encode
 # A path that JSON has as it is: printable ASCII without quotes and backslashes.

@@ -1,11 +1,11 @@
 """The objects of the entries of a report, in JSON: what the lists and the details say of each, in the order of paths."""
 import heapq
 
-from aide_compare.report_details import read_detail
-from aide_compare.report_lines import Refused, put_bytes
-from aide_compare.report_marks import misfit
-from aide_compare.report_shapes import ShapedDetail
-from aide_compare.report_values import TYPES, attribute_of
+from aide_compare.lines.report_details import read_detail
+from aide_compare.lines.report_lines import Refused, put_bytes
+from aide_compare.lines.report_marks import misfit
+from aide_compare.lines.report_shapes import ShapedDetail
+from aide_compare.lines.report_values import TYPES, attribute_of
 
 
 class Making:

@@ -3,12 +3,12 @@ import base64
 import re
 from collections import namedtuple
 
-from aide_compare.files import nameless
-from aide_compare.report_details import read_details
-from aide_compare.report_lines import Refused, put_bytes, unprinted
-from aide_compare.report_objects import Making, objects_of
-from aide_compare.report_shapes import Shapes
-from aide_compare.report_values import Digests
+from aide_compare.base.files import nameless
+from aide_compare.lines.report_details import read_details
+from aide_compare.lines.report_lines import Refused, put_bytes, unprinted
+from aide_compare.lines.report_objects import Making, objects_of
+from aide_compare.lines.report_shapes import Shapes
+from aide_compare.lines.report_values import Digests
 
 FORMAT = 1
 LEVELS = [

@@ -9,10 +9,10 @@ import re
 from collections import Counter
 from operator import ne
 
-from aide_compare.report_lines import Lines, Refused, unprinted
-from aide_compare.report_marks import misfit
-from aide_compare.report_pieces import Piece, picker
-from aide_compare.report_values import FORMS, TYPES
+from aide_compare.lines.report_lines import Lines, Refused, unprinted
+from aide_compare.lines.report_marks import misfit
+from aide_compare.lines.report_pieces import Piece, picker
+from aide_compare.lines.report_values import FORMS, TYPES
 
 # A shape has to come so often before it gets a pattern. So many of the same attributes are tried at an entry, and no further
 # shapes are counted after so many.

@@ -5,7 +5,7 @@ import re
 from collections import namedtuple
 from datetime import datetime, timedelta
 
-from aide_compare.report_lines import Refused, put_bytes, unprinted
+from aide_compare.lines.report_lines import Refused, put_bytes, unprinted
 
 PIECE = 32
 TYPES = {
