@@ -1,5 +1,6 @@
 """Evidence from packages of a signed archive, which root on the host cannot forge."""
 import os
+from collections import namedtuple
 
 from aide_compare.reasons.deb import read_deb
 from aide_compare.reasons.indexes import ArchiveFolder, Index
@@ -10,26 +11,40 @@ INFO = b"/var/lib/dpkg/info/"
 # What dpkg itself writes of a package, beside what the package brings.
 DPKGS_OWN = (b"list", b"md5sums")
 
+# What a package has at a path: the mode with the type, the numbers of user and group, digests of a file, the target of a link.
+Member = namedtuple("Member", "package mode owner digests link")
+
+
+def has_rights_of(member, new):
+    """Whether an entry has the mode, the owner and the group that a package has at its path, and no other rights. The mode of
+    a link says nothing."""
+    return (new.is_link() or new.mode == member.mode) and new.user_and_group() == member.owner and not new.has_more_rights()
+
 
 class Asked:
-    """The paths that are asked for, how a path of a package is mapped to one of these, and which digests are asked for."""
+    """The paths that are asked for, how a path is written in the database, and which digests are asked for."""
 
-    def __init__(self, paths, place_of, columns):
-        self.paths, self.place_of, self.columns = paths, place_of, columns
+    def __init__(self, paths, usr, columns):
+        self.paths, self.usr, self.columns = paths, usr, columns
 
 
 class Archive:
-    """The packages that are there as the signed indexes list them: `covered` says which, by their names and versions."""
+    """The packages that are there as the signed indexes list them: `covered` says which, by their names and versions, and
+    `listed` which ones an index has.
+
+    A file of a package is at its own path, and nowhere else: a diversion is a record of the host, which nobody signs."""
 
     def __init__(self, folders, keyrings):
         self.folders = [ArchiveFolder(path) for path in folders]
         self.index = Index(self.folders, keyrings)
-        self.covered, self.files, self.links, self.controls = set(), {}, {}, {}
+        self.listed, self.covered, self.members, self.controls = set(), set(), {}, {}
 
     def gather(self, packages, asked):
         """Reads what these packages have at the paths that are asked for."""
-        keys = {(package.name, package.version, package.arch): package for package in packages}
-        for key, wanted in self.index.find(keys).items():
+        keys = {package.key: package for package in packages}
+        found = self.index.find(keys)
+        self.listed.update(found)
+        for key, wanted in found.items():
             package = keys[key]
             for name in self._names(key, wanted.name):
                 if self._read(name, wanted, package, asked):
@@ -62,24 +77,24 @@ class Archive:
         return False
 
     def _take(self, copy, package, asked):
-        found = read_deb(copy, lambda path: asked.place_of(path, package) in asked.paths, asked.columns)
-        self.files.update((asked.place_of(path, package), digests) for path, digests in found.digests.items())
-        self.links.update((asked.place_of(path, package), link) for path, link in found.links.items())
+        found = read_deb(copy, lambda path: asked.usr(path) in asked.paths, asked.columns)
+        for path, (mode, owner) in found.heads.items():
+            member = Member(package, mode, owner, found.digests.get(path, {}), found.links.get(path))
+            self.members.setdefault(asked.usr(path), []).append(member)
         for base in (package.name, package.name + b":" + package.arch):
             self.controls.setdefault(INFO + base, {}).update(found.control)
 
-    def covering(self, packages):
-        """The first of these packages that is there as its index says."""
-        return next((package for package in packages if (package.name, package.version, package.arch) in self.covered), None)
+    def lists(self, package):
+        """Whether an index has this version of a package."""
+        return package.key in self.listed
 
-    def has(self, path):
-        return path in self.files or path in self.links
+    def covers(self, packages):
+        """Whether one of these packages is there as its index says."""
+        return any(package.key in self.covered for package in packages)
 
-    def digests(self, path):
-        return self.files.get(path, {})
-
-    def link(self, path):
-        return self.links.get(path)
+    def at(self, path):
+        """What packages have at a path."""
+        return self.members.get(path, ())
 
     def control(self, path):
         """The digests of one of dpkg's files about a covered package; {} if the package does not bring it, None if nothing is

@@ -2,13 +2,14 @@
 import hashlib
 import os
 
-from aide_compare.ending import Fault
-from aide_compare.files import open_regular
+from aide_compare.base.ending import Fault
+from aide_compare.base.files import open_regular
 from aide_compare.reasons.entries import DIGESTS
 
 # The columns of digests that are computed here: those that every Python computes, by the same name.
 COMPUTED = DIGESTS & hashlib.algorithms_guaranteed
 BLOCK = 1 << 18
+STRONG = 32  # The bytes of a digest of 256 bits.
 
 
 class Hashes:
@@ -29,6 +30,22 @@ def do_agree(given, wanted):
     """Whether two sets of digests have at least one in common, and all that they have in common are equal."""
     common = given.keys() & wanted.keys()
     return bool(common) and all(given[column] == wanted[column] for column in common)
+
+
+def bytes_of(path, entry, most):
+    """The bytes of a file of this machine, at most so many, if they have the digests of its entry in the database, and one of
+    these has at least 256 bits; None otherwise."""
+    known = {column: digest for column, digest in entry.digests().items() if column in COMPUTED}
+    if not any(len(digest) >= STRONG for digest in known.values()):
+        return None
+    try:
+        with open(open_regular(os.fsdecode(path)), "rb") as file:
+            text = file.read(most + 1)
+    except (Fault, OSError):
+        return None
+    hashes = Hashes(known)
+    hashes.update(text)
+    return text if len(text) <= most and hashes.digests() == known else None
 
 
 class Contents:

@@ -1,8 +1,8 @@
 """Finds the entries of a database for paths that come in order, and reads a found one again."""
 import os
 
-from aide_compare.ending import Fault, Status
-from aide_compare.path_keys import key_of
+from aide_compare.base.ending import Fault, Status
+from aide_compare.base.path_keys import key_of, key_of_path
 from aide_compare.reasons.entries import Entry, fields_of
 
 LINE = (1 << 20) + 1
@@ -70,3 +70,15 @@ class Database:
         if len(fields) != len(places):
             raise Fault(Status.DATABASE, "a line of the %s database has not as many fields as columns" % self.side)
         return Entry(fields, places)
+
+
+def entries_at(descriptor, side, paths):
+    """The entries that a database has for these paths, each with its path, in one pass."""
+    database = Database(descriptor, side)
+    try:
+        for key, path in sorted((key_of_path(path), path) for path in paths):
+            place = database.find(key)
+            if place is not None:
+                yield path, database.at(place)
+    finally:
+        database.close()

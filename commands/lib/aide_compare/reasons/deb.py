@@ -1,7 +1,9 @@
 """Reads a Debian package: the digests of its files, where its links point to, and the digests of what dpkg keeps of it."""
 import os
 import re
+import stat
 import tarfile
+from collections import namedtuple
 
 from aide_compare.reasons.content import Hashes
 from aide_compare.reasons.packed import Bounded, Refuted, copied, members, unpacked
@@ -71,15 +73,27 @@ class _Tar:
         return hashes.digests()
 
 
+Head = namedtuple("Head", "mode owner")
+
+
 class Contents:
-    """What a package has at the paths that are asked for: digests of files, and targets of symbolic links."""
+    """What a package has at the paths that are asked for: digests of files, targets of symbolic links, and of these and of
+    folders the `heads`, each with the mode, the type in it, and the numbers of user and group."""
 
     def __init__(self):
-        self.digests, self.links, self.control = {}, {}, {}
+        self.digests, self.links, self.control, self.heads = {}, {}, {}, {}
+
+
+def _head(member):
+    """The Head of a member. A hard link is the file that it links to, and has the mode of it."""
+    kind = stat.S_IFDIR if member.isdir() else stat.S_IFLNK if member.issym() else stat.S_IFREG
+    return Head(kind | (member.mode & 0o7777), (member.uid, member.gid))
 
 
 def _read_part(name, tar, wants, columns, found):
     for path, member in tar.each(wants if name == "data" else lambda path: path != b"/"):
+        if name == "data" and (member.issym() or member.isdir() or member.isreg() or member.islnk()):
+            found.heads[path] = _head(member)
         if member.issym():
             found.links[path] = os.fsencode(member.linkname)
         elif member.isreg() or member.islnk():

@@ -4,13 +4,16 @@ import binascii
 import re
 import stat
 
-from aide_compare.path_keys import decoded
+from aide_compare.base.path_keys import decoded
 
 FIELDS = re.compile(rb"[^ \t]+")
 ODD_BLANKS = re.compile(rb"[\x0b\x0c\r]")
 ABSENT = b"0"
+OTHERS_WRITE = 0o022
 
 SIZE_ONLY_GROWS, SAME_INODE, NEW_FILES, REMOVED_FILES, GROWING, COMPRESSED = (1 << bit for bit in (26, 27, 28, 29, 40, 41))
+USER, GROUP = 1 << 3, 1 << 4
+OWNER = USER | GROUP
 SPECIAL = SIZE_ONLY_GROWS | SAME_INODE | NEW_FILES | REMOVED_FILES | GROWING | COMPRESSED
 
 DIGESTS = frozenset(
@@ -78,6 +81,10 @@ class Entry:
     def number(self, column):
         return number(self.field(column))
 
+    def user(self):
+        """The number of the user whose entry it is; None if its rule did not ask."""
+        return self.number("uid") if self.bits & USER and "uid" in self.places else None
+
     def time(self, column):
         """A time in seconds, or None. It is a number, or the base64 of one; before 1970 it has a sign."""
         field = self.field(column)
@@ -116,12 +123,25 @@ class Entry:
     def is_link(self):
         return stat.S_ISLNK(self.mode)
 
+    def user_and_group(self):
+        """The numbers of its user and its group, None if its rule did not ask for both."""
+        return (self.number("uid"), self.number("gid")) if self.bits & OWNER == OWNER else None
+
+    def is_closed(self):
+        """Whether nobody but root can write it, as far as its owner, its group and its mode say. The mode of a link says
+        nothing."""
+        return self.user_and_group() == (0, 0) and self.is_plain() and (self.is_link() or not self.mode & OTHERS_WRITE)
+
     def is_plain(self):
         """Whether it belongs to root, and nothing beyond its mode gives a right to anybody: no access list, no capability,
         no extended attribute. Of a link AIDE reads the capabilities of the file that it points to."""
+        return self.number("uid") == 0 and not self.has_more_rights()
+
+    def has_more_rights(self):
+        """Whether something beyond its mode gives a right."""
         has_more = any(self.field(column) != ABSENT for column in ("capabilities", "xattrs"))
         has_list = self.field("acl") != ABSENT and not _is_base_acl(self.field("acl"))
-        return self.number("uid") == 0 and (self.is_link() or not (has_more or has_list))
+        return not self.is_link() and (has_more or has_list)
 
 
 def _is_base_acl(field):

@@ -1,5 +1,5 @@
 """The evidence that the command line names: packages, archives, rules and the table of severities."""
-from aide_compare.ending import Fault, Status
+from aide_compare.base.ending import Fault, Status
 from aide_compare.reasons.archive import Archive
 from aide_compare.reasons.packages import Packages
 from aide_compare.reasons.records import KeptRecords, records_now
@@ -15,6 +15,14 @@ class Evidence:
     def __init__(self, rules, severity, packages=None):
         self.rules, self.severity, self.packages = rules, severity, packages
 
+    def doubt(self):
+        """Why not all that packages explain is verified; "" if nothing is to be said."""
+        return self.packages.doubt() if self.packages else ""
+
+    def came(self):
+        """The packages that came new, each with whether a signed index has it; None if none was asked."""
+        return self.packages.came() if self.packages else []
+
 
 def _packages_of(given):
     if not given.packages:
@@ -23,13 +31,14 @@ def _packages_of(given):
         return None
     old = KeptRecords(given.packages)
     new = KeptRecords(given.packages_now) if given.packages_now else records_now()
+    beside = [KeptRecords(path) for path in [getattr(given, "packages_beside", None)] if path]
     if (RPM_NAME in old.names) != (RPM_NAME in new.names):
         raise Fault(Status.USAGE, "the records of one night are dpkg's, and those of the other are rpm's")
     if RPM_NAME not in old.names:
-        return Packages(old, new, Archive(given.archive, given.keyring) if given.archive else None)
+        return Packages([old], beside + [new], Archive(given.archive, given.keyring) if given.archive else None)
     if given.archive:
         raise Fault(Status.USAGE, "--archive has packages of dpkg, and the records are rpm's")
-    return RpmPackages(old.read(RPM_NAME), new.read(RPM_NAME))
+    return RpmPackages(old.read(RPM_NAME), new)
 
 
 def evidence_of(given):

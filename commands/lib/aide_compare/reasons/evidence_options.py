@@ -1,5 +1,5 @@
 """The options that name evidence. They load none of the modules that read it."""
-from aide_compare.options import some_text
+from aide_compare.base.options import some_text
 
 
 def add_evidence_options(parser):

@@ -1,26 +1,34 @@
 """Explains the entries of a report by the two databases and by evidence. Nothing is taken out, and nothing else changes."""
-import json
-
-from aide_compare.ending import Fault, Status
-from aide_compare.escapes import shown
-from aide_compare.files import nameless
-from aide_compare.path_keys import key_of_path
+from aide_compare.base.ending import Fault, Status
+from aide_compare.base.escapes import shown
+from aide_compare.base.path_keys import key_of_path
+from aide_compare.reasons.certificates import Certificates
 from aide_compare.reasons.change import Change
+from aide_compare.reasons.compiled import Compiled
 from aide_compare.reasons.database import Database
 from aide_compare.reasons.entries import differences
 from aide_compare.reasons.growing import explain_added, explain_growing, explain_removed
+from aide_compare.reasons.merged import Merged
 from aide_compare.reasons.moves import Moves
 from aide_compare.reasons.parents import Parents
 from aide_compare.reasons.protected import is_never_explained
-from aide_compare.reasons.reason import Tally
+from aide_compare.reasons.reason import LEVELS, Tally
+from aide_compare.reasons.same_content import SAME, explain_same
+from aide_compare.reasons.sums import Sums
 
-BLOCK = 1 << 18
+LOW = LEVELS[-1]
 PRESENT = {"added": (False, True), "removed": (True, False), "changed": (True, True)}
 
 
 def path_of(fields):
     """The bytes of the path of an entry."""
     return bytes.fromhex(fields["path_hex"]) if "path_hex" in fields else fields["path"].encode("utf-8", "surrogatepass")
+
+
+def least_owner(old, new):
+    """The user whose change it is: root, if root's entry is among the two; None if one of them does not say."""
+    owners = [entry.user() for entry in (old, new) if entry]
+    return 0 if 0 in owners else None if None in owners else min(owners)
 
 
 def members_of(change):
@@ -39,21 +47,6 @@ class Explainer:
         self.old, self.new, self.evidence, self.counts = Database(old_fd, "old"), Database(new_fd, "new"), evidence, None
         self.modes = {}  # Each mode once: there are few of them, and many entries.
 
-    def explain(self, objects):
-        """Yields the objects of entries, which come in path order, each with its severity, and its reason if it has one."""
-        with open(nameless(), "w+b", buffering=BLOCK) as kept:
-            changes = self.judge(self._keep(objects, kept))
-            kept.seek(0)
-            for line, change in zip(kept, changes):
-                yield {**json.loads(line), **members_of(change)}
-
-    @staticmethod
-    def _keep(objects, kept):
-        """Writes the objects to a private file, since there may be more of them than fit in memory."""
-        for fields in objects:
-            kept.write(json.dumps(fields, separators=(",", ":")).encode() + b"\n")
-            yield fields
-
     def judge(self, objects):
         """The changes that objects of entries mean, in their order, each with its severity and perhaps a reason."""
         changes = [self._found(fields) for fields in objects]
@@ -63,10 +56,17 @@ class Explainer:
         self._explain_each(changes, self._by_content)
         if packages:
             packages.drop_unseen_links()
+            self._explain_derived(changes)
         Moves(changes, self.read).explain()
         self._explain_each(changes, self._by_place)
         Parents(self.read, packages.owner_of if packages else lambda change: None).explain(changes)
         return self._weigh(changes)
+
+    def _explain_derived(self, changes):
+        """Explains what programs make of files that are verified by then."""
+        Compiled(changes, self.read).explain()
+        Certificates(changes, self.read).explain()
+        Sums(changes, self.read, Merged(self.new.fd, self.new.side).usr).explain()
 
     def _found(self, fields):
         """The change that an object means, found in the databases."""
@@ -83,6 +83,7 @@ class Explainer:
         change.old_mode, change.new_mode = (
             self.modes.setdefault(entry.mode, entry.mode) if entry else 0 for entry in (old, new)
         )
+        change.owner = least_owner(old, new)
         change.is_replaced = not (old and new) or old.field("inode") != new.field("inode")
         change.is_never = is_never_explained(path, change.old_mode, change.new_mode)
         return change
@@ -108,8 +109,9 @@ class Explainer:
 
     def _by_place(self, change, old, new, differ):
         """The reason that the place gives: what AIDE's rules, packages or the administrator expect there."""
-        reason = None
-        if not (old and new):
+        if old and new:
+            reason = explain_same(old, new, differ)
+        else:
             reason = explain_added(new) if new else explain_removed(old)
         if reason is None and self.evidence.packages:
             reason = self.evidence.packages.explain_made(change, old, new, differ)
@@ -119,6 +121,8 @@ class Explainer:
         tally = Tally()
         for change in changes:
             change.severity = self.evidence.severity.of(change.path, change.old_mode, change.new_mode)
+            if change.reason is SAME:
+                change.severity = LOW
             tally.add(change.reason, change.severity)
         self.counts = tally.counts()
         return changes

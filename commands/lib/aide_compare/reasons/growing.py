@@ -2,7 +2,7 @@
 
 The bit of `growing`, of `I` and of `ARF` counts in the old database, that of `ANF` in the new one, as in AIDE's --compare.
 """
-from aide_compare.escapes import shown
+from aide_compare.base.escapes import shown
 from aide_compare.reasons.entries import DIGESTS, GROWING, NEW_FILES, REMOVED_FILES, SAME_INODE, TIMES
 from aide_compare.reasons.reason import Reason
 

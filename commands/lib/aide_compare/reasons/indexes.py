@@ -6,17 +6,19 @@ import stat
 import subprocess
 from collections import namedtuple
 
-from aide_compare.ending import Fault, Status, reason
-from aide_compare.escapes import shown
-from aide_compare.files import reopened
-from aide_compare.folders import open_folder
+from aide_compare.base.ending import Fault, Status, reason
+from aide_compare.base.escapes import shown
+from aide_compare.base.files import reopened
+from aide_compare.base.folders import open_folder
 from aide_compare.reasons.packed import Refuted, copied, unpacked
-from aide_compare.reasons.trusted import open_trusted
+from aide_compare.base.trusted import open_trusted
+from aide_compare.reasons.vouched import Vouched
 
 LISTED = re.compile(rb"^ ([0-9a-f]{64}) +([0-9]+) +(\S+)$", re.M)
 SECTION = re.compile(rb"^SHA256:\s*\n((?: .*\n?)+)", re.M)
 KEYRING = "/usr/share/keyrings/debian-archive-keyring.gpg"
 RELEASE, SUFFIXES = "InRelease", ("", ".xz", ".gz", ".bz2", ".zst", ".lz4")
+MOST_KEYRING = 64 << 20
 MOST_RELEASE, MOST_INDEX, MOST_NAMES, SECONDS = 8 << 20, 1 << 30, 100000, 60
 PIECE = os.O_RDONLY | os.O_NOFOLLOW | os.O_NONBLOCK | os.O_NOCTTY | os.O_CLOEXEC
 
@@ -104,8 +106,16 @@ class Index:
     """The packages that the signed indexes of some folders list, of those that are wanted."""
 
     def __init__(self, folders, keyrings):
-        self.folders = folders
+        self.folders, self.paths = folders, [os.path.realpath(path) for path in keyrings or [KEYRING]]
         self.keyrings = [open_trusted(path, "the keyring") for path in keyrings or [KEYRING]]
+
+    def doubt(self, database):
+        """Why a keyring is not what a database says of it; "" if it is, or if the database has no digest of it."""
+        vouched = Vouched(database.fd, database.side, [os.fsencode(path) for path in self.paths])
+        for path, descriptor in zip(map(os.fsencode, self.paths), self.keyrings):
+            if vouched.digests.get(path) and not vouched.has(path, os.pread(descriptor, MOST_KEYRING, 0)):
+                return vouched.why_not(path)
+        return ""
 
     def find(self, keys):
         """What the indexes list of the packages with these names, versions and architectures."""
@@ -132,10 +142,10 @@ class Index:
         finally:
             os.close(copy)
         listed, section = {}, SECTION.search(text or b"")
-        for digest, _, path in LISTED.findall(section.group(1) if section else b""):
+        for digest, size, path in LISTED.findall(section.group(1) if section else b""):
             path, _, ending = path.decode("utf-8", "replace").partition("Packages")
             if (not path or path.endswith("/")) and (not ending or "." + ending[1:] in SUFFIXES) and ".." not in path:
-                listed.setdefault(path + "Packages", {})[ending] = digest.decode()
+                listed.setdefault(path + "Packages", {})[ending] = digest.decode(), min(int(size[:12]), MOST_INDEX)
         return listed
 
     @staticmethod
@@ -146,17 +156,35 @@ class Index:
             if descriptor is None:
                 continue
             try:
-                packed, digest = copied(descriptor, None, MOST_INDEX)
-                plain, plain_digest = unpacked(packed, ending[1:], MOST_INDEX)
-                os.close(packed)
-                with open(plain, "rb") as file:
-                    if digest == digests.get(ending) or plain_digest == digests.get(""):
+                file = _signed(descriptor, ending, digests)
+                if file:
+                    with file:
                         found.update(_paragraphs(file, keys))
-                        return
+                    return
             except Refuted:
                 continue
             finally:
                 os.close(descriptor)
+
+
+def _signed(descriptor, ending, digests):
+    """The text of an index, or None if nobody has signed it. Only what has a signed digest is unpacked; of a form without one,
+    in which a tool of this machine has packed it anew, no more than the signed size of the text."""
+    sha256, size = digests.get(ending, digests.get("", (None, 0)))
+    is_signed = ending in digests
+    if sha256 is None:
+        return None
+    packed, digest = copied(descriptor, None, size if is_signed else MOST_INDEX)
+    try:
+        if is_signed and digest != sha256:
+            return None
+        plain, plain_digest = unpacked(packed, ending[1:], digests.get("", (None, MOST_INDEX))[1] if is_signed else size)
+    finally:
+        os.close(packed)
+    if is_signed or plain_digest == sha256:
+        return open(plain, "rb")
+    os.close(plain)
+    return None
 
 
 def _paragraphs(file, keys):

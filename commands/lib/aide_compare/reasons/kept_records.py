@@ -8,21 +8,22 @@ import io
 import os
 import re
 
-from aide_compare.ending import Fault, reason
-from aide_compare.escapes import shown
-from aide_compare.files import nameless, open_regular
+from aide_compare.base.ending import Fault, reason, write_all
+from aide_compare.base.escapes import shown
+from aide_compare.base.files import nameless, open_regular
 
 SUFFIX = ".packages"
-MARK = "aide-compare baseline sha256=%s\n"
+MARK, PART_OF = "aide-compare baseline sha256=%s%s\n", " part of sha256=%s"
 # The member is stored, not packed, so its text can be read at the end of the file. A sum and a size of eight bytes follow.
-MARKED = re.compile(rb"aide-compare baseline sha256=([0-9a-f]{64})\n.{8}\Z", re.DOTALL)
-END_BYTES = 200
+MARKED = re.compile(rb"aide-compare baseline sha256=([0-9a-f]{64})(?: part of sha256=[0-9a-f]{64})?\n.{8}\Z", re.DOTALL)
+END_BYTES = 300
 
 
-def _mark(digest):
+def mark_of(digest, accepted):
+    """The member that names a baseline, and the database that was accepted if only a part of it became the baseline."""
     text = io.BytesIO()
     with gzip.GzipFile(filename="", mode="wb", compresslevel=0, fileobj=text, mtime=0) as member:
-        member.write((MARK % digest).encode())
+        member.write((MARK % (digest, "" if accepted == digest else PART_OF % accepted)).encode())
     return text.getvalue()
 
 
@@ -33,8 +34,9 @@ def _whose():
     return "dpkg's" if has_records() else "rpm's" if has_rpm() else ""
 
 
-def records_for(digest):
-    """A descriptor of the records of now, for the baseline with this digest; None on a machine without dpkg and rpm."""
+def records_for(digest, accepted):
+    """A descriptor of the records of now, for the baseline with this digest, which was made of the database `accepted`; None on
+    a machine without dpkg and rpm."""
     from aide_compare.reasons.records import write_records
 
     if not _whose():
@@ -43,11 +45,32 @@ def records_for(digest):
     try:
         with open(os.dup(target), "wb") as file:
             write_records(file)
-            file.write(_mark(digest))
+            file.write(mark_of(digest, accepted))
         return target
     except BaseException:
         os.close(target)
         raise
+
+
+def _of_that_time(path, digest, accepted):
+    """A descriptor of a copy of records that belong to the database `accepted`, for the baseline with this digest, or None."""
+    from aide_compare.reasons.packed import Refuted, copied
+    from aide_compare.reasons.records import MOST_ALL
+
+    if path is None or not os.path.lexists(path):
+        return None
+    descriptor = open_regular(path, "the packages' records ")
+    try:
+        if digest_in(descriptor) != accepted:
+            return None
+        target = copied(descriptor, None, MOST_ALL)[0]
+        os.lseek(target, 0, os.SEEK_END)
+        write_all(target, b"" if digest == accepted else _mark(digest, accepted))
+        return target
+    except Refuted:
+        return None
+    finally:
+        os.close(descriptor)
 
 
 def digest_in(descriptor):
@@ -73,10 +96,15 @@ class Records:
     change any more, and the new ones come after it: so at no moment the records of an older time are beside a newer
     baseline, and a baseline that stays keeps its own."""
 
-    def __init__(self, baseline, digest):
+    def __init__(self, baseline, digest, accepted=None, beside=None):
+        """`accepted` is the digest of the database of which the baseline was made, and `beside` is where records of its time
+        may be. They are taken rather than those of now, in which a later upgrade is."""
         self.baseline, self.digest, self.why, self.fd = baseline, digest, "", None
+        self.time = "now"
         try:
-            self.fd = records_for(digest)
+            self.fd = _of_that_time(beside, digest, accepted or digest)
+            self.time = "now" if self.fd is None else "the database's time"
+            self.fd = records_for(digest, accepted or digest) if self.fd is None else self.fd
         except Fault as fault:
             self.why = fault.text
         except OSError as error:
@@ -100,4 +128,4 @@ class Records:
             self.baseline.put_beside(self.fd, SUFFIX)
         except Fault as fault:
             return "no packages' records were kept as %s: %s" % (place, fault.text)
-        return "packages: %s records of now are kept as %s" % (_whose(), place)
+        return "packages: %s records of %s are kept as %s" % (_whose(), self.time, place)

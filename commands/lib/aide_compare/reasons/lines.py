@@ -1,10 +1,10 @@
 """The lines of aide-compare-json: read whole and kept, then written with their reasons, and otherwise byte for byte."""
 import json
 
-from aide_compare.files import nameless
-from aide_compare.json_lines import KINDS, LINE_LIMIT
+from aide_compare.base.files import nameless
+from aide_compare.lines.json_lines import KINDS, LINE_LIMIT
+from aide_compare.lines.report_lines import Refused
 from aide_compare.reasons.explainer import members_of, path_of
-from aide_compare.report_lines import Refused
 
 BLOCK = 1 << 18
 OURS = ("severity", "reason", "reasons")

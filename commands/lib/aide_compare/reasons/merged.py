@@ -1,21 +1,16 @@
 """The folders that are links to the same name in /usr, such as /bin, as a database says."""
-from aide_compare.path_keys import key_of_path
-from aide_compare.reasons.database import Database
+from aide_compare.reasons.database import entries_at
 
 MERGED = (b"/bin", b"/lib", b"/lib32", b"/lib64", b"/libx32", b"/sbin")
 
 
 def merged_in(descriptor, side):
     """The folders that are links to the same name in /usr, each with the path that it points to."""
-    database, merged = Database(descriptor, side), {}
-    try:
-        for path in MERGED:
-            place = database.find(key_of_path(path))
-            if place is not None and database.at(place).link() in (b"usr" + path, b"/usr" + path):
-                merged[path] = b"/usr" + path
-        return merged
-    finally:
-        database.close()
+    return {
+        path: b"/usr" + path
+        for path, entry in entries_at(descriptor, side, MERGED)
+        if entry.link() in (b"usr" + path, b"/usr" + path)
+    }
 
 
 class Merged:

@@ -2,7 +2,7 @@
 import re
 import stat
 
-from aide_compare.escapes import shown
+from aide_compare.base.escapes import shown
 from aide_compare.reasons.entries import ABSENT, COMPRESSED, NEW_FILES, differences
 from aide_compare.reasons.growing import GROWS, explain_move
 from aide_compare.reasons.reason import Reason
@@ -11,6 +11,9 @@ PACKED = re.compile(rb"(.+?)(?:[.-][0-9][0-9.-]*)?\.(?:gz|xz|bz2|zst)")
 NUMBERED = re.compile(rb"(.+?)(?:[.-][0-9][0-9.-]*)?")
 # A packed file is not larger than its source but for the head that each packer writes.
 MOST_HEAD = 256
+# Packers keep these of their source, so a source is looked up by them: among thousands of files none is compared with all.
+KEPT = ("perm", "uid", "gid", "acl", "xattrs", "mtime")
+MOST_SOURCES = 16
 
 
 def name_of(path):
@@ -20,6 +23,10 @@ def name_of(path):
 def _stem(path, form):
     found = form.fullmatch(name_of(path))
     return found.group(1) if found else None
+
+
+def _kept_of(entry):
+    return tuple(entry.field(column) for column in KEPT)
 
 
 class Moves:
@@ -37,7 +44,7 @@ class Moves:
         folder, inode = change.folder(), self.read(change)[0].field("inode")
         is_known = inode != ABSENT and (folder, inode) not in self.by_inode
         self.by_inode[folder, inode] = change if is_known else None
-        self.by_stem.setdefault((folder, _stem(change.path, NUMBERED)), []).append(change)
+        self.by_stem.setdefault((folder, _stem(change.path, NUMBERED), _kept_of(self.read(change)[0])), []).append(change)
 
     def explain(self):
         """Gives reasons. What was renamed, or packed, leaves its old name to a new file, which is explained after it."""
@@ -69,7 +76,7 @@ class Moves:
         new = self.read(change)[1]
         if not new.bits & COMPRESSED or new.time("mtime") is None:
             return None
-        for source in self.by_stem.get((change.folder(), stem), ()):
+        for source in self.by_stem.get((change.folder(), stem, _kept_of(new)), ())[:MOST_SOURCES]:
             if self._is_packed(self.read(source)[0], new):
                 change.reason = Reason(
                     "moved", "compressed from %s, content not verified" % shown(name_of(source.path), 200), False, "databases"
@@ -79,9 +86,8 @@ class Moves:
 
     @staticmethod
     def _is_packed(old, new):
-        same = all(old.field(column) == new.field(column) for column in ("perm", "uid", "gid", "acl", "xattrs", "mtime"))
         sizes = old.number("size"), new.number("size")
-        return same and old.number("inode") != new.number("inode") and None not in sizes and sizes[1] <= sizes[0] + MOST_HEAD
+        return old.number("inode") != new.number("inode") and None not in sizes and sizes[1] <= sizes[0] + MOST_HEAD
 
     def _left(self, source, change):
         """The reason for the new file under a name that was left."""

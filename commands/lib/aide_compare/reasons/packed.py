@@ -10,8 +10,8 @@ import subprocess
 import tarfile
 import zlib
 
-from aide_compare.ending import write_all
-from aide_compare.files import nameless
+from aide_compare.base.ending import write_all
+from aide_compare.base.files import nameless
 
 BLOCK = 1 << 18
 MOST_MEMORY = 256 << 20  # What unpacking may take at most; xz -9 takes 65 MB.

@@ -6,7 +6,10 @@ VERIFIED = Reason("folder", "all that came, went or was replaced in it is explai
 NOT_VERIFIED = Reason(
     "folder", "all that came, went or was replaced in it is explained, not all of it verified", False, "databases"
 )
-ANEW = Reason("folder", "made anew; all that is in it is explained", False, "databases")
+ANEW = Reason("folder", "made anew; all that is in it is explained", True, "databases")
+ANEW_NOT_VERIFIED = Reason("folder", "made anew; all that is in it is explained, not all of it verified", False, "databases")
+NEW = Reason("folder", "new; all that is in it is explained", True, "databases")
+NEW_NOT_VERIFIED = Reason("folder", "new; all that is in it is explained, not all of it verified", False, "databases")
 # The one bit of the file system's attributes that a folder gets by having many names: its index.
 INDEX = 0x1000
 
@@ -48,16 +51,27 @@ class Parents:
                 self.names.setdefault(change.folder(), _Names()).add(change.reason)
 
     def _reason(self, change, names):
-        if change.old_at is None or change.new_at is None or (names and names.unexplained):
+        if change.new_at is None or (names and names.unexplained):
             return None
         old, new = self.read(change)
+        if old is None:
+            return self._came(new, names)
         if not (old.is_folder() and new.is_folder()):
             return None
         differ = differences(old, new)
         if "inode" in differ:
-            return ANEW if names and _only_names(old, new, differ - {"inode"}) else None
+            if not names or not _only_names(old, new, differ - {"inode"}):
+                return None
+            return ANEW_NOT_VERIFIED if names.unverified else ANEW
         if not _only_names(old, new, differ):
             return None
         if names:
             return NOT_VERIFIED if names.unverified else VERIFIED
         return self.owner_of(change)
+
+    @staticmethod
+    def _came(new, names):
+        """The reason for a new folder of root's that has something, and into which nobody else can put more."""
+        if not (names and new.is_folder() and new.is_plain()) or new.mode & 0o022:
+            return None
+        return NEW_NOT_VERIFIED if names.unverified else NEW

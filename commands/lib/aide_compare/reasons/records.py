@@ -10,13 +10,13 @@ import re
 import stat
 import tarfile
 
-from aide_compare.ending import Fault, Status, reason
-from aide_compare.escapes import shown
-from aide_compare.folders import open_folder
+from aide_compare.base.ending import Fault, Status, reason
+from aide_compare.base.escapes import shown
+from aide_compare.base.folders import open_folder
+from aide_compare.compare.unpack import Opened, copy_opened
 from aide_compare.reasons.packed import Bounded, members
 from aide_compare.reasons.rpm import MOST_TEXT, RPM_NAME, RpmRecords, has_rpm
-from aide_compare.reasons.trusted import open_trusted, read_whole
-from aide_compare.unpack import Opened, copy_opened
+from aide_compare.base.trusted import open_trusted, read_whole
 
 DPKG = "/var/lib/dpkg"
 KEPT = re.compile(r"(?:.*/)?(status|diversions|info/[A-Za-z0-9][A-Za-z0-9+.:~_-]*\.(?:list|md5sums))")

@@ -3,23 +3,30 @@ import os
 import subprocess
 import threading
 
-from aide_compare.ending import Fault, Status
-from aide_compare.escapes import shown
-from aide_compare.folders import open_folder
+from aide_compare.base.ending import Fault, Status, write_all
+from aide_compare.base.escapes import shown
+from aide_compare.base.files import open_regular
+from aide_compare.base.folders import open_folder
+from aide_compare.base.private_room import PrivateRoom
+from aide_compare.base.trusted import read_whole
+from aide_compare.reasons.content import Hashes
 from aide_compare.reasons.packed import Refuted, copied
-from aide_compare.reasons.trusted import read_whole
+from aide_compare.reasons.vouched import STRONG
 
 RPM = "/usr/bin/rpm"
 # Where rpm's database may be. rpm is always told: with no folder of its own, Debian's makes a new database in the home.
 FOLDERS = ("/usr/lib/sysimage/rpm", "/var/lib/rpm")
 DATABASES = ("rpmdb.sqlite", "Packages.db", "Packages")
+# The database that is one file, so that a digest in AIDE's database vouches for it.
+WHOLE = "rpmdb.sqlite"
+ROOM_FILES = r"rpmdb\.sqlite(-(wal|shm|journal))?|\.rpm\.lock|\.dbenv\.lock"
 QUERY = (
     "P\\t%{NAME}\\t%|EPOCH?{%{EPOCH}:}|%{VERSION}-%{RELEASE}\\t%{ARCH}\\t%{FILEDIGESTALGO}\\n"
     "[F\\t%{FILENAMES}\\t%{FILEDIGESTS}\\t%{FILEMODES:octal}\\t%{FILEUSERNAME}\\t%{FILEGROUPNAME}\\t%{FILELINKTOS}"
     "\\t%{FILEFLAGS}\\t%{FILECAPS}\\t%{FILESTATES}\\n]"
 )
 RPM_NAME = "rpm"  # The name of the text among records that are kept.
-MOST_TEXT, SECONDS = 256 << 20, 120
+MOST_TEXT, MOST_DATABASE, SECONDS = 256 << 20, 4 << 30, 120
 
 
 def database_folder(folders=FOLDERS):
@@ -33,9 +40,11 @@ def has_rpm(program=RPM, folders=FOLDERS):
 
 
 class RpmRecords:
-    """rpm's records as they are now. The folder of its database must be root's or the caller's."""
+    """rpm's records as they are now. The folder of its database must be root's or the caller's. rpm reads a copy of the
+    database, whose `digests` are known, so that what it says is what stands in these bytes."""
 
     names = [RPM_NAME]
+    digests = None
 
     def __init__(self, program=RPM, folders=FOLDERS, most=MOST_TEXT, seconds=SECONDS):
         self.program, self.folder, self.most, self.seconds = program, database_folder(folders), most, seconds
@@ -48,7 +57,12 @@ class RpmRecords:
     def read(self, name):
         """The text of all packages. It is bounded in time and size, and does not depend on settings of the caller."""
         try:
-            target, status = self._asked([self.program, "--dbpath", self.folder, "-qa", "--queryformat", QUERY])
+            if os.path.isfile(self.path):
+                with PrivateRoom("aide-compare-rpm", ROOM_FILES) as room:
+                    self._copy_to(room.fd)
+                    target, status = self._asked("/proc/%d/fd/%d" % (os.getpid(), room.fd))
+            else:
+                target, status = self._asked(self.folder)
         except (OSError, Refuted) as error:
             raise Fault(Status.DEVICE, "rpm's records cannot be read: %s" % shown(str(error), 200))
         try:
@@ -58,8 +72,31 @@ class RpmRecords:
         finally:
             os.close(target)
 
-    def _asked(self, words):
-        """A private file with what a program writes, and the program's status."""
+    @property
+    def path(self):
+        """Where the database is that AIDE's database can vouch for."""
+        return self.folder + "/" + WHOLE
+
+    def _copy_to(self, folder):
+        """Copies the database into a folder, and notes the digests of the copy."""
+        source = open_regular(self.path, "rpm's database ")
+        target = os.open(WHOLE, os.O_WRONLY | os.O_CREAT | os.O_EXCL | os.O_CLOEXEC, 0o600, dir_fd=folder)
+        try:
+            hashes, left = Hashes(STRONG), MOST_DATABASE
+            for block in iter(lambda: os.read(source, 1 << 20), b""):
+                left -= len(block)
+                if left < 0:
+                    raise Refuted("the database is too large")
+                hashes.update(block)
+                write_all(target, block)
+            self.digests = hashes.digests()
+        finally:
+            os.close(source)
+            os.close(target)
+
+    def _asked(self, folder):
+        """A private file with what rpm says of the database in a folder, and the status of rpm."""
+        words = [self.program, "--dbpath", folder, "-qa", "--queryformat", QUERY]
         settings = {"LC_ALL": "C", "PATH": "/usr/bin:/bin", "HOME": "/nonexistent"}
         with subprocess.Popen(
             words, stdin=subprocess.DEVNULL, stdout=subprocess.PIPE, stderr=subprocess.DEVNULL, env=settings

@@ -2,7 +2,7 @@
 import re
 from collections import namedtuple
 
-from aide_compare.ending import Fault, Status
+from aide_compare.base.ending import Fault, Status
 
 PACKAGE = re.compile(rb"P\t([^\t\n]+)\t([^\t\n]+)\t([^\t\n]+)\t([^\t\n]+)")
 BLOCK = re.compile(rb"^(?=P\t)", re.MULTILINE)

@@ -2,14 +2,14 @@
 import stat
 from collections import namedtuple
 
-from aide_compare.ending import Fault, Status
-from aide_compare.escapes import shown
+from aide_compare.base.ending import Fault, Status
+from aide_compare.base.escapes import shown
 from aide_compare.reasons.entries import DIGESTS
 from aide_compare.reasons.growing import has_grown
 from aide_compare.reasons.protected import takes_no_pattern
 from aide_compare.reasons.reason import Reason
 from aide_compare.reasons.table import Table, pattern_of
-from aide_compare.reasons.trusted import lines_of
+from aide_compare.base.trusted import lines_of
 
 MOST_TEXT = 200
 # The columns that each word stands for, beside `added` and `removed`.

@@ -3,11 +3,11 @@ import os
 import stat
 from collections import namedtuple
 
-from aide_compare.ending import Fault, Status
+from aide_compare.base.ending import Fault, Status
+from aide_compare.base.escapes import shown
 from aide_compare.reasons.reason import LEVELS
 from aide_compare.reasons.table import Table, pattern_of
-from aide_compare.reasons.trusted import lines_of
-from aide_compare.escapes import shown
+from aide_compare.base.trusted import lines_of
 
 HERE = os.path.dirname(os.path.abspath(__file__))
 # In the repository, and where packaging/install puts it.

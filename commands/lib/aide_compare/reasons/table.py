@@ -2,9 +2,9 @@
 import re
 from operator import attrgetter
 
-from aide_compare.ending import Fault, Status
-from aide_compare.escapes import shown
-from aide_compare.patterns import BadPattern, Pattern
+from aide_compare.base.ending import Fault, Status
+from aide_compare.base.escapes import shown
+from aide_compare.base.patterns import BadPattern, Pattern
 
 MOST_PATH = 4096  # PATH_MAX of Linux.
 WILD = re.compile(rb"[*?\[\\]")
