@@ -3,10 +3,10 @@ import os
 import stat
 import time
 
-from aide_compare.ending import Fault, Status, reason
-from aide_compare.escapes import shown
-from aide_compare.files import Replacement, open_folder
-from aide_compare.sending import alert, deliver
+from aide_compare.base.ending import Fault, Status, reason
+from aide_compare.base.escapes import shown
+from aide_compare.base.files import Replacement, open_folder
+from aide_compare.mail.sending import alert, deliver
 
 MOST_WAITING = 64
 MOST_BYTES = 64 << 20

@@ -5,10 +5,10 @@ import signal
 import socket
 import time
 
-from aide_compare.ending import Fault, Status, reason
-from aide_compare.escapes import shown
-from aide_compare.message import shortened
-from aide_compare.smtp import Smtp
+from aide_compare.base.ending import Fault, Status, reason
+from aide_compare.base.escapes import shown
+from aide_compare.mail.message import shortened
+from aide_compare.mail.smtp import Smtp
 
 SECONDS = 60
 MAILERS = ("/usr/sbin/sendmail", "/usr/lib/sendmail")  # cron's PATH does not have their folders.

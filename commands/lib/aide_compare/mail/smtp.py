@@ -6,11 +6,13 @@ import argparse
 import contextlib
 import os
 import resource
+import signal
+import time
 from collections import namedtuple
 
-from aide_compare.child import in_child
-from aide_compare.ending import Fault, Status
-from aide_compare.escapes import shown
+from aide_compare.base.child import in_child
+from aide_compare.base.ending import Fault, Status
+from aide_compare.base.escapes import shown
 
 MOST_ANSWERS = 64 << 20  # Bytes of memory for all that a server answers.
 QUIT_SECONDS = 5
@@ -54,6 +56,7 @@ class Smtp:
         """The work of the child."""
         import smtplib
 
+        limit = time.monotonic() + self.seconds
         _limit_memory(len(message))
         head = message.partition(b"\n\n")[0].decode("ascii", "replace")
         to = next(line[4:] for line in head.split("\n") if line.startswith("To: "))
@@ -64,7 +67,7 @@ class Smtp:
             refused = connection.sendmail(sender, [each.strip() for each in to.split(",")], whole.replace(b"\n", b"\r\n"))
             # The server has the mail: what it answers to QUIT changes nothing.
             with contextlib.suppress(OSError, smtplib.SMTPException):
-                connection.sock.settimeout(QUIT_SECONDS)
+                _no_longer_than(min(QUIT_SECONDS, (limit - time.monotonic()) / 2))
                 connection.quit()
         except MemoryError:
             raise self._fault(": its answers have no end")
@@ -78,6 +81,16 @@ class Smtp:
 
     def _fault(self, why):
         return Fault(Status.DEVICE, "%s did not take it%s" % (self.place, why))
+
+
+def _no_longer_than(seconds):
+    """A TimeoutError after so many seconds, however slowly something answers."""
+
+    def over(*_):
+        raise TimeoutError
+
+    signal.signal(signal.SIGALRM, over)
+    signal.setitimer(signal.ITIMER_REAL, max(seconds, 0.01))
 
 
 def _limit_memory(size):

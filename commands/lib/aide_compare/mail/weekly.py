@@ -3,8 +3,9 @@ numbers are kept beside the state."""
 import os
 import time
 
-from aide_compare.ending import Fault
-from aide_compare.files import Replacement, open_regular
+from aide_compare.base.ending import Fault, Status
+from aide_compare.base.escapes import shown
+from aide_compare.base.files import Replacement, open_regular
 
 DAYS = ("Mon", "Tue", "Wed", "Thu", "Fri", "Sat", "Sun")
 
@@ -33,6 +34,8 @@ def count(state, day, explained, send):
     runs += 1
     changes += explained
     is_day = DAYS[time.localtime(now).tm_wday] == day and time.localtime(now)[:3] != time.localtime(sent)[:3]
+    if os.path.isdir(path):
+        raise Fault(Status.DEVICE, "cannot write the number of quiet runs in %s: it is a folder" % shown(path))
     file = Replacement(path, what="the number of quiet runs in").begin()
     try:
         if is_day or (sent and now - sent > 7 * 86400):

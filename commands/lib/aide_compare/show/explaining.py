@@ -3,23 +3,23 @@ import argparse
 import json
 import os
 
-from aide_compare.brief import brief
-from aide_compare.ending import Fault, Status, reason, say, write_all
-from aide_compare.escapes import shown
-from aide_compare.files import nameless
-from aide_compare.json_members import Occasion
-from aide_compare.kept_records import SUFFIX, misfit
-from aide_compare.outcome_state import state_of
-from aide_compare.outputs import Output
-from aide_compare.reason_counts import ReasonCounts
-from aide_compare.reasons import Explainer, evidence_of
-from aide_compare.reasons.explainer import members_of
-from aide_compare.report_json import LineWriter
-from aide_compare.report_lines import Lines, Refused
-from aide_compare.report_parts import read_report
-from aide_compare.report_written import Values
+from aide_compare.base.ending import Fault, Status, reason, say, write_all
+from aide_compare.base.escapes import shown
+from aide_compare.base.files import nameless
+from aide_compare.compare.outcome_state import state_of
+from aide_compare.compare.outputs import Output
+from aide_compare.lines.json_members import Occasion
+from aide_compare.lines.report_json import LineWriter
+from aide_compare.lines.report_lines import Lines, Refused
+from aide_compare.lines.report_parts import read_report
+from aide_compare.lines.report_written import Values
+from aide_compare.reasons.evidence import evidence_of
+from aide_compare.reasons.explainer import Explainer, members_of
+from aide_compare.reasons.kept_records import SUFFIX, misfit
+from aide_compare.show.brief import brief
 
 BLOCK = 1 << 18
+MOST_CAME = 20
 ENCODE = json.JSONEncoder(separators=(",", ":")).encode
 
 
@@ -42,11 +42,22 @@ class Sources:
             try:
                 why = misfit(path, outcome.copies["old"].sha256)
                 if not why:
-                    return evidence_of(argparse.Namespace(**{**vars(self.given), "packages": path}))
+                    found = {"packages": path, "packages_beside": self._beside_new(outcome)}
+                    return evidence_of(argparse.Namespace(**{**vars(self.given), **found}))
             except Fault as fault:
                 why = fault.text
             say("no package explains a change: %s: %s" % (shown(path), why))
         return self._evidence_without_packages()
+
+    def _beside_new(self, outcome):
+        """The records that were kept when AIDE wrote the new database, if they are there. Its digests decide on each of them,
+        as on those of now."""
+        path = outcome.new + SUFFIX
+        try:
+            is_kept = not self.given.packages_now and os.path.lexists(path)
+            return path if is_kept and not misfit(path, outcome.copies["new"].sha256) else None
+        except Fault:
+            return None
 
     @staticmethod
     def _kept(old):
@@ -55,11 +66,11 @@ class Sources:
 
 class Wanted:
     """What a run is asked to write beside its report: the places of --lines and --brief, and the Sources of --reasons, None
-    without this option."""
+    without this option. `made` is given each output."""
 
-    def __init__(self, lines=None, brief=None, sources=None):
-        self.lines = Output(lines, "the lines").begin() if lines else None
-        self.brief = Output(brief, "what people read first").begin() if brief else None
+    def __init__(self, lines=None, brief=None, sources=None, made=lambda output: output):
+        self.lines = made(Output(lines, "the lines").begin()) if lines else None
+        self.brief = made(Output(brief, "what people read first").begin()) if brief else None
         self.sources = sources
 
     def __bool__(self):
@@ -73,7 +84,7 @@ class Wanted:
         """Without a comparison both files are empty, so that nobody reads those of an earlier one."""
         for output in (self.lines, self.brief):
             if output:
-                output.commit(nameless())
+                output.commit_copy(nameless())
 
 
 class Entries:
@@ -116,6 +127,17 @@ class Entries:
         return target
 
 
+def evidence_lines(counts, came):
+    """By which grades changes are explained, and which packages came new, those first that no signed index has."""
+    lines = ["Explained by: " + counts.grades()] if counts.grades() else []
+    came = sorted(came, key=lambda pair: pair[1] is not False)
+    names = [name + (" (in none of the signed lists)" if is_listed is False else "") for name, is_listed in came]
+    if names:
+        more = ["and %d more" % (len(names) - MOST_CAME)] if len(names) > MOST_CAME else []
+        lines.append("New packages: " + ", ".join(names[:MOST_CAME] + more))
+    return lines
+
+
 class Explained:
     """The entries of a comparison. With evidence there are also the changes, as the Explainer has them, and their counts."""
 
@@ -127,9 +149,12 @@ class Explained:
             return
         self.explainer = Explainer(outcome.compared["old"], outcome.compared["new"], sources.evidence(outcome))
         self.changes = self.explainer.judge(entries)
-        self.counts = ReasonCounts(**self.explainer.counts._asdict())
+        self.counts = self.explainer.counts
         if not self.counts.fits(sum(outcome.counts)):
             raise Fault(Status.DEVICE, "the counts of the reasons are not those of the report")
+        doubt = self.explainer.evidence.doubt()
+        if doubt:
+            say("what packages explain is not verified: %s" % doubt)
 
     def lines(self, left_out):
         if self.counts is None:
@@ -139,7 +164,9 @@ class Explained:
     def brief(self):
         text = nameless()
         if self.counts is not None:
-            write_all(text, brief(self.changes, self.counts, self.explainer.read).encode("utf-8", "backslashreplace"))
+            first, _, rest = brief(self.changes, self.counts, self.explainer.read).partition("\n")
+            lines = [first] + evidence_lines(self.counts, self.explainer.evidence.came())
+            write_all(text, ("\n".join(lines) + "\n" + rest).encode("utf-8", "backslashreplace"))
         return text
 
 
@@ -183,7 +210,7 @@ def explain(comparison, wanted, left_out):
         wanted.write_nothing()
         return None
     if wanted.lines:
-        wanted.lines.commit(explained.lines(left_out))
+        wanted.lines.commit_copy(explained.lines(left_out))
     if wanted.brief:
-        wanted.brief.commit(explained.brief())
+        wanted.brief.commit_copy(explained.brief())
     return explained.counts

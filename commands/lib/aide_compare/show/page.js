@@ -191,10 +191,12 @@ function listen() {
     if (event.target.classList.contains('fold')) toggle(item);
     else choose(item);
   });
-  document.querySelector('.skip').addEventListener('click', (event) => {
-    event.preventDefault();
-    find('content').focus();
-  });
+  for (const link of document.querySelectorAll('[href="#content"]')) {
+    link.addEventListener('click', (event) => {
+      event.preventDefault();
+      find('content').focus();
+    });
+  }
   window.addEventListener('hashchange', readAddress);
   window.addEventListener('beforeprint', beforePrint);
   window.addEventListener('afterprint', afterPrint);

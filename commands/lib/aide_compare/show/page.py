@@ -5,14 +5,14 @@ import json
 import os
 from html import escape
 
-from aide_compare.files import nameless
-from aide_compare.json_lines import KINDS, LABELS, Report
-from aide_compare.page_heading import OUTCOMES, counts, databases, facts, remarks, title_of
-from aide_compare.page_items import GRADES, entries, number
-from aide_compare.page_lists import FolderLists, ReasonLists
-from aide_compare.page_reasons import Reasons, standing_of
-from aide_compare.page_streams import Stream, attributes_of, growth_of
-from aide_compare.page_view import ATTRIBUTES, Seen, View
+from aide_compare.base.files import nameless
+from aide_compare.lines.json_lines import KINDS, LABELS, Report
+from aide_compare.show.page_heading import OUTCOMES, counts, databases, facts, remarks, title_of
+from aide_compare.show.page_items import GRADES, entries, number
+from aide_compare.show.page_lists import FolderLists, ReasonLists
+from aide_compare.show.page_reasons import Reasons, standing_of
+from aide_compare.show.page_streams import Stream, attributes_of, growth_of
+from aide_compare.show.page_view import ATTRIBUTES, Seen, View
 
 HERE = os.path.dirname(os.path.abspath(__file__))
 SCRIPTS = ("page_logic.js", "page_data.js", "page_tree.js", "page_entries.js", "page.js")

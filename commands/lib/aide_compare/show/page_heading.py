@@ -1,9 +1,9 @@
 """What stands over the entries of a page: of which host and which databases it is, the counts, and what is missing."""
 from html import escape
 
-from aide_compare.json_lines import DATE, KINDS, SEVERITIES, bytes_of
-from aide_compare.page_items import entries, number
-from aide_compare.shown_text import date_of, shown, shown_note
+from aide_compare.base.shown_text import date_of, shown, shown_note
+from aide_compare.lines.json_lines import DATE, KINDS, SEVERITIES, bytes_of
+from aide_compare.show.page_items import entries, number
 
 OUTCOMES = {True: "The two databases differ", False: "No differences between the two databases"}
 KNOWN = set(
@@ -12,8 +12,8 @@ KNOWN = set(
 )
 MOST_MEMBERS, MOST_LETTERS = 20, 5000
 HINT = (
-    "Reasons are hints: they come from files of the host, such as dpkg's records, and whoever has taken over the host can "
-    "forge these. The evidence of an archive is kept elsewhere and is stronger."
+    "Reasons are hints: those of the grades dpkg and rpm come from records of the host, and whoever was root before AIDE ran can "
+    "forge these. The evidence of a signed archive is stronger."
 )
 
 
@@ -71,10 +71,16 @@ def counts(report, reasons):
     if report.changes() is not None:
         cards.append(
             "".join(card(kind, kind.capitalize(), report.summary[kind]) for kind in KINDS)
-            + card("all", "All entries", report.summary["total"])
+            + card("all", "Entries in the new database", report.summary["total"])
         )
     text = "".join('<dl class="counts">%s</dl>' % part for part in cards)
-    return '<div class="cards">%s</div>\n%s' % (text, worth(reasons)) if cards else ""
+    return '<div class="cards">%s</div>\n%s%s' % (text, worth(reasons), look(report, reasons)) if cards else ""
+
+
+def look(report, reasons):
+    """The line that a narrow screen has in place of the counts: how many entries to look at, as a link to them."""
+    count = sum(reasons.standings[:2]) if reasons.has_any else report.changes()
+    return '<p class="look"><a href="#content">%s to look at</a></p>\n' % number(count) if count else ""
 
 
 def worth(reasons):
@@ -83,6 +89,7 @@ def worth(reasons):
         return ""
     severe = ", ".join("%s %s" % (number(count), name) for name, count in zip(SEVERITIES, reasons.severities) if count)
     text = '<p class="severities">Severity of what is not explained or not verified: %s</p>\n' % severe if severe else ""
+    text += '<p class="severities">Explained by: %s</p>\n' % reasons.grades() if reasons.grades() else ""
     return '%s<p class="hint">%s</p>\n' % (text, HINT)
 
 

@@ -1,9 +1,9 @@
 """The entries of the plain lists, which need no script: an item of a list, with its values in a table."""
 from html import escape
 
-from aide_compare.json_lines import KINDS, LABELS, SEVERITIES
-from aide_compare.page_streams import VARIOUS, facts_of
-from aide_compare.page_view import DIGESTS_NAME
+from aide_compare.lines.json_lines import KINDS, LABELS, SEVERITIES
+from aide_compare.show.page_streams import VARIOUS, facts_of
+from aide_compare.show.page_view import DIGESTS_NAME
 
 SIGNS = ["+", "\N{MINUS SIGN}", "~"]
 GRADES = {
@@ -13,7 +13,7 @@ GRADES = {
     "archive": "the archive says so",
     "rules": "a rule says so",
 }
-HEADS = "<tr><th>Attribute<th>Old<th>New"
+HEADS = '<tr><th scope="col">Attribute<th scope="col">Old<th scope="col">New'
 
 
 def number(count):
@@ -60,7 +60,7 @@ def cell(value, note="", doubt=""):
 
 def line_of(row):
     place, old, new, old_note, new_note, old_doubt, new_doubt = (row + [""] * 4)[:7]
-    return "<tr><th>%s%s%s" % (LABELS[place], cell(old, old_note, old_doubt), cell(new, new_note, new_doubt))
+    return '<tr><th scope="row">%s%s%s' % (LABELS[place], cell(old, old_note, old_doubt), cell(new, new_note, new_doubt))
 
 
 def digest_lines(digests):

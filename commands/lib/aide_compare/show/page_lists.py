@@ -2,11 +2,11 @@
 from array import array
 from html import escape
 
-from aide_compare.files import nameless
-from aide_compare.json_lines import KINDS, SEVERITIES
-from aide_compare.page_items import GRADES, Room, bar, counted, entries, files
-from aide_compare.page_view import STANDINGS
-from aide_compare.shown_text import shown
+from aide_compare.base.files import nameless
+from aide_compare.base.shown_text import shown
+from aide_compare.lines.json_lines import KINDS, SEVERITIES
+from aide_compare.show.page_items import GRADES, Room, bar, counted, entries, files
+from aide_compare.show.page_view import STANDINGS
 
 # A line of the lists in folders that begins so becomes the beginning of a folder when its counts are known.
 FOLDER, END = b"\0", b"</ul></details>\n"
@@ -125,6 +125,7 @@ class ReasonLists:
         self.rooms, self.left = [Room(3 * whole // 4, valued), Room(whole, valued // 2)], whole
         self.files = [open(nameless(), "w+b") for _ in self.rooms]
         self.places, self.counts, self.count, self.names, self.values = {}, {}, 0, 0, 0
+        self.valued_to = [0, 0]  # Where the items end that had room for values, in each file.
 
     def add(self, entry, group=None):
         """Adds an entry; `group` is the group of its reason, None without one."""
@@ -133,10 +134,14 @@ class ReasonLists:
         key = (standing, group if standing == 2 else entry.severity)
         self.counts[key] = self.counts.get(key, 0) + 1
         stream = standing == 2
-        item = self.rooms[stream].item(entry, entry.name, group.text if standing == 1 else "")
+        room, file = self.rooms[stream], self.files[stream]
+        valued = room.values
+        item = room.item(entry, entry.name, group.text if standing == 1 else "")
         if item:
-            self.places.setdefault(key, array("Q")).append(self.files[stream].tell())
-            self.files[stream].write(item)
+            self.places.setdefault(key, array("Q")).append(file.tell())
+            file.write(item)
+            if room.values > valued:
+                self.valued_to[stream] = file.tell()
 
     def end(self):
         pass
@@ -171,19 +176,19 @@ class ReasonLists:
             yield ("<h3>Severity %s: %s</h3>" % (SEVERITIES[what], entries(self.counts[key]))).encode()
         yield b'<ul class="plain">\n'
         names = self.names
-        yield from self.items(self.files[standing == 2], self.places.get(key, ()))
+        yield from self.items(standing == 2, self.places.get(key, ()))
         if self.names - names < self.counts[key]:
             yield ("<li>%s more that this page has no room for\n" % entries(self.counts[key] - self.names + names)).encode()
         yield b"</ul></details>\n" if standing == 2 else b"</ul>\n"
 
-    def items(self, file, places):
+    def items(self, stream, places):
         """The items at some places of a file, as far as there is room."""
         for place in places:
-            file.seek(place)
-            item = file.readline()
+            self.files[stream].seek(place)
+            item = self.files[stream].readline()
             self.left -= len(item)
             if self.left < 0:
                 return
             self.names += 1
-            self.values += b"<table>" in item
+            self.values += place < self.valued_to[stream]
             yield item

@@ -1,5 +1,7 @@
 """The reasons of a report: how many entries each explains, and how many nothing explains."""
-from aide_compare.json_lines import SEVERITIES
+from collections import Counter
+
+from aide_compare.lines.json_lines import SEVERITIES
 
 # Reasons after so many different ones are counted together.
 MOST_GROUPS, OTHERS = 1000, "other reasons"
@@ -51,6 +53,13 @@ class Reasons:
         self.known[reason] = group = Group(len(self.groups), reason.text, reason.verified, reason.grade)
         self.groups.append(group)
         return group
+
+    def grades(self):
+        """How many entries each grade of evidence explains, as in "archive 300, dpkg 12"."""
+        counts = Counter()
+        for group in self.groups:
+            counts[group.grade] += group.count if group.verified else 0
+        return ", ".join("%s %d" % pair for pair in sorted(counts.items()) if pair[1])
 
     def end(self, summary, count):
         """Ranks the groups, those of most entries first. If no entries were listed, the summary has the counts."""

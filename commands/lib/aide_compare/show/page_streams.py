@@ -9,9 +9,9 @@ import json
 import zlib
 from array import array
 
-from aide_compare.files import nameless
-from aide_compare.json_lines import LABELS, PLACES
-from aide_compare.page_view import ATTRIBUTES, DIGESTS_NAME
+from aide_compare.base.files import nameless
+from aide_compare.lines.json_lines import LABELS, PLACES
+from aide_compare.show.page_view import ATTRIBUTES, DIGESTS_NAME
 
 # A chunk ends after so many entries, or so many letters.
 ENTRIES, LETTERS = 256, 1 << 18

@@ -1,9 +1,9 @@
 """What the readers of a state file share: the check, the metrics and the line for the log."""
 import time
 
-from aide_compare.ending import Status, write_all
-from aide_compare.options import Parser, duration, some_text
-from aide_compare.state import read_state
+from aide_compare.base.ending import Status, write_all
+from aide_compare.base.options import Parser, duration, some_text
+from aide_compare.compare.state import read_state
 
 STATE = "/var/lib/aide-compare/daily/state"
 AGE = 26 * 3600

@@ -1,0 +1,1 @@
+"""What people read: the first lines of a mail, the page, and answers from a state."""

@@ -1,0 +1,116 @@
+"""Which changes people read first, and in which order, so that nobody but root can push root's changes out of sight.
+
+By severity; then root's changes, those of system users, and those of all others; then what was removed or changed, and what was
+added; then by path. All of root's with severity high are listed. Of all else each folder and each owner has a share of the
+room, and what is left is counted, a line for each folder.
+"""
+import stat
+from collections import Counter
+
+from aide_compare.base.escapes import shown
+from aide_compare.reasons.entry_words import words_of
+
+# Lines of one severity for root's changes, for those of system users, and for those of all others.
+ROOMS = (200, 100, 100)
+FOLDER_SHARE, OWNER_SHARE, MOST_FOLDERS = 20, 50, 10
+MOST_ROOTS = 2000
+MOST_PATHS = (1000, 300, 300)
+FIRST_USER = 1000  # The first number of a user who is no service, as in login.defs(5).
+ROOT = 0
+
+
+def kind_of(change):
+    return "added" if change.old_at is None else "removed" if change.new_at is None else "changed"
+
+
+def group_of_owner(owner):
+    """0 for root and for an owner that is not known, 1 for a service, 2 for all others."""
+    return 0 if owner in (None, ROOT) else 1 if owner < FIRST_USER else 2
+
+
+class Shares:
+    """What has been listed of one severity: by owner, by folder, and for each group of owners."""
+
+    def __init__(self, severity):
+        self.severity, self.listed = severity, Counter()
+
+    def takes(self, change):
+        """Whether there is room for a change, which then is taken."""
+        if self.severity == "high" and change.owner == ROOT:
+            limits = [("roots", MOST_ROOTS)]
+        else:
+            limits = [(("folder", change.owner, change.folder()), FOLDER_SHARE)]
+            limits += [(("owner", change.owner), OWNER_SHARE)] if group_of_owner(change.owner) else []
+            limits += [(("group", group_of_owner(change.owner)), ROOMS[group_of_owner(change.owner)])]
+        if any(self.listed[key] >= most for key, most in limits):
+            return False
+        self.listed.update(key for key, _ in limits)
+        return True
+
+
+class Rest:
+    """What was not listed of one severity and one group of owners, by folder and kind."""
+
+    def __init__(self):
+        self.counts, self.others = Counter(), set()
+
+    def add(self, change):
+        key = change.folder(), kind_of(change)
+        self.counts[key] += 1
+        if not stat.S_ISREG(change.new_mode or change.old_mode):
+            self.others.add(key)
+
+    def lines(self):
+        """The largest folders, and one line for all others."""
+        most = sorted(self.counts.items(), key=lambda pair: (-pair[1], pair[0]))
+        for (folder, kind), count in most[:MOST_FOLDERS]:
+            yield "%-7s  %s: %s" % (kind, shown(folder, MOST_PATHS[1]), more(count, (folder, kind) in self.others))
+        rest = most[MOST_FOLDERS:]
+        if rest:
+            yield "and %d more in %d more folders" % (
+                sum(count for _, count in rest),
+                len({folder for (folder, _), _ in rest}),
+            )
+
+
+def more(count, are_mixed):
+    """As in "230 more files"."""
+    kinds = ("entry", "entries") if are_mixed else ("file", "files")
+    return "%d more %s" % (count, kinds[count != 1])
+
+
+class Listing:
+    """The changes of each severity, and the lines for them."""
+
+    def __init__(self, severities):
+        self.changes = {name: [] for name in severities}
+
+    def add(self, change):
+        if change.severity in self.changes:
+            self.changes[change.severity].append(change)
+
+    def lines(self, read):
+        """The lines, by severity and by the groups of owners."""
+        for severity, changes in self.changes.items():
+            shares = Shares(severity)
+            for group in range(len(ROOMS)):
+                found = [change for change in changes if group_of_owner(change.owner) == group]
+                for line in group_lines(sorted(found, key=is_added), shares, read):
+                    yield "  %-6s  %s" % (severity, line)
+
+
+def is_added(change):
+    return change.old_at is None
+
+
+def group_lines(changes, shares, read):
+    """The lines for the changes of one severity and one group of owners: first those that there is room for."""
+    rest = Rest()
+    for change in changes:
+        if shares.takes(change):
+            words = words_of(*read(change))
+            path = shown(change.path, MOST_PATHS[group_of_owner(change.owner)])
+            yield "%-7s  %s%s" % (kind_of(change), path, words and ": " + words)
+        else:
+            rest.add(change)
+    yield from rest.lines()
