@@ -1,23 +1,20 @@
 """aide-compare-accept: a database becomes the baseline if its SHA-256 is the one that was given."""
-import base64
-import binascii
 import os
 
-from aide_compare.baseline import Baseline
-from aide_compare.ending import Fault, Status, say, write_all
-from aide_compare.escapes import shown
-from aide_compare.files import reopened
-from aide_compare.kept_records import SUFFIX, Records
-from aide_compare.options import Parser, size, some_text
-from aide_compare.state import read_state
-from aide_compare.times import date_of
-from aide_compare.unpack import Opened, copy_packed, digest_of, open_database
+from aide_compare.base.ending import Fault, Status, say, write_all
+from aide_compare.base.escapes import shown
+from aide_compare.base.options import Parser, size, some_text
+from aide_compare.base.patterns import BadPattern, Pattern
+from aide_compare.base.times import date_of
+from aide_compare.commands.accepting import MOST_BYTES, Wish, accept, digest_of_former, user_of
+from aide_compare.compare.baseline import Baseline
+from aide_compare.compare.state import read_state
+from aide_compare.reasons.evidence_options import add_evidence_options
+from aide_compare.reasons.kept_records import Records
 
 NAME = "aide-compare-accept"
 STATE = "/var/lib/aide-compare/daily/state"
-MOST_BYTES = 1 << 40
-FEWEST_DIGITS, ALL_DIGITS = 16, 64
-DIGITS = "0123456789abcdef"
+KINDS = ("added", "removed", "changed")
 DESCRIPTION = (
     "Makes NEW the baseline, if the SHA-256 of its unpacked bytes is DIGEST. The former baseline is kept "
     "as BASELINE.previous."
@@ -27,97 +24,13 @@ If another user can write in the folder of BASELINE, or in one above it, all cha
 that user, and the new baseline belongs to him. A BASELINE that is a link is refused.
 
 Status: 0 NEW is the baseline; 15 bad arguments; 18 a file cannot be read or written; 22 out of memory; 24 refused: NEW
-is another database."""
-
-
-class Wanted:
-    """The digest on the command line: all 64 digits of base 16, or the first of them."""
-
-    def __init__(self, text):
-        joined = "".join(text.split())
-        self.digits = self._decoded(joined) if joined.endswith("=") else joined.lower()
-        if self.digits.strip(DIGITS) or not FEWEST_DIGITS <= len(self.digits) <= ALL_DIGITS:
-            raise Fault(
-                Status.USAGE,
-                "no SHA-256: %s; give its first 16 or more digits of base 16, or all 44 "
-                "characters of base 64" % (shown(text, 100) or "''"),
-            )
-
-    @staticmethod
-    def _decoded(text):
-        """The digits of a whole digest in base 64; nothing for all other texts."""
-        try:
-            data = base64.b64decode(text, validate=True)
-        except (binascii.Error, ValueError):
-            return ""
-        is_whole = len(data) == 32 and base64.b64encode(data).decode() == text
-        return data.hex() if is_whole else ""
-
-    def fits(self, digest):
-        return digest.startswith(self.digits)
-
-
-class Offered:
-    """The new database: a private copy of its file, of which all is taken, and the SHA-256 of what it unpacks to."""
-
-    def __init__(self, path, most):
-        opened = open_database("new", path)
-        self.written = opened.written
-        copy = copy_packed(opened, most)
-        self.sha256 = digest_of(Opened("new", path, copy), most)
-        self.size = os.fstat(copy).st_size
-        self.fd = reopened(copy, os.O_RDONLY)
-        os.close(copy)
-
-
-class Accepted:
-    """What was done: `former` is the SHA-256 of the former baseline, "" if it cannot be read, None if there was none.
-    `belongs` are the user and the group of a baseline that was written, and `belonged` those of the former one."""
-
-    def __init__(self, new, former, belongs=None, belonged=None):
-        self.new, self.former, self.belongs, self.belonged = new, former, belongs, belonged
-        self.is_replaced, self.records = belongs is not None, ""
-
-
-def _digest_of_former(baseline, most):
-    descriptor = baseline.reading()
-    if descriptor is None:
-        return None if baseline.former is None else ""
-    try:
-        return digest_of(Opened("old", baseline.path, descriptor), most)
-    except Fault:
-        return ""
-    finally:
-        os.close(descriptor)
-
-
-def accept(digest, new, path, most=MOST_BYTES, keeps_records=True):
-    """Makes the database `new` the baseline at a path if its SHA-256 is `digest`; otherwise a Fault of status 24."""
-    wanted, offered = Wanted(digest), Offered(new, most)
-    if not wanted.fits(offered.sha256):
-        raise Fault(
-            Status.DATABASE,
-            "refused: %s is not the database that was reported" % shown(new),
-            "the SHA-256 that was given: %s" % wanted.digits,
-            "the SHA-256 of the database: %s" % offered.sha256,
-        )
-    baseline = Baseline(path)
-    former, found = _digest_of_former(baseline, most), baseline.former
-    records = Records(baseline, offered.sha256) if keeps_records else None
-    if former == offered.sha256:
-        done = Accepted(offered, former)
-        done.records = records.keep() if records and not records.are_there() else ""
-        return done
-    belongs = baseline.replace(offered.fd, SUFFIX if records else "")
-    done = Accepted(offered, former, belongs, found and (found.st_uid, found.st_gid))
-    done.records = records.keep() if records else ""
-    return done
+is another database, or no sound one, or a part of it cannot be kept open."""
 
 
 def keep_records_only(path, most):
     """Keeps dpkg's records beside a baseline that is there. Returns the line that says so."""
     baseline = Baseline(path)
-    digest = _digest_of_former(baseline, most)
+    digest = digest_of_former(baseline, most)
     if not digest:
         raise Fault(Status.DEVICE, "there is no baseline %s that can be read" % shown(path))
     records = Records(baseline, digest)
@@ -140,12 +53,8 @@ def _counts(state, done):
 def _names(user, group):
     """The names of a user and of a group, or their numbers."""
     import grp
-    import pwd
 
-    try:
-        user = pwd.getpwuid(user).pw_name
-    except KeyError:
-        pass
+    user = user_of(user)
     try:
         group = grp.getgrgid(group).gr_name
     except KeyError:
@@ -155,9 +64,13 @@ def _names(user, group):
 
 def _told(done, path, new, counts):
     """The lines that say what was done."""
-    yield "%s is the baseline %s: %s" % (shown(new), "now" if done.is_replaced else "already", shown(path))
-    written = "at an unknown time" if done.new.written is None else date_of(done.new.written)
-    yield "new: SHA-256 %s, written %s" % (done.new.sha256, written)
+    but = "" if done.open is None else ", but for what stays open"
+    yield "%s is the baseline %s%s: %s" % (shown(new), "now" if done.is_replaced else "already", but, shown(path))
+    written = done.new.copy.written
+    yield "new: SHA-256 %s, written %s" % (done.new.sha256, "at an unknown time" if written is None else date_of(written))
+    if done.open is not None:
+        what = ", ".join("%s %d" % (kind, done.open[kind]) for kind in KINDS)
+        yield "baseline: SHA-256 %s; it has the former entries of what stays open: %s" % (done.sha256, what)
     yield counts
     if done.records:
         yield done.records
@@ -194,6 +107,20 @@ def _parser():
         help="refuse a database that has more bytes unpacked: plain, or with k, M or G (1024G)",
     )
     add(
+        "--keep-open",
+        metavar="PATTERN",
+        action="append",
+        default=[],
+        type=some_text,
+        help="all but the changes of these paths, as in '/etc/**': the baseline keeps their former entries",
+    )
+    add(
+        "--explained-only",
+        action="store_true",
+        help="only the changes with a verified reason, as aide-compare-run --reasons finds them; all others stay open",
+    )
+    add_evidence_options(parser)
+    add(
         "--no-packages",
         action="store_true",
         help="keep no records of dpkg: the database is that of another machine, or of another time",
@@ -214,20 +141,39 @@ def _parser():
 
 
 def _given(arguments):
-    """The options; a Fault if the files are not as many as they ask for."""
+    """The options; a Fault if they do not go together."""
     given = _parser().parse(arguments)
-    many = 1 if given.only_packages else 2
-    if len(given.files) != many:
-        raise Fault(
-            Status.USAGE, "name BASELINE alone" if given.only_packages else "name NEW and BASELINE", "try: %s --help" % NAME
-        )
-    if given.only_packages == bool(given.sha256) or (given.only_packages and given.no_packages):
-        raise Fault(
-            Status.USAGE,
-            "--only-packages goes with no other of these options" if given.only_packages else "--sha256 DIGEST is needed",
-            "try: %s --help" % NAME,
-        )
-    return given
+    reasons = _reasons_of(given)
+    partly = given.keep_open or given.explained_only
+    if len(given.files) != (1 if given.only_packages else 2):
+        why = "name BASELINE alone" if given.only_packages else "name NEW and BASELINE"
+    elif given.only_packages and (given.sha256 or given.no_packages or partly):
+        why = "--only-packages goes with no other of these options"
+    elif not given.only_packages and not given.sha256:
+        why = "--sha256 DIGEST is needed"
+    elif reasons and not given.explained_only:
+        why = "%s needs --explained-only" % reasons[0]
+    else:
+        given.reasons = reasons if given.explained_only else None
+        return given
+    raise Fault(Status.USAGE, why, "try: %s --help" % NAME)
+
+
+def _reasons_of(given):
+    """The options of --explained-only as the words of a command line."""
+    words = []
+    for name in ("packages", "packages_now", "archive", "keyring", "rules", "severity"):
+        value = getattr(given, name) or []
+        for each in [value] if isinstance(value, str) else value:
+            words += ["--" + name.replace("_", "-"), each]
+    return words
+
+
+def _patterns_of(given):
+    try:
+        return [Pattern(os.fsencode(text)) for text in given.keep_open]
+    except BadPattern as fault:
+        raise Fault(Status.USAGE, "--keep-open: %s" % fault)
 
 
 def _print(lines):
@@ -240,14 +186,14 @@ def main(arguments):
         _print([keep_records_only(given.files[0], given.most)])
         return Status.OK
     state, unknown, (new, path) = None, "", given.files
-    Wanted(given.sha256)
+    wish = Wish(given.sha256, given.most, not given.no_packages, _patterns_of(given), given.reasons)
     try:
         state = read_state(given.state or STATE)
     except Fault as fault:
         if given.state:
             raise
         unknown = "no counts are known: %s" % fault.text
-    done = accept(given.sha256, new, path, given.most, not given.no_packages)
+    done = accept(wish, new, path)
     counts = _counts(state, done) if state else unknown
     try:
         _print(_told(done, path, new, counts))

@@ -2,11 +2,12 @@
 import argparse
 import os
 
-from aide_compare.ending import Done, Fault, reason
-from aide_compare.escapes import guarded, shown
-from aide_compare.readers import ALARMS, Reading, parser, write_line
-from aide_compare.reason_counts import SEVERITIES
-from aide_compare.times import age_in_words, date_of
+from aide_compare.base.defaults import CHECK, add_off, defaults_for
+from aide_compare.base.ending import Done, Fault, reason
+from aide_compare.base.escapes import guarded, shown
+from aide_compare.base.times import age_in_words, date_of
+from aide_compare.compare.reason_counts import SEVERITIES
+from aide_compare.show.readers import ALARMS, Reading, parser, write_line
 
 NAME = "check_aide_compare"
 OK, WARNING, CRITICAL, UNKNOWN = range(4)
@@ -55,7 +56,10 @@ def text_of(state, counts):
     if state.status > 7:
         return "no comparison, status %d: %s" % (state.status, state.error)
     text = "%s added, %s removed, %s changed" % counts
-    return "%s: %s" % (state.reasons.words(), text) if state.reasons and state.status else text
+    if not (state.reasons and state.status):
+        return text
+    grades = state.reasons.grades()
+    return "%s: %s%s" % (state.reasons.words(), text, "; explained by " + grades if grades else "")
 
 
 def judged(given):
@@ -102,7 +106,8 @@ def main(arguments):
         options.add_argument("--alarm", choices=ALARMS, default=ALARMS[0], help="which changes count (differences: all)")
         options.add_argument("--warning", metavar="LIMIT", type=Limit, help="WARNING from this limit on")
         options.add_argument("--critical", metavar="LIMIT", type=Limit, help="CRITICAL from this limit on")
-        return answer(*judged(options.parse(arguments)))
+        add_off(options)
+        return answer(*judged(options.parse(defaults_for(CHECK, arguments) + arguments)))
     except Done:
         return UNKNOWN
     except Fault as fault:

@@ -2,15 +2,18 @@
 import os
 import time
 
-from aide_compare.comparing import MOST_BASELINE
-from aide_compare.ending import Fault, Status, write_all
-from aide_compare.fetching import add_place
-from aide_compare.files import open_regular
-from aide_compare.fleet_store import BLOCK, Part, Place, check_name, no_room
-from aide_compare.options import Parser, size, some_text
-from aide_compare.state import read_state
-from aide_compare.times import date_of
-from aide_compare.unpack import copy_database
+from aide_compare.base.ending import Fault, Status, write_all
+from aide_compare.base.files import copy_file, open_regular
+from aide_compare.base.options import Parser, size, some_text
+from aide_compare.base.times import date_of
+from aide_compare.compare.sound import refuse_unsound
+from aide_compare.compare.state import read_state
+from aide_compare.compare.unpack import copy_database, digest_of, open_database
+from aide_compare.hosts.comparing import MOST_BASELINE
+from aide_compare.hosts.explaining import BASELINES, NEWEST, find_command
+from aide_compare.hosts.fetching import add_place
+from aide_compare.hosts.fleet_store import BLOCK, Part, Place, check_name, no_room
+from aide_compare.reasons.kept_records import mark_of
 
 NAME = "accept-host"
 
@@ -23,6 +26,7 @@ def accept_first(place, most):
     part, source = Part(place.fd), open_regular(place.file("aide.db.new"))
     try:
         copy = copy_database("new", place.file("aide.db.new"), most)
+        refuse_unsound(os.path.dirname(find_command("aide-compare") or ""), copy)
         for block in iter(lambda: os.read(source, BLOCK), b""):
             part.write(block)
         part.keep("aide.db", replace=False)
@@ -33,6 +37,7 @@ def accept_first(place, most):
     finally:
         os.close(source)
         part.close()
+    keep_records(place)
     write_all(1, ("%s: %s: SHA-256 %s\n" % (NAME, place.host, copy.sha256)).encode())
     return Status.OK
 
@@ -48,21 +53,38 @@ def say_what(place, digest):
         write_all(1, ("%s: %s: compared %s: added %d, removed %d, changed %d\n" % words).encode())
 
 
-def accept(place, digest):
-    """The command aide-compare-accept does the work, beside this one where the programs are installed, or from PATH."""
-    here = os.path.dirname(os.path.realpath(__file__))
-    places = [os.path.realpath(here + folder) for folder in ("/../../../../bin", "/../../bin")]
-    found = [
-        folder + "/aide-compare-accept"
-        for folder in places + os.environ.get("PATH", "").split(":")
-        if os.access(folder + "/aide-compare-accept", os.X_OK)
-    ]
-    if not found:
+def keep_records(place):
+    """The packages' records that came with the database become those of the baseline, whose digest they get. Without them no
+    package explains a change; those of an older baseline are never used."""
+    place.remove(BASELINES)
+    if not place.has(NEWEST):
+        return
+    digest = digest_of(open_database("old", place.file("aide.db")), MOST_BASELINE)
+    part, source = Part(place.fd), open_regular(place.file(NEWEST))
+    try:
+        copy_file(source, part.fd)
+        part.write(mark_of(digest, digest))
+        part.keep(BASELINES)
+    except OSError as error:
+        raise place.fault("is accepted, but its packages' records cannot be kept: %s" % no_room(error))
+    finally:
+        os.close(source)
+        part.close()
+
+
+def accept(place, given):
+    """The command aide-compare-accept does the work."""
+    program = find_command("aide-compare-accept")
+    if program is None:
         raise place.fault("cannot find aide-compare-accept")
-    say_what(place, digest)
-    words = [found[0], "--no-packages", "--sha256", digest, place.file("aide.db.new"), place.file("aide.db")]
-    child = os.posix_spawn(words[0], words, os.environ)
+    say_what(place, given.sha256)
+    words = [program, "--no-packages", "--sha256", given.sha256]
+    for pattern in given.keep_open:
+        words += ["--keep-open", pattern]
+    child = os.posix_spawn(program, words + [place.file("aide.db.new"), place.file("aide.db")], os.environ)
     status = os.waitstatus_to_exitcode(os.waitpid(child, 0)[1])
+    if status == 0:
+        keep_records(place)
     return status if status in (0, 15, 18, 22, 24) else Status.DEVICE
 
 
@@ -94,10 +116,20 @@ def main(arguments):
         metavar="DIGEST",
         help="the SHA-256 of the unpacked database that was read, or its first 16 digits or more",
     )
+    parser.add_argument(
+        "--keep-open",
+        metavar="PATTERN",
+        action="append",
+        default=[],
+        type=some_text,
+        help="with --sha256: all but the changes of these paths; see aide-compare-accept",
+    )
     parser.add_argument("host", metavar="HOST")
     given = parser.parse(arguments)
+    if given.first and given.keep_open:
+        raise Fault(Status.USAGE, "--keep-open goes with --sha256", "try: %s --help" % NAME)
     place = Place(given.store, check_name(given.host))
     if not place.has("aide.db.new"):
         raise place.fault("nothing was fetched yet; see fetch-host --help")
     place.lock(time.monotonic() + given.time)
-    return accept_first(place, given.most_unpacked) if given.first else accept(place, given.sha256)
+    return accept_first(place, given.most_unpacked) if given.first else accept(place, given)

@@ -5,21 +5,23 @@ import select
 import signal
 import time
 
-from aide_compare import comparing, fetching
-from aide_compare.ending import Fault, Status, reason, write_all
-from aide_compare.escapes import guarded, shown
-from aide_compare.files import open_regular
-from aide_compare.fleet_store import Place, check_name
-from aide_compare.options import Parser
+from aide_compare.base.ending import Fault, Status, reason, write_all
+from aide_compare.base.escapes import guarded, shown
+from aide_compare.base.files import open_regular
+from aide_compare.base.options import Parser
+from aide_compare.hosts import comparing, fetching
+from aide_compare.hosts.fleet_store import Place, check_name
+from aide_compare.show.readers import ALARMS
 
 NAME = "compare-hosts"
 MOST_LIST = 16 << 20
 GRACE = 15
+PAUSE = 0.2  # A process that was ended may go on, in a call that does not return.
 ENDING = (signal.SIGTERM, signal.SIGHUP, signal.SIGINT, signal.SIGQUIT)
 
 
 def one_host(host, given):
-    """The status of a host, and what its line says."""
+    """The status of a host, whether all its changes are explained, and what its line says."""
     try:
         deadline = time.monotonic() + given.time
         place = Place(given.store, check_name(host))
@@ -28,16 +30,19 @@ def one_host(host, given):
             fetching.fetch(place, given, deadline, given.jobs)
         state = comparing.compare_or_say(place, given, (), given.jobs, deadline)
     except Fault as fault:
-        return int(fault.status), fault.text
+        return int(fault.status), False, fault.text
     except OSError as error:
-        return int(Status.DEVICE), reason(error)
+        return int(Status.DEVICE), False, reason(error)
     except MemoryError:
-        return int(Status.MEMORY), "out of memory"
+        return int(Status.MEMORY), False, "out of memory"
     if state.status == 0:
-        return 0, "no differences"
+        return 0, True, "no differences"
     if state.status > 7:
-        return state.status, state.error
-    return state.status, "added %s, removed %s, changed %s" % (state.counts or ("?",) * 3)
+        return state.status, False, state.error
+    text = "added %s, removed %s, changed %s" % (state.counts or ("?",) * 3)
+    if state.reasons:
+        return state.status, not state.reasons.unanswered, "%s: %s" % (text, state.reasons.words())
+    return state.status, False, text
 
 
 class Worker:
@@ -58,7 +63,7 @@ class Worker:
                     os.setpgid(0, 0)
                     for descriptor in others + [self.fd]:
                         os.close(descriptor)
-                    write_all(writing, ("%d %s" % one_host(host, given)).encode("utf-8", "backslashreplace"))
+                    write_all(writing, ("%d %d %s" % one_host(host, given)).encode("utf-8", "backslashreplace"))
             finally:
                 os._exit(0)
         os.close(writing)
@@ -71,19 +76,19 @@ class Worker:
                 pass
 
     def result(self):
-        """The line of the host: its name, its status and what that says."""
+        """The line of the host: its name, its status, whether all its changes are explained, and what the status says."""
         os.close(self.fd)
         ended = os.waitstatus_to_exitcode(os.waitpid(self.child, 0)[1])
-        found = re.fullmatch(rb"([0-9]{1,3}) (.*)", self.answer, re.S)
+        found = re.fullmatch(rb"([0-9]{1,3}) ([01]) (.*)", self.answer, re.S)
         if not found or ended != 0:
             text = "ended without an answer (%d)" % ended
             try:
                 Place(self.store, self.host).not_compared("%s: %s" % (self.host, text))
             except Fault:
                 pass
-            return self.host, int(Status.DEVICE), text
-        text = guarded(found.group(2).decode("utf-8", "replace"))
-        return self.host, int(found.group(1)), text[:300]
+            return self.host, int(Status.DEVICE), False, text
+        text = guarded(found.group(3).decode("utf-8", "replace"))
+        return self.host, int(found.group(1)), found.group(2) == b"1", text[:300]
 
 
 class Ended(BaseException):
@@ -108,7 +113,7 @@ def results(hosts, given):
                 worker = Worker(waiting.pop(), given, list(workers))
                 workers[worker.fd] = worker
             left = min(worker.deadline for worker in workers.values()) - time.monotonic()
-            for descriptor in select.select(list(workers), [], [], max(left, 0))[0]:
+            for descriptor in select.select(list(workers), [], [], max(left, PAUSE))[0]:
                 block = os.read(descriptor, 65536)
                 workers[descriptor].answer += block
                 if not block:
@@ -153,14 +158,16 @@ def jobs(text):
 
 def compare_all(hosts, given):
     """Prints a line for each host and the summary; returns the greatest status."""
-    counts, worst = [0, 0, 0], 0
-    for host, status, text in results(hosts, given):
+    counts, worst, is_alarm = [0, 0, 0], 0, False
+    for host, status, is_explained, text in results(hosts, given):
         counts[0 if status == 0 else 1 if status <= 7 else 2] += 1
         worst = max(worst, status)
-        if status or not given.quiet:
+        is_told = status and not (is_explained and given.alarm == "unexplained")
+        is_alarm = is_alarm or is_told
+        if is_told or not given.quiet:
             name = shown(host, 200).replace(" ", "\\040")
             write_all(1, ("%s %d %s\n" % (name, status, text)).encode("utf-8", "backslashreplace"))
-    if worst or not given.quiet:
+    if is_alarm or not given.quiet:
         words = "%d hosts: %d without differences, %d with, %d not compared\n" % ((len(hosts),) + tuple(counts))
         write_all(1, words.encode())
     return worst
@@ -179,6 +186,9 @@ def options():
     parser.add_argument(
         "--quiet", action="store_true", help="only hosts whose status is not 0, and a summary if there are any"
     )
+    parser.add_argument(
+        "--alarm", choices=ALARMS, default=ALARMS[0], help="with --quiet and --reasons: unexplained: not those all explained"
+    )
     parser.add_argument("--no-fetch", action="store_true", help="compare what was fetched before")
     parser.add_argument("--one", action="store_true", help="HOSTS-FILE is the name of one host")
     fetching.add_place(parser)
@@ -190,6 +200,7 @@ def options():
 
 def main(arguments):
     given = options().parse(arguments)
+    comparing.explaining.rules_of(given)
     hosts = [given.file] if given.one else hosts_of(given.file, given.share)
     heed_signals()
     try:

@@ -3,20 +3,20 @@ import os
 import shlex
 import sys
 
-from aide_compare.ending import Fault, Status, say, write_all
-from aide_compare.external_sort import ExternalSort
-from aide_compare.files import nameless
-from aide_compare.folders import open_folder
-from aide_compare.fleet_store import STORE
-from aide_compare.host_changes import ChangeLines, encoded, path_in, same_changes
-from aide_compare.hosts import hosts_of
-from aide_compare.hosts_read import CUT, WHOLE, read_host
-from aide_compare.mail import address
-from aide_compare.options import Parser, duration, size, some_text
-from aide_compare.patterns import BadPattern, Pattern
-from aide_compare.private_room import stoppable
-from aide_compare.readers import AGE
-from aide_compare.smtp import server
+from aide_compare.base.ending import Fault, Status, say, write_all
+from aide_compare.base.external_sort import ExternalSort
+from aide_compare.base.files import nameless
+from aide_compare.base.folders import open_folder
+from aide_compare.base.options import Parser, duration, size, some_text
+from aide_compare.base.patterns import BadPattern, Pattern
+from aide_compare.base.private_room import stoppable
+from aide_compare.commands.hosts_compare import hosts_of
+from aide_compare.commands.mail import address
+from aide_compare.hosts.fleet_store import STORE
+from aide_compare.hosts.host_changes import ChangeLines, encoded, path_in, same_changes, standing_of
+from aide_compare.hosts.hosts_read import CUT, WHOLE, read_host
+from aide_compare.mail.smtp import server
+from aide_compare.show.readers import AGE, ALARMS
 
 NAME = "report-hosts"
 FORMAT = 1
@@ -76,9 +76,9 @@ def ordered(changes, order):
     with ExternalSort() as sorter:
         for fields in changes:
             key = fields["hosts"] if order == "rare" else GREATEST - fields["hosts"]
-            sorter.put(b"%012d\t%s\n" % (key, encoded(fields).encode()))
+            sorter.put(b"%d%d%012d\t%s\n" % (*standing_of(fields), key, encoded(fields).encode()))
         for line in sorter.lines():
-            yield line[13:]
+            yield line[15:]
 
 
 class HostsReport:
@@ -93,6 +93,7 @@ class HostsReport:
                 count += 1
         self.body.flush()
         differ = [host for host in hosts if host.differs]
+        self.is_alarm = any(not host.is_explained for host in hosts)
         self.worst, self.hosts = max(host.status for host in hosts), [host.fields() for host in hosts]
         self.summary = {
             "record": "summary",
@@ -100,6 +101,7 @@ class HostsReport:
             "hosts": len(hosts),
             "unchanged": sum(host.status == 0 for host in hosts),
             "differ": len(differ),
+            "explained": sum(host.is_explained for host in differ),
             "not_compared": sum(host.status > 7 for host in hosts),
             "cut": sum(host.report == CUT for host in differ),
             "not_listed": sum(host.report not in (WHOLE, CUT) for host in differ),
@@ -122,14 +124,14 @@ class HostsReport:
             write_all(1, block)
 
     def write_text(self):
-        from aide_compare.hosts_text import report_lines
+        from aide_compare.hosts.hosts_text import report_lines
 
         with open(1, "wb", buffering=BLOCK, closefd=False) as target:
             for line in report_lines(self.summary, self.hosts, self.changes(), self.summary["order"]):
                 target.write((line + "\n").encode("utf-8", "backslashreplace"))
 
     def write_html(self, command):
-        from aide_compare.hosts_page import page
+        from aide_compare.hosts.hosts_page import page
 
         with open(1, "wb", buffering=BLOCK, closefd=False) as target:
             for part in page(self.summary, self.hosts, self.changes(), command):
@@ -137,16 +139,16 @@ class HostsReport:
 
     def mail(self, given, command):
         """Sends one mail about all hosts, and none if there is nothing to say."""
-        from aide_compare.hosts_text import fitting, headline
-        from aide_compare.message import build, clean
-        from aide_compare.sending import alert, deliver, way_out
+        from aide_compare.hosts.hosts_text import fitting, headline
+        from aide_compare.mail.message import build, clean
+        from aide_compare.mail.sending import alert, deliver, way_out
 
         try:
             way = way_out(given.smtp, given.mail_time)
         except Fault as fault:
             alert("%s; %s" % (fault.text, headline(self.summary)))
             raise
-        if not self.worst:
+        if not (self.is_alarm if given.alarm == "unexplained" else self.worst):
             return
         lines, left_out = fitting(self.summary, self.hosts, self.changes(), self.summary["order"], given.most_mail * 3 // 4)
         if left_out:
@@ -201,6 +203,9 @@ def options():
     form.add_argument("--json", action="store_true", help="write JSON, one object a line")
     form.add_argument("--html", action="store_true", help="write one page for a browser, without a script")
     form.add_argument("--to", type=address, metavar="ADDRESS", help="mail the text, if a host differs or was not compared")
+    parser.add_argument(
+        "--alarm", choices=ALARMS, default=ALARMS[0], help="with --to: unexplained: no mail if all changes are explained"
+    )
     parser.add_argument("--most-mail", type=size, default=1 << 20, metavar="SIZE", help="cut a mail that would be larger (1M)")
     parser.add_argument("--smtp", type=server, metavar="HOST[:PORT]", help="send by SMTP to this server, not by sendmail")
     parser.add_argument("--mail-time", type=duration, default=60, metavar="TIME", help="how long sending may take (60s)")

@@ -1,7 +1,7 @@
 """aide-compare-json: a report of aide-compare as JSON."""
-from aide_compare.files import nameless
-from aide_compare.options import some_text
-from aide_compare.viewers import BLOCK, parser_of, run
+from aide_compare.base.files import nameless
+from aide_compare.base.options import some_text
+from aide_compare.commands.viewers import BLOCK, parser_of, run
 
 NAME = "aide-compare-json"
 DESCRIPTION = "Reads a report of aide-compare and writes it as JSON, one object a line."
@@ -10,8 +10,8 @@ Example: aide-compare-run --state state old.gz new.gz | aide-compare-json --full
 
 
 def _options():
-    from aide_compare.json_members import member
-    from aide_compare.report_parts import LEVELS
+    from aide_compare.lines.json_members import member
+    from aide_compare.lines.report_parts import LEVELS
 
     parser = parser_of(NAME, "the report", DESCRIPTION, EPILOG)
     add = parser.add_argument
@@ -51,8 +51,8 @@ class _Form:
     """One of the two forms. The entries wait in private files, since the summary comes first and is known last."""
 
     def __init__(self, source, given):
-        from aide_compare.report_lines import Lines
-        from aide_compare.report_parts import judge, read_report
+        from aide_compare.lines.report_lines import Lines
+        from aide_compare.lines.report_parts import judge, read_report
 
         self.given, self.count, self.databases = given, 0, []
         self.begin()
@@ -68,7 +68,7 @@ class _Form:
 
     def complete(self, occasion):
         """Adds what is known of the comparison: names, and members for each line, which are returned."""
-        from aide_compare.json_members import members
+        from aide_compare.lines.json_members import members
 
         occasion.read()
         occasion.check(self.summary, self.databases)
@@ -86,12 +86,12 @@ class _Lines(_Form):
     """One object a line."""
 
     def how(self):
-        from aide_compare.report_written import Values
+        from aide_compare.lines.report_written import Values
 
         return Values(not self.given.no_text, self.given.names), True
 
     def begin(self):
-        from aide_compare.report_json import LineWriter
+        from aide_compare.lines.report_json import LineWriter
 
         self.body, self.writer = open(nameless(), "w+b", buffering=BLOCK), LineWriter()
 
@@ -100,7 +100,7 @@ class _Lines(_Form):
 
     def write(self, target, occasion):
         members = self.complete(occasion)
-        from aide_compare.report_json import LineWriter
+        from aide_compare.lines.report_json import LineWriter
 
         writer = LineWriter(members)
         target.write(writer.line(self.summary))
@@ -123,7 +123,7 @@ class _Aide(_Form):
         return ()
 
     def begin(self):
-        from aide_compare.json_aide import AideObject
+        from aide_compare.lines.json_aide import AideObject
 
         self.whole = AideObject()
 
@@ -136,7 +136,7 @@ class _Aide(_Form):
 
 
 def _write(source, target, given):
-    from aide_compare.json_members import Occasion
+    from aide_compare.lines.json_members import Occasion
 
     occasion = Occasion(given.state, given.old, given.new)
     form = {"lines": _Lines, "aide": _Aide}[given.format](source, given)
@@ -144,7 +144,7 @@ def _write(source, target, given):
 
 
 def main(arguments):
-    from aide_compare.json_members import members
+    from aide_compare.lines.json_members import members
 
     given = _options().parse(arguments)
     members(given.members)

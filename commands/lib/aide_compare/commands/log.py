@@ -1,8 +1,8 @@
 """The result of the last run as one line for the system log."""
-from aide_compare.ending import Fault
-from aide_compare.escapes import guarded, shown
-from aide_compare.readers import Reading, parser, write_line
-from aide_compare.times import date_of
+from aide_compare.base.ending import Fault
+from aide_compare.base.escapes import guarded, shown
+from aide_compare.base.times import date_of
+from aide_compare.show.readers import Reading, parser, write_line
 
 NAME = "aide-compare-log"
 MOST = 8000

@@ -5,15 +5,17 @@ import re
 import shlex
 import sys
 
-from aide_compare import weekly
-from aide_compare.ending import Fault, Status, say
-from aide_compare.files import nameless
-from aide_compare.message import Result, build, clean, host, text_of
-from aide_compare.options import Parser, duration, size, some_text
-from aide_compare.readers import ALARMS
-from aide_compare.reason_counts import counted
-from aide_compare.sending import SECONDS, alert, deliver, way_out
-from aide_compare.smtp import server
+from aide_compare.base.defaults import MAIL, RUN, defaults_for
+from aide_compare.base.ending import Fault, Status, say, write_all
+from aide_compare.base.escapes import shown_lines
+from aide_compare.base.files import nameless
+from aide_compare.base.options import Parser, duration, size, some_text
+from aide_compare.compare.reason_counts import counted
+from aide_compare.mail import weekly
+from aide_compare.mail.message import Result, build, clean, host, text_of
+from aide_compare.mail.sending import SECONDS, alert, deliver, way_out
+from aide_compare.mail.smtp import server
+from aide_compare.show.readers import ALARMS
 
 NAME = "aide-compare-mail"
 DESCRIPTION = """Runs aide-compare-run with all other arguments, and mails the report if the databases differ, or the errors if
@@ -38,7 +40,18 @@ RUN_VALUES = (
     "--rules",
     "--severity",
 )
-OWN_VALUES = ("--to", "--most-mail", "--smtp", "--queue", "--send-queue", "--user", "--mail-time", "--alarm")
+OWN_VALUES = (
+    "--to",
+    "--most-mail",
+    "--smtp",
+    "--queue",
+    "--send-queue",
+    "--unit-failed",
+    "--user",
+    "--mail-time",
+    "--alarm",
+)
+UNIT = re.compile(r"[A-Za-z0-9:_.\\@-]{1,255}")  # As systemd.unit(5) has it.
 OWN_FLAGS = ("--html", "--test", "--alarm-sent-is-success", "--help", "-h", "--version")
 MOST_ERRORS = 1 << 20
 BRIEF, LINES = 3, 4  # The descriptors of what aide-compare-run writes for a mail beside the report.
@@ -49,6 +62,14 @@ def address(text):
         import argparse
 
         raise argparse.ArgumentTypeError("needs an address")
+    return text
+
+
+def unit(text):
+    if not UNIT.fullmatch(text):
+        import argparse
+
+        raise argparse.ArgumentTypeError("needs the name of a unit")
     return text
 
 
@@ -77,6 +98,7 @@ def parser():
     add("--mail-time", metavar="TIME", type=duration, default=SECONDS, help="how long sending may take (60s)")
     add("--queue", metavar="FOLDER", type=some_text, help="keep the mail in this folder; --send-queue sends it")
     add("--send-queue", metavar="FOLDER", type=some_text, help="compare nothing, and send the mails of this folder")
+    add("--unit-failed", metavar="NAME", type=unit, help="with --send-queue: mail first that this unit of systemd has failed")
     add("--user", metavar="NAME", type=some_text, help="give up root's rights first, for those of this user")
     add("--alarm-sent-is-success", action="store_true", help="end with 0 also after differences or errors that were mailed")
     return made
@@ -117,18 +139,30 @@ def value_of(option, words):
     return next((word.partition("=")[2] or following for word, following in pairs if word.partition("=")[0] == option), None)
 
 
+def without_value(option, words):
+    """The words without an option and its value: a command for reading must not overwrite the state."""
+    kept, words = [], list(words)
+    while words and words[0] != "--":
+        word = words.pop(0)
+        if word.partition("=")[0] == option:
+            del words[: word == option]
+        else:
+            kept += [word] + ([words.pop(0)] if word in RUN_VALUES and words else [])
+    return kept + words
+
+
 class Comparison:
     """aide-compare-run, run to its end. Its output goes to private files, so their room is known before a mail is begun."""
 
-    def __init__(self, folder, words, wants_lines):
-        self.path, self.words = os.path.join(folder, "aide-compare-run"), words
+    def __init__(self, folder, words, wants_lines, has_reasons):
+        self.path, self.words, self.has_reasons = os.path.join(folder, "aide-compare-run"), words, has_reasons
         self.report, self.errors, self.brief = nameless(), nameless(), nameless()
         self.lines = nameless() if wants_lines else None
 
     def _start(self):
         actions = [(os.POSIX_SPAWN_DUP2, self.report, 1), (os.POSIX_SPAWN_DUP2, self.errors, 2)]
         words = [self.path]
-        places = [(self.brief, BRIEF, "--brief")] if has_flag("--reasons", self.words) else []
+        places = [(self.brief, BRIEF, "--brief")] if self.has_reasons else []
         places += [(self.lines, LINES, "--lines")] if self.lines is not None else []
         raised = [(fcntl.fcntl(descriptor, fcntl.F_DUPFD_CLOEXEC, 10), place, name) for descriptor, place, name in places]
         for descriptor, place, name in raised:
@@ -187,17 +221,19 @@ def page_of(folder, lines, most):
 
 
 def message_of(given, folder, comparison, result):
-    command = shlex.join([comparison.path] + comparison.words)
+    command = shlex.join([comparison.path] + without_value("--state", comparison.words))
     text, page = text_of(result, given.most_mail, command), None
     if comparison.lines is not None and result.differs:
         page, why = page_of(folder, comparison.lines, given.most_mail)
         text += clean(("\n%s: there is no page: %s\n" % (NAME, why)).encode()) if page is None else b""
+    if given.fault:
+        text += clean(("\n%s: %s\n" % (NAME, given.fault)).encode("utf-8", "surrogateescape"))
     return build(given.to, result.subject(), text, page)
 
 
 def way_of(given):
     if given.queue:
-        from aide_compare.queue import Queue
+        from aide_compare.mail.queue import Queue
 
         return Queue(given.queue)
     return way_out(given.smtp, given.mail_time)
@@ -233,10 +269,12 @@ def be_quiet(given, words, way, result):
 
 
 def compare_and_mail(given, folder, words):
-    comparison = Comparison(folder, words, given.html)
+    comparison = Comparison(folder, words, given.html, given.has_reasons)
     result = comparison.result()
     if result.status > 7:
         os.truncate(result.report, 0)
+    if result.status == Status.USAGE:  # Who has typed it sees it at once.
+        write_all(2, shown_lines(result.errors).encode("utf-8", "backslashreplace"))
     try:
         way = way_of(given)
     except Fault as fault:
@@ -248,41 +286,63 @@ def compare_and_mail(given, folder, words):
     return 0 if given.alarm_sent_is_success else result.status
 
 
-def empty_queue(given):
-    """Sends what waits. systemd says by two variables if the unit that should have queued a mail has failed."""
-    from aide_compare.queue import send_all
-
-    way, result = way_of(given), os.environ.get("MONITOR_SERVICE_RESULT", "success")
+def failed_unit(given):
+    """The unit that should have queued a mail and has failed, and how, or None. The command line says which; systemd 251 and
+    later say how by variables, which are enough without the option too."""
+    result, status = os.environ.get("MONITOR_SERVICE_RESULT", "success"), os.environ.get("MONITOR_EXIT_STATUS", "unknown")
     if result != "success":
-        send(
-            way,
-            simple(
-                given,
-                "the comparison failed",
-                "%s failed: %s, status %s. Its lines: journalctl -u %s\n"
-                % (
-                    os.environ.get("MONITOR_UNIT", "a unit"),
-                    result,
-                    os.environ.get("MONITOR_EXIT_STATUS", "unknown"),
-                    os.environ.get("MONITOR_UNIT", "aide-compare.service"),
-                ),
-            ),
-        )
+        name = os.environ.get("MONITOR_UNIT", "")
+        return given.unit_failed or (name if UNIT.fullmatch(name) else "a unit"), ": %s, status %s" % (result, status)
+    return (given.unit_failed, "") if given.unit_failed else None
+
+
+def empty_queue(given):
+    """Sends what waits, and first that a unit has failed."""
+    from aide_compare.mail.queue import send_all
+
+    way, failed = way_of(given), failed_unit(given)
+    if failed:
+        text = "%s failed%s. Its lines: journalctl -u %s\n" % (failed + (shlex.quote(failed[0]),))
+        send(way, simple(given, "the comparison failed", text))
     send_all(given.send_queue, way)
     return 0
 
 
-def main(arguments):
-    own, words = split(arguments)
+def parsed(own, words):
+    """The options, where `words` are those of aide-compare-run; a Fault for options that mean nothing without another one."""
     given = parser().parse(own)
-    if given.user:
-        from aide_compare.rights import give_up
-
-        give_up(given.user)
-    if given.alarm == "unexplained" and not has_flag("--reasons", words):
+    given.has_reasons, given.fault = has_flag("--reasons", words), ""
+    if given.alarm == "unexplained" and not given.has_reasons:
         raise Fault(Status.USAGE, "--alarm unexplained needs --reasons, which finds out what explains a change")
     if given.weekly and not value_of("--state", words):
         raise Fault(Status.USAGE, "--weekly needs --state, beside which the number of quiet runs is kept")
+    if given.unit_failed and not given.send_queue:
+        raise Fault(Status.USAGE, "--unit-failed needs --send-queue")
+    return given
+
+
+def with_defaults(own, words):
+    """The options with the administrator's defaults before them. A fault in the defaults costs no mail: without them more is
+    mailed, and the mail says so."""
+    try:
+        added, others = split(defaults_for({**RUN, **MAIL}, own + before_dashes(words)))
+        if not value_of("--state", words):  # A command by hand keeps no number of quiet runs.
+            added = [word for word in added if word.partition("=")[0] != "--weekly"]
+        return parsed(added + own, others + words)
+    except Fault as fault:
+        given = parsed(own, words)
+        say(fault.text)
+        given.fault = fault.text
+        return given
+
+
+def main(arguments):
+    own, words = split(arguments)
+    given = with_defaults(own, words)
+    if given.user:
+        from aide_compare.base.rights import give_up
+
+        give_up(given.user)
     if given.send_queue:
         return empty_queue(given)
     if given.test:

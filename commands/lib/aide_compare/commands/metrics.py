@@ -1,8 +1,9 @@
 """The result of the last run as metrics for Prometheus."""
-from aide_compare.ending import Status, write_all
-from aide_compare.files import Replacement
-from aide_compare.readers import parser
-from aide_compare.state import read_state
+from aide_compare.base.ending import Status, write_all
+from aide_compare.base.files import Replacement
+from aide_compare.compare.reason_counts import GRADE_KEYS, GRADES
+from aide_compare.compare.state import read_state
+from aide_compare.show.readers import parser
 
 NAME = "aide-compare-metrics"
 GAUGES = (
@@ -19,7 +20,7 @@ REASONS = (
     ("high_changes", "high", "Changes of high severity that are unexplained or not verified."),
     ("medium_changes", "medium", "Changes of medium severity that are unexplained or not verified."),
     ("low_changes", "low", "Changes of low severity that are unexplained or not verified."),
-)
+) + tuple(("%s_changes" % key, key, "Changes explained by the grade %s." % grade) for grade, key in zip(GRADES, GRADE_KEYS))
 TEXT = "# HELP aide_compare_%s %s\n# TYPE aide_compare_%s gauge\naide_compare_%s %d\n"
 
 

@@ -1,13 +1,13 @@
 """The command aide-compare-reasons: the lines of aide-compare-json with reasons and severities."""
 import os
 
-from aide_compare.evidence_options import add_evidence_options
-from aide_compare.options import size
+from aide_compare.base.options import size
+from aide_compare.commands.viewers import parser_of, run as run_over
+from aide_compare.compare.unpack import copy_database
 from aide_compare.reasons.evidence import evidence_of
+from aide_compare.reasons.evidence_options import add_evidence_options
 from aide_compare.reasons.explainer import Explainer
 from aide_compare.reasons.lines import Lines
-from aide_compare.unpack import copy_database
-from aide_compare.viewers import parser_of, run as run_over
 
 NAME = "aide-compare-reasons"
 MOST_DATABASE = 4 << 30

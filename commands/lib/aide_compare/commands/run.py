@@ -2,16 +2,18 @@
 import os
 import sys
 
-from aide_compare.comparison import MOST, MOST_REPORT, Comparison, Outcome, Request
-from aide_compare.ending import Fault, Status, reason, say, write_all
-from aide_compare.escapes import shown, shown_lines
-from aide_compare.evidence_options import add_evidence_options
-from aide_compare.files import Replacement, copy_file
-from aide_compare.options import Parser, duration, size, some_text
-from aide_compare.outcome_state import left_out_of, state_of
-from aide_compare.rights import give_up
-from aide_compare.times import date_of
-from aide_compare.without import Rules, read_rules
+from aide_compare.base.defaults import RUN, add_off, defaults_for, place_of
+from aide_compare.base.ending import Fault, Status, reason, say, write_all
+from aide_compare.base.escapes import shown, shown_lines
+from aide_compare.base.files import Replacement, copy_file
+from aide_compare.base.options import Parser, duration, size, some_text
+from aide_compare.base.rights import give_up
+from aide_compare.base.times import date_of
+from aide_compare.compare.comparison import MOST, MOST_REPORT, Comparison, Outcome, Request
+from aide_compare.compare.handing import Handed, Handing, is_of
+from aide_compare.compare.outcome_state import left_out_of, state_of
+from aide_compare.compare.without import Rules, read_rules
+from aide_compare.reasons.evidence_options import add_evidence_options
 
 NAME = "aide-compare-run"
 DESCRIPTION = "Compares two AIDE databases, plain or compressed by gzip. The report goes to standard output."
@@ -21,6 +23,7 @@ EPILOG = """after --, for aide-compare:
 
 Times are as in 90s, 15m, 26h or 3d; a plain number is seconds. Sizes are in bytes, or as in 500k, 20M or 1G.
 Where another user can write in the folder of the state file, or above it, it is written with that user's rights.
+Root compares with the rights of the user in whose folder the baseline is, unless --user names another one.
 
 Status: that of aide-compare(1). 0 no difference, 1 to 7 differences, above 7 no comparison."""
 
@@ -66,6 +69,7 @@ def add_options(parser):
     add("--brief", metavar="FILE", type=some_text, help="with --reasons: write to FILE what people should read first")
     add_evidence_options(parser)
     add("--user", metavar="NAME", type=some_text, help="give up root's rights first, for those of this user")
+    add_off(parser)
 
 
 def texts_of(words):
@@ -99,13 +103,13 @@ def check_reasons(given):
 
 
 def rules_of(given):
-    """What --without and --without-path leave out, or None."""
-    if not given.without and not given.without_path:
-        return None
-    return Rules(read_rules(given.without, given.without_path))
+    """What --without and --without-path leave out, or None. Without --without it is what the administrator's file names."""
+    usual = None if given.without or given.no_defaults else place_of("without")
+    files = [usual] if usual else given.without
+    return Rules(read_rules(files, given.without_path)) if files or given.without_path else None
 
 
-def request_of(given, words, beside):
+def request_of(given, words, beside, handing):
     """The Request that options and the words after -- ask for."""
     if len(given.databases) not in (0, 2):
         raise Fault(
@@ -129,6 +133,7 @@ def request_of(given, words, beside):
         given.most_report,
         counts=given.state is not None or given.reasons,
         without=rules_of(given),
+        handing=handing,
     )
 
 
@@ -142,14 +147,14 @@ class NothingWanted:
         return None
 
 
-def wanted_of(given):
+def wanted_of(given, made):
     """What is to be written beside the report. The modules for it are more than all others together, and loaded only if it is
     asked for."""
     if not given.reasons and not given.lines:
         return NothingWanted()
-    from aide_compare.explaining import Sources, Wanted
+    from aide_compare.show.explaining import Sources, Wanted
 
-    return Wanted(given.lines, given.brief, Sources(given) if given.reasons else None)
+    return Wanted(given.lines, given.brief, Sources(given) if given.reasons else None, made)
 
 
 def introduce(outcome):
@@ -193,14 +198,32 @@ def _compared(request, outcome, wanted):
     return reasons
 
 
+def _put_in_place(handed, outputs, state, wanted):
+    """What is left to the parent of a child that has compared. The state is the last of the outputs."""
+    status = handed.status()
+    if state and not is_of(state, status):
+        raise Fault(Status.DEVICE, "the comparison with the rights of another user left no whole result")
+    if status > 7:
+        wanted.write_nothing()
+    for output in outputs:
+        if status <= 7 or output is state:
+            output.put()
+    return status
+
+
 def _run(request, state, wanted):
     outcome, reasons = Outcome(), None
     try:
-        reasons = _compared(request, outcome, wanted)
+        try:
+            reasons = _compared(request, outcome, wanted)
+        except Handed as handed:
+            return _put_in_place(handed, request.handing.outputs, state, wanted)
     except (Fault, MemoryError, OSError) as fault:
         if not isinstance(fault, Fault):
             memory = isinstance(fault, MemoryError)
             fault = Fault(*(Status.MEMORY, "out of memory") if memory else (Status.DEVICE, reason(fault)))
+        if request.handing and request.handing.owner is not None:
+            fault.more += (request.handing.hint(),)
         if state:
             state.commit(state_of(outcome, fault.status, "%s: %s" % (NAME, fault.text)).text())
         wanted.write_nothing()
@@ -214,10 +237,12 @@ def main(arguments):
     cut = arguments.index("--") if "--" in arguments else len(arguments)
     parser = Parser(NAME, DESCRIPTION, epilog=EPILOG, usage="%(prog)s [OPTIONS] [OLD NEW] [-- ARGUMENTS]")
     add_options(parser)
-    given = parser.parse(arguments[:cut])
+    given = parser.parse(defaults_for(RUN, arguments[:cut]) + arguments[:cut])
     check_reasons(given)
     if given.user:
         give_up(given.user)
-    request = request_of(given, arguments[cut + 1 :], os.path.dirname(os.path.realpath(sys.argv[0])))
-    wanted = wanted_of(given)
-    return _run(request, Replacement(given.state, what="the state file").begin() if given.state else None, wanted)
+    handing = Handing() if os.geteuid() == 0 and not given.user else None
+    made = handing.later if handing else lambda output: output
+    request = request_of(given, arguments[cut + 1 :], os.path.dirname(os.path.realpath(sys.argv[0])), handing)
+    wanted = wanted_of(given, made)
+    return _run(request, made(Replacement(given.state, what="the state file").begin()) if given.state else None, wanted)

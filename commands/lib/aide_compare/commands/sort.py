@@ -3,14 +3,14 @@ import re
 from array import array
 from bisect import bisect_left
 
-from aide_compare.ending import Fault, Status, reason, say, write_all
-from aide_compare.escapes import shown
-from aide_compare.external_sort import ExternalSort
-from aide_compare.files import nameless
-from aide_compare.options import Parser, size, some_text
-from aide_compare.path_keys import key_of, path_of
-from aide_compare.private_room import stoppable
-from aide_compare.unpack import copy_database
+from aide_compare.base.ending import Fault, Status, reason, say, write_all
+from aide_compare.base.escapes import shown
+from aide_compare.base.external_sort import ExternalSort
+from aide_compare.base.files import nameless
+from aide_compare.base.options import Parser, size, some_text
+from aide_compare.base.path_keys import key_of, path_of
+from aide_compare.base.private_room import stoppable
+from aide_compare.compare.unpack import copy_database
 
 BLOCK = 1 << 16
 # aide-compare refuses longer lines.

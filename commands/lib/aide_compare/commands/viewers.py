@@ -2,11 +2,11 @@
 import os
 import stat
 
-from aide_compare.ending import Fault, Status, reason
-from aide_compare.escapes import shown
-from aide_compare.files import open_regular
-from aide_compare.options import Parser
-from aide_compare.report_lines import Refused
+from aide_compare.base.ending import Fault, Status, reason
+from aide_compare.base.escapes import shown
+from aide_compare.base.files import open_regular
+from aide_compare.base.options import Parser
+from aide_compare.lines.report_lines import Refused
 
 REFUSED = 65
 BLOCK = 1 << 18
@@ -44,7 +44,7 @@ def run(path, work):
 
 def _write_page(source, target, given):
     import gc
-    from aide_compare.page import page
+    from aide_compare.show.page import page
 
     gc.disable()  # Entries have no cycles, and looking for cycles takes a tenth of the time.
     for part in page(source, given.title, given.plain, given.only):
@@ -52,7 +52,7 @@ def _write_page(source, target, given):
 
 
 def html_main(arguments):
-    from aide_compare.page_view import fault_of
+    from aide_compare.show.page_view import fault_of
 
     parser = parser_of(
         "aide-compare-html",

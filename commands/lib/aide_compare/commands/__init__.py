@@ -1,0 +1,1 @@
+"""The commands, a module each: options, steps in order, status."""

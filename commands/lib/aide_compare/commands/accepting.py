@@ -1,0 +1,172 @@
+"""How a database becomes the baseline: by its digest, if it is sound, whole or but for what stays open."""
+import base64
+import binascii
+import gzip
+import os
+import sys
+
+from aide_compare.base.ending import Fault, Status
+from aide_compare.base.escapes import shown
+from aide_compare.base.files import nameless, reopened
+from aide_compare.compare.baseline import Baseline
+from aide_compare.compare.kept_open import Listed, Patterns, keep_open
+from aide_compare.compare.sound import refuse_unsound
+from aide_compare.compare.unexplained import unexplained_keys
+from aide_compare.compare.unpack import GZIP, Opened, copy_opened, copy_packed, digest_of, open_database
+from aide_compare.reasons.kept_records import SUFFIX, Records
+
+MOST_BYTES = 1 << 40
+FEWEST_DIGITS, ALL_DIGITS = 16, 64
+DIGITS = "0123456789abcdef"
+BLOCK = 1 << 18
+
+
+class Wanted:
+    """The digest on the command line: all 64 digits of base 16, or the first of them."""
+
+    def __init__(self, text):
+        joined = "".join(text.split())
+        self.digits = self._decoded(joined) if joined.endswith("=") else joined.lower()
+        if self.digits.strip(DIGITS) or not FEWEST_DIGITS <= len(self.digits) <= ALL_DIGITS:
+            raise Fault(
+                Status.USAGE,
+                "no SHA-256: %s; give its first 16 or more digits of base 16, or all 44 "
+                "characters of base 64" % (shown(text, 100) or "''"),
+            )
+
+    @staticmethod
+    def _decoded(text):
+        """The digits of a whole digest in base 64; nothing for all other texts."""
+        try:
+            data = base64.b64decode(text, validate=True)
+        except (binascii.Error, ValueError):
+            return ""
+        is_whole = len(data) == 32 and base64.b64encode(data).decode() == text
+        return data.hex() if is_whole else ""
+
+    def fits(self, digest):
+        return digest.startswith(self.digits)
+
+
+class Offered:
+    """The new database: a private copy of its file, of which all is taken, and the Copy of what it unpacks to."""
+
+    def __init__(self, path, most):
+        opened = open_database("new", path)
+        packed = copy_packed(opened, most)
+        self.fd = reopened(packed, os.O_RDONLY)
+        self.copy = copy_opened(Opened("new", path, packed), most)
+        self.sha256, self.copy.written = self.copy.sha256, opened.written
+
+    def packed(self, copy):
+        """A descriptor of another database in the form of this one, plain or compressed by gzip."""
+        if os.pread(self.fd, 2, 0) != GZIP:
+            return copy.fd
+        target = nameless()
+        with open(os.dup(target), "wb") as file, gzip.GzipFile(filename="", mode="wb", fileobj=file, mtime=0) as member:
+            for block in iter(lambda: os.pread(copy.fd, BLOCK, member.tell()), b""):
+                member.write(block)
+        return target
+
+
+class Wish:
+    """What is asked for: the digest, the most bytes, the folder of the commands, and whether packages' records are kept.
+    `patterns` and the options of --reasons, or None, say what stays open."""
+
+    def __init__(self, digest, most=MOST_BYTES, keeps_records=True, patterns=(), reasons=None):
+        self.digest, self.most, self.keeps_records = Wanted(digest), most, keeps_records
+        self.patterns, self.reasons = list(patterns), reasons
+        self.beside = os.path.dirname(os.path.realpath(sys.argv[0]))
+
+    def is_partial(self):
+        return bool(self.patterns) or self.reasons is not None
+
+
+class Accepted:
+    """What was done: `former` is the SHA-256 of the former baseline, "" if it cannot be read, None if there was none.
+    `belongs` are the user and the group of a baseline that was written, and `belonged` those of the former one. `sha256` is
+    that of the baseline now, and `open` counts what stays open in it."""
+
+    def __init__(self, new, former):
+        self.new, self.former, self.sha256, self.open = new, former, new.sha256, None
+        self.belongs, self.belonged, self.is_replaced, self.records = None, None, False, ""
+
+
+def user_of(uid):
+    """The name of a user, or the number."""
+    import pwd
+
+    try:
+        return pwd.getpwuid(uid).pw_name
+    except KeyError:
+        return str(uid)
+
+
+def digest_of_former(baseline, most):
+    descriptor = baseline.reading()
+    if descriptor is None:
+        return None if baseline.former is None else ""
+    try:
+        return digest_of(Opened("old", baseline.path, descriptor), most)
+    except Fault:
+        return ""
+    finally:
+        os.close(descriptor)
+
+
+def _old_copy(baseline, most):
+    descriptor = baseline.reading()
+    if descriptor is None:
+        raise Fault(Status.DEVICE, "there is no baseline %s that can be read, so nothing stays open" % shown(baseline.path))
+    return copy_opened(Opened("old", baseline.path, descriptor), most)
+
+
+def _with_open_part(wish, offered, baseline):
+    """The Copy of the new database with the old entries of what stays open, and the counts of these."""
+    old = _old_copy(baseline, wish.most)
+    refuse_unsound(wish.beside, offered.copy, old)
+    patterns, unexplained = Patterns(wish.patterns), Listed(())
+    if wish.reasons is not None:
+        user = ["--user", user_of(baseline.owner)] if baseline.owner is not None else []
+        options = user + ["--most", str(wish.most)] + wish.reasons
+        unexplained = Listed(unexplained_keys(wish.beside, options, baseline.path, (old, offered.copy)))
+    merged, counts = keep_open(old, offered.copy, lambda key: any([patterns(key), unexplained(key)]))
+    unused = patterns.unused()
+    if unused:
+        raise Fault(Status.DATABASE, "refused: nothing that differs is kept open by %s" % shown(unused[0].text, 200))
+    refuse_unsound(wish.beside, merged)
+    return merged, counts
+
+
+def accept(wish, new, path):
+    """Makes the database `new` the baseline as the Wish says. A database that it does not mean is a Fault of status 24."""
+    offered = Offered(new, wish.most)
+    if not wish.digest.fits(offered.sha256):
+        raise Fault(
+            Status.DATABASE,
+            "refused: %s is not the database that was reported" % shown(new),
+            "the SHA-256 that was given: %s" % wish.digest.digits,
+            "the SHA-256 of the database: %s" % offered.sha256,
+        )
+    baseline = Baseline(path, SUFFIX if wish.keeps_records else "")
+    baseline.settle()
+    done, source = Accepted(offered, digest_of_former(baseline, wish.most)), offered.fd
+    if wish.is_partial():
+        merged, done.open = _with_open_part(wish, offered, baseline)
+        done.sha256, source = merged.sha256, offered.packed(merged)
+    else:
+        refuse_unsound(wish.beside, offered.copy)
+    _put_in_place(done, baseline, source, new + SUFFIX if wish.keeps_records else None)
+    return done
+
+
+def _put_in_place(done, baseline, source, beside):
+    """Makes a file the baseline, unless it is that already, and keeps the packages' records, unless `beside` is None."""
+    records = Records(baseline, done.sha256, done.new.sha256, beside) if beside else None
+    done.is_replaced = done.former != done.sha256
+    if done.is_replaced:
+        found = baseline.former
+        done.belongs = baseline.replace(source)
+        done.belonged = found and (found.st_uid, found.st_gid)
+    if records and (done.is_replaced or not records.are_there()):
+        done.records = records.keep()

@@ -1,0 +1,239 @@
+"""Makes a machine ready for a comparison each day: what is missing is made, step by step, and what is there stays.
+
+A step says what it is before it does anything. It looks again at what it needs, so the command can be run a second time, or
+after it was interrupted.
+"""
+import os
+import stat
+import subprocess
+
+from aide_compare.base.ending import Fault, Status, reason, write_all
+from aide_compare.base.escapes import shown
+from aide_compare.base.files import Replacement, open_folder, open_regular, reopened
+from aide_compare.base.options import Parser, some_text
+
+NAME = "aide-compare-setup"
+HERE = os.path.dirname(os.path.realpath(__file__))
+ROOT = ""
+CONFIGURATIONS = ("/etc/aide/aide.conf", "/etc/aide.conf")
+DATABASES, BASELINE, NEW = ROOT + "/var/lib/aide", "aide.db", "aide.db.new"
+OWN, DAILY = ROOT + "/var/lib/aide-compare", "daily"
+DEFAULTS, WITHOUT, CRON = (
+    ROOT + "/etc/aide-compare/defaults",
+    ROOT + "/etc/aide-compare/without",
+    ROOT + "/etc/cron.daily/aide-compare",
+)
+SYSTEMD = ROOT + "/run/systemd/system"
+PATH, AIDES_USER = "/usr/local/sbin:/usr/local/bin:/usr/sbin:/usr/bin:/sbin:/bin", "_aide"
+# Where the package, packaging/install and the repository have the examples.
+SHIPPED = ("/../../../../../share/doc/aide-compare/examples/", "/../../../../contrib/")
+BEGINS = (b"\x1f\x8b", b"@@begin_db", b"#")
+MOST_EXAMPLE, INIT_SECONDS, SECONDS = 1 << 20, 6 * 3600, 600
+TEXT = """\
+# Options of aide-compare-run, aide-compare-mail and check_aide_compare, one a line. See aide-compare-setup(8).
+--reasons
+--age 50h
+--weekly Mon
+"""
+ONLY_UNEXPLAINED = "# Without this line all changes are mailed, what nothing explains first.\n--alarm unexplained\n"
+
+
+def tell(text):
+    write_all(1, (text + "\n").encode("utf-8", "backslashreplace"))
+
+
+def exists(path):
+    return os.path.lexists(path)
+
+
+def shipped(name):
+    """The bytes of an example that comes with the commands."""
+    path = next((HERE + place + name for place in SHIPPED if os.path.isfile(HERE + place + name)), None)
+    if path is None:
+        raise Fault(Status.DEVICE, "the example %s did not come with this command" % name)
+    with os.fdopen(open_regular(os.path.realpath(path)), "rb") as file:
+        return file.read(MOST_EXAMPLE)
+
+
+def put(path, data, mode=0o644):
+    file = Replacement(path, mode).begin()
+    try:
+        file.commit(data)
+    finally:
+        file.close()
+
+
+def run(words, seconds=SECONDS):
+    """Runs a program of the system, which writes where this command writes. Its status has to be 0."""
+    tell("    " + " ".join(words))
+    try:
+        more = {"PATH": PATH, "LC_ALL": "C.UTF-8", "HOME": "/root"}
+        done = subprocess.run(words, stdin=subprocess.DEVNULL, timeout=seconds, env=more, cwd="/")
+    except OSError as error:
+        raise Fault(Status.DEVICE, "cannot run %s: %s" % (words[0], reason(error)))
+    except subprocess.TimeoutExpired:
+        raise Fault(Status.DEVICE, "%s took more than %d seconds" % (words[0], seconds))
+    if done.returncode:
+        raise Fault(Status.DEVICE, "%s ended with status %d" % (words[0], done.returncode))
+
+
+def answers(words):
+    """Whether a program of the system ends with 0, without a word."""
+    try:
+        return not subprocess.run(
+            words, stdin=subprocess.DEVNULL, stdout=-3, stderr=-3, timeout=60, env={"PATH": PATH}
+        ).returncode
+    except (OSError, subprocess.TimeoutExpired):
+        return False
+
+
+class Step:
+    """A step: `what` it makes, whether that `is_done`, and how it is made."""
+
+    def __init__(self, what, is_done, make):
+        self.what, self.is_done, self.make = what, is_done, make
+
+
+class Machine:
+    """What the steps know: the options, and the user that owns AIDE's databases."""
+
+    def __init__(self, given):
+        import pwd
+
+        self.given = given
+        try:
+            self.user = pwd.getpwnam(AIDES_USER)
+        except KeyError:
+            self.user = pwd.getpwuid(0)
+        self.has_systemd = os.path.isdir(SYSTEMD) and not given.cron
+
+    def defaults(self):
+        to = "--to %s\n" % self.given.to if self.given.to else ""
+        return (TEXT + to + (ONLY_UNEXPLAINED if self.given.alarm == "unexplained" else "")).encode()
+
+    def owns(self, name):
+        """Whether the user owns a database, or there is none."""
+        try:
+            return os.lstat(os.path.join(DATABASES, name)).st_uid == self.user.pw_uid
+        except FileNotFoundError:
+            return True
+
+    def give(self, name):
+        """Gives a database that root has made to the user. Others can write in the folder, so nothing goes by its name: it is
+        one file of root's, with no other name, that begins as a database does."""
+        with open_folder(DATABASES) as folder:
+            file = os.open(name, os.O_PATH | os.O_NOFOLLOW | os.O_CLOEXEC, dir_fd=folder.fd)
+            try:
+                found = os.fstat(file)
+                if not stat.S_ISREG(found.st_mode) or found.st_nlink != 1 or found.st_uid not in (0, self.user.pw_uid):
+                    raise Fault(Status.DEVICE, "%s/%s is no file of root's with one name" % (DATABASES, name))
+                opened = reopened(file, os.O_RDONLY)
+            finally:
+                os.close(file)
+        try:
+            if not os.pread(opened, 10, 0).startswith(BEGINS):
+                raise Fault(Status.DEVICE, "%s/%s is not a database of AIDE" % (DATABASES, name))
+            os.fchown(opened, self.user.pw_uid, self.user.pw_gid)
+        finally:
+            os.close(opened)
+
+    def has_folder(self):
+        try:
+            return os.stat(os.path.join(OWN, DAILY), follow_symlinks=False).st_uid == self.user.pw_uid
+        except FileNotFoundError:
+            return False
+
+    def make_folder(self):
+        with open_folder(OWN, make=True) as folder:
+            if not folder.is_safe():
+                raise Fault(Status.DEVICE, "other users can write in %s" % OWN)
+            if not exists(os.path.join(OWN, DAILY)):
+                os.mkdir(DAILY, 0o755, dir_fd=folder.fd)
+            inner = os.open(DAILY, os.O_RDONLY | os.O_DIRECTORY | os.O_NOFOLLOW | os.O_CLOEXEC, dir_fd=folder.fd)
+            try:
+                os.fchown(inner, self.user.pw_uid, self.user.pw_gid)
+            finally:
+                os.close(inner)
+
+    def has_job(self):
+        return answers(["systemctl", "is-enabled", "--quiet", "aide-compare.timer"]) if self.has_systemd else exists(CRON)
+
+    def make_job(self):
+        if self.has_systemd:
+            run(["systemctl", "enable", "--now", "aide-compare.timer"])
+        else:
+            put(CRON, shipped("cron/aide-compare.cron.daily"), 0o755)
+
+    def steps(self):
+        base = os.path.join(DATABASES, BASELINE)
+        job = "the timer aide-compare.timer" if self.has_systemd else CRON
+        yield Step(
+            "paths that change every day: " + WITHOUT,
+            lambda: exists(WITHOUT),
+            lambda: put(WITHOUT, shipped("aide/debian.without")),
+        )
+        yield Step("options of each day: " + DEFAULTS, lambda: exists(DEFAULTS), lambda: put(DEFAULTS, self.defaults()))
+        yield Step("a folder of %s's: %s/%s" % (self.user.pw_name, OWN, DAILY), self.has_folder, self.make_folder)
+        yield Step(
+            "the baseline %s, which takes minutes" % base, lambda: exists(base), lambda: run(["aideinit", "-y"], INIT_SECONDS)
+        )
+        for name in (BASELINE, NEW):
+            what = "%s is %s's" % (os.path.join(DATABASES, name), self.user.pw_name)
+            yield Step(what, lambda name=name: self.owns(name), lambda name=name: self.give(name))
+        if os.path.isdir(ROOT + "/var/lib/dpkg/info"):
+            records = ["aide-compare-accept", "--only-packages", base]
+            yield Step("records of the packages: %s.packages" % base, lambda: exists(base + ".packages"), lambda: run(records))
+        yield Step(job, self.has_job, self.make_job)
+
+
+def check(machine):
+    """Says what is missing, and changes nothing."""
+    missing = [step.what for step in machine.steps() if not step.is_done()]
+    for what in missing:
+        tell("missing: " + what)
+    tell("%d things are missing" % len(missing) if missing else "nothing is missing")
+    return Status.DEVICE if missing else Status.OK
+
+
+def make(machine):
+    for number, step in enumerate(machine.steps(), 1):
+        done = step.is_done()
+        tell("%d. %s%s" % (number, step.what, ": is there" if done else ""))
+        if not done and not machine.given.dry_run:
+            step.make()
+    if machine.given.no_mail or machine.given.dry_run:
+        return Status.OK
+    tell("a test mail%s" % (" to " + shown(machine.given.to) if machine.given.to else ""))
+    run(
+        ["aide-compare-mail", "--test", "--user", machine.user.pw_name] + ["--to=" + machine.given.to] * bool(machine.given.to)
+    )
+    return Status.OK
+
+
+def main(arguments):
+    parser = Parser(
+        NAME,
+        "Makes this machine ready for a comparison each day. Each step is printed before it is done, and passed over\n"
+        "if it is done already.",
+        epilog="Status: 0 done, or nothing is missing; 18 a step failed, or --check found something missing; 15 bad arguments.",
+    )
+    parser.add_argument("--dry-run", action="store_true", help="print the steps, and change nothing")
+    parser.add_argument("--check", action="store_true", help="say what is missing, and change nothing")
+    parser.add_argument("--to", type=some_text, metavar="ADDRESS", help="who gets the mails (root)")
+    parser.add_argument(
+        "--alarm",
+        choices=("unexplained", "all"),
+        default="unexplained",
+        help="mail what nothing explains, or all (unexplained)",
+    )
+    parser.add_argument("--cron", action="store_true", help="a job of cron in place of the timer")
+    parser.add_argument("--no-mail", action="store_true", help="send no test mail")
+    given = parser.parse(arguments)
+    if not any(exists(ROOT + path) for path in CONFIGURATIONS):
+        raise Fault(Status.DEVICE, "AIDE is not installed here, or has no configuration; on Debian: apt install aide")
+    machine = Machine(given)
+    if given.check:
+        return check(machine)
+    if os.geteuid() != 0 and not given.dry_run:
+        raise Fault(Status.USAGE, "only root can set this up; --dry-run and --check are for everybody")
+    return make(machine)
