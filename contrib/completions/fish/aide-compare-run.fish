@@ -4,6 +4,7 @@ complete -c aide-compare-run -l state -rF -d 'Write the status, the counts and t
 complete -c aide-compare-run -l most -x -d 'Refuse a database that has more bytes unpacked'
 complete -c aide-compare-run -l most-report -x -d 'Refuse a longer report'
 complete -c aide-compare-run -l age -x -d 'Refuse a new database that is older, such as 50h'
+complete -c aide-compare-run -l no-defaults -d 'Read no defaults'
 complete -c aide-compare-run -l user -x -a '(__fish_complete_users)' -d 'Give up the rights of root for this user'
 complete -c aide-compare-run -l without -rF -d 'Leave out what the lines of a file name'
 complete -c aide-compare-run -l without-path -x -d 'Leave out what a path or a pattern names'

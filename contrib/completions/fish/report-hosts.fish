@@ -13,3 +13,4 @@ complete -c report-hosts -l smtp -x -a '(__fish_print_hostnames)' -d 'Send by SM
 complete -c report-hosts -l mail-time -x -d 'How long sending may take'
 complete -c report-hosts -l help -d 'Print a short help'
 complete -c report-hosts -l version -d 'Print the version'
+complete -c report-hosts -l alarm -x -a 'differences unexplained' -d 'Which changes are mailed'
