@@ -1,0 +1,58 @@
+-- Texts with commas between them, one after another.
+use Rattle.std.proofs.Common.{◌≡◌, ◌∙◌, ℕ, Bool, true, false, ◌&&◌, not, cond, if◌then◌else◌, List, [], ◌∷◌, ◌++◌, map, refl, sym, ap, append_assoc}
+use Rattle.std.proofs.lemmas.List.{append-nil}
+use Rattle.std.specs.List.{filter}
+use Rattle.aide_json.specs.Object.{behind, comma, joined}
+use Rattle.aide_json.specs.code.Items.{joined_on, items_from, next_item}
+
+pub item_wanted : (wanted first : Bool) (text : List ℕ) → wanted ≡ true → comma first ++ text ≡ next_item wanted first text
+unfolding next_item
+item_wanted wanted first text e = sym (ap (λ (b : Bool). if b then comma first ++ text else []) e)
+
+pub item_unwanted : (wanted first : Bool) (text : List ℕ) → wanted ≡ false → [] ≡ next_item wanted first text
+unfolding next_item
+item_unwanted wanted first text e = sym (ap (λ (b : Bool). if b then comma first ++ text else []) e)
+
+module _ {X : Type 0} (wants : X → Bool) (text : X → List ℕ) where
+  by_wanted : (first wanted : Bool) (x : X) (rest : List X)
+      → joined_on first (map text (cond wanted (x ∷ filter wants rest) (filter wants rest)))
+      ≡ next_item wanted first (text x) ++ joined_on (first && not wanted) (map text (filter wants rest))
+  unfolding next_item
+  by_wanted true true x rest = refl
+  by_wanted true false x rest = refl
+  by_wanted false true x rest = refl
+  by_wanted false false x rest = refl
+
+  items_first : (first : Bool) (x : X) (rest : List X)
+      → items_from first wants text (x ∷ rest) ≡ next_item (wants x) first (text x) ++ items_from (first && not (wants x)) wants text rest
+  unfolding items_from
+  items_first first x rest = by_wanted first (wants x) x rest
+
+  -- the first one of some, and what comes behind it
+  pub items_more : (first wanted later : Bool) (xs : List X) (x : X) (rest : List X) → xs ≡ x ∷ rest → wanted ≡ wants x → later ≡ (first && not wanted)
+      → items_from first wants text xs ≡ next_item wanted first (text x) ++ items_from later wants text rest
+  items_more first wanted later xs x rest is e f =
+      ap (items_from first wants text) is ∙ items_first first x rest
+      ∙ ap (λ (b : Bool). next_item b first (text x) ++ items_from (first && not b) wants text rest) (sym e)
+      ∙ ap (λ (b : Bool). next_item wanted first (text x) ++ items_from b wants text rest) (sym f)
+
+  -- none is left
+  pub items_end : (first : Bool) (xs : List X) → xs ≡ [] → items_from first wants text xs ≡ []
+  unfolding items_from
+  items_end first xs none = ap (λ ys. joined_on first (map text (filter wants ys))) none ∙ none_on first
+    where
+      none_on : (first : Bool) → joined_on first [] ≡ []
+      none_on true = refl
+      none_on false = refl
+
+  -- all from the beginning, by an equal test
+  pub items_as : (p : X → Bool) (xs : List X) → ((x : X) → p x ≡ wants x) → items_from true p text xs ≡ joined (map text (filter wants xs))
+  unfolding items_from
+  items_as p xs same i = joined (map text (filter (λ x. same x i) xs))
+
+pub behind_one : (text : List ℕ) → 44 ∷ text ≡ behind (text ∷ [])
+behind_one text = sym (append-nil (44 ∷ text))
+
+pub behind_append : (xs ys : List (List ℕ)) → behind (xs ++ ys) ≡ behind xs ++ behind ys
+behind_append [] ys = refl
+behind_append (x ∷ xs) ys = ap (λ l. (44 ∷ x) ++ l) (behind_append xs ys) ∙ sym (append_assoc (44 ∷ x) (behind xs) (behind ys))

@@ -1,0 +1,4 @@
+pub mod FollowsLemmas
+pub mod EscapesLemmas
+pub mod MemberLemmas
+pub mod ItemLemmas
