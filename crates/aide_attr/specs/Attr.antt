@@ -39,7 +39,7 @@ abbrev pub digest : ℕ → List ℕ → List ℕ → ℕ → ℕ → Row
 digest n name detail_name least most =
     row n name detail_name name None (codes "H") (Digest least most)
 
--- the table
+-- the table of attributes
 unfoldable pub row_of : Attr → Row
 row_of attr.Ftype = row 0 (codes "ftype") (codes "Type") (codes "perm") None (codes "Y") Kind
 row_of attr.Lname = row 1 (codes "l") (codes "Lname") (codes "lname") (Some 1) (codes "l") Link
@@ -81,7 +81,7 @@ row_of attr.E2fsattrs =
 row_of attr.Caps =
     row 32 (codes "caps") (codes "Caps") (codes "capabilities") None (codes "C") Opaque
 
--- the columns of the table, first the index in the order
+-- the place of the attribute in the order, from 0
 abbrev pub index : Attr → ℕ
 index a = (row_of a).index
 

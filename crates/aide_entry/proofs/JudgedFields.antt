@@ -89,7 +89,7 @@ of_length_some least most (Some text) bytes e = by_test (nat_le least (length te
     by_test true e = e
     by_test false e = cc
 
-result_some : (r : Result (List ℕ) DecodeError) (bytes : List ℕ) → result_ok r ≡ Some bytes → r ≡ Ok bytes
+pub result_some : (r : Result (List ℕ) DecodeError) (bytes : List ℕ) → result_ok r ≡ Some bytes → r ≡ Ok bytes
 result_some (Ok text) bytes e = cc
 result_some (Err why) bytes e = cc
 

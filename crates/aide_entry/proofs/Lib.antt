@@ -25,3 +25,6 @@ pub mod JudgedFields
 pub mod SymbolLemmas
 pub mod SplitLemmas
 pub mod EntryFaults
+pub mod DigitWeights
+pub mod TenDigits
+pub mod TimeMarks

@@ -35,13 +35,13 @@ module _ (base bound : ℕ) where
   pub natural_empty : (ds : List ℕ) → ds ≡ [] → digits_of base bound ds ≡ None
   natural_empty ds e = rw e refl
 
-  natural_no_digits : (ds : List ℕ) → list_all (is_digit base) ds ≡ false → digits_of base bound ds ≡ None
+  pub natural_no_digits : (ds : List ℕ) → list_all (is_digit base) ds ≡ false → digits_of base bound ds ≡ None
   natural_no_digits ds e = rw e (elim (is_filled ds) as (λ b. cond ((b && false) && nat_lt (positional base ds) bound) (Some (positional base ds)) None ≡ None) [ true ↦ refl | false ↦ refl ])
 
   natural_large : (ds : List ℕ) → bound ≤ positional base ds → digits_of base bound ds ≡ None
   natural_large ds le = rw (le-ltb (positional base ds) bound le) (elim (are_digits base ds) as (λ b. cond (b && false) (Some (positional base ds)) None ≡ None) [ true ↦ refl | false ↦ refl ])
 
-  natural_is : (ds : List ℕ) → is_filled ds ≡ true → list_all (is_digit base) ds ≡ true → positional base ds < bound
+  pub natural_is : (ds : List ℕ) → is_filled ds ≡ true → list_all (is_digit base) ds ≡ true → positional base ds < bound
       → digits_of base bound ds ≡ Some (positional base ds)
   natural_is ds filled digits lt = rw (filled, digits, lt-ltb (positional base ds) bound lt) refl
 
@@ -71,7 +71,7 @@ module _ (base bound : ℕ) where
       natural_is all filled (digits ∙ rw e refl) (omega (arith, n)) ∙ ap (λ k. Some k) n
 
   -- digits write less than the power of their number
-  positional_below : (ds : List ℕ) → list_all (is_digit base) ds ≡ true → positional base ds < base ^ length ds
+  pub positional_below : (ds : List ℕ) → list_all (is_digit base) ds ≡ true → positional base ds < base ^ length ds
   positional_below [] e = omega (arith, pow-zero base)
   positional_below (d ∷ ds) e =
       let parts = and_parts (is_digit base d) (list_all (is_digit base) ds) e in

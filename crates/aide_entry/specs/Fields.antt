@@ -73,7 +73,7 @@ are_distinct (column ∷ columns) = not (stands_again column columns) && are_dis
 abbrev pub most_columns : ℕ
 most_columns = 64
 
--- the columns are at most that many, the name is among them, and no known column is there twice
+-- there are at most 64 columns, the name is among them, and no known column is there twice
 abbrev pub are_columns : List Column → Bool
 are_columns columns = nat_le (length columns) most_columns && list_any is_name columns
     && are_distinct columns

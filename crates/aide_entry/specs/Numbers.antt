@@ -53,7 +53,7 @@ number_of [] = None
 number_of (first ∷ digits) =
     if first == 45 then minus_of (natural_of digits) else plain_of (natural_of (first ∷ digits))
 
--- a number that is not below 0
+-- the number, if it is not below 0
 abbrev pub not_negative : Option ℤ → Option ℕ
 not_negative None = None
 not_negative (Some (pos n)) = Some n

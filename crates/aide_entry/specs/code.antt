@@ -4,3 +4,4 @@ pub mod FirstColumns
 pub mod ColumnAttrs
 pub mod Symbols
 pub mod Shapes
+pub mod TimeDigits

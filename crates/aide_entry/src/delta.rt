@@ -92,15 +92,40 @@ struct Contrasts {
     differs: AttrSet,
 }
 
-/// Returns attributes among which is every one that either entry has.
+/// Returns the set of these attributes.
+fn set_of(attrs: &[Attr]) -> AttrSet
+    ensures { (attr : Attr) → has result attr ≡ list_any (is_attr attr) attrs.now }
+{
+    match attrs.split_first() {
+        None => AttrSet::empty(),
+        Some((first, rest)) => AttrSet::of(*first).union(set_of(rest)),
+    }
+}
+
+/// Returns whether each of these attributes is among others.
+fn are_among(attrs: &[Attr], others: &[Attr]) -> bool
+    ensures { result ≡ true → (attr : Attr) → list_any (is_attr attr) others.now ≡ false
+        → list_any (is_attr attr) attrs.now ≡ false }
+{
+    set_of(attrs).minus(set_of(others)).is_empty()
+}
+
+/// Returns attributes among which is every one that either entry has. If the columns are not the same, one of the
+/// databases often has all columns of the other one and a few more.
 fn attrs_of<'x>(old: &'x View<'_>, new: &'x View<'_>) -> &'x [Attr]
     ensures old { (attr : Attr) → list_any (is_attr attr) result.now ≡ false
         → (entry_in old.now).1 attr ≡ None }
     ensures new { (attr : Attr) → list_any (is_attr attr) result.now ≡ false
         → (entry_in new.now).1 attr ≡ None }
 {
+    let old_attrs = old.columns.attrs();
+    let new_attrs = new.columns.attrs();
     if old.columns.same(new.columns) {
-        old.columns.attrs()
+        old_attrs
+    } else if are_among(old_attrs, new_attrs) {
+        new_attrs
+    } else if are_among(new_attrs, old_attrs) {
+        old_attrs
     } else {
         &Attr::ALL
     }
@@ -143,6 +168,27 @@ fn order(old: Option<i128>, new: Option<i128>) -> Ordering
             None => Ordering::Equal,
             Some(after) => after.cmp(&before),
         },
+    }
+}
+
+/// Returns the attributes of two entries of one path, and those with different values. The sizes and the types are not
+/// read: they count as missing.
+pub fn attrs_delta_of(old: &View<'_>, new: &View<'_>) -> Delta
+    ensures in_old { (attr : Attr) → (sides_of result).in_old attr
+        ≡ (sides_between (entry_in old.now).1 (entry_in new.now).1).in_old attr }
+    ensures in_new { (attr : Attr) → (sides_of result).in_new attr
+        ≡ (sides_between (entry_in old.now).1 (entry_in new.now).1).in_new attr }
+    ensures differs { (attr : Attr) → (sides_of result).differs attr
+        ≡ (sides_between (entry_in old.now).1 (entry_in new.now).1).differs attr }
+{
+    let contrasts = contrasts_between(old, new);
+    Delta {
+        old: contrasts.in_old,
+        new: contrasts.in_new,
+        changed: contrasts.differs,
+        size: Ordering::Equal,
+        old_type: None,
+        new_type: None,
     }
 }
 

@@ -21,13 +21,14 @@ mod spanned_line;
 mod spans;
 mod spec_line;
 mod symbols;
+mod time_digits;
 mod value;
 mod view;
 
 pub use base64_tables::Base64Tables;
 pub use columns::Columns;
 pub use decoded::Decoded;
-pub use delta::{cmp_names, delta_of};
+pub use delta::{attrs_delta_of, cmp_names, delta_of};
 pub use entry::{entry_fault, follows};
 pub use fault_kind::DbFaultKind;
 pub use held_entry::HeldEntry;

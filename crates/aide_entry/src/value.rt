@@ -16,6 +16,7 @@ use crate::base64_tables::Base64Tables;
 use crate::decoded::Decoded;
 use crate::number::{is_digit, is_mode, is_number, read_mode, read_number};
 use crate::symbols::are_symbols;
+use crate::time_digits::{are_ten, tells_ten};
 use aide_attr::{FileType, Form};
 use percent_encoding::percent_decode;
 
@@ -90,6 +91,9 @@ pub fn is_time(tables: &Base64Tables, field: &[u8]) -> bool
 {
     if begins_number(field) {
         return is_number(field);
+    }
+    if are_ten(field) {
+        return true;
     }
     if field.len() > 44 {
         return false;
@@ -204,6 +208,20 @@ fn numbers_differ(old: Option<i128>, new: Option<i128>) -> bool
     }
 }
 
+/// Returns whether two fields have different seconds, given that their bytes differ. Ten digits are never decoded:
+/// equally many digits write the same number only if they are the same.
+fn times_differ(old: &[u8], new: &[u8]) -> bool
+    requires old { is_some (time_of old.now) ≡ true }
+    requires new { is_some (time_of new.now) ≡ true }
+    requires unlike { bytes_eq old.now new.now ≡ false }
+    ensures { result ≡ differs_by same_number (time_of old.now) (time_of new.now) }
+{
+    if tells_ten(old) && tells_ten(new) {
+        return true;
+    }
+    numbers_differ(read_time(old), read_time(new))
+}
+
 fn modes_differ(old: Option<u32>, new: Option<u32>) -> bool
     ensures { result ≡ differs_by same_mode old new }
 {
@@ -284,7 +302,7 @@ pub fn differ(form: Form, old: &[u8], new: &[u8]) -> bool
         Form::Kind => types_differ(read_type(old), read_type(new)),
         Form::Mode => modes_differ(read_mode(old), read_mode(new)),
         Form::Number => numbers_differ(read_number(old), read_number(new)),
-        Form::Time => numbers_differ(read_time(old), read_time(new)),
+        Form::Time => times_differ(old, new),
         Form::Link => links_differ(read_link(old), read_link(new)),
         Form::Digest(_, _) => are_there(old, new),
         Form::Opaque => are_there(old, new),

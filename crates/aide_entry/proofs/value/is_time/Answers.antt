@@ -1,7 +1,12 @@
 use Rattle.std.proofs.Common.{sym, ◌∙◌, ap, arith, is_some}
 use Rattle.aide_entry.specs.Numbers.{number_of}
 use Rattle.aide_entry.proofs.FieldValues.{time_decoded, time_undecoded}
+use Rattle.aide_entry.proofs.TenDigits.{ten_is_time}
 use Rattle.aide_entry.proofs.value.is_time.Goals as goal
+
+pub returns-then-are_ten : goal.returns-then-are_ten
+returns-then-are_ten c =
+    ten_is_time c.args.field.now (λ i. let f = c.type_inv.field i in omega arith) (sym c.are_ten.ensures ∙ c.if-are_ten.true)
 
 pub returns-in-Ok : goal.returns-in-Ok
 returns-in-Ok c =
