@@ -29,7 +29,7 @@ row title level grouped contents = record {
   contents = contents;
 }
 
--- the table
+-- the table of sections
 unfoldable pub row_of : Section → Row
 row_of AddedEntries =
     row (codes "Added entries:") ListEntries (Some true) (Listed true false false)
@@ -48,7 +48,7 @@ abbrev pub all_sections : List Section
 all_sections =
     AddedEntries ∷ RemovedEntries ∷ ChangedEntries ∷ AllEntries ∷ Details ∷ []
 
--- the columns of the table, first the title
+-- the title of a section
 abbrev pub title_of : Section → List ℕ
 title_of section = (row_of section).title
 

@@ -1,2 +1,3 @@
 -- Definitions for steps inside the code. No clause of a public call cites them.
 pub mod PieceText
+pub mod Plain

@@ -32,7 +32,7 @@ impl Ready {
     }
 
     /// Returns the bytes that were not handed out yet.
-    pub(crate) fn bytes(&self) -> &[u8]
+    pub fn bytes(&self) -> &[u8]
         ensures { result.now ≡ ready_rest self.now }
     {
         &self.bytes[self.at..self.len]

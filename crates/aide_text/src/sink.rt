@@ -113,7 +113,16 @@ impl<W: Write> Sink for WriteSink<W> {
 
     ghost is_flushed = { λ sink. sink.is_flushed };
 
-    fn write(&mut self, bytes: &[u8]) -> Result<usize, DeviceFault> {
+    // Whatever was flushed before: after a write something may wait in the writer.
+    fn write(&mut self, bytes: &[u8]) -> Result<usize, DeviceFault>
+        requires { 0 < length bytes.now }
+        ensures some { IfOk result (λ n. (0 < n) × (n ≤ length bytes.now)) }
+        ensures bytes { WriteAppends (W.contents self.old.device) (W.contents self.new.device)
+            result bytes.now }
+        ensures flushes { self.new.flushes ≡ self.old.flushes }
+        ensures unflushed { self.new.is_flushed ≡ false }
+        ensures fault { CountsFault self.old.failures self.new.failures result }
+    {
         self.is_flushed = false;
         match self.writer.write(bytes) {
             Ok(count) if count > 0 => Ok(count),
