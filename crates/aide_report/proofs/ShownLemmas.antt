@@ -5,9 +5,11 @@ use Rattle.std.specs.Prelude.{◌||◌, not, IsTrue, ◌↔◌}
 use Rattle.std.specs.List.{list_any}
 use Rattle.aide_attr.specs.declared.attr.Attr.{Attr}
 use Rattle.aide_attr.specs.declared.delta.Delta.{Delta}
+use Rattle.aide_attr.specs.declared.delta.Ignore.{Ignore}
+use Rattle.aide_attr.specs.declared.level.Level.{Level}
 use Rattle.aide_attr.specs.declared.set.AttrSet.{AttrSet}
 use Rattle.aide_attr.specs.Attr.{index, all_attrs, count}
-use Rattle.aide_attr.specs.Difference.{sides_of}
+use Rattle.aide_attr.specs.Difference.{Sides, sides_of, is_shown}
 use Rattle.aide_attr.specs.Set.{has}
 use Rattle.aide_attr.proofs.AttrLemmas.{at_index, index_small}
 use Rattle.aide_attr.proofs.WalkLemmas.{bool_cases}
@@ -43,6 +45,19 @@ pub any_in : (r : AttrSet) (p : Attr → Bool) (empty : Bool) → ((a : Attr) �
     → (IsTrue empty ↔ ((a : Attr) → has r a ≡ false)) → not empty ≡ list_any p all_attrs
 any_in r p true same tells = sym (none_of p (λ a. sym (same a) ∙ tells.0 refl a) all_attrs)
 any_in r p false same tells = sym (some_of p (λ h. let e = tells.1 (λ a. same a ∙ h a) in cc))
+
+-- the sizes and types have no part in what details show
+pub same_shown : (s t : Sides) (ignore : Ignore) (level : Level) (a : Attr)
+    → ((b : Attr) → s.in_old b ≡ t.in_old b) → ((b : Attr) → s.in_new b ≡ t.in_new b)
+    → ((b : Attr) → s.differs b ≡ t.differs b) → is_shown s ignore level a ≡ is_shown t ignore level a
+same_shown s t ignore level a in_old in_new differs i = is_shown (record {
+  in_old = λ b. in_old b i;
+  in_new = λ b. in_new b i;
+  differs = λ b. differs b i;
+  size = s.size;
+  old_type = s.old_type;
+  new_type = s.new_type;
+}) ignore level a
 
 -- two entries differ as the difference between them says
 pub same_sides : (d : Delta) (old new : Attributes)

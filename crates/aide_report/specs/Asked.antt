@@ -9,7 +9,7 @@ pub record Asked : Type 0 where
   pub old_path : List ℕ
   pub new_path : List ℕ
 
--- what a task asks for
+-- what a task asks for: its options and both paths
 abbrev pub asked : Task → Asked
 asked task = record {
   options = task.options;

@@ -30,7 +30,7 @@ PathChange = Change (List ℕ) Attributes
 
 -- ---- lines
 
--- the summary string
+-- the summary string of a change
 abbrev pub letters_of : Ignore → Pair → List ℕ
 letters_of ignore (None, None) = []
 letters_of ignore (None, Some new) = alone_letters (type_in (new Ftype)) Added
@@ -49,7 +49,7 @@ abbrev pub label_of : Options → Pair → List ℕ
 label_of options pair =
     if options.summarize then letters_of options.ignore pair else change_word pair
 
--- the line of a change
+-- the line of a change in a list: its summary string or a word, and its path
 abbrev pub list_line : Options → PathChange → List ℕ
 list_line options entry = path_line (label_of options entry.1) entry.0
 
@@ -60,7 +60,7 @@ abbrev pub shows_alone : Level → Bool
 shows_alone AddedRemovedEntries = true
 shows_alone _ = false
 
--- whether the attribute is shown
+-- whether details show the attribute of what both databases have at one path
 abbrev pub shows_at : Options → Pair → Attr → Bool
 shows_at options (None, None) a = false
 shows_at options (None, Some new) a = shows_alone options.level && is_some (new a)
@@ -68,11 +68,11 @@ shows_at options (Some old, None) a = shows_alone options.level && is_some (old 
 shows_at options (Some old, Some new) a =
     is_shown (sides_between old new) options.ignore options.level a
 
--- whether some attribute is shown
+-- whether details show some attribute of what both databases have at one path
 unfoldable pub shows_any : Options → Pair → Bool
 shows_any options pair = list_any (shows_at options pair) all_attrs
 
--- whether a change shows some attribute
+-- whether details show some attribute of a change
 abbrev pub is_shown_entry : Options → PathChange → Bool
 is_shown_entry options entry = shows_any options entry.1
 

@@ -30,7 +30,7 @@ unfoldable pub origin_lines : Bool → List ℕ → List ℕ → List ℕ → Li
 origin_lines base16 word path digest = path_line word path
     ++ alone (codes "SHA256") (digest_text base16 digest)
 
--- the lines of an origin
+-- the lines about one database, with this word for it
 abbrev pub origin_text : Bool → List ℕ → Origin → List ℕ
 origin_text base16 word origin = origin_lines base16 word origin.path origin.digest
 
@@ -38,7 +38,7 @@ origin_text base16 word origin = origin_lines base16 word origin.path origin.dig
 unfoldable pub databases_title : List ℕ
 databases_title = titled (codes "The attributes of the databases:") ++ 10 ∷ []
 
--- the title, the old database and the new one
+-- the part about the databases: its title, the old database and the new one
 unfoldable pub databases_of : Bool → Origin → Origin → List ℕ
 databases_of base16 old_origin new_origin =
     databases_title
@@ -57,7 +57,7 @@ counts_of options old new = record {
   shown = count_by (is_shown_entry options) (changes old new);
 }
 
--- the sections of entries
+-- the texts of all sections of entries that the report has
 unfoldable pub sections_text : Options → Counts → List PathChange → List ℕ
 sections_text options counts entries =
     flat_map (section_text options entries) (sections_of options counts)
@@ -68,7 +68,7 @@ databases_text options old_origin new_origin =
     when (reaches options.level DatabaseAttributes)
     (databases_of options.base16 old_origin new_origin)
 
--- the head and the summary, the sections, the databases
+-- the parts of a report that is not silent: its head and summary, the sections, the databases
 unfoldable pub parts_of : Options → Origin → Origin → Counts → List PathChange → List ℕ
 parts_of options old_origin new_origin counts entries =
     overview_by options.level counts
@@ -78,7 +78,7 @@ parts_of options old_origin new_origin counts entries =
 abbrev pub is_silent : Options → Bool → Bool
 is_silent options differ = options.quiet && not differ
 
--- all parts, unless the report is silent
+-- a report with these counts and changes: all parts, or nothing if it is silent
 unfoldable pub text_of : Options → Origin → Origin → Counts → List PathChange → List ℕ
 text_of options old_origin new_origin counts entries =
     if is_silent options (differs counts) then []
@@ -89,7 +89,7 @@ abbrev pub section_count : Options → Counts → ℕ
 section_count options counts =
     if is_silent options (differs counts) then 0 else length (sections_of options counts)
 
--- the report over two maps
+-- the report over two maps from paths to attributes, byte by byte
 abbrev pub report_of : Options → Origin → Origin → Database → Database → List ℕ
 report_of options old_origin new_origin old new =
     text_of options old_origin new_origin (counts_of options old new) (changes old new)

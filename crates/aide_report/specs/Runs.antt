@@ -26,11 +26,11 @@ pub record Report : Type 0 where
   pub text : List ℕ
   pub outcome : Outcome
 
--- what a report says of a database itself
+-- what a report says of a database itself: its path, and the SHA-256 of its text
 abbrev pub origin_of : List ℕ → List ℕ → Origin
 origin_of path text = record { path = path; digest = sha256 text }
 
--- the report over two sound texts
+-- the report over two sound texts, and the outcome that goes with it
 unfoldable pub report_over : Asked → List ℕ → List ℕ → Report
 report_over asked old new = record {
   text = report_of asked.options (origin_of asked.old_path old) (origin_of asked.new_path new)
@@ -50,7 +50,7 @@ sections_over asked old new =
 abbrev pub openings_over : Asked → List ℕ → List ℕ → ℕ
 openings_over asked old new = 2 + sections_over asked old new
 
--- the first fault of the text of this side
+-- the fault is of this side, and its line and kind are those of the first fault of the text
 abbrev pub IsFirstFaultOf : Limits → Side → List ℕ → DbFault → Type 0
 IsFirstFaultOf limits side text fault = (fault.side ≡ side)
     × IsFirstFault limits text fault.line fault.kind

@@ -15,7 +15,7 @@ use Rattle.aide_text.specs.declared.section.Section.{Section}
 
 -- ---- which sections there are
 
--- whether there is an entry for these contents, by the counts
+-- whether a section with these contents has an entry, by the counts
 abbrev pub has_entry : Counts → Contents → Bool
 has_entry counts (Listed added removed changed) =
     (added && not (counts.added == 0))
@@ -37,7 +37,7 @@ sections_of options counts = filter (is_there options counts) all_sections
 abbrev pub all_listed : Contents
 all_listed = Listed true true true
 
--- whether these contents have the change
+-- whether a section with these contents has the change
 abbrev pub is_in : Options → Contents → PathChange → Bool
 is_in options (Listed added removed changed) entry =
     (added && is_added entry)
@@ -51,7 +51,7 @@ lists (Listed added removed changed) (path, (Some old, None)) = removed
 lists (Listed added removed changed) (path, (Some old, Some new)) = changed
 lists _ _ = false
 
--- what contents say of a change that they have
+-- what a section with these contents says of a change that it has: a line, or details
 abbrev pub entry_text : Options → Contents → PathChange → List ℕ
 entry_text options (Listed added removed changed) entry = list_line options entry
 entry_text options Detailed entry = entry_details options entry
@@ -61,7 +61,7 @@ unfoldable pub one_text : Options → Contents → PathChange → List ℕ
 one_text options contents entry =
     if is_in options contents entry then entry_text options contents entry else []
 
--- what contents say of all changes, in their order
+-- what a section with these contents says of all changes that it has, in their order
 unfoldable pub entries_text : Options → Contents → List PathChange → List ℕ
 entries_text options contents entries =
     flat_map (entry_text options contents) (filter (is_in options contents) entries)

@@ -2,6 +2,7 @@
 ghost use Rattle.std.specs.Prelude.{◌≡◌};
 ghost use Rattle.aide_report.specs.code.ChangeView.{change_of};
 ghost use Rattle.aide_text.specs.DecodedRest.{decoded_rest};
+ghost use Rattle.percent_encoding.specs.Percent.{percent_decode};
 
 use aide_db::View;
 use aide_text::DecodedFeed;
@@ -34,4 +35,16 @@ pub(crate) fn path_of<'a>(change: Change<'a>) -> DecodedFeed<'a>
         Change::Common(view, _) => view.name(),
     };
     DecodedFeed::of(path)
+}
+
+/// The path of a change as a text with escapes, as a database has it.
+pub(crate) fn name_of<'a>(change: Change<'a>) -> &'a [u8]
+    ensures { percent_decode result.now ≡ (change_of change.entry).0 }
+{
+    let (name, _) = match change {
+        Change::Added(view) => view.name(),
+        Change::Removed(view) => view.name(),
+        Change::Common(view, _) => view.name(),
+    };
+    name
 }

@@ -18,14 +18,14 @@ ghost use Rattle.aide_text.specs.TextRest.{text_rest};
 ghost use Rattle.aide_text.specs.ValueText.{text_at, side_text, option_text, printed_link};
 ghost use Rattle.aide_text.specs.ValueText.{digest_text};
 
-use crate::change::{Change, path_of};
+use crate::change::{Change, name_of};
 use crate::difference::said_of;
 use aide_attr::{Attr, AttrSet, FileType, Form};
 use aide_conf::Options;
 use aide_db::View;
 use aide_text::{
     Contents, DecodedFeed, Pen, Printed, Ready, Sink, SliceFeed, ValueText, digest_text, kind_text,
-    mode_text, number_text, put_newline, put_path_line, put_side_by_side,
+    mode_text, number_text, put_encoded_path_line, put_newline, put_side_by_side,
 };
 
 fn link_value<'a>(view: &View<'a>) -> ValueText<Ready, DecodedFeed<'a>, SliceFeed<'a>>
@@ -204,7 +204,7 @@ pub(crate) fn put_details<W: Sink>(
     let (shown, _) = said_of(change, options);
     if !shown.is_empty() {
         put_newline(out, pen);
-        put_path_line(out, pen, title(change), path_of(change));
+        put_encoded_path_line(out, pen, title(change), name_of(change));
         put_attributes(out, pen, change, options.base16, shown, &Attr::ALL);
     }
 }

@@ -15,7 +15,7 @@ ghost use Rattle.aide_report.specs.Sections.{all_listed, is_in};
 use crate::change::Change;
 use aide_attr::{Alone, AttrSet, Ignore, Level, reported, shown, summary, summary_one};
 use aide_conf::Options;
-use aide_db::{View, delta_of};
+use aide_db::{View, attrs_delta_of, delta_of};
 
 /// Whether the details of an entry are shown that only one side has.
 fn shows_alone(level: Level) -> bool
@@ -46,7 +46,7 @@ fn said_between(old: &View<'_>, new: &View<'_>, options: &Options) -> (AttrSet, 
     ensures differ { result.1 ≡ differ_by options.now.ignore (entry_in old.now).1
         (entry_in new.now).1 }
 {
-    let delta = delta_of(old, new);
+    let delta = attrs_delta_of(old, new);
     let reported = reported(&delta, &options.ignore);
     let shown = shown(&delta, &options.ignore, options.level);
     (shown, !reported.is_empty())

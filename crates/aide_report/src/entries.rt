@@ -9,13 +9,13 @@ ghost use Rattle.aide_report.specs.Sections.{all_listed, lists, entries_text, on
 ghost use Rattle.aide_text.specs.PenSheet.{on_sheet};
 ghost use Rattle.aide_text.specs.Sheet.{Wrote, WritesSome};
 
-use crate::change::{AtPath, Change, path_of};
+use crate::change::{AtPath, Change, name_of};
 use crate::details::put_details;
 use crate::difference::letters;
 use crate::merge::Merge;
 use aide_conf::Options;
 use aide_db::{DbFault, Desk, Reel, Side};
-use aide_text::{Contents, Pen, Sink, put, put_path_end};
+use aide_text::{Contents, Pen, Sink, put, put_encoded_path_end};
 use std::alloc::Allocator;
 
 /// Why a pass was broken off.
@@ -68,7 +68,7 @@ fn put_line<W: Sink>(
         (on_sheet W.Sink out.old pen.old) (on_sheet W.Sink out.new pen.new) }
 {
     put_label(out, pen, options, change, letters);
-    put_path_end(out, pen, path_of(change));
+    put_encoded_path_end(out, pen, name_of(change));
 }
 
 /// Writes the line of an added, removed or changed entry, and nothing for any other.

@@ -3,6 +3,7 @@ mod callers;
 mod desk;
 mod devices;
 mod files;
+mod headline;
 mod pages;
 mod session;
 mod words;

@@ -1,3 +1,4 @@
+pub mod Laws
 mod Endings
 mod SiteLemmas
 mod Readings

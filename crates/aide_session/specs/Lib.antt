@@ -5,6 +5,7 @@ pub mod Files
 pub mod Pointing
 pub mod Sites
 pub mod Answer
+pub mod Asks
 pub mod Ends
 pub mod Closing
 pub mod Held

@@ -16,15 +16,17 @@ pub record KeepsSite {S R : Type 0} (s : AnySources S R) (path_of : S → Side �
   pub missing : s.is_missing b ≡ s.is_missing a
   -- the site is as reliable as before
   pub reliable : s.is_reliable b ≡ s.is_reliable a
-  -- no side was opened
+  -- no side was opened, and the last opening of each side ended as it did
   pub openings : s.openings b ≡ s.openings a
+  pub given : s.was_given b ≡ s.was_given a
 
 -- The site is as it was, but for the paths of its sides.
 pub record KeepsFiles {S R : Type 0} (s : AnySources S R) (a b : S) : Type 0 where
   -- the same is known of each path
   pub files : s.file_at b ≡ s.file_at a
-  -- no side was opened, and no other file
+  -- no side was opened, and no other file, and the last opening of each side ended as it did
   pub openings : s.openings b ≡ s.openings a
+  pub given : s.was_given b ≡ s.was_given a
   pub lookups : s.lookups b ≡ s.lookups a
   -- the site is as reliable as before
   pub reliable : s.is_reliable b ≡ s.is_reliable a

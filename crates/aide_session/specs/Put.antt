@@ -3,7 +3,8 @@ use Rattle.std.specs.Prelude.{◌≡◌, ℕ, ◌≤◌, ◌<◌, ◌-◌, ◌^�
 use Rattle.std.specs.Io.KnownBytes.{Appends}
 use Rattle.aide_text.specs.declared.sink.Sink.{Ghosts as Sinks}
 
--- the count has not risen, and it can still rise
+-- No failure was counted: the count of failures is as before. It has not reached its last value, so
+-- it would have risen.
 abbrev pub HasNoFailure : ℕ → ℕ → Type 0
 HasNoFailure before after = (after ≡ before) × (after < 2 ^ 64 - 1)
 
