@@ -5,10 +5,9 @@ It is kept as JSON, for each function with a sum of what it rests on: the functi
 and definitions of its crate and of the crates below, and the toolchain.
 """
 import hashlib
-import json
 import pathlib
 
-from tools.wrong_bodies import answers, bodies, scratch, sources
+from tools.wrong_bodies import answers, bodies, rows, scratch, sources
 
 FOLDER = bodies.HERE / "base"
 CALL = " called by itself"
@@ -50,22 +49,15 @@ def key_of_call(place):
     return place.key() + CALL
 
 
-def stored(crate):
-    path = FOLDER / f"{crate}.json"
-    return json.loads(path.read_text(encoding="utf-8")) if path.is_file() else {}
-
-
-def store(crate, rows):
-    FOLDER.mkdir(exist_ok=True)
-    text = json.dumps(rows, indent=1, sort_keys=True, ensure_ascii=False)
-    (FOLDER / f"{crate}.json").write_text(text + "\n", encoding="utf-8")
+def path_of(crate):
+    return FOLDER / f"{crate}.json"
 
 
 class Base:
     """What is known of the crate's functions."""
 
     def __init__(self, found):
-        self.found, self.rows = found, stored(found.crate)
+        self.found, self.rows = found, rows.read(path_of(found.crate))
         self.context = context_of(found.crate)
 
     def lacks(self, place):
@@ -96,4 +88,5 @@ class Base:
         return row["needed"] if row else []
 
     def keep(self):
-        store(self.found.crate, {key: row for key, row in self.rows.items() if self.found.function_of(key.removesuffix(CALL))})
+        known = {key: row for key, row in self.rows.items() if self.found.function_of(key.removesuffix(CALL))}
+        rows.write(path_of(self.found.crate), known)

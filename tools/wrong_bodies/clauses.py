@@ -1,6 +1,7 @@
 """Tells which clauses of the public functions no verdict names: those at which no wrong body or must-fail edit was shown false
 or left open. A verdict on a function with only one clause names it, unless it rests on invariants, bounds and what callees ask
-for. The goals of a clause without a name are called by the function's returns, and it is `ensures` here. A clause that no body can break stands in `unbreakable.txt`, in a line
+for. The goals of a clause without a name are called by the function's returns, and it is `ensures` here. A clause that no body
+can break, or that is redundant, stands in `unbreakable.txt`, in a line
 
     CRATE: FILE: FUNCTION: CLAUSE: why no body can break it
 

@@ -7,6 +7,9 @@ copy gets only those stored answers that the right body needs, which a base run 
 that calls its function gets none, and the base run checks that the plain call needs none. All this is done in a scratch
 copy of the crate and of those below it, over what `rt check` left in their out/.
 
+With `--page` it judges nothing, and prints all bodies with their stored verdicts. With `--write` and no crate it only
+writes what docs/TRIALS.md says of the stored verdicts.
+
 The last line is `N passed, M failed`. What proves without a reason in the list, what is refused although the list
 gives one, and what could not be judged fails.
 """
@@ -26,16 +29,20 @@ def read_words():
     parser = argparse.ArgumentParser(
         prog="python3 -m tools.wrong_bodies.judge", description=__doc__, formatter_class=argparse.RawDescriptionHelpFormatter
     )
-    parser.add_argument("crates", nargs="+", metavar="CRATE")
+    parser.add_argument("crates", nargs="*", metavar="CRATE")
     parser.add_argument("--only", metavar="WORD", action="append", help=CHOSEN)
     parser.add_argument("--stale", action="store_true", help=STALE)
     parser.add_argument("--edits", action="store_true", help="judge the crate's must-fail edits in place of its list")
     parser.add_argument("--compiles", action="store_true", help=COMPILES)
-    parser.add_argument("--write", action="store_true", help="store the results, and write docs/WRONG_BODIES.md")
+    parser.add_argument("--write", action="store_true", help="store the results, and write what docs/TRIALS.md says of them")
+    parser.add_argument("--page", action="store_true", help="print the stored verdicts (of all crates, if none is named)")
     parser.add_argument("--most", type=int, default=24, metavar="N", help="the bodies of one check (default: 24)")
     parser.add_argument("--scratch", metavar="FOLDER", help="a folder for the copy, which is kept (default: a new one)")
     parser.add_argument("--print", action="store_true", help="print what each check printed")
-    return parser.parse_args()
+    options = parser.parse_args()
+    if not (options.crates or options.page or options.write):
+        parser.error("name a crate")
+    return options
 
 
 def chosen(crate, options, found):
@@ -90,6 +97,9 @@ def judge(crate, options, folder):
 
 def main():
     options = read_words()
+    if options.page:
+        print("\n".join(page.lines_of(options.crates or bodies.crates_with_lists())))
+        return 0
     passed = failed = 0
     for crate in options.crates:
         try:
@@ -102,7 +112,7 @@ def main():
     if options.write:
         page.write()
     print(f"{passed} passed, {failed} failed")
-    return 1 if failed or not (passed or options.stale) else 0
+    return 1 if failed or not (passed or options.stale or not options.crates) else 0
 
 
 if __name__ == "__main__":

@@ -5,10 +5,21 @@ import re
 
 from tools.wrong_bodies import bodies, results, verdicts
 
+TRIALS = bodies.ROOT / "docs" / "TRIALS.md"
 HEAD = "| Wrong body | Edits, bodies, clauses or tests | Without the stored answers |"
 NAME = re.compile(r"`(\w+)`")
 TEST = "a test"
 GOOD = (verdicts.FALSE, verdicts.OPEN, verdicts.LAW)
+
+
+def table_of(text):
+    """The lines of the table of docs/TRIALS.md, with its ruler first."""
+    return text.partition(HEAD)[2].partition("\n\n")[0].strip("\n").split("\n")
+
+
+def names():
+    """What the rows of docs/TRIALS.md name: edits, bodies, clauses, tests and crates."""
+    return set(NAME.findall("\n".join(table_of(TRIALS.read_text(encoding="utf-8")))))
 
 
 def known():
@@ -57,7 +68,7 @@ def with_verdicts(text):
 
 def faults(text):
     """The rows that no edit or body shows without a stored answer, and no test."""
-    table = text.partition(HEAD)[2].partition("\n\n")[0].strip("\n").split("\n")[1:]
+    table = table_of(text)[1:]
     if not table:
         yield "docs/TRIALS.md has no rows of wrong programs that somebody might write"
     for row in table:

@@ -2,9 +2,7 @@
 
 A result is of the body and of the function that it changes, so each has a sum of both.
 """
-import json
-
-from tools.wrong_bodies import bodies
+from tools.wrong_bodies import bodies, rows
 
 FOLDER = bodies.HERE / "results"
 
@@ -14,8 +12,7 @@ def path_of(crate, edits=False):
 
 
 def stored(crate, edits=False):
-    path = path_of(crate, edits)
-    return json.loads(path.read_text(encoding="utf-8")) if path.is_file() else {}
+    return rows.read(path_of(crate, edits))
 
 
 def stale(row, body, source):
@@ -29,8 +26,8 @@ def stale(row, body, source):
 
 def add(crate, body, verdict, source, edits=False):
     """Stores the verdict on a body. What the list has no longer goes."""
-    rows = stored(crate, edits)
-    rows[body.name] = {
+    known = stored(crate, edits)
+    known[body.name] = {
         "sum": body.sum(),
         "source": source,
         "function": verdict.function,
@@ -38,6 +35,4 @@ def add(crate, body, verdict, source, edits=False):
         "by": verdict.clauses(),
     }
     names = {listed.name for listed in bodies.listed(crate, edits)}
-    text = json.dumps({name: row for name, row in rows.items() if name in names}, indent=1, sort_keys=True, ensure_ascii=False)
-    path_of(crate, edits).parent.mkdir(exist_ok=True)
-    path_of(crate, edits).write_text(text + "\n", encoding="utf-8")
+    rows.write(path_of(crate, edits), {name: row for name, row in known.items() if name in names})

@@ -75,7 +75,8 @@ class Scratch:
         self.command = checker.over_built(crate) if is_fresh else checker.BY_RT
         rows = rows_below(crate)
         for name in rows:
-            if not (has_library(name) if is_fresh or name != crate else has_work(name)):
+            # A crate that no other uses has no library of its own, and a fresh check of it needs none.
+            if not (has_library(name) if name != crate else is_fresh or has_work(name)):
                 raise NoWork(f"crates/{name}/out has no proved work: run `rt check` in it first")
         for name in rows:
             copy_crate(name, self.root / "crates" / name, name == crate)
