@@ -9,7 +9,7 @@ import stat
 import subprocess
 import time
 
-from .accepting import BASE, OLDER, accept, contents, fresh, is_tried, marked, records_of, small_dpkg
+from .accepting import BASE, OLDER, accept, contents, fresh, marked, records_of, small_dpkg
 from .sandbox import AS_NOBODY, END, HEAD, NEW, NOBODY, OLD, UMASK, sha256
 
 TOOL = "aide-compare-accept"
@@ -20,8 +20,6 @@ STATE = (
 
 
 def try_accept(sandbox):
-    if not is_tried(sandbox):
-        return
     for trial in (try_digests, try_told, try_refusals, try_places, try_modes, try_owner, try_full_disk, try_at_once):
         trial(sandbox)
 

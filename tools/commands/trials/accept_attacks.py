@@ -3,7 +3,7 @@ import gzip
 import os
 import time
 
-from .accepting import accept, accept_at, contents, fresh, is_tried, library
+from .accepting import accept, accept_at, contents, fresh, library
 from .others_folder import BASELINE, SECRET, Swapping, call, harm, put, roots
 from .sandbox import NEW, NOBODY, OLD, sha256
 
@@ -13,8 +13,6 @@ FOR_THE_CALL, FOR_GOOD = 2, 3
 
 
 def try_accept_attacks(sandbox):
-    if not is_tried(sandbox):
-        return
     try_swapped_database(sandbox)
     if os.getuid() != 0:
         return print("skipped: attacks on aide-compare-accept by another user (they need root)")

@@ -3,7 +3,7 @@ import fcntl
 import os
 import shutil
 
-from .accepting import BASE, OLDER, accept_at, contents, fresh, is_tried, library, records_of, small_dpkg
+from .accepting import BASE, OLDER, accept_at, contents, fresh, library, records_of, small_dpkg
 from .sandbox import NEW, NOBODY, OLD, sha256
 
 KILLED = 1
@@ -11,10 +11,9 @@ MOST_CALLS = 1000
 
 
 def try_accept_kills(sandbox):
-    if is_tried(sandbox):
-        try_order(sandbox)
-        try_kills(sandbox)
-        try_kills_of_records(sandbox)
+    try_order(sandbox)
+    try_kills(sandbox)
+    try_kills_of_records(sandbox)
 
 
 def try_order(sandbox):
@@ -78,7 +77,7 @@ def kill_at(sandbox, settings, number, form, owner, child, old):
         return False
     wait_for_child(sandbox)
     baseline, former, new, _ = contents(sandbox)
-    kept = former == OLD if baseline == NEW else former in (OLD, OLDER, NEW) or (old and former is None)
+    kept = former == OLDER or (baseline == NEW and former == OLD)  # Or the next run finds it, as is seen below.
     path = sandbox.path(BASE + "aide.db")
     whole = baseline in (OLD, NEW) and kept and new == NEW and os.stat(path).st_mode & 0o777 == 0o600
     ended, records = done.status == (18 if child else -9), records_of(sandbox)

@@ -12,11 +12,6 @@ BASE = "base/"
 OLDER = OLD.replace(b"/d 36", b"/c1 36")
 
 
-def is_tried(sandbox):
-    """The command is in Python, so it is tried once, not by every shell."""
-    return sandbox.shell == ["sh"]
-
-
 def small_dpkg(sandbox):
     """dpkg's records of a machine with one package."""
     sandbox.write("dpkg/status", "Package: one\nStatus: install ok installed\nVersion: 1\n\n")

@@ -14,9 +14,9 @@ def try_cut_reports(sandbox):
 def cuts(text, counts, whole, step):
     """What is wrong with what is read of a report that is cut at each of its bytes in turn, or at each so many."""
     from tools.commands.base import TOP  # noqa: F401 (the modules of this tree)
-    from aide_compare.cut_reports import CUT_WORDS, KeptReport
-    from aide_compare.hosts_read import Host, entries_of
-    from aide_compare.state import State
+    from aide_compare.lines.cut_reports import CUT_WORDS, KeptReport
+    from aide_compare.hosts.hosts_read import Host, entries_of
+    from aide_compare.compare.state import State
 
     before = -1
     details = text.find(b"\nDetailed information about changes:\n")

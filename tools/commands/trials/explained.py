@@ -5,6 +5,7 @@ import os
 import re
 
 from .accepting import marked
+from .reasons_host import NO_COUNTS
 from .sandbox import END
 
 TOOL = "aide-compare-run"
@@ -25,10 +26,12 @@ NEW = (
 GREW = OLD.replace(b"33 5", b"33 9")
 GONE = HEAD + OLD.partition(b"\n/etc/plain")[2].join([b"/etc/plain", b""])
 TABLE = b"high new-set-id /**\nmedium any /etc/**\nlow any /**\n"
-COUNTS = {"explained": "1", "not_verified": "1", "unexplained": "2", "high": "1", "medium": "1", "low": "1"}
+COUNTS = {key: str(count) for key, count in NO_COUNTS.items()}
+COUNTS.update(explained="1", explained_databases="1", not_verified="1", unexplained="2", high="1", medium="1", low="1")
 WORDS = "2 unexplained, 1 not verified of 4 changes, 1 high, 1 medium"
 BRIEF = (
     """%s
+Explained by: databases 1
 
 Unexplained:
   high    added    /usr/.x y: -rwsr-xr-x root:root 7 bytes
@@ -80,7 +83,7 @@ def try_places(sandbox):
     prepare(sandbox)
     plain = sandbox.call(TOOL, "o.db", "n.db")
     answer = run(sandbox, "--state", "state", "--brief", "brief", "o.db", "n.db")
-    line = "%s: unexplained=2 not_verified=1 explained=1 high=1 medium=1 low=1\n" % WORDS
+    line = "%s: unexplained=2 not_verified=1 explained=1 high=1 medium=1 low=1 explained_databases=1\n" % WORDS
     sandbox.expect("with reasons", answer, 7, plain.output, plain.errors + b"aide-compare-run: " + line.encode())
     sandbox.holds("nothing else is said", len(answer.errors) == len(plain.errors) + len("aide-compare-run: " + line), answer)
     state = sandbox.state()
@@ -97,7 +100,10 @@ def try_places(sandbox):
     sandbox.holds("its state", state.get("explained") == state.get("unexplained") == "0", state)
     answer = run(sandbox, "--brief", "brief", "o.db", "gone.db")
     sandbox.expect("all is explained", answer, 2, None, b"1 change, all explained: unexplained=0 not_verified=0 explained=1")
-    sandbox.holds("what people read first then", read(sandbox, "brief").startswith(b"1 change, all explained\n\nExplained:\n"))
+    sandbox.holds(
+        "what people read first then",
+        read(sandbox, "brief").startswith(b"1 change, all explained\nExplained by: databases 1\n\nExplained:\n"),
+    )
 
 
 def try_levels(sandbox):
@@ -200,13 +206,13 @@ def try_many(sandbox):
             "/usr/.x y",
             "/etc/plain",
             "/m/0000",
-            "  low     and 2800 more\n",
+            "  low     added    /m: 2980 more files\n",
             "Not verified:",
             "Explained:",
         )
     ]
     sandbox.holds(
-        "many entries", -1 not in places and places == sorted(places) and text.count("/m/") == 200, (places, text[:500])
+        "many entries", -1 not in places and places == sorted(places) and text.count("/m/") == 20, (places, text[:500])
     )
     sandbox.write(
         "large.db", HEAD + b"".join(b"/g/%05d %d 100644 0 0 1\n" % (number, ALL | GOES) for number in range(30000)) + END

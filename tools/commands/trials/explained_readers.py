@@ -4,10 +4,11 @@ import time
 
 from . import explained, mail, state
 from .explained import BRIEF, REASONS, WORDS
+from .reasons_host import NO_COUNTS
 from .sandbox import sha256
 
 WITH = {"status": 7, "added": 1, "removed": 1, "changed": 2}
-KEYS = ("explained", "not_verified", "unexplained", "high", "medium", "low")
+KEYS = tuple(NO_COUNTS)
 QUIET = ["--alarm", "unexplained"]
 
 
@@ -17,6 +18,7 @@ def try_explained_readers(sandbox):
         try_alarm,
         try_sign_of_life,
         try_cut,
+        try_values,
         try_pages,
         try_false_counts,
         try_state,
@@ -25,6 +27,15 @@ def try_explained_readers(sandbox):
         try_metrics_and_log,
     ):
         trial(sandbox)
+
+
+def try_values(sandbox):
+    """A plain page on which nothing is cut does not say so: entries of one side have no values at the level of AIDE."""
+    prepare(sandbox)
+    sandbox.call("aide-compare-run", *REASONS, "--lines", "lines", "o.db", "n.db")
+    answer = sandbox.call("aide-compare-html", "--plain", text=sandbox.read("lines"))
+    sandbox.expect("a plain page", answer, 0, [b"<table>", b"/usr/.x y"], b"")
+    sandbox.holds("nothing is cut on it", b"Values are shown of" not in answer.output, answer)
 
 
 def prepare(sandbox):
@@ -104,7 +115,9 @@ def try_sign_of_life(sandbox):
 def try_cut(sandbox):
     """The text of many entries takes no more than its share of a mail, and ends with a whole line."""
     prepare(sandbox)
-    lines = b"".join(b"/m/%s%04d %d 100644 0 0 1\n" % (b"x" * 200, number, explained.ALL) for number in range(3000))
+    lines = b"".join(
+        b"/m/%03d/%s%04d %d 100644 0 0 1\n" % (number // 15, b"x" * 200, number, explained.ALL) for number in range(3000)
+    )
     sandbox.write("many.db", explained.HEAD + lines + b"@@end_db\n")
     sandbox.write("none.db", explained.HEAD + b"@@end_db\n")
     for size in ("1M", "20k", "4k"):
@@ -118,7 +131,9 @@ def try_cut(sandbox):
         )
         listed = [line for line in text.split("\n") if line.startswith("  low     added")]
         sandbox.holds(
-            "whole lines of " + size, all(line.endswith(": -rw-r--r-- root:root 1 bytes") for line in listed), listed[-1:]
+            "whole lines of " + size,
+            all(line.endswith((": -rw-r--r-- root:root 1 bytes", " more files")) for line in listed),
+            listed[-1:],
         )
 
 

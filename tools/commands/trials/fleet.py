@@ -176,7 +176,7 @@ def try_endless(sandbox):
     sandbox.holds("nothing is left of what it sent", not left, left)
     # The share of the room is asked of the module itself, so that no file system has to be mounted here.
     program = (
-        "import sys, os\nsys.path.insert(0, %r)\nfrom aide_compare import fleet_store as f\n"
+        "import sys, os\nsys.path.insert(0, %r)\nfrom aide_compare.hosts import fleet_store as f\n"
         "real = os.fstatvfs\n"
         "class S: f_bavail, f_frsize = 10240, 4096\n"
         "os.fstatvfs = lambda fd: S\n"

@@ -45,7 +45,7 @@ def try_database_hints(sandbox):
             ],
         ),
         ("no end", NEW[:-9], [b"no @@end_db\n", shown, b"ends too early"]),
-        ("nothing", b"", [b"no @@begin_db\n", b"it is empty"]),
+        ("nothing", b"", [b"no @@begin_db\n", b"it is empty: does AIDE run now?"]),
         ("xz", b"\xfd7zXZ\0" + NEW, [b"compressed by xz"]),
         ("zstd", b"\x28\xb5\x2f\xfd" + NEW, [b"compressed by zstd"]),
         ("bzip2", b"BZh9" + NEW, [b"compressed by bzip2"]),

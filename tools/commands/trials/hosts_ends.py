@@ -18,7 +18,7 @@ HEEDED = "for number in (signal.SIGINT, signal.SIGHUP, signal.SIGTERM): signal.s
 # A signal that comes while an object is taken away: Python drops what its handler raises.
 DROPPED = """import os, signal, sys, time
 sys.path.insert(0, sys.argv[1])
-from aide_compare import private_room
+from aide_compare.base import private_room
 class Object:
     def __del__(self):
         os.kill(os.getpid(), signal.SIGTERM)
@@ -98,9 +98,10 @@ def try_no_mailer(sandbox):
     """Without any sendmail, the system log says what the mail would have said."""
     four_hosts(sandbox)
     copy, script = sandbox.path("without/aide_compare"), "import sys; sys.path.insert(0, sys.argv.pop(1)); "
-    script += "from aide_compare import ending, hosts_report; sys.exit(ending.command('report-hosts', hosts_report.main))"
+    script += "from aide_compare.base import ending; from aide_compare.commands import hosts_report\n"
+    script += "sys.exit(ending.command('report-hosts', hosts_report.main))"
     shutil.copytree(sandbox.path("lib/aide_compare"), copy)
-    with open(copy + "/sending.py") as file:
+    with open(copy + "/mail/sending.py") as file:
         text = file.read()
     for old, new in (
         ('"/dev/log", "/run/', '"%s", "/no/' % sandbox.path("log")),
@@ -108,7 +109,7 @@ def try_no_mailer(sandbox):
     ):
         sandbox.holds("a text of sending", old in text, old)
         text = text.replace(old, new)
-    sandbox.write("without/aide_compare/sending.py", text)
+    sandbox.write("without/aide_compare/mail/sending.py", text)
     with socket.socket(socket.AF_UNIX, socket.SOCK_DGRAM) as log:
         log.bind(sandbox.path("log"))
         log.settimeout(5)

@@ -5,13 +5,14 @@ import subprocess
 import sys
 
 from .hosts_report import HOSTILE, Hosts, database, four_hosts, line
-from .sandbox import NEW, OLD
+from .sandbox import OLD
 
 MARKUP = (b"/<script>alert(1)<,script>", b"/<img%20src=x%20onerror=alert(1)>", b"/&amp;lt;b", b"/\"'></code><b>")
 TAGS = {"a", "b", "body", "code", "dd", "details", "div", "dl", "dt", "h1", "head", "header", "html", "i", "li", "main"}
 TAGS |= {"meta", "p", "small", "span", "style", "summary", "table", "td", "th", "title", "tr", "ul"}
 # The command with a page that has room for less.
-SMALL = "import sys; sys.path.insert(0, sys.argv.pop(1)); from aide_compare import hosts_page, hosts_report, ending\n"
+SMALL = "import sys; sys.path.insert(0, sys.argv.pop(1)); from aide_compare.base import ending\n"
+SMALL += "from aide_compare.commands import hosts_report; from aide_compare.hosts import hosts_page\n"
 SMALL += "hosts_page.page.__defaults__ = (60000,); sys.exit(ending.command('report-hosts', hosts_report.main))"
 
 
@@ -44,7 +45,7 @@ def try_values(sandbox):
     good = (
         len(same) == 1
         and "rwsr-xr-x" in same[0]
-        and "<th>SHA256" in same[0]
+        and '<th scope="row">SHA256' in same[0]
         and "Of each host: Mtime, Inode, Linkcount<" in same[0]
     )
     sandbox.holds("a new file on three hosts", good, same)

@@ -17,8 +17,6 @@ COUNTS = "differences (1 added, 1 removed, 2 changed)"
 
 
 def try_mail(sandbox):
-    if sandbox.shell != ["sh"]:  # The command is no script of a shell, so once is enough.
-        return
     for trial in (
         try_texts,
         try_hostile,
@@ -40,7 +38,8 @@ def prepare(sandbox):
     shutil.rmtree(sandbox.path("lib"), ignore_errors=True)
     shutil.copytree(os.path.join(HERE, "commands", "lib"), sandbox.path("lib"))
     for name in ('LOG, JOURNAL = "/dev/log", "/run/systemd/journal/socket"',):
-        edit(sandbox, "sending", name, "LOG, JOURNAL = %r, %r" % (sandbox.path("log"), sandbox.path("journal")))
+        edit(sandbox, "mail/sending", name, "LOG, JOURNAL = %r, %r" % (sandbox.path("log"), sandbox.path("journal")))
+    sandbox.point_defaults()
     take_mail(sandbox)
     sandbox.write("empty.db", HEAD + END)
 
@@ -61,7 +60,7 @@ def take_mail(sandbox, before=""):
     )
 
 
-def call(sandbox, *words, environment=None):
+def call(sandbox, *words, environment=None, limit=120):
     more = sandbox.environment(**(environment or {}))
     done = subprocess.run(
         [sandbox.path("bin/" + TOOL)] + list(words),
@@ -70,7 +69,7 @@ def call(sandbox, *words, environment=None):
         stdin=subprocess.DEVNULL,
         stdout=subprocess.PIPE,
         stderr=subprocess.PIPE,
-        timeout=120,
+        timeout=limit,
     )
     return Answer(done.stdout, done.stderr, done.returncode)
 
@@ -130,8 +129,9 @@ def try_texts(sandbox):
         (["old.db", "/dev/null"], 18),
         (["--odd"], 15),
         (["old.db", "new.db", "--age", "x"], 15),
-    ):
-        sandbox.expect("an error of %s" % words, call(sandbox, *words), status, b"", b"")
+    ):  # What was typed wrong is seen at once, too.
+        told = [b"aide-compare-run: ", b"try: aide-compare-run --help"] if status == 15 else b""
+        sandbox.expect("an error of %s" % words, call(sandbox, *words), status, b"", told)
         message = sent(sandbox)
         good = subject(message) == SUBJECT + "no comparison (status %d)" % status and body(message).startswith(
             b"aide-compare-run"
@@ -177,7 +177,7 @@ def try_hostile(sandbox):
 def try_bounds(sandbox):
     """A report over the bound: the counts, 1,000 paths, how many were cut, and the command for the rest."""
     prepare(sandbox)
-    lines = b"".join(b"/f%06d 36 100644 1\n" % number for number in range(60000))
+    lines = b"".join(b"/d%04d/e/f%06d 36 100644 1\n" % (number // 20, number) for number in range(60000))
     sandbox.write("large.db", HEAD + lines + END)
     sandbox.expect("a large report", call(sandbox, "empty.db", "large.db"), 1, b"", b"")
     size = os.stat(sandbox.path("sent")).st_size if os.path.exists(sandbox.path("sent")) else 0
@@ -185,7 +185,7 @@ def try_bounds(sandbox):
     text = body(message)
     sandbox.holds("the size of a cut mail", 10000 < size <= 1 << 20, size)
     sandbox.holds("the counts of a cut mail", b"Added entries:           60000" in text and "60000 added" in subject(message))
-    sandbox.holds("the paths of a cut mail", text.count(b": /f0") == 1000, text.count(b": /f0"))
+    sandbox.holds("the paths of a cut mail", text.count(b": /d0") == 1000, text.count(b": /d0"))
     sandbox.holds("what was cut", b"1000 paths are listed, 59000 are left out" in text, text[-500:])
     command = sandbox.path("bin/aide-compare-run").encode() + b" empty.db large.db\n"
     sandbox.holds("the command for the rest", command in text, text[-500:])
@@ -225,7 +225,7 @@ def try_refusals(sandbox):
     )
     sandbox.holds("the time limit", time.monotonic() - start < 45, time.monotonic() - start)
     os.remove(sandbox.path("stubs/sendmail"))
-    edit(sandbox, "sending", '("/usr/sbin/sendmail", "/usr/lib/sendmail")', "()")
+    edit(sandbox, "mail/sending", '("/usr/sbin/sendmail", "/usr/lib/sendmail")', "()")
     path = {"PATH": sandbox.path("stubs") + ":/usr/bin:/bin"}
     for new, status in (("new.db", "7"), ("old.db", "0")):
         answer = call(sandbox, "old.db", new, "--state", "state", environment=path)
@@ -353,6 +353,9 @@ def try_test_and_weekly(sandbox):
     sandbox.holds("only once a day", sent(sandbox) is None)
     call(sandbox, "old.db", "old.db", "--state", "first.state", "--weekly", day)
     sandbox.holds("the sign of life of a single run", subject(sent(sandbox)) == SUBJECT + "no difference in 1 run")
+    os.mkdir(sandbox.path("odd.state.quiet"))
+    answer = call(sandbox, "old.db", "old.db", "--state", "odd.state", "--weekly", day)
+    sandbox.expect("a folder in the place of the number", answer, 18, b"", b"odd.state.quiet: it is a folder")
     for label, number in (
         ("no time at all", 10**30),
         ("later than now, by a clock that was ahead", int(time.time()) + 86400),

@@ -1,8 +1,11 @@
 """All trials of aide-compare-reasons, in groups that run side by side."""
 from . import (
+    forged,
     reasons_archive,
+    reasons_compiled,
     reasons_contents,
     reasons_debs,
+    reasons_derived,
     reasons_entries,
     reasons_indexes,
     reasons_lines,
@@ -29,12 +32,22 @@ def try_reasons(sandbox):
         reasons_logs.try_packed,
         reasons_places.try_made,
         reasons_made.try_made_links,
+        reasons_made.try_alternatives,
+        reasons_made.try_new_folders,
+        reasons_made.try_kept,
+        reasons_made.try_jail,
+        reasons_compiled.try_marshalled,
+        reasons_compiled.try_compiled,
+        reasons_derived.try_links,
+        reasons_derived.try_bundle,
+        reasons_derived.try_sums,
         reasons_places.try_folders,
         reasons_places.try_rules,
         reasons_places.try_never,
         reasons_places.try_severity,
         reasons_severity.try_tests,
         reasons_severity.try_tables,
+        reasons_severity.try_shipped,
         reasons_places.try_shipped_rules,
         reasons_entries.try_values,
         reasons_entries.try_plain,
@@ -66,8 +79,11 @@ def try_reasons_packages(sandbox):
         reasons_rpm.try_links,
         reasons_rpm.try_removed,
         reasons_rpm.try_read,
+        reasons_rpm.try_vouched,
         reasons_rpm_records.try_damage,
         reasons_rpm_records.try_program,
+        forged.try_records,
+        forged.try_host,
     ):
         trial(sandbox)
 
@@ -90,9 +106,14 @@ def try_reasons_archive(sandbox):
         reasons_indexes.try_said,
         reasons_indexes.try_missing,
         reasons_indexes.try_listed,
+        reasons_indexes.try_unpacked,
         reasons_indexes.try_wanted,
         reasons_indexes.try_odd_files,
         reasons_indexes.try_without_sums,
+        forged.try_archive,
+        forged.try_keys,
+        forged.try_new_packages,
+        forged.try_between,
     ):
         trial(sandbox)
 

@@ -14,7 +14,7 @@ from .archive_signed import KEYRING, OTHER_KEYRING, RELEASE
 from .reasons_host import MORE_ACL, Entry, Host
 from .sandbox import HERE
 
-BY_ARCHIVE, BY_DPKG, MADE = "package archive!", "package dpkg!", "package_made dpkg"
+BY_ARCHIVE, BY_DPKG, MADE, HINT = "package archive!", "package dpkg!", "package_made dpkg", "package dpkg"
 TRUE, FORGED = b"as built", b"forged"
 INFO = b"/var/lib/dpkg/info/"
 FILES = {
@@ -39,11 +39,18 @@ fi
 rm text.$$; exit 1"""
 
 
-def tar(files=(), links=(), hard_links=()):
+def tar(files=(), links=(), hard_links=(), folders=()):
+    """A tar archive. A file is its content, or its content, its mode and its group; a folder is its mode."""
     target = io.BytesIO()
     with tarfile.open(fileobj=target, mode="w", format=tarfile.GNU_FORMAT) as archive:
+        for name, mode in dict(folders).items():
+            member = tarfile.TarInfo("./" + name)
+            member.type, member.mode = tarfile.DIRTYPE, mode
+            archive.addfile(member)
         for name, content in dict(files).items():
             member = tarfile.TarInfo("./" + name)
+            if isinstance(content, tuple):
+                content, member.mode, member.gid = content
             member.size = len(content)
             archive.addfile(member, io.BytesIO(content))
         for kind, given in ((tarfile.SYMTYPE, links), (tarfile.LNKTYPE, hard_links)):
@@ -108,7 +115,7 @@ def host_of():
     for path, text in said.items():
         place = b"/usr" + path if path.startswith(b"/bin/") else path
         more = {"inode": 77, "lcount": 2} if path in (b"/usr/bin/a", b"/usr/bin/a2") else {}
-        host.new.file(place, text, mode=0o104755 if path.endswith(b"set-id") else 0o100755, **more)
+        host.new.file(place, text, mode=0o104755 if path.endswith(b"set-id") else 0o100644, **more)
     host.old.file(b"/usr/bin/missing", TRUE).package("tool", "1", {b"/usr/bin/missing": TRUE}).package("plain", "1")
     host.new.link(b"/usr/lib/good", b"../bin/a").link(b"/usr/lib/bad", b"../bin/b").file(b"/usr/bin/plain", TRUE)
     host.new.package("tool", "1:2", said, listed=[b"/usr/lib/good", b"/usr/lib/bad"]).package(
@@ -130,18 +137,19 @@ ARCHIVED = {
     b"/usr/bin/missing": "-",
     b"/usr/lib/good": BY_ARCHIVE,
     b"/usr/lib/bad": "-",
-    b"/usr/bin/plain": BY_DPKG,
+    b"/usr/bin/plain": HINT,
     INFO + b"tool.md5sums": BY_ARCHIVE,
     INFO + b"tool.postinst": "-",
     INFO + b"tool.list": MADE,
     INFO + b"tool.preinst": "-",
 }
-BELIEVED = {
-    b"/usr/bin/a": BY_DPKG,
-    b"/usr/bin/b": BY_DPKG,
+# dpkg's records are hints beside an archive, and without one too: the list of tool in the database is another.
+HINTED = {
+    b"/usr/bin/a": HINT,
+    b"/usr/bin/b": HINT,
     b"/usr/bin/set-id": "-",
-    b"/usr/lib/hook.py": BY_DPKG,
-    b"/usr/bin/missing": BY_DPKG,
+    b"/usr/lib/hook.py": HINT,
+    b"/usr/bin/missing": HINT,
     INFO + b"tool.postinst": MADE,
 }
 
@@ -212,14 +220,14 @@ def try_forged(sandbox):
     }
     for label, more in forged.items():
         write_archive(sandbox, "forged", **more)
-        expect(sandbox, "forged " + label, BELIEVED, "--archive", "forged", "--keyring", "archive.gpg")
+        expect(sandbox, "forged " + label, HINTED, "--archive", "forged", "--keyring", "archive.gpg")
     write_archive(sandbox, "archive")
-    expect(sandbox, "another key", BELIEVED, "--archive", "archive", "--keyring", "other.gpg")
-    expect(sandbox, "no archive", BELIEVED)
+    expect(sandbox, "another key", HINTED, "--archive", "archive", "--keyring", "other.gpg")
+    expect(sandbox, "no archive", HINTED)
     write_archive(sandbox, "linked")
     os.replace(sandbox.path("linked/tool_2_amd64.deb"), sandbox.path("elsewhere.deb"))
     os.symlink("../elsewhere.deb", sandbox.path("linked/tool_2_amd64.deb"))
-    expect(sandbox, "a link in place of the package", BELIEVED, "--archive", "linked", "--keyring", "archive.gpg")
+    expect(sandbox, "a link in place of the package", HINTED, "--archive", "linked", "--keyring", "archive.gpg")
     for label, words, status in (
         ("no packages", ("--archive", "archive"), 15),
         ("no such folder", ("--archive", "none"), 18),

@@ -6,6 +6,7 @@ import io
 import json
 import tarfile
 
+DPKG = b"/var/lib/dpkg/"
 COLUMNS = (
     "name lname perm uid gid size ctime mtime inode bcount lcount md5 attr acl sha256 selinux xattrs e2fsattrs " "capabilities"
 ).split()
@@ -16,6 +17,10 @@ ACL = b"user::rwx\ngroup::r-x\nother::r-x\n"
 MORE_ACL = b"user::rwx\nuser:1000:rwx\ngroup::r-x\nmask::rwx\nother::r-x\n"
 UNUSUAL = set(b"%:[]@~ ") | set(range(33)) | set(range(127, 256))
 NAME = "aide-compare-reasons"
+GRADES = ("archive", "databases", "dpkg", "rpm")
+# The counts of a report without changes, as the summary and the state have them.
+NO_COUNTS = dict.fromkeys(("explained", "not_verified", "unexplained", "high", "medium", "low"), 0)
+NO_COUNTS.update(("explained_" + grade, 0) for grade in GRADES)
 
 
 def base64_of(data):
@@ -73,10 +78,12 @@ class Entry:
 
 
 class Night:
-    """One night: entries by path, packages by name, and diversions."""
+    """One night: entries by path, packages by name, and diversions. The database has dpkg's records as they were when AIDE ran,
+    as files with their digests, but for those in `unmeasured`; `forged` are texts that were written into them since."""
 
     def __init__(self):
         self.entries, self.packages, self.diversions, self.columns = {}, {}, [], COLUMNS
+        self.unmeasured, self.forged = (), {}
         for path in (b"/", b"/usr"):
             self.folder(path)
 
@@ -98,13 +105,24 @@ class Night:
         self.packages[name] = (version, dict(files), dict(conffiles), arch, list(listed), state, base or name)
         return self
 
+    def whole(self):
+        """All entries: those of dpkg's records too, if there are packages."""
+        files = self.files() if self.packages else {}
+        records = {DPKG + name.encode(): text for name, text in files.items() if name not in self.unmeasured}
+        return {**{path: Entry(path, 0o100644, text) for path, text in records.items()}, **self.entries}
+
     def database(self):
         head = "@@begin_db\n@@db_spec %s\n" % " ".join(self.columns)
-        order = sorted(self.entries.values(), key=lambda entry: entry.path.split(b"/"))
+        order = sorted(self.whole().values(), key=lambda entry: entry.path.split(b"/"))
         return (head + "".join(entry.line(self.columns) + "\n" for entry in order) + "@@end_db\n").encode()
 
     def records(self):
-        """dpkg's records, as a tar archive packed by gzip."""
+        """dpkg's records as they are read, as a tar archive packed by gzip."""
+        files = {**self.files(), **self.forged}
+        return packed({name: text for name, text in files.items() if text is not None})
+
+    def files(self):
+        """dpkg's records when AIDE ran."""
         files, status = {"diversions": "\n".join(part for each in self.diversions for part in each).encode() + b"\n"}, []
         for name, (version, contents, conffiles, arch, listed, state, base) in self.packages.items():
             lines = b"".join(
@@ -123,7 +141,7 @@ class Night:
                 if content is not None
             )
         files["status"] = b"".join(paragraph + b"\n" for paragraph in status)
-        return packed(files)
+        return files
 
 
 def packed(files):
@@ -148,8 +166,9 @@ def put_path(fields, path):
 def lines_of(old, new):
     """The lines of aide-compare-json for two nights, at the level list_entries."""
     objects, kinds = [], {"added": 0, "removed": 0, "changed": 0}
-    for path in sorted(old.entries.keys() | new.entries.keys(), key=lambda path: path.split(b"/")):
-        before, after = (night.entries.get(path) for night in (old, new))
+    wholes = old.whole(), new.whole()
+    for path in sorted(wholes[0].keys() | wholes[1].keys(), key=lambda path: path.split(b"/")):
+        before, after = (whole.get(path) for whole in wholes)
         if before and after and before.values == after.values:
             continue
         kind = "changed" if before and after else "added" if after else "removed"

@@ -5,9 +5,11 @@ import hashlib
 import lzma
 import os
 
+from .own_module import own_module
 from .reasons_archive import (
     BY_ARCHIVE,
     BY_DPKG,
+    HINT,
     CONTROL,
     FILES,
     HARD_LINKS,
@@ -45,7 +47,7 @@ def lists(*files):
 
 
 def expect(sandbox, label, is_believed, *words):
-    host_of().expect(sandbox, {(label, PATH): BY_ARCHIVE if is_believed else BY_DPKG}, *(words or WORDS))
+    host_of().expect(sandbox, {(label, PATH): BY_ARCHIVE if is_believed else HINT}, *(words or WORDS))
 
 
 def try_said(sandbox):
@@ -127,6 +129,34 @@ def try_listed(sandbox):
     expect(sandbox, "an index with another digest", False)
 
 
+def try_unpacked(sandbox):
+    """A packed index with another digest than the signed one is not unpacked, and one that apt has packed anew only up to the
+    signed size: who can write in apt's lists could make every index a bomb."""
+    indexes = own_module("aide_compare.reasons.indexes")
+
+    def signed(text, ending, digests):
+        with open(sandbox.write("packed", text), "rb") as file:
+            try:
+                found = indexes._signed(file.fileno(), ending, digests)
+            except indexes.Refuted as refuted:
+                return str(refuted)
+            return found and found.read()
+
+    text = b"x" * 1000
+    packed, junk = gzip.compress(text, mtime=0), b"no gzip"
+    of = {name: (hashlib.sha256(data).hexdigest(), len(data)) for name, data in (("", text), (".gz", packed))}
+    for label, given, digests, wanted in (
+        ("as it is signed", packed, of, text),
+        ("another one", junk, of, None),
+        ("packed anew", gzip.compress(text, 1, mtime=5), {"": of[""]}, text),
+        ("packed anew, longer than signed", packed, {"": (of[""][0], 999)}, "too large unpacked"),
+        ("packed anew, other bytes", gzip.compress(b"y" * 1000), {"": of[""]}, None),
+        ("never signed", junk, {".xz": of[".gz"]}, None),
+    ):
+        got = signed(given, ".gz", digests)
+        sandbox.holds("a packed index, " + label, got == wanted, got)
+
+
 def try_wanted(sandbox):
     """A paragraph of an index counts if it has the name, the version and the architecture, a digest and a size."""
     prepare(sandbox)
@@ -194,6 +224,6 @@ def try_without_sums(sandbox):
         ("of the package", PATH): BY_ARCHIVE,
         ("sums that dpkg made", INFO + b"tool.md5sums"): MADE,
         ("a script with other content", INFO + b"tool.postinst"): "-",
-        ("gone with a package", b"/usr/bin/gone"): BY_DPKG,
+        ("gone with a package", b"/usr/bin/gone"): HINT,
     }
     host.expect(sandbox, wanted, *WORDS)

@@ -8,7 +8,7 @@ import random
 import sys
 import tarfile
 
-from .reasons_host import LOG, NAME, Entry, Host, lines_of
+from .reasons_host import LOG, NAME, NO_COUNTS, Entry, Host, lines_of
 from .sandbox import HERE, NEW, OLD
 
 OURS = ("severity", "reason", "reasons")
@@ -80,13 +80,13 @@ def try_same(sandbox):
 
 def counts_of(objects):
     """The counts of the entries, from their own members."""
-    counts = dict.fromkeys(("explained", "not_verified", "unexplained", "high", "medium", "low"), 0)
+    counts = dict(NO_COUNTS)
     for fields in objects:
         if fields["record"] == "entry":
             reason = fields.get("reason")
             kind = "unexplained" if reason is None else "explained" if reason["verified"] else "not_verified"
             counts[kind] += 1
-            counts[fields["severity"]] += kind != "explained"
+            counts["explained_" + reason["grade"] if kind == "explained" else fields["severity"]] += 1
     return counts
 
 
@@ -201,7 +201,7 @@ def modules():
     path = os.path.join(HERE, "commands", "lib")
     if path not in sys.path:
         sys.path.append(path)
-    from aide_compare.ending import Fault
+    from aide_compare.base.ending import Fault
     from aide_compare.reasons import records
 
     return records, Fault
@@ -263,10 +263,12 @@ def try_records(sandbox):
 
 
 def try_interface(sandbox):
-    """The module as the other commands use it: objects in, the same objects with reasons out."""
+    """The module as the other commands use it: objects in, what each of them gets out."""
     records, _ = modules()
     from types import SimpleNamespace
-    from aide_compare.reasons import Counts, Explainer, evidence_of
+    from aide_compare.compare.reason_counts import ReasonCounts as Counts
+    from aide_compare.reasons.evidence import evidence_of
+    from aide_compare.reasons.explainer import Explainer, members_of
 
     host = Host()
     host.old.file(b"/var/log/a", b"1", bits=LOG).file(b"/b", b"1")
@@ -280,18 +282,7 @@ def try_interface(sandbox):
             {"record": "entry", "kind": "removed", "path": "/b"},
             {"record": "entry", "kind": "changed", "path": "/var/log/a"},
         ]
-        found = list(explainer.explain(iter(given)))
-    sandbox.holds(
-        "the objects",
-        found
-        == [
-            {**given[0], "severity": "medium"},
-            {
-                **given[1],
-                "severity": "low",
-                "reason": {"class": "growing", "text": "grew, content not verified", "verified": False, "grade": "databases"},
-            },
-        ],
-        found,
-    )
+        found = [members_of(change) for change in explainer.judge(iter(given))]
+    reason = {"class": "growing", "text": "grew, content not verified", "verified": False, "grade": "databases"}
+    sandbox.holds("the members", found == [{"severity": "medium"}, {"severity": "low", "reason": reason}], found)
     sandbox.holds("the counts", explainer.counts == Counts(0, 1, 1, 0, 1, 1), explainer.counts)

@@ -199,7 +199,22 @@ def try_packed(sandbox):
     open_to_all = {"mode": 0o100646, "inode": 6}
     logs.rotation("everybody can write it", "-", {**source, "mode": 0o100646}, {**small, **open_to_all}, to=b"log.2.gz")
     case("compressed, of a size that is none", "-", {"size": -1})
+    try_many_packed(sandbox)
     case("with the inode of its source", "-", {"inode": 100001 + logs.number})
     timeless = {"mtime": "0"}
     logs.rotation("without times", "-", {**source, **timeless}, {**small, **timeless, "inode": 5}, to=b"log.2.gz")
     logs.host.expect(sandbox, logs.wanted, records=False)
+
+
+def try_many_packed(sandbox):
+    """A thousand files that went and as many that may be their packed forms: none is compared with all others."""
+    for side, name, bits, number in (
+        ("many-old", b"/var/log/a-%05d", 16317, 5),
+        ("many-new", b"/var/log/a-%05d.gz", 16317 | COMPRESSED, 6),
+    ):
+        line = name + b" %d 100644 10 33 33 %d %%d\n" % (bits, number)
+        text = b"".join(line % (at, at) for at in range(1000))
+        sandbox.write(side, b"@@begin_db\n@@db_spec name attr perm size uid gid mtime inode\n" + text + b"@@end_db\n")
+    limit = "resource.setrlimit(resource.RLIMIT_CPU, (12, 12))"
+    answer = sandbox.call("aide-compare-run", "--reasons", "many-old", "many-new", before=limit)
+    sandbox.expect("many packed files", answer, 3, None, b"2000 unexplained of 2000 changes")

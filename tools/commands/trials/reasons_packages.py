@@ -94,7 +94,7 @@ def try_content(sandbox):
 
 
 # What a new file may have: no record says what is usual.
-NEW_MAY_HAVE = ("its mode", "its group", "a flag of the file system", "the attributes asked for")
+NEW_MAY_HAVE = ("its mode", "a flag of the file system")
 
 
 def try_unchanged(sandbox):
@@ -106,7 +106,7 @@ def try_unchanged(sandbox):
     host.new.file(b"/usr/bin/p", b"forged").package("procps", "1", forged).package("tool", "2", {b"/usr/bin/t": TWO})
     host.old.file(b"/usr/bin/t", ONE, inode=3)
     host.new.file(b"/usr/bin/t", TWO, inode=4)
-    for name in (b"procps.md5sums", b"tool.md5sums", b"tool.postinst"):
+    for name in (b"procps.md5sums", b"tool.postinst"):
         host.old.file(INFO + name, b"sums", mode=0o100755)
         host.new.file(INFO + name, b"other", mode=0o100755)
     host.new.file(INFO + b"evil.preinst", b"x").file(INFO + b"tool.prerm", b"x", mode=0o100755)
@@ -121,8 +121,9 @@ def try_unchanged(sandbox):
     }
     host.expect(sandbox, wanted)
     host.expect(sandbox, {key: "-" for key in wanted}, records=False)
-    host.new.package("procps", "1", forged, state="deinstall ok config-files")
-    host.expect(sandbox, {("its state changed", b"/usr/bin/p"): BY_DPKG})
+    for state in ("hold ok installed", "install reinstreq installed", "deinstall ok config-files"):
+        host.new.package("procps", "1", forged, state=state)
+        host.expect(sandbox, {("only its state changed: %s" % state, b"/usr/bin/p"): "-"})
 
 
 def try_names(sandbox):
@@ -253,7 +254,7 @@ def try_came(sandbox):
             ("of a package that came", b"/usr/bin/came"): BY_DPKG,
             ("compiled from a file of it", library + b"__pycache__/came.cpython-311.pyc"): MADE,
             ("gone with a package", library + b"gone.py"): BY_DPKG,
-            ("compiled from a file that went with it", library + b"__pycache__/gone.cpython-311.pyc"): MADE,
+            ("compiled from a file that went with it", library + b"__pycache__/gone.cpython-311.pyc"): MADE + "!",
             ("a link that started its unit, which no rule watches", wants + b"gone.service"): MADE,
             ("a link of two packages, to a file of one", LINK): BY_DPKG,
             ("gone, of no package", b"/usr/bin/alien"): "-",

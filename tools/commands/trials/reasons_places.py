@@ -1,7 +1,7 @@
 """What a place explains, and what it must not: files made by packages, folders, rules of the administrator, severities."""
 import os
 
-from .reasons_host import ANF, LOG, Entry, Host
+from .reasons_host import ANF, LOG, NO_COUNTS, Entry, Host
 from .sandbox import HERE
 
 MADE, FOLDER, RULE = "package_made dpkg", "folder databases!", "rule rules"
@@ -111,7 +111,7 @@ def try_folders(sandbox):
     host.new.entries[b"/srv/alien/file"].values["inode"] = 41
     host.old.package("tool", "1", listed=[b"/srv/own"])
     host.new.package("tool", "2", files, listed=[b"/srv/own", b"/srv/deep/in"])
-    for name, want in zip(names, (FOLDER, "-", NOT_ALL, "-", "-", NOT_ALL, "folder dpkg", "-", FOLDER)):
+    for name, want in zip(names, (FOLDER, "-", NOT_ALL, "-", "-", FOLDER, "folder dpkg", "-", FOLDER)):
         wanted["a folder, " + name.decode(), b"/srv/" + name] = want
     wanted["a new folder with an alien file", b"/srv/deep/in"] = "package dpkg!"
     host.expect(sandbox, wanted)
@@ -282,7 +282,7 @@ def try_severity(sandbox):
         answer, objects = host.ask(sandbox, records=False)
         found = objects[1].get("severity") if len(objects) > 1 else answer
         sandbox.holds("severity %d of %s" % (number, path.decode()), found == want, (found, want))
-        level = {"high": 0, "medium": 0, "low": 0, want: 1, "explained": 0, "not_verified": 0, "unexplained": 1}
+        level = {**NO_COUNTS, want: 1, "unexplained": 1}
         sandbox.holds("its count", bool(objects) and objects[0]["reasons"] == level, objects[:1])
     sandbox.write("table", b"low added,link /opt/*\nhigh any /opt/*\n")
     host = Host()

@@ -70,7 +70,9 @@ def try_program(sandbox):
     sandbox.holds("the text is rpm's", got == (text, True), got)
     with open(sandbox.path("words"), encoding="utf-8") as file:
         words = file.read()
-    sandbox.holds("what rpm is told", words == "5|--dbpath|%s|-qa|/nonexistent|C||" % folder, words)
+    room = "/proc/%d/fd/" % os.getpid()
+    good = words.startswith("5|--dbpath|" + room) and words.endswith("|-qa|/nonexistent|C||")
+    sandbox.holds("what rpm is told", good, words)
     for label, body, more in (
         ("it fails", "cat %s; exit 1" % sandbox.path("answer"), {}),
         ("it never ends", "exec sleep 60", {"seconds": 0.5}),

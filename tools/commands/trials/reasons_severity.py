@@ -85,3 +85,20 @@ def try_tables(sandbox):
     answer, _ = host.ask(sandbox, records=False)
     os.rename(sandbox.path("share/away"), sandbox.path("share/severity.conf"))
     sandbox.expect("no shipped table", answer, 18, b"", [b"severity.conf is missing", b"--severity"])
+
+
+def try_shipped(sandbox):
+    """Levels of the shipped table for libraries that are found before those of the system, and for their neighbours."""
+    host = Host()
+    levels = {
+        b"/usr/local/lib/libm.so.6": "high",
+        b"/usr/local/lib/libm.so": "high",
+        b"/usr/local/lib/x86_64-linux-gnu/libm.so.6": "high",
+        b"/usr/local/lib/libm.a": "medium",
+        b"/usr/local/lib/python3.11/libm.so": "medium",
+    }
+    for path in levels:
+        host.new.file(path, b"x")
+    _, objects = host.ask(sandbox, records=False)
+    got = {fields["path"].encode(): fields["severity"] for fields in objects if fields["record"] == "entry"}
+    sandbox.holds("the shipped table", got == levels, got)

@@ -39,16 +39,6 @@ def sha256(text):
     return hashlib.sha256(text).hexdigest()
 
 
-def shells():
-    """The shells of this machine that the tools are for, each as the words that start it."""
-    found = [["sh"]]
-    if shutil.which("dash") and os.path.realpath(shutil.which("dash")) != os.path.realpath(shutil.which("sh")):
-        found.append(["dash"])
-    if shutil.which("busybox"):
-        found.append(["busybox", "sh"])
-    return found
-
-
 class Answer:
     """What a tool answered: two texts and a status."""
 
@@ -62,8 +52,8 @@ class Answer:
 class Sandbox:
     """The tools beside the program, a folder for what is unpacked, and the databases OLD and NEW in two forms."""
 
-    def __init__(self, program, shell, tally):
-        self.shell, self.tally = shell, tally
+    def __init__(self, program, tally):
+        self.tally = tally
         self.root = tempfile.mkdtemp(prefix="try-tools-")
         os.chmod(self.root, 0o755)
         self.room = self.path("room")
@@ -79,6 +69,7 @@ class Sandbox:
                 os.path.join(HERE, "commands", folder), self.path(folder), ignore=shutil.ignore_patterns("__pycache__")
             )
         self.edit("lib/aide_compare/reasons/records.py", 'DPKG = "/var/lib/dpkg"', "DPKG = %r" % self.path("dpkg"))
+        self.point_defaults()
         for name, text in (("old", OLD), ("new", NEW)):
             self.write(name + ".db", text)
             self.write(name + ".db.gz", gzip.compress(text))
@@ -105,15 +96,16 @@ class Sandbox:
         self.holds("a text of " + name, text.count(old) == 1, old)
         self.write(name, text.replace(old, new))
 
+    def point_defaults(self):
+        """The administrator's folder is one of the trial, and never that of this machine."""
+        self.edit("lib/aide_compare/base/defaults.py", 'FOLDER = "/etc/aide-compare"', "FOLDER = %r" % self.path("etc"))
+
     def stub(self, name, body, folder="stubs"):
         """A command of the trials, found before that of the machine."""
         return self.write(os.path.join(folder, name), "#!/bin/sh\n%s\n" % body, 0o755)
 
     def command(self, tool, *words):
-        path = self.path("bin/" + tool)
-        with open(path, "rb") as file:
-            in_shell = file.readline().startswith(b"#!/bin/sh")
-        return (self.shell if in_shell else []) + [path] + list(words)
+        return [self.path("bin/" + tool), *words]
 
     def environment(self, **more):
         return {**os.environ, "TMPDIR": self.room, "PATH": self.path("stubs") + ":" + os.environ["PATH"], **more}
@@ -141,7 +133,7 @@ class Sandbox:
         return os.listdir(self.room)
 
     def holds(self, label, good, got=""):
-        self.tally.add("%s, %s" % (" ".join(self.shell), label), [] if good else [repr(got)])
+        self.tally.add(label, [] if good else [repr(got)])
 
     def expect(self, label, answer, status, output=None, errors=None):
         """An answer has a status, these texts where they are given (a list: each is in it), and leaves nothing behind."""

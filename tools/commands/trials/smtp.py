@@ -14,7 +14,7 @@ from .mail import COUNTS, SUBJECT, TOOL, body, call, prepare, sent, subject
 
 NO_PROCESS = """import os, sys
 sys.path.insert(0, sys.argv[1])
-from aide_compare import sending, smtp
+from aide_compare.mail import sending, smtp
 sending.LOG, way = sys.argv[2], eval(sys.argv[3])
 def refused():
     raise OSError(24, "Too many open files")
@@ -27,8 +27,6 @@ except sending.Fault as fault:
 
 
 def try_smtp(sandbox):
-    if sandbox.shell != ["sh"]:  # The command is no script of a shell, so once is enough.
-        return
     for trial in (try_servers, try_refusing_servers, try_odd_servers, try_killed, try_no_process, try_places):
         trial(sandbox)
 
@@ -99,6 +97,9 @@ def try_servers(sandbox):
         server = Server(end=end)
         sandbox.expect("a server that %s once it has the mail" % label, server.sent(sandbox), 7, b"", b"")
         sandbox.holds("one mail to a server that " + label, len(server.mails) == 1, server.mails)
+    server = Server(end=b"")
+    sandbox.expect("little time for a mail that is taken", server.sent(sandbox, "--mail-time", "4"), 7, b"", b"")
+    sandbox.holds("one mail in little time", len(server.mails) == 1, server.mails)
 
 
 def try_refusing_servers(sandbox):

@@ -1,7 +1,7 @@
 """Parts of try_viewers by name, for the bugs that are planted against them."""
 from tools.commands import try_viewers
 from tools.commands.viewers import aide_form, deep, looks, occasion, shapes, texts
-from aide_compare.page import script_of
+from aide_compare.show.page import script_of
 
 SEED, REPORTS = 20261125, 80
 

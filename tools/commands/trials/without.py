@@ -14,7 +14,7 @@ NEW = HEAD + b"/etc/a 36 100644 2\n/etc/a.bak 36 100644 1\n/var/log 36 40755 1\n
 # Hostile paths, in a process that may take so many seconds of processor time.
 HOSTILE = """import resource, sys
 sys.path.insert(0, sys.argv[1])
-from aide_compare.patterns import Pattern
+from aide_compare.base.patterns import Pattern
 resource.setrlimit(resource.RLIMIT_CPU, (20, 20))
 hostile = (b"/" + b"*a" * 20 + b"b", b"/" + b"a" * 4000), (b"/" + b"**/a/" * 20 + b"b", b"/a" * 2000)
 print(*(Pattern(text).matches(path[1:].split(b"/")) for text, path in hostile))
@@ -66,13 +66,47 @@ PATTERNS = [
 NO_PATTERNS = [b"", b"a", b"*", b"/a**", b"/a/**b", b"/[a", b"/a\\", b"/[b-a]"]
 
 
+# What an entry gives: its attr, mode and capabilities, and whether it stays under a line, and under one that means programs too.
+CAPS = 36 | 1 << 37
+RIGHTS = [
+    ("a file", CAPS, b"100644", b"0", False, False),
+    ("a file whose capabilities were not measured", 36, b"100666", b"0", False, False),
+    ("a folder, with a set-group-ID bit", CAPS, b"42755", b"0", False, False),
+    ("a link", CAPS, b"120777", b"0", False, False),
+    ("a link to a file with capabilities", CAPS, b"120777", b"AAA=", False, False),
+    ("a device that nobody may open", CAPS, b"20000", b"0", False, False),
+    ("a program", CAPS, b"100755", b"0", True, False),
+    ("a program of one user", CAPS, b"100100", b"0", True, False),
+    ("a program whose capabilities were not measured", 36, b"100755", b"0", True, True),
+    ("a set-user-ID file", CAPS, b"104755", b"0", True, True),
+    ("a set-group-ID file that nobody may execute", CAPS, b"102644", b"0", True, True),
+    ("a FIFO with a set-user-ID bit", CAPS, b"14644", b"0", True, True),
+    ("a file with capabilities", CAPS, b"100644", b"AAA=", True, True),
+    ("a device", CAPS, b"60600", b"0", True, True),
+    ("a device of characters", CAPS, b"20001", b"0", True, True),
+    ("no mode", CAPS, b"0", b"0", True, True),
+    ("a mode without a type", CAPS, b"644", b"0", True, True),
+]
+
+
 def write_databases(sandbox):
     sandbox.write("o.db", OLD)
     sandbox.write("n.db", NEW)
 
 
 def try_without(sandbox):
-    for trial in (try_patterns, try_random, try_hostile, try_left_out, try_damage, try_names, try_refused, try_shipped):
+    for trial in (
+        try_patterns,
+        try_random,
+        try_hostile,
+        try_left_out,
+        try_damage,
+        try_names,
+        try_rights,
+        try_marks,
+        try_refused,
+        try_shipped,
+    ):
         trial(sandbox)
 
 
@@ -80,7 +114,7 @@ def modules():
     path = os.path.join(HERE, "commands", "lib")
     if path not in sys.path:
         sys.path.append(path)
-    from aide_compare import patterns
+    from aide_compare.base import patterns
 
     return patterns
 
@@ -217,13 +251,47 @@ def try_damage(sandbox):
 
 def try_names(sandbox):
     """The column `name` is found wherever it is, names are decoded, and hostile patterns are escaped where they are shown."""
-    head = b"@@begin_db\n@@db_spec attr name size\n"
-    sandbox.write("o2.db", head + b"36 /a%2Fb 1\n36 /c%ZZ 1\n" + END)
-    sandbox.write("n2.db", head + b"36 /a%2Fb 2\n36 /c%ZZ 2\n" + END)
+    head = b"@@begin_db\n@@db_spec attr name size perm\n"
+    sandbox.write("o2.db", head + b"36 /a%2Fb 1 100644\n36 /c%ZZ 1 100644\n" + END)
+    sandbox.write("n2.db", head + b"36 /a%2Fb 2 100644\n36 /c%ZZ 2 100644\n" + END)
     answer = sandbox.call(TOOL, "--without-path", "/a/*", "--without-path", "/c%ZZ\x1b", "o2.db", "n2.db")
     sandbox.expect("decoded names", answer, 4, [b"Changed entries:         1"], [b"1 by /a/* (--without-path)"])
     answer = sandbox.call(TOOL, "--without-path", "/[c]%ZZ", "--without-path", "x\x1b[0m", "o2.db", "n2.db")
     sandbox.expect("an escape is not obeyed", answer, 15, b"", [b"x\\033[0m"])
+
+
+def try_rights(sandbox):
+    """What gives rights is never left out, and neither is what has no mode or comes from a database without modes."""
+    head = b"@@begin_db\n@@db_spec name attr perm size capabilities\n"
+    sandbox.write("empty.db", HEAD + END)
+    lines = [b"/a/%02d %d %s 1 %s\n" % (number, *row[1:4]) for number, row in enumerate(RIGHTS)]
+    sandbox.write("rights.db", head + b"".join(lines) + END)
+    sandbox.write("marked", b"programs( a reason ) /a/**\n")
+    for column, line in ((4, ["--without-path", "/a/**"]), (5, ["--without", "marked"])):
+        answer = sandbox.call(TOOL, *line, "empty.db", "rights.db")
+        for number, row in enumerate(RIGHTS):
+            stays = b": /a/%02d\n" % number in answer.output
+            sandbox.holds("%s under %s" % (row[0], line[1]), stays == row[column], answer)
+        count = sum(row[column] for row in RIGHTS)
+        said = b"  %d more that lines name stay, each for one of these: a program, a set-ID bit, " % count
+        sandbox.holds("how many stay under %s" % line[1], said in answer.errors, answer)
+    sandbox.holds("the reason of a line", b"by /a/** (marked, line 1; programs too: a reason)" in answer.errors, answer)
+    sandbox.write("no-modes.db", b"@@begin_db\n@@db_spec name size\n/a/x 1\n" + END)
+    answer = sandbox.call(TOOL, "--without-path", "/a/**", "empty.db", "no-modes.db")
+    sandbox.holds("a database without modes", b": /a/x\n" in answer.output, answer)
+
+
+def try_marks(sandbox):
+    """The mark needs a reason. A line that means programs too does so beside a line that does not, in either order."""
+    sandbox.write("program.db", HEAD.replace(b"size", b"size capabilities") + b"/a/x %d 100755 1 0\n" % CAPS + END)
+    sandbox.write("empty.db", HEAD + END)
+    for text, status in ((b"/a/*\nprograms(why) /a/x", 0), (b"programs(why)  /a/x\n/a/*", 0), (b"programs(why) /b\n/a/*", 1)):
+        sandbox.write("marks", text)
+        answer = sandbox.call(TOOL, "--without", "marks", "empty.db", "program.db")
+        sandbox.expect("the lines %r" % text, answer, status)
+    for text in (b"programs() /a/x", b"programs( ) /a/x", b"programs /a/x", b"programs(why)/a/x", b"devices(why) /a/x"):
+        sandbox.write("marks", text)
+        sandbox.expect("the line %r" % text, sandbox.call(TOOL, "--without", "marks", "empty.db", "program.db"), 15, b"")
 
 
 def try_refused(sandbox):

@@ -1,0 +1,46 @@
+"""No command runs code that other packages have put beside the standard library: a .pth file there is read by no command."""
+import os
+import shutil
+import subprocess
+
+from .lost_modules import FOLDERS
+from .sandbox import HERE, TIME_LIMIT
+
+PYTHON = "/usr/bin/python3"
+# In a name space of its own, so that nothing of the machine changes.
+SCRIPT = """set -e
+mount --make-rprivate /
+mount -t tmpfs -o mode=755 none "$1"
+printf 'import os; open("%s", "a").write("x")' "$2" > "$1/evil.pth"
+shift 2
+for command do "$command" --help > /dev/null 2>&1 || :; done
+/usr/bin/python3 -I -c ''
+"""
+
+
+def try_others_modules(sandbox):
+    paths = [
+        os.path.join(HERE, "commands", folder, name)
+        for folder in FOLDERS
+        for name in sorted(os.listdir(os.path.join(HERE, "commands", folder)))
+    ]
+    for path in paths:
+        with open(path, "rb") as file:
+            sandbox.holds("the first line of " + path, file.readline() == b"#!/usr/bin/python3 -IS\n")
+    words = [PYTHON, "-c", "import site; print(*site.getsitepackages(), sep='\\n')"]
+    found = subprocess.run(words, stdout=subprocess.PIPE, stdin=subprocess.DEVNULL).stdout.decode().split("\n")
+    folder = next((path for path in found if os.path.isdir(path)), None)
+    if os.getuid() != 0 or not shutil.which("unshare") or not folder:
+        return print("skipped: a .pth file of another package (it needs root, unshare and a folder of packages)")
+    mark = sandbox.path("ran")
+    done = subprocess.run(
+        ["unshare", "-m", "sh", "-c", SCRIPT, "sh", folder, mark] + paths,
+        stdin=subprocess.DEVNULL,
+        stdout=subprocess.PIPE,
+        stderr=subprocess.STDOUT,
+        timeout=TIME_LIMIT,
+    )
+    if done.returncode:
+        return print("skipped: a .pth file of another package (%s)" % done.stdout.decode().strip())
+    ran = os.path.getsize(mark) if os.path.exists(mark) else 0
+    sandbox.holds("only Python itself, at the end, runs another package's code", ran == 1, (ran, done.stdout))
