@@ -3,7 +3,7 @@
 
 A list is a module with PLANTED, a list of Plant. NAME is the name of a list, or of one bug as LIST:NUMBER from 1. A
 bug has to be seen: at least one check of its trial fails with it. Each trial is also run without a bug, and has to
-pass. The last line is 'N passed, M failed'.
+pass. For root the machine's folders are read-only meanwhile, where the machine allows it. The last line is 'N passed, M failed'.
 """
 import argparse
 import importlib
@@ -20,6 +20,7 @@ from tools.lib.arguments import parser_of
 from tools.commands import planted
 from tools.commands.trials.sandbox import HERE, Sandbox
 from tools.lib import signals
+from tools.lib.apart import apart
 from tools.lib.tally import Tally, program_of
 
 FAILED = re.compile("[0-9]+ passed, [1-9][0-9]* failed")
@@ -40,14 +41,14 @@ def bugs(only):
 def run_trial(folder, trial, program):
     """Runs a trial, named MODULE.FUNCTION in trials/, with the commands of a folder: status and output."""
     words = [sys.executable, "-m", "tools.commands.plant", "--trial", trial, os.fsdecode(program)]
-    done = subprocess.run(words, cwd=folder, stdin=subprocess.DEVNULL, stdout=subprocess.PIPE, stderr=subprocess.STDOUT)
+    done = subprocess.run(apart(words), cwd=folder, stdin=subprocess.DEVNULL, stdout=subprocess.PIPE, stderr=subprocess.STDOUT)
     return done.returncode, done.stdout.decode("utf-8", "replace")
 
 
 def one_trial(trial, program):
     """Runs a trial. If it breaks off, that is a failure, as in try_tools.py."""
     tally = Tally()
-    sandbox = Sandbox(program, ["sh"], tally)
+    sandbox = Sandbox(program, tally)
     module, function = trial.rsplit(".", 1)
     try:
         getattr(importlib.import_module("tools.commands.trials." + module), function)(sandbox)

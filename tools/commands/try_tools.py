@@ -7,7 +7,6 @@ an unprivileged user may do, and a full disk; otherwise the output says that the
 """
 import os
 import shutil
-import sys
 import tempfile
 import traceback
 
@@ -16,22 +15,30 @@ from tools.lib import signals
 from tools.commands.trials.accept import try_accept
 from tools.commands.trials.accept_attacks import try_accept_attacks
 from tools.commands.trials.accept_kills import try_accept_kills
+from tools.commands.trials.accept_partly import try_accept_partly
+from tools.commands.base.configurations import try_configurations
 from tools.commands.base.files import try_files
 from tools.commands.base.texts import try_texts
 from tools.commands.trials.age import try_age
 from tools.commands.trials.attacks import try_attacks
+from tools.commands.trials.bounded import try_bounded
 from tools.commands.trials.cut_reports import try_cut_reports
 from tools.commands.trials.explained import try_explained
 from tools.commands.trials.explained_readers import try_explained_readers
 from tools.commands.trials.fleet import try_fleet
+from tools.commands.trials.floods import try_floods
+from tools.commands.trials.hands import try_hands
 from tools.commands.trials.hosts_ends import try_hosts_ends
 from tools.commands.trials.hosts_page import try_hosts_page
+from tools.commands.trials.hosts_quiet import try_hosts_quiet
 from tools.commands.trials.hosts_report import try_hosts_report
 from tools.commands.trials.faults import try_faults, try_signals
 from tools.commands.trials.lost_modules import try_lost_modules
 from tools.commands.trials.mail import try_mail
+from tools.commands.trials.others_modules import try_others_modules
 from tools.commands.trials.reasons import try_reasons, try_reasons_archive, try_reasons_lines, try_reasons_packages
-from tools.commands.trials.sandbox import Sandbox, shells
+from tools.commands.trials.sandbox import Sandbox
+from tools.commands.trials.setup import try_setup
 from tools.commands.trials.run import try_run
 from tools.commands.trials.smtp import try_smtp
 from tools.commands.trials.sorting import try_sorting
@@ -39,7 +46,19 @@ from tools.commands.trials.state import try_readers
 from tools.commands.trials.without import try_without
 from tools.lib.tally import Tally, program_of, side_by_side
 
-BASE = [try_texts, try_files]
+BASE = [try_texts, try_configurations, try_files]
+# These take minutes: they kill a command at each of its calls, wait for signals, or fill a disk.
+LONG = [
+    try_accept_attacks,
+    try_accept_kills,
+    try_sorting,
+    try_readers,
+    try_attacks,
+    try_faults,
+    try_signals,
+    try_mail,
+    try_floods,
+]
 # The longest come first, so that none of them is left at the end.
 TRIALS = [
     try_accept_attacks,
@@ -47,6 +66,8 @@ TRIALS = [
     try_sorting,
     try_readers,
     try_mail,
+    try_floods,
+    try_hands,
     try_smtp,
     try_run,
     try_attacks,
@@ -54,9 +75,12 @@ TRIALS = [
     try_hosts_report,
     try_hosts_page,
     try_hosts_ends,
+    try_hosts_quiet,
     try_cut_reports,
     try_faults,
     try_accept,
+    try_accept_partly,
+    try_bounded,
     try_reasons,
     try_reasons_lines,
     try_reasons_packages,
@@ -67,6 +91,8 @@ TRIALS = [
     try_age,
     try_signals,
     try_lost_modules,
+    try_setup,
+    try_others_modules,
 ]
 
 
@@ -85,7 +111,7 @@ def try_base(trial, tally):
 def try_one(given):
     """One set of trials in a folder of its own."""
     program, trial, tally = given
-    sandbox = Sandbox(program, shells()[0], tally)
+    sandbox = Sandbox(program, tally)
     try:
         trial(sandbox)
     except Exception:
@@ -97,6 +123,7 @@ def try_one(given):
 def main():
     parser = parser_of("tools.commands.try_tools", __doc__)
     parser.add_argument("--only", metavar="NAME", help="only the trials with this name, such as try_mail")
+    parser.add_argument("--quick", action="store_true", help="without the trials that take minutes")
     parser.add_argument("program", help="the built program")
     wanted = parser.parse_args()
     signals.heed()
@@ -104,7 +131,8 @@ def main():
     for trial in BASE:
         if wanted.only in (None, trial.__name__):
             try_base(trial, tally)
-    given = [(program, trial, tally) for trial in TRIALS if wanted.only in (None, trial.__name__)]
+    chosen = [trial for trial in TRIALS if not (wanted.quick and trial in LONG)]
+    given = [(program, trial, tally) for trial in chosen if wanted.only in (None, trial.__name__)]
     for _ in side_by_side(4, try_one, given):
         pass
     tally.end()

@@ -9,7 +9,6 @@ import json
 import os
 import random
 import shutil
-import subprocess
 import tempfile
 
 from tools.lib.arguments import parser_of
@@ -32,12 +31,11 @@ from tools.commands.viewers.schema import Validator, schema_of_lines
 from tools.commands.viewers.shapes import try_shapes
 from tools.commands.viewers.texts import text_faults, try_table, try_zones
 
-from aide_compare import report_parts
-from aide_compare.json_lines import Report
-from aide_compare.page import part_of, script_of
-from aide_compare.report_lines import Lines, Refused
-from aide_compare.report_parts import judge, read_report
-from aide_compare.shown_text import shown, shown_path
+from aide_compare.base.shown_text import shown, shown_path
+from aide_compare.lines import report_parts
+from aide_compare.lines.json_lines import Report
+from aide_compare.lines.report_lines import Refused
+from aide_compare.show.page import part_of, script_of
 
 REFUSED, USAGE, DEVICE = 65, 15, 18
 # What a report may leave open.
@@ -292,7 +290,9 @@ def try_installed(tally):
     """The commands as they are installed, with their modules in another folder, which stays as it is."""
     with tempfile.TemporaryDirectory() as prefix:
         modules = os.path.join(prefix, "lib", "aide-compare", "python", "aide_compare")
-        shutil.copytree(os.path.dirname(report_parts.__file__), modules, ignore=shutil.ignore_patterns("__pycache__"))
+        shutil.copytree(
+            os.path.dirname(os.path.dirname(report_parts.__file__)), modules, ignore=shutil.ignore_patterns("__pycache__")
+        )
         files = os.listdir(modules)
         shutil.copytree(os.path.dirname(JSON), os.path.join(prefix, "bin"))
         words = [os.path.join(prefix, "bin", os.path.basename(command)) for command in (JSON, HTML)]

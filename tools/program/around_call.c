@@ -22,7 +22,7 @@ extern int *__errno_location(void);
 
 static const char *chosen;
 static long openings, given;
-static char old_path[8192], cut_path[8192];
+static char old_path[8192], cut_path[8192], packed_path[8192];
 
 static long (*real_write)(int, const void *, unsigned long);
 static long (*real_read)(int, void *, unsigned long);
@@ -61,7 +61,23 @@ static const char *path_for(const char *path)
         *strchr(cut_path, ' ') = 0;
         return cut_path;
     }
+    if (is("last slash dropped") && strlen(path) < sizeof cut_path) {
+        strcpy(cut_path, path);
+        while (strlen(cut_path) > 1 && cut_path[strlen(cut_path) - 1] == '/')
+            cut_path[strlen(cut_path) - 1] = 0;
+        return cut_path;
+    }
     return path;
+}
+
+/* Opens the file beside a missing one whose name has ".gz" at its end. */
+static int open_packed(const char *path, int flags, int mode)
+{
+    if (strlen(path) > sizeof packed_path - 4)
+        return (int)failed(NOT_THERE);
+    strcpy(packed_path, path);
+    strcpy(packed_path + strlen(path), ".gz");
+    return real_open64(packed_path, flags, mode);
 }
 
 static int opened(const char *path, int flags, int mode)
@@ -80,6 +96,8 @@ static int opened(const char *path, int flags, int mode)
     if (is("no waiting"))
         flags |= NOT_BLOCKING;
     descriptor = real_open64(path_for(path), flags, mode);
+    if (descriptor < 0 && is("packed in place of missing"))
+        descriptor = open_packed(path, flags, mode);
     if (descriptor < 0 && is("opening tried again"))
         descriptor = real_open64(path, flags, mode);
     return descriptor;

@@ -28,17 +28,18 @@ def main():
     parser.add_argument(
         "--seed", type=int, default=random.SystemRandom().randrange(10**9), help="the seed of the random sessions"
     )
+    parser.add_argument(
+        "--quick", action="store_true", help="without devices, long lines, limits, little memory and little stack"
+    )
     parser.add_argument("--jobs", type=int, default=2, help="how many random sessions at a time")
     given = parser.parse_args()
     program, tally = program_of(given.program), Tally()
     try_examples(program, tally)
     cases.try_cases(program, cases.all_cases(), tally)
-    try_devices(program, tally)
-    try_limits(program, tally)
     try_paths(program, tally)
     try_fifos(program, tally)
-    try_quickly(program, tally)
-    try_stack(program, tally)
+    for trial in [] if given.quick else [try_devices, try_limits, try_quickly, try_stack]:
+        trial(program, tally)
     print("seed %d" % given.seed, flush=True)
     try_sessions(program, given.seed, range(given.sessions), given.jobs, tally)
     tally.end()

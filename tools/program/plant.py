@@ -17,6 +17,7 @@ import tempfile
 
 from tools.lib.arguments import parser_of
 from tools.lib import signals
+from tools.lib.apart import apart
 from tools.lib.tally import Tally, program_of
 from tools.program.planted import machine, oracle, pages
 
@@ -61,7 +62,7 @@ def run_part(trial, program):
 def last_line(trial, program, folder):
     """The last line of a trial that is run with the tools of a folder."""
     done = subprocess.run(
-        words_of(trial, program), cwd=folder, stdin=subprocess.DEVNULL, stdout=subprocess.PIPE, stderr=subprocess.STDOUT
+        apart(words_of(trial, program)), cwd=folder, stdin=subprocess.DEVNULL, stdout=subprocess.PIPE, stderr=subprocess.STDOUT
     )
     return done.stdout.decode("utf-8", "replace").rstrip("\n").rpartition("\n")[2]
 
@@ -85,8 +86,8 @@ def planted_in_text(plant, folder):
     return None
 
 
-def fault_of(plant, program):
-    """Why a bug is not seen by its trial, or None."""
+def faults_of(plant, program):
+    """The faults of a bug: none if its trial sees it."""
     with tempfile.TemporaryDirectory(prefix="plant-") as folder:
         os.chmod(folder, 0o755)
         copied(folder)
@@ -95,7 +96,8 @@ def fault_of(plant, program):
         else:
             fault = planted_in_text(plant, folder)
         line = "" if fault else last_line(plant.seen_by, program, folder)
-        return fault or (None if FAILED.fullmatch(line) else "not seen by %s: %s" % (plant.seen_by, line))
+        fault = fault or (None if FAILED.fullmatch(line) else "not seen by %s: %s" % (plant.seen_by, line))
+        return [fault] if fault else []
 
 
 def bugs(only):
@@ -122,8 +124,7 @@ def main():
             tried.add(plant.seen_by)
             line = last_line(plant.seen_by, program, HERE)
             tally.add("%s without a bug" % plant.seen_by, [] if PASSED.fullmatch(line) else [line])
-        fault = fault_of(plant, program)
-        tally.add("%s, seen by %s" % (name, plant.seen_by), [fault] if fault else [])
+        tally.add("%s, seen by %s" % (name, plant.seen_by), faults_of(plant, program))
     tally.end()
 
 

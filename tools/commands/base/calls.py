@@ -1,5 +1,5 @@
 """What a call of a module returns, a Fault as its status and its text."""
-from aide_compare.ending import Fault
+from aide_compare.base.ending import Fault
 
 
 def outcome(work, *given, **more):

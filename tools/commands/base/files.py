@@ -8,8 +8,9 @@ import zlib
 
 from tools.commands.base.calls import expect, expect_fault, outcome
 
-from aide_compare import files, program, rights, unpack
-from aide_compare.folders import ANYBODY, open_folder
+from aide_compare.base import files, program, rights
+from aide_compare.base.folders import ANYBODY, open_folder
+from aide_compare.compare import unpack
 
 OTHER = 65534
 

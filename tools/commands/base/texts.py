@@ -8,7 +8,10 @@ from tools.commands.base import TOP
 from tools.commands.base.calls import expect, expect_fault, outcome
 from tools.oracle.configuration import BOOL_OPTIONS, SET_OPTIONS
 
-from aide_compare import VERSION, configuration, ending, escapes, options, report_values, reports, state, times
+from aide_compare import VERSION
+from aide_compare.base import ending, escapes, options, times
+from aide_compare.compare import configuration, reports, state
+from aide_compare.lines import report_values
 from aide_compare.reasons import entries
 
 ESCAPED = (
@@ -158,7 +161,7 @@ def try_reports(tally, _):
 
 END = """import sys
 sys.path.insert(0, %r)
-from aide_compare.ending import *
+from aide_compare.base.ending import *
 import os
 def main(arguments):
     %s

@@ -1,64 +1,65 @@
 """Bugs of aide-compare-accept."""
 from .plant import Plant
 
-ACCEPT, BASELINE, FOLDERS, RIGHTS = (
-    "commands/lib/aide_compare/%s.py" % name for name in ("accept", "baseline", "folders", "rights")
+ACCEPT, ACCEPTING, BASELINE, FOLDERS, RIGHTS, OPEN, SOUND, UNEXPLAINED = (
+    "commands/lib/aide_compare/%s.py" % name
+    for name in (
+        "commands/accept",
+        "commands/accepting",
+        "compare/baseline",
+        "base/folders",
+        "base/rights",
+        "compare/kept_open",
+        "compare/sound",
+        "compare/unexplained",
+    )
 )
-REPLACE = '    belongs = baseline.replace(offered.fd, SUFFIX if records else "")\n'
+REPLACE = "        done.belongs = baseline.replace(source)\n"
 LINK_RULE = "        if owner not in (0, os.geteuid()) or not self.folder.is_safe():"
 # The baseline is written by its name, so a link there is followed; or a new file takes its place in a folder that is
 # opened anew by its name.
-THROUGH_A_LINK = """    with open(path, "r+b") as file:
-        file.write(os.pread(offered.fd, offered.size, 0))
-    belongs = os.stat(path).st_uid, os.stat(path).st_gid
+THROUGH_A_LINK = """        with open(baseline.path, "r+b") as file:
+            file.write(os.pread(source, 1 << 20, 0))
+        done.belongs = os.stat(baseline.path).st_uid, os.stat(baseline.path).st_gid
 """
-FOLDER_BY_NAME = """    with open(path + ".new", "wb") as file:
-        file.write(os.pread(offered.fd, offered.size, 0))
-    if baseline.owner is not None:
-        os.chown(path + ".new", baseline.owner, baseline.owner)
-    os.rename(path + ".new", path)
-    belongs = baseline.owner, baseline.owner
+FOLDER_BY_NAME = """        with open(baseline.path + ".new", "wb") as file:
+            file.write(os.pread(source, 1 << 20, 0))
+        if baseline.owner is not None:
+            os.chown(baseline.path + ".new", baseline.owner, baseline.owner)
+        os.rename(baseline.path + ".new", baseline.path)
+        done.belongs = baseline.owner, baseline.owner
 """
-EXCHANGE = """        self._rename(self.part, self.previous)
-        if not exchange(self.folder, self.previous, self.name):
-            self._exchange_by_links()
+EXCHANGE = """        if exchange(self.folder, self.part, self.name):
+            self._check(self.part, self.former)
 """
-# For a moment the baseline has no name; or the former one has only a name that the next run removes.
-NO_NAME = """        os.link(self.name, self.name + "x", src_dir_fd=self.folder, dst_dir_fd=self.folder)
-        self._unlink(self.name)
-        self._rename(self.part, self.name)
-        self._rename(self.name + "x", self.previous)
+# For a moment the baseline has no name; or the new file has that of the former one's copy before it is the baseline.
+NO_NAME = """        if True:
+            self._link(self.name, self.spare)
+            self._unlink(self.name)
+            self._rename(self.part, self.name)
 """
-OTHER_ORDER = """        if exchange(self.folder, self.part, self.name):
-            self._rename(self.part, self.previous)
-        else:
-            self._rename(self.part, self.previous)
-            self._exchange_by_links()
+COPY_FIRST = """        self._rename(self.part, self.previous)
+        if exchange(self.folder, self.previous, self.name):
+            self._check(self.previous, self.former)
 """
-RECORDS_FIRST = """            if suffix:
-                self._remove_beside(suffix)
-            found = self._named_copy(source, self.part)
+RECORDS_FIRST = """            self._put_away()
+            found = self._named_copy(source, self.mark)
 """
 PLANTED = [
     Plant(
         file=BASELINE,
-        old="""            found = self._named_copy(source, self.part)
-            if suffix:
-                self._remove_beside(suffix)
-""",
+        old="            found = self._named_copy(source, self.mark)\n",
         new=RECORDS_FIRST,
-        seen_by="accept.try_full_disk",
+        seen_by="accept_kills.try_kills_of_records",
     ),
-    Plant(file=ACCEPT, old="return digest.startswith(self.digits)", new="return True", seen_by="accept.try_refusals"),
-    Plant(
-        file=ACCEPT,
-        old="FEWEST_DIGITS, ALL_DIGITS = 16, 64",
-        new="FEWEST_DIGITS, ALL_DIGITS = 15, 64",
-        seen_by="accept.try_refusals",
-    ),
+    Plant(file=ACCEPTING, old="return digest.startswith(self.digits)", new="return True", seen_by="accept.try_refusals"),
     Plant(file=ACCEPT, old="        if given.state:\n            raise\n", new="", seen_by="accept.try_refusals"),
-    Plant(file=ACCEPT, old="    if former == offered.sha256:\n", new="    if False:\n", seen_by="accept.try_digests"),
-    Plant(file=ACCEPT, old="if state.new_sha256 != done.new.sha256:", new="if False:", seen_by="accept.try_told"),
+    Plant(
+        file=ACCEPTING,
+        old="done.is_replaced = done.former != done.sha256",
+        new="done.is_replaced = True",
+        seen_by="accept.try_digests",
+    ),
     Plant(file=ACCEPT, old="state.old_sha256 != done.former", new="False", seen_by="accept.try_told"),
     Plant(
         file=ACCEPT,
@@ -67,7 +68,12 @@ PLANTED = [
         seen_by="accept.try_refusals",
     ),
     Plant(file=BASELINE, old="            os.fsync(new)\n", new="", seen_by="accept_kills.try_order"),
-    Plant(file=BASELINE, old="            os.fsync(self.folder)\n", new="", seen_by="accept_kills.try_order"),
+    Plant(
+        file=BASELINE,
+        old="            self._settle()\n        os.fsync(self.folder)\n",
+        new="            self._settle()\n",
+        seen_by="accept_kills.try_order",
+    ),
     Plant(
         file=BASELINE,
         old="self.former.st_mode & FILE_MODES if",
@@ -84,21 +90,52 @@ PLANTED = [
         seen_by="accept.try_at_once",
     ),
     Plant(
-        file=BASELINE,
-        old="if ANYBODY in folder.others or len(folder.others) > 1:",
-        new="if False:",
-        seen_by="accept.try_places",
-    ),
-    Plant(
         file=BASELINE, old="        if not stat.S_ISREG(found.st_mode):", new="        if False:", seen_by="accept.try_places"
     ),
     Plant(file=BASELINE, old=EXCHANGE, new=NO_NAME, seen_by="accept_kills.try_kills"),
-    Plant(file=BASELINE, old=EXCHANGE, new=OTHER_ORDER, seen_by="accept_kills.try_kills"),
+    Plant(file=BASELINE, old=EXCHANGE, new=COPY_FIRST, seen_by="accept_kills.try_kills"),
+    Plant(file=BASELINE, old=EXCHANGE, new=COPY_FIRST, seen_by="accept_partly.try_late_failure"),
+    Plant(file=ACCEPTING, old="    baseline.settle()\n", new="", seen_by="accept_kills.try_kills"),
     Plant(
-        file=BASELINE,
-        old="        self._unlink(self.part)\n        try:\n            found",
-        new="        try:\n            found",
-        seen_by="accept_kills.try_kills",
+        file=BASELINE, old="if is_done and self._identity(name) not", new="if False and name not", seen_by="accept.try_digests"
+    ),
+    Plant(file=SOUND, old="if ended.status > 7:", new="if False:", seen_by="accept_partly.try_unsound"),
+    Plant(
+        file=ACCEPTING,
+        old="refuse_unsound(wish.beside, offered.copy, old)",
+        new="refuse_unsound(wish.beside, offered.copy)",
+        seen_by="accept_partly.try_refused",
+    ),
+    Plant(
+        file=ACCEPTING,
+        old="unused = patterns.unused()",
+        new="unused = []",
+        seen_by="accept_partly.try_refused",
+    ),
+    Plant(
+        file=OPEN,
+        old="        sides[NEW].refuse_other_columns(sides[OLD])\n",
+        new="",
+        seen_by="accept_partly.try_refused",
+    ),
+    Plant(file=OPEN, old="yield key_of(fields", new="yield bytes(fields", seen_by="accept_partly.try_many"),
+    Plant(
+        file=OPEN,
+        old="counts[KINDS[OLD in lines, NEW in lines]] += 1",
+        new="counts[KINDS[True, NEW in lines]] += 1",
+        seen_by="accept_partly.try_open",
+    ),
+    Plant(
+        file=UNEXPLAINED,
+        old='not fields.get("reason", {}).get("verified")',
+        new='"reason" not in fields',
+        seen_by="accept_partly.try_explained_only",
+    ),
+    Plant(
+        file=ACCEPTING,
+        old='["--user", user_of(baseline.owner)] if baseline.owner is not None else []',
+        new="[]",
+        seen_by="accept_partly.try_explained_only",
     ),
     Plant(
         file=BASELINE,
@@ -107,23 +144,16 @@ PLANTED = [
         seen_by="accept.try_owner",
     ),
     Plant(
-        file=ACCEPT,
-        old="self.fd = reopened(copy, os.O_RDONLY)",
+        file=ACCEPTING,
+        old="self.fd = reopened(packed, os.O_RDONLY)",
         new="self.fd = os.open(path, os.O_RDONLY)",
         seen_by="accept_attacks.try_swapped_database",
     ),
-    Plant(file=ACCEPT, old=REPLACE, new=THROUGH_A_LINK, seen_by="accept_attacks.try_baseline_at_calls"),
-    Plant(file=ACCEPT, old=REPLACE, new=THROUGH_A_LINK, seen_by="accept_attacks.try_baseline_in_a_loop"),
-    Plant(file=ACCEPT, old=REPLACE, new=FOLDER_BY_NAME, seen_by="accept_attacks.try_folder_at_calls"),
-    Plant(file=ACCEPT, old=REPLACE, new=FOLDER_BY_NAME, seen_by="accept_attacks.try_folder_in_a_loop"),
-    Plant(file=ACCEPT, old=REPLACE, new=THROUGH_A_LINK, seen_by="accept_attacks.try_names_taken"),
-    Plant(
-        file=FOLDERS,
-        old=LINK_RULE,
-        new="        if owner not in (0, os.geteuid()):",
-        seen_by="accept_attacks.try_folder_at_calls",
-    ),
-    Plant(file=FOLDERS, old=LINK_RULE, new="        if False:", seen_by="accept_attacks.try_folder_in_a_loop"),
+    Plant(file=ACCEPTING, old=REPLACE, new=THROUGH_A_LINK, seen_by="accept_attacks.try_baseline_at_calls"),
+    Plant(file=ACCEPTING, old=REPLACE, new=THROUGH_A_LINK, seen_by="accept_attacks.try_baseline_in_a_loop"),
+    Plant(file=ACCEPTING, old=REPLACE, new=FOLDER_BY_NAME, seen_by="accept_attacks.try_folder_at_calls"),
+    Plant(file=ACCEPTING, old=REPLACE, new=FOLDER_BY_NAME, seen_by="accept_attacks.try_folder_in_a_loop"),
+    Plant(file=ACCEPTING, old=REPLACE, new=THROUGH_A_LINK, seen_by="accept_attacks.try_names_taken"),
     Plant(
         file=RIGHTS,
         old="        _become(uid, _group_of(uid), [])\n",

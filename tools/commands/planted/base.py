@@ -1,22 +1,23 @@
 """Bugs of the modules that all commands share, each seen by a trial of those modules themselves."""
 from .plant import seen_by
 
-ESCAPES, TIMES, OPTIONS, STATE, REPORTS, ENDING, CONFIGURATION, FOLDERS, FILES, RIGHTS, CHILD, UNPACK, PROGRAM = (
+ESCAPES, TIMES, OPTIONS, STATE, REPORTS, ENDING, CONFIGURATION, FOLDERS, FILES, RIGHTS, CHILD, UNPACK, PROGRAM, ROOM = (
     "commands/lib/aide_compare/%s.py" % name
     for name in (
-        "escapes",
-        "times",
-        "options",
-        "state",
-        "reports",
-        "ending",
-        "configuration",
-        "folders",
-        "files",
-        "rights",
-        "child",
-        "unpack",
-        "program",
+        "base/escapes",
+        "base/times",
+        "base/options",
+        "compare/state",
+        "compare/reports",
+        "base/ending",
+        "compare/configuration",
+        "base/folders",
+        "base/files",
+        "base/rights",
+        "base/child",
+        "compare/unpack",
+        "base/program",
+        "base/private_room",
     )
 )
 
@@ -29,14 +30,11 @@ PLANTED = (
     + seen_by("base.try_times", (TIMES, "if seconds < unit * most:", "if seconds <= unit * most:"))
     + seen_by(
         "base.try_options",
-        (OPTIONS, "allow_abbrev=False", "allow_abbrev=True"),
         (OPTIONS, '{"k": 1 << 10,', '{"k": 1000,'),
     )
     + seen_by(
         "base.try_state",
-        (STATE, "if not equals or not key or key in values:", "if not equals or not key:"),
         (STATE, 'text.strip("0123456789abcdef")', 'text.strip("0123456789abcdefABCDEF")'),
-        (STATE, "if None in counts and counts != (None,) * 3:", "if False:"),
     )
     + seen_by(
         "base.try_reports",
@@ -59,9 +57,6 @@ PLANTED = (
     + seen_by(
         "base.try_files",
         (FOLDERS, "self._passed_on = owners if is_sticky else self.others", "self._passed_on = self.others"),
-        (FOLDERS, "owners = above | ({found.st_uid} - {0, os.geteuid()})", "owners = {found.st_uid} - {0, os.geteuid()}"),
-        (FOLDERS, "elif self.pieces or self.wants_folder:", "elif self.pieces:"),
-        (FILES, "                fault = error\n                self._unlink(second)\n", "                fault = error\n"),
         (FILES, "    os.unlink(name, dir_fd=folder)\n    return descriptor\n", "    return descriptor\n"),
         (RIGHTS, "    os.setgroups(groups)\n", ""),
         (CHILD, "        _close_all_but(set(keep) | {writing})\n", ""),
@@ -69,9 +64,16 @@ PLANTED = (
         (CHILD, "guarded(text) + beside", "guarded(text)"),
         (UNPACK, "rest, step = block[at : at + step], min(2 * step, BLOCK)", "rest = block[at:]"),
         (UNPACK, "        if len(first) > 1:\n", "        if first:\n"),
-        (UNPACK, "    if first[:2] == COMPRESS:\n", "    if False:\n"),
         (UNPACK, "            member = zlib.decompressobj(31) if rest else member\n", "            return\n"),
-        (PROGRAM, 'dict(os.environ, LC_ALL="C")', "dict(os.environ)"),
-        (PROGRAM, "        if self.status not in KNOWN:\n", "        if False:\n"),
+    )
+    + seen_by("bounded.try_name_taken", (FILES, "            return False\n", "            raise\n"))
+    + seen_by("bounded.try_group_bit", (ROOM, "& ~stat.S_ISGID == 0o700", "== 0o700"))
+    + seen_by(
+        "bounded.try_odd_room",
+        (ROOM, "MOST_TRIES = 3\n", "MOST_TRIES = 1 << 40\n"),
+    )
+    + seen_by(
+        "bounded.try_sweep",
+        (ROOM, "if left <= 0 or time.monotonic() > limit:", "if time.monotonic() > limit:"),
     )
 )

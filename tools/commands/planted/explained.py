@@ -1,31 +1,38 @@
 """Bugs of reasons in aide-compare-run and in all that reads its result."""
 from .plant import Plant
 
-EXPLAINING, BRIEF, WORDS, COUNTS, STATE, RUN, RECORDS, CHECK, MAIL, MESSAGE, WEEKLY, COMPARISON, OUTPUTS = (
+EXPLAINING, BRIEF, WORDS, COUNTS, STATE, RUN, RECORDS, CHECK, MAIL, MESSAGE, WEEKLY, COMPARISON, OUTPUTS, LISTING = (
     "commands/lib/aide_compare/%s.py" % name
     for name in (
-        "explaining",
-        "brief",
-        "entry_words",
-        "reason_counts",
-        "state",
-        "run",
-        "kept_records",
-        "check",
-        "mail",
-        "message",
-        "weekly",
-        "comparison",
-        "outputs",
+        "show/explaining",
+        "show/brief",
+        "reasons/entry_words",
+        "compare/reason_counts",
+        "compare/state",
+        "commands/run",
+        "reasons/kept_records",
+        "commands/check",
+        "commands/mail",
+        "mail/message",
+        "mail/weekly",
+        "compare/comparison",
+        "compare/outputs",
+        "show/listing",
     )
 )
 RUNS, READERS = "explained.%s", "explained_readers.%s"
 PLANTED = [
     Plant(
-        file=EXPLAINING,
-        old="        if not self.counts.fits(sum(outcome.counts)):",
-        new="        if False:",
-        seen_by=RUNS % "try_no_reasons",
+        file="commands/lib/aide_compare/show/page_lists.py",
+        old="place < self.valued_to[stream]",
+        new='b"<table>" in item',
+        seen_by=READERS % "try_values",
+    ),
+    Plant(
+        file="commands/bin/aide-compare-json",
+        old="#!/usr/bin/python3 -IS\n",
+        new="#!/usr/bin/python3 -I\n",
+        seen_by="others_modules.try_others_modules",
     ),
     Plant(
         file=EXPLAINING,
@@ -66,7 +73,7 @@ PLANTED = [
         seen_by=RUNS % "try_misuse",
     ),
     Plant(
-        file="commands/lib/aide_compare/outcome_state.py",
+        file="commands/lib/aide_compare/compare/outcome_state.py",
         old="for key, count in (reasons._asdict() if reasons else {}).items()",
         new="for key, count in ()",
         seen_by=RUNS % "try_places",
@@ -83,10 +90,15 @@ PLANTED = [
         new='        if change.reason is None and change.severity != "high":',
         seen_by=RUNS % "try_places",
     ),
-    Plant(file=BRIEF, old="MOST_LISTED = 200", new="MOST_LISTED = 2000", seen_by=RUNS % "try_many"),
     Plant(
-        file=BRIEF,
-        old="shown(change.path, MOST_PATH)",
+        file=LISTING,
+        old="FOLDER_SHARE, OWNER_SHARE, MOST_FOLDERS = 20",
+        new="FOLDER_SHARE, OWNER_SHARE, MOST_FOLDERS = 2000",
+        seen_by=RUNS % "try_many",
+    ),
+    Plant(
+        file=LISTING,
+        old="shown(change.path, MOST_PATHS[group_of_owner(change.owner)])",
         new='change.path.decode("utf-8", "replace")',
         seen_by=RUNS % "try_hostile",
     ),
@@ -98,7 +110,7 @@ PLANTED = [
     ),
     Plant(file=OUTPUTS, old="PRIVATE = 0o600", new="PRIVATE = 0o644", seen_by=RUNS % "try_places"),
     Plant(file=OUTPUTS, old="flags != os.O_RDONLY and ", new="", seen_by=RUNS % "try_outputs"),
-    Plant(file=RECORDS, old="            file.write(_mark(digest))\n", new="", seen_by=RUNS % "try_records"),
+    Plant(file=RECORDS, old="            file.write(mark_of(digest, accepted))\n", new="", seen_by=RUNS % "try_records"),
     Plant(
         file=RECORDS,
         old="            return digest_in(descriptor) == self.digest",
@@ -106,25 +118,18 @@ PLANTED = [
         seen_by=RUNS % "try_records",
     ),
     Plant(
-        file="commands/lib/aide_compare/accept.py",
-        old='SUFFIX if records else ""',
+        file="commands/lib/aide_compare/commands/accepting.py",
+        old='SUFFIX if wish.keeps_records else ""',
         new='""',
         seen_by="accept_kills.try_kills_of_records",
     ),
     Plant(
-        file="commands/lib/aide_compare/without.py",
-        old='"1 entry" if total == 1 else ',
+        file="commands/lib/aide_compare/compare/without.py",
+        old='"1 entry" if self.total == 1 else ',
         new="",
         seen_by="without.try_left_out",
     ),
     Plant(file=COUNTS, old="self.high + self.medium + self.low == self.unanswered", new="True", seen_by=READERS % "try_state"),
-    Plant(file=COUNTS, old="    if len(found) < len(KEYS) or", new="    if", seen_by=READERS % "try_state"),
-    Plant(
-        file=STATE,
-        old="    if state.reasons and not state.reasons.fits(sum(state.counts)):",
-        new="    if False:",
-        seen_by=READERS % "try_state",
-    ),
     Plant(
         file=CHECK,
         old="    if reasons is None or not",
@@ -139,32 +144,12 @@ PLANTED = [
         seen_by=READERS % "try_limits",
     ),
     Plant(
-        file=CHECK,
-        old="reasons.unanswered >= self.least",
-        new="reasons.unanswered > self.least",
-        seen_by=READERS % "try_limits",
-    ),
-    Plant(
-        file=MAIL,
-        old='(given.alarm == "unexplained" and result.is_explained)',
-        new='given.alarm == "unexplained"',
-        seen_by=READERS % "try_alarm",
-    ),
-    Plant(
-        file=MAIL,
-        old='    if given.alarm == "unexplained" and not has_flag("--reasons", words):',
-        new="    if False:",
-        seen_by=READERS % "try_alarm",
-    ),
-    Plant(
         file=MESSAGE,
         old="self.reasons.total > 0 and not self.reasons.unanswered",
         new="self.reasons.total > 0 and not self.reasons.unexplained",
         seen_by=READERS % "try_alarm",
     ),
-    Plant(
-        file=MESSAGE, old="    return beginning(result.brief, most // 8) + ", new="    return ", seen_by=READERS % "try_mails"
-    ),
+    Plant(file=MESSAGE, old="first = beginning(result.brief, most // 2)", new='first = b""', seen_by=READERS % "try_mails"),
     Plant(
         file=MESSAGE,
         old='    return text[: text.rfind(b"\\n", 0, most) + 1] + b"  ... (the report below has all)\\n\\n"\n',
@@ -173,13 +158,7 @@ PLANTED = [
     ),
     Plant(file=WEEKLY, old="    changes += explained\n", new="", seen_by=READERS % "try_sign_of_life"),
     Plant(
-        file="commands/lib/aide_compare/metrics.py",
-        old=" if state.reasons else []",
-        new=" if False else []",
-        seen_by=READERS % "try_metrics_and_log",
-    ),
-    Plant(
-        file="commands/lib/aide_compare/log_line.py",
+        file="commands/lib/aide_compare/commands/log.py",
         old='"%s %s" % (state.reasons.line(), counts) if state.reasons else counts',
         new="counts",
         seen_by=READERS % "try_metrics_and_log",
@@ -193,7 +172,7 @@ PLANTED = [
     Plant(
         file=MESSAGE,
         old='    r"^aide-compare-run: [a-z0-9 ,]+: unexplained=(\\d{1,18}) not_verified=(\\d{1,18}) explained=(\\d{1,18}) "\n'
-        '    r"high=(\\d{1,18}) medium=(\\d{1,18}) low=(\\d{1,18})\\n",\n',
+        '    r"high=(\\d{1,18}) medium=(\\d{1,18}) low=(\\d{1,18})(?: explained_[a-z]+=\\d{1,18})*\\n",\n',
         new='    r"aide-compare-run: [a-z0-9 ,]+: unexplained=(\\d{1,18}) not_verified=(\\d{1,18}) explained=(\\d{1,18}) "\n'
         '    r"high=(\\d{1,18}) medium=(\\d{1,18}) low=(\\d{1,18})",\n',
         seen_by=READERS % "try_false_counts",

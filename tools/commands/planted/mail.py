@@ -2,7 +2,8 @@
 from .plant import Plant
 
 MAIL, MESSAGE, SENDING, SMTP, CHILD, QUEUE, WEEKLY = (
-    "commands/lib/aide_compare/%s.py" % name for name in ("mail", "message", "sending", "smtp", "child", "queue", "weekly")
+    "commands/lib/aide_compare/%s.py" % name
+    for name in ("commands/mail", "mail/message", "mail/sending", "mail/smtp", "base/child", "mail/queue", "mail/weekly")
 )
 PLANTED = [
     Plant(
@@ -27,8 +28,8 @@ PLANTED = [
         seen_by="mail.try_hint",
     ),
     Plant(file=MESSAGE, old="MOST_PATHS = 1000", new="MOST_PATHS = 10**9", seen_by="mail.try_bounds"),
-    Plant(file=MESSAGE, old="if not text or len(text) > most - most // 4:", new="if False:", seen_by="mail.try_bounds"),
-    Plant(file=MESSAGE, old="            self.left_out += is_entry\n", new="", seen_by="mail.try_bounds"),
+    Plant(file=MESSAGE, old="if not text or len(text) > room:", new="if False:", seen_by="mail.try_bounds"),
+    Plant(file=MESSAGE, old="            self.left_out += 1\n", new="", seen_by="mail.try_bounds"),
     Plant(file=MESSAGE, old='shown_lines(data).encode("utf-8", "backslashreplace")', new="data", seen_by="mail.try_hostile"),
     Plant(
         file=MESSAGE, old="body = data if is_short else binascii.b2a_qp(data)", new="body = data", seen_by="mail.try_hostile"
@@ -76,9 +77,6 @@ PLANTED = [
     Plant(file=QUEUE, old=" | os.O_NOFOLLOW | os.O_NONBLOCK", new="", seen_by="mail.try_queue"),
     Plant(file=QUEUE, old=">= MOST_WAITING:", new=">= 10**9:", seen_by="mail.try_queue"),
     Plant(file=WEEKLY, old="    runs += 1\n", new="", seen_by="mail.try_test_and_weekly"),
-    Plant(
-        file=WEEKLY, old=" and time.localtime(now)[:3] != time.localtime(sent)[:3]", new="", seen_by="mail.try_test_and_weekly"
-    ),
     Plant(file=MAIL, old='"--plain", ', new="", seen_by="mail.try_pages"),
     Plant(
         file=MAIL,
@@ -86,7 +84,7 @@ PLANTED = [
         new="message_of(given, folder, comparison, result))\n    return result.status",
         seen_by="mail.try_texts",
     ),
-    Plant(file=MAIL, old='if result != "success":', new="if False:", seen_by="mail.try_queue"),
+    Plant(file=MAIL, old='    if result != "success":', new="    if False:", seen_by="mail.try_queue"),
     Plant(
         file=MESSAGE,
         old="        return 1 <= self.status <= 7 and self.size > 0\n",
@@ -121,7 +119,18 @@ PLANTED = [
         new='                pass\n            if connection.docmd("QUIT")[0] != 221:\n                raise OSError("no end")\n',
         seen_by="smtp.try_servers",
     ),
-    Plant(file=SMTP, old="                connection.sock.settimeout(QUIT_SECONDS)\n", new="", seen_by="smtp.try_servers"),
+    Plant(
+        file=SMTP,
+        old="_no_longer_than(min(QUIT_SECONDS, (limit - time.monotonic()) / 2))",
+        new="connection.sock.settimeout(QUIT_SECONDS)",
+        seen_by="smtp.try_servers",
+    ),
+    Plant(
+        file=MAIL,
+        old="    if result.status == Status.USAGE:",
+        new="    if False:",
+        seen_by="mail.try_texts",
+    ),
     Plant(file=SMTP, old="        _limit_memory(len(message))\n", new="", seen_by="smtp.try_odd_servers"),
     Plant(
         file=SMTP,
@@ -130,6 +139,4 @@ PLANTED = [
         seen_by="smtp.try_odd_servers",
     ),
     Plant(file=SMTP, old="len(port) <= 5 and 0 < int(port) < 65536", new="int(port) < 65536", seen_by="smtp.try_places"),
-    Plant(file=SMTP, old="port.isascii() and ", new="", seen_by="smtp.try_places"),
-    Plant(file=SMTP, old="    if not name or not (", new="    if not (", seen_by="smtp.try_places"),
 ]

@@ -7,32 +7,24 @@ PLANTED = (
         "reasons_upgrades.try_same",
         (PACKAGES, 'SAME_CONTENT = CONTENT - DIGESTS - {"size"}', 'SAME_CONTENT = CONTENT - {"size"}'),
         (PACKAGES, 'SAME_CONTENT = CONTENT - DIGESTS - {"size"}', "SAME_CONTENT = CONTENT - DIGESTS"),
-        (PACKAGES, 'SAME_TARGET = TIMES | {"inode", "bcount"}', 'SAME_TARGET = {"inode", "bcount"}'),
         (PACKAGES, 'SAME_TARGET = TIMES | {"inode", "bcount"}', 'SAME_TARGET = TIMES | {"inode"}'),
         (PACKAGES, 'SAME_TARGET = TIMES | {"inode", "bcount"}', 'SAME_TARGET = TIMES | {"inode", "bcount", "perm"}'),
         (PACKAGES, 'SAME_TARGET | {"lname", "size"}', 'SAME_TARGET | {"lname"}'),
-        (PACKAGES, "(old is None and not new.is_plain())", "not new.is_plain()"),
-        (PACKAGES, "if old and differ <= SAME_TARGET:", "if False:"),
-        (LINKS, " and change.is_replaced:", ":"),
     )
     + seen_by(
         "reasons_upgrades.try_kinds",
         (PACKAGES, "if new.is_folder() and old is None else None", "if old is None else None"),
-        (PACKAGES, "if new.is_folder() and old is None else None", "if new.is_folder() else None"),
     )
     + seen_by(
         "reasons_upgrades.try_units",
         (PACKAGES, "        if takes_no_pattern(path) and (old or not is_packages):\n            return None\n", ""),
-        (PACKAGES, "(old or not is_packages)", "old"),
-        (PACKAGES, "(old or not is_packages)", "not is_packages"),
-        (PACKAGES, "if takes_no_pattern(path) and (old", "if (old"),
     )
     + seen_by(
         "reasons_upgrades.try_words",
         (
             PACKAGES,
-            "self._reason(text % words_of(self.known.now[path][-1])",
-            "self._reason(words_of(self.known.now[path][-1])",
+            "self._reason(text % words_of(owners[-1])",
+            "self._reason(words_of(owners[-1])",
         ),
         (PACKAGES, '"gone with %s" % words_of(owners[-1])', "words_of(owners[-1])"),
         (PACKAGES, '"%s, same target as before"', '"%s, same content as before"'),
@@ -40,7 +32,6 @@ PLANTED = (
     )
     + seen_by(
         "reasons_entries.try_values",
-        (ENTRIES, "field is not None and field.isalnum()", "field is not None"),
         (
             ENTRIES,
             'field if field[:1] == b"-" or field[:1].isdigit() else _unpacked(field) or b""',
@@ -54,30 +45,17 @@ PLANTED = (
         (ENTRIES, "(8, 32, 40, 48, 64, 96, 128)", "(8, 32, 40, 48, 64, 96)"),
         (ENTRIES, 'b"" if field == b"0-" else ', ""),
         (ENTRIES, 'decoded(field[1:] if field.startswith(b"00") else field)', "decoded(field)"),
-        (ENTRIES, "field == ABSENT or not stat.S_ISLNK(self.mode)", "field == ABSENT"),
-        (ENTRIES, 'number(self.field("perm"), 8) or 0', 'number(self.field("perm"), 8)'),
-        (ENTRIES, 'number(self.field("attr")) or 0', 'number(self.field("attr"))'),
-        (ENTRIES, " if ODD_BLANKS.search(line) else line.split()", " if False else line.split()"),
     )
     + seen_by(
         "reasons_entries.try_plain",
-        (ENTRIES, 'kind == b"POSIX"\n        and len(texts)', "len(texts)"),
-        (ENTRIES, "        and len(texts) == 2\n", ""),
-        (ENTRIES, "        and texts[0] is not None\n", ""),
-        (ENTRIES, '        and texts[1] == b""\n', ""),
-        (ENTRIES, "(not texts[0] or BASE_ACL", "(BASE_ACL"),
         (ENTRIES, "BASE_ACL.fullmatch(", "BASE_ACL.match("),
         (ENTRIES, "BASE_ACL.fullmatch(", "BASE_ACL.search("),
-        (ENTRIES, "(self.is_link() or not (has_more or has_list))", "not (has_more or has_list)"),
         (ENTRIES, 'in ("capabilities", "xattrs"))', 'in ("xattrs",))'),
         (ENTRIES, 'in ("capabilities", "xattrs"))', 'in ("capabilities",))'),
     )
     + seen_by(
         "reasons_entries.try_differences",
         (ENTRIES, "old.places.keys() | new.places.keys()", "old.places.keys()"),
-        (ENTRIES, "old.places.keys() | new.places.keys()", "new.places.keys()"),
-        (ENTRIES, "old.places.keys() | new.places.keys()", "old.places.keys() & new.places.keys()"),
-        (ENTRIES, '        found.add("type")\n', "        pass\n"),
     )
     + seen_by("reasons_entries.try_early", (ENTRIES, "None if seconds is None else sign * seconds", "seconds"))
     + seen_by(
@@ -97,11 +75,9 @@ PLANTED = (
     + seen_by(
         "reasons_rules.try_kinds",
         (ENTRIES, '        found.add("type")\n', "        pass\n"),
-        (ENTRIES, '        found.add("attributes")\n', "        pass\n"),
     )
     + seen_by(
         "reasons_rules.try_order",
-        (RULES, "    if len(parts) != 3:\n", "    if False:\n"),
         (
             RULES,
             "        for rule in self.table.rows(change.path):\n",

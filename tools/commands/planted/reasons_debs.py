@@ -7,11 +7,8 @@ PLANTED = (
         "reasons_debs.try_parts",
         (DEB, "    if os.read(descriptor, len(MAGIC)) != MAGIC:\n", "    if not os.read(descriptor, len(MAGIC)):\n"),
         (DEB, "        if not head:\n            return\n", ""),
-        (DEB, "        if not found:\n", "        if False:\n"),
         (DEB, "PART.fullmatch(", "PART.match("),
         (DEB, "PART.fullmatch(", "PART.search("),
-        (DEB, "HEAD_SIZE, MOST_PARTS = 60, 10", "HEAD_SIZE, MOST_PARTS = 60, 11"),
-        (DEB, "HEAD_SIZE, MOST_PARTS = 60, 10", "HEAD_SIZE, MOST_PARTS = 60, 9"),
         (DEB, '.rstrip(" /")', '.rstrip(" ")'),
         (DEB, "except (tarfile.TarError, ValueError, EOFError)", "except (ValueError, EOFError)"),
         (
@@ -26,8 +23,6 @@ PLANTED = (
         (DEB, '(path[2:] if path.startswith(b"./") else path.lstrip(b"/"))', '(path[2:] if path.startswith(b"./") else path)'),
         (DEB, '(target[2:] if target.startswith(b"./") else target.lstrip(b"/"))', "target[2:]"),
         (DEB, "elif member.isreg() or member.islnk():", "elif not member.isdir():"),
-        (DEB, "elif member.isreg() or member.islnk():", "elif member.isreg():"),
-        (DEB, "            if wants(path):\n", "            if True:\n"),
         (DEB, "min(BLOCK, left)", "BLOCK"),
     )
     + seen_by(
@@ -38,17 +33,14 @@ PLANTED = (
             "        if not place:\n            return {}\n",
         ),
         (DEB, 'tar.each(wants if name == "data" else lambda path: path != b"/")', "tar.each(wants)"),
-        (DEB, '            if name == "data":\n', "            if True:\n"),
     )
     + seen_by(
         "reasons_debs.try_programs",
         (PACKED, '            if process.wait():\n                raise Refuted("damaged")\n', ""),
-        (PACKED, "    if not program:\n", "    if False:\n"),
         (PACKED, '"zst": ("zstd", "-dcq"), "lz4"', '"zst": ("lz4", "-dcq"), "lz4"'),
     )
     + seen_by(
         "reasons_indexes.try_missing",
-        (INDEXES, "    if not program:\n", "    if False:\n"),
         (
             INDEXES,
             '        raise Fault(Status.DEVICE, "there is no program gpgv, so the archive\'s indexes cannot be verified")\n',
@@ -62,9 +54,6 @@ PLANTED = (
     )
     + seen_by(
         "reasons_packed.try_copies",
-        (PACKED, "if size is not None and size > most:", "if False:"),
-        (PACKED, "if size is not None and size > most:", "if size is not None and size >= most:"),
-        (PACKED, "if size is None and left <= 0:", "if False:"),
         (PACKED, "most + 1 if size is None else size", "most if size is None else size"),
         (PACKED, "            if not block and size is None:\n                break\n", ""),
         (
@@ -75,8 +64,6 @@ PLANTED = (
     )
     + seen_by(
         "reasons_packed.try_unpacked",
-        (PACKED, "            if left < 0:\n", "            if left <= 0:\n"),
-        (PACKED, "            if left < 0:\n", "            if False:\n"),
         (PACKED, "return copied(source, None, most)", "return copied(source, None, 1 << 40)"),
         (PACKED, '"xz": lambda: lzma.LZMADecompressor(memlimit=MOST_MEMORY)', '"xz": lzma.LZMADecompressor'),
         (PACKED, "except (lzma.LZMAError, zlib.error, OSError, EOFError)", "except (zlib.error, OSError, EOFError)"),
@@ -88,13 +75,11 @@ PLANTED = (
         "reasons_packed.try_slow",
         (INDEXES, "except (OSError, subprocess.TimeoutExpired):", "except OSError:"),
         (INDEXES, "except (OSError, subprocess.TimeoutExpired):", "except subprocess.TimeoutExpired:"),
-        (INDEXES, "            timeout=SECONDS,\n", ""),
     )
     + seen_by(
         "reasons_packed.try_paragraphs",
         (INDEXES, "    yield from _wanted(fields, keys)\n\n\ndef", "\n\ndef"),
         (INDEXES, "            fields = {}\n", ""),
-        (INDEXES, '(not path or path.endswith("/")) and ', ""),
     )
     + seen_by(
         "reasons_indexes.try_without_sums",

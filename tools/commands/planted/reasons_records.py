@@ -5,8 +5,6 @@ from .reasons import RECORDS
 PLANTED = (
     seen_by(
         "reasons_records.try_kept",
-        (RECORDS, "if (is_rpms or kept) and member.isreg():", "if is_rpms or kept:"),
-        (RECORDS, "if (is_rpms or kept) and member.isreg():", "if member.isreg():"),
         (RECORDS, 'if "status" not in self.members and RPM_NAME not in self.members:', "if not self.members:"),
         (RECORDS, "info/[A-Za-z0-9][A-Za-z0-9+.:~_-]*", "info/.*"),
         (RECORDS, "KEPT.fullmatch(member.name)", "KEPT.match(member.name)"),
@@ -14,30 +12,21 @@ PLANTED = (
     )
     + seen_by(
         "reasons_records.try_large",
-        (RECORDS, "if member.size > (MOST_TEXT if is_rpms else MOST_FILE):", "if False:"),
         (RECORDS, "if member.size > (MOST_TEXT if is_rpms else MOST_FILE):", "if member.size > MOST_TEXT:"),
         (RECORDS, "if member.size > (MOST_TEXT if is_rpms else MOST_FILE):", "if member.size > MOST_FILE:"),
-        (RECORDS, "if member.size > (MOST_TEXT", "if member.size >= (MOST_TEXT"),
         (RECORDS, "for member in members(self.file, MOST_FILES):", "for member in members(self.file, 1 << 30):"),
     )
     + seen_by(
         "reasons_records.try_folder",
         (RECORDS, "for name in found if KEPT.fullmatch(name))", "for name in found)"),
         (RECORDS, "for name in found if KEPT.fullmatch(name))", "for name in found if KEPT.match(name))"),
-        (RECORDS, "not stat.S_ISREG(found.st_mode) or found.st_uid", "found.st_uid"),
-        (RECORDS, "found.st_uid not in (0, os.geteuid()) or ", ""),
         (RECORDS, "found.st_mode & 0o022", "found.st_mode & 0o002"),
         (RECORDS, "found.st_mode & 0o022", "found.st_mode & 0o020"),
-        (RECORDS, "if len(self.names) > MOST_FILES:", "if len(self.names) >= MOST_FILES:"),
-        (RECORDS, "if len(self.names) > MOST_FILES:", "if False:"),
         (RECORDS, "            self.left -= len(text)\n", ""),
         (RECORDS, '        except FileNotFoundError:\n            return b""\n', ""),
     )
     + seen_by(
         "reasons_records.try_now",
         (RECORDS, "not has_records(folder) and has_rpm()", "has_rpm()"),
-        (RECORDS, "not has_records(folder) and has_rpm()", "not has_records(folder)"),
-        (RECORDS, ' and os.path.getsize(folder + "/status") > 0', ""),
-        (RECORDS, 'os.path.isfile(folder + "/status") and ', ""),
     )
 )

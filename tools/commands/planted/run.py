@@ -3,7 +3,17 @@ from .plant import Plant
 
 CONFIGURATION, HINTS, PROGRAM, COMPARISON, RUN, FILES, FOLDERS, UNPACK, TIMES = (
     "commands/lib/aide_compare/%s.py" % name
-    for name in ("configuration", "hints", "program", "comparison", "run", "files", "folders", "unpack", "times")
+    for name in (
+        "compare/configuration",
+        "compare/hints",
+        "base/program",
+        "compare/comparison",
+        "commands/run",
+        "base/files",
+        "base/folders",
+        "compare/unpack",
+        "base/times",
+    )
 )
 # The state is emptied to find out whether it can be written; or it is written in its place and not in one step.
 EMPTIED = """        self._refuse_other_kinds()
@@ -11,14 +21,14 @@ EMPTIED = """        self._refuse_other_kinds()
         part, name = os.open(self.name, flags, dir_fd=self.folder.fd), None
         os.close(part)
 """
-IN_ITS_PLACE = """    def _put(self, fill):
+IN_ITS_PLACE = """    def _was_put(self, fill):
         flags = os.O_WRONLY | os.O_CREAT | os.O_TRUNC | os.O_NOFOLLOW
         part = os.open(self.name, flags, self.mode, dir_fd=self.folder.fd)
         try:
-            return fill(part)
+            fill(part)
+            return True
         finally:
             os.close(part)
-        part, name = self._part()
 """
 # Databases that have the same name in two folders are taken for one.
 COPIED_ONCE = """        copies = {}
@@ -33,7 +43,6 @@ PLANTED = [
         new='INCLUDES = (b"@@x_include",)',
         seen_by="attacks.try_places",
     ),
-    Plant(file=COMPARISON, old="        if included:\n", new="        if False:\n", seen_by="attacks.try_places"),
     Plant(file=CONFIGURATION, old="os.fsencode(os.uname().nodename)", new='b""', seen_by="attacks.try_places"),
     Plant(file=COMPARISON, old="int(found.group(1)) - count", new="int(found.group(1))", seen_by="attacks.try_places"),
     Plant(
@@ -41,26 +50,6 @@ PLANTED = [
         old='(b"database_new", b"database_out"), values',
         new='(b"database_out", b"database_new"), values',
         seen_by="run.try_configurations",
-    ),
-    Plant(
-        file=CONFIGURATION,
-        old="                    twice.discard(name)\n",
-        new="                    pass\n",
-        seen_by="run.try_configurations",
-    ),
-    Plant(file=CONFIGURATION, old="self.variables.pop(names[0], None)", new="pass", seen_by="run.try_configurations"),
-    Plant(
-        file=CONFIGURATION,
-        old='    if not values[name].startswith(b"file:/"):',
-        new="    if False:",
-        seen_by="run.try_configurations",
-    ),
-    Plant(file=CONFIGURATION, old="    if old == new:\n", new="    if False:\n", seen_by="run.try_configurations"),
-    Plant(
-        file=CONFIGURATION,
-        old="if begins or (fixed and found[0] in REPORT_OPTIONS):",
-        new="if begins:",
-        seen_by="attacks.try_fixed_reports",
     ),
     Plant(
         file=COMPARISON,
@@ -80,12 +69,6 @@ PLANTED = [
         new='    if line:\n        yield "line %d: %s" % (number, line.decode("latin-1"))\n',
         seen_by="hints.try_database_hints",
     ),
-    Plant(
-        file=HINTS,
-        old='        if not re.fullmatch("report_ignore_[a-z]+_attrs|report_force_attrs", name):\n',
-        new="        if True:\n",
-        seen_by="hints.try_configuration_hints",
-    ),
     Plant(file=HINTS, old="getattr(texts, where)", new="texts.config", seen_by="hints.try_configuration_hints"),
     Plant(
         file=PROGRAM,
@@ -93,8 +76,6 @@ PLANTED = [
         new="            self.status = Status.OK\n",
         seen_by="faults.try_programs",
     ),
-    Plant(file=PROGRAM, old="        if ended.status != 0:\n", new="        if False:\n", seen_by="faults.try_programs"),
-    Plant(file=PROGRAM, old='if folder.startswith("/") and ', new="if ", seen_by="faults.try_programs"),
     Plant(
         file=PROGRAM,
         old="        resource.setrlimit(resource.RLIMIT_FSIZE,",
@@ -116,12 +97,6 @@ PLANTED = [
     ),
     Plant(file=COMPARISON, old="    if age < -CLOCKS_DIFFER:\n", new="    if False:\n", seen_by="age.try_accepted"),
     Plant(file=COMPARISON, old="        check_age(opened[1], self.request.most_age)\n", new="", seen_by="age.try_old_files"),
-    Plant(
-        file=COMPARISON,
-        old="        if outcome.counts is None and self.request.counts:\n",
-        new="        if self.request.counts:\n",
-        seen_by="run.try_runs",
-    ),
     Plant(
         file=COMPARISON,
         old="        if outcome.counts is None and self.request.counts:\n",
@@ -220,7 +195,7 @@ PLANTED = [
     ),
     Plant(
         file=FILES,
-        old="    def _put(self, fill):\n        part, name = self._part()\n",
+        old='    def _was_put(self, fill):\n        """Makes the file and puts it in place; False if another command took its name away meanwhile."""\n',
         new=IN_ITS_PLACE,
         seen_by="faults.try_rooms",
     ),

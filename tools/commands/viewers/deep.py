@@ -13,7 +13,7 @@ from tools.oracle.report import report_of
 
 from .hostile import Database
 
-from aide_compare.json_lines import Report
+from aide_compare.lines.json_lines import Report
 
 MOST_BYTES = 20000000
 LONG = 100000
@@ -170,7 +170,7 @@ def try_script(script, tally):
 
 def try_times(tally):
     """A text in place of a time is refused, and a note is escaped even if it were not."""
-    from aide_compare.page_items import cell
+    from aide_compare.show.page_items import cell
 
     tally.add("a note is text", [] if "<b>" not in cell("1", "<b>", "<b>") + cell("<b>", "1") else ["it is markup"])
     lines = [

@@ -6,9 +6,9 @@ import time
 from tools.commands.viewers.looks import cases
 from tools.commands.viewers.samples import DEMO
 
-from aide_compare.json_lines import KINDS, SEVERITIES
-from aide_compare.page import part_of
-from aide_compare.page_view import STANDINGS
+from aide_compare.lines.json_lines import KINDS, SEVERITIES
+from aide_compare.show.page import part_of
+from aide_compare.show.page_view import STANDINGS
 
 READY = "document.documentElement.dataset.ready"
 ENTRY = "#list > li:not(.section)"
@@ -136,14 +136,14 @@ def try_entries(browser, path, pictures, tally):
     tally.add("the severe first", wait_for(browser, PATHS + ".slice(0, 5)", first))
     heading = "document.querySelector('#list h3').textContent"
     tally.add("the first heading", wait_for(browser, heading, "Not explained, severity high: 3 entries"))
-    tally.add("a new file", wait_for(browser, FACTS, "rwsr-xr-x  0:0  18344 bytes"))
+    tally.add("a new file", wait_for(browser, FACTS, "-rwsr-xr-x  0:0  18344 bytes"))
     click(browser, "#list summary", "etc/passwd")
     rows = "[...document.querySelectorAll('#list .values > table tbody th')].map((one) => one.textContent)"
     tally.add("one digest", wait_for(browser, rows, ["Size", "Mtime", "SHA256"]))
     click(browser, "#list .others > summary")
     tally.add("the other digests", wait_for(browser, "document.querySelectorAll('#list .others tbody tr').length", 4))
     exact = "[...document.querySelectorAll('#list td details')].map((one) => one.textContent)[0]"
-    tally.add("an exact value", wait_for(browser, exact, "2026-01-01 00:00:00 UTC1767225600"))
+    tally.add("an exact value", wait_for(browser, exact, "2026-01-01 00:00:00 +00001767225600"))
     for name, width, height, dark in (("light", 1280, 900, False), ("dark", 1280, 900, True), ("narrow", 320, 2400, False)):
         if pictures:
             browser.picture(os.path.join(pictures, name + ".png"), width, height, dark)

@@ -6,9 +6,9 @@ import subprocess
 
 from tools.commands.viewers import HTML  # noqa: F401, it puts the modules of the commands in reach.
 
-from aide_compare.page import page
-from aide_compare.report_lines import Lines
-from aide_compare.report_parts import judge, read_report
+from aide_compare.lines.report_lines import Lines
+from aide_compare.lines.report_parts import judge, read_report
+from aide_compare.show.page import page
 
 
 def run(words, text=b"", **streams):

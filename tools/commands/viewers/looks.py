@@ -8,14 +8,14 @@ import re
 from tools.commands.viewers import HTML  # It puts the modules of the commands in reach.
 from tools.commands.viewers.hostile import NAMES
 from tools.commands.viewers.lines import lines_of, objects_of, page_of, run
-from tools.commands.viewers.pages import bytes_shown, page_faults
+from tools.commands.viewers.pages import page_faults
 from tools.commands.viewers.refused import rich_report
 
-from aide_compare.escapes import shown as escaped
-from aide_compare.json_lines import GRADES, KINDS, SEVERITIES
-from aide_compare.page import page
-from aide_compare.page_view import CHOICES, STANDINGS, Seen, View
-from aide_compare.report_lines import Refused
+from aide_compare.base.escapes import shown as escaped
+from aide_compare.lines.json_lines import GRADES, KINDS, SEVERITIES
+from aide_compare.lines.report_lines import Refused
+from aide_compare.show.page import page
+from aide_compare.show.page_view import CHOICES, STANDINGS, Seen, View
 
 CASES = os.path.join(os.path.dirname(os.path.abspath(__file__)), "views.json")
 REPORTS = 60

@@ -214,16 +214,20 @@ def luminance(colour):
     return 0.2126 * red + 0.7152 * green + 0.0722 * blue
 
 
-def contrast_faults(style, least=4.5):
-    """The texts of a style that are hard to read on what is behind them, in light and in dark."""
+def contrast_faults(style, least=4.5, least_of_shapes=3):
+    """The texts of a style that are hard to read on what is behind them, and the borders and bars that are hard to see, in
+    light and in dark (WCAG 2.1, 1.4.3 and 1.4.11)."""
     faults = []
     for scheme, block in zip(("light", "dark"), re.findall(r":root {(.*?)}", style, re.DOTALL)):
         colours = dict(re.findall(r"--([a-z-]+): (#[0-9a-f]{6})", block))
         backs = [name for name in colours if name in ("paper", "raised") or name.endswith("-tint")]
         pairs = [(text, behind) for text in ("ink", "dim") for behind in backs]
         pairs += [(kind, behind) for kind in KINDS for behind in ("paper", kind + "-tint")]
-        for text, behind in pairs:
+        wanted = [(text, behind, least) for text, behind in pairs + [("paper", "removed")]]
+        shapes = ["border"] + [name for name in colours if name.startswith("bar-")]
+        wanted += [(shape, behind, least_of_shapes) for shape in shapes for behind in ("paper", "raised")]
+        for text, behind, bound in wanted:
             lower, upper = sorted(luminance(colours[name]) for name in (text, behind))
-            if (upper + 0.05) / (lower + 0.05) < least:
+            if (upper + 0.05) / (lower + 0.05) < bound:
                 faults.append("%s: %s on %s is %.1f" % (scheme, text, behind, (upper + 0.05) / (lower + 0.05)))
     return faults if len(re.findall(":root {", style)) == 2 else ["there are not two schemes"]

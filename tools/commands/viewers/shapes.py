@@ -4,12 +4,12 @@ import json
 import random
 import re
 
-from aide_compare import report_lines
-from aide_compare.report_json import LineWriter
-from aide_compare.report_lines import Lines, Refused
-from aide_compare.report_parts import read_report
-from aide_compare.report_shapes import Written
-from aide_compare.report_written import Values
+from aide_compare.lines import report_lines
+from aide_compare.lines.report_json import LineWriter
+from aide_compare.lines.report_lines import Lines, Refused
+from aide_compare.lines.report_parts import read_report
+from aide_compare.lines.report_shapes import Written
+from aide_compare.lines.report_written import Values
 from tools.oracle.attributes import ATTRIBUTES
 from tools.oracle.configuration import DEFAULTS, LEVELS
 from tools.oracle.report import report_of

@@ -7,8 +7,8 @@ import stat
 import time
 from datetime import datetime, timedelta
 
-from aide_compare import decoded_times
-from aide_compare.decoded import decoded
+from aide_compare.lines import decoded_times
+from aide_compare.lines.decoded import decoded
 
 TYPES = {
     "File": stat.S_IFREG,

@@ -9,10 +9,10 @@ import tracemalloc
 
 from tools.commands.viewers import HTML  # It puts the modules of the commands in reach.
 
-from aide_compare.page import page
-from aide_compare.page_lists import FolderLists
-from aide_compare.report_lines import Lines
-from aide_compare.report_parts import read_report
+from aide_compare.lines.report_lines import Lines
+from aide_compare.lines.report_parts import read_report
+from aide_compare.show.page import page
+from aide_compare.show.page_lists import FolderLists
 
 OURS = HTML.rsplit("/", 2)[0] + "/lib/aide_compare/"
 MOST_GROWTH = 1.3

@@ -1,6 +1,6 @@
 """Random configurations and command lines over three texts: before, the file and after."""
 from tools.oracle.attributes import EMPTY_NAMES, GROUPS, NAMES
-from tools.oracle.configuration import BOOL_OPTIONS, LEVELS, OLDER_OPTIONS, SET_OPTIONS, WITHOUT_EFFECT
+from tools.oracle.configuration import BOOL_OPTIONS, LEVELS, SET_OPTIONS, WITHOUT_EFFECT
 
 VARIABLES = [b"A", b"B", b"LEVEL", b"V_1", b"x" * 64]
 OWN_GROUPS = [b"mine", b"times", b">", b"L", b"E", b"g1"]

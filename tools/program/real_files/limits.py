@@ -4,7 +4,7 @@ from tools.oracle.database import LINE_LIMIT
 from tools.oracle.session import CONFIGURATION_LIMIT
 from tools.lib.tally import difference, run, wanted
 
-from .folder import NEW, OLD, Folder
+from .folder import OLD, Folder
 
 # The first fault of the old database cut after so many bytes: the last length with this fault, its line, its words.
 CUTS = [

@@ -1,4 +1,6 @@
-"""Folders whose names and arguments whose forms are unusual: blanks, newlines, bytes above 127, great lengths."""
+"""Folders whose names and arguments whose forms are unusual: blanks, newlines, bytes above 127, great lengths; and files
+that are almost the ones that were named."""
+import gzip
 import os
 
 from tools.oracle.session import Answer, answer_of
@@ -90,6 +92,31 @@ def try_folders(program, tally):
             try_folder(program, tally, label, os.path.join(top.path, name), is_nameable)
 
 
+def almost_named(at):
+    """Command lines that name no file, beside one that a helpful program would take: it is packed, or it has no `/` at the
+    end of its path. `at` gives the path of a file of the folder."""
+    lines = []
+    for what, end in (("a packed file beside it", b"_packed"), ("a `/` at its end", b"/")):
+        lines += [
+            ("a configuration with " + what, [b"-E", b"-c", at("conf") + end]),
+            ("an old database with " + what, [b"-E", b"-c", at("conf"), b"-A", b"database_in=file:" + at("old") + end]),
+            ("a new database with " + what, [b"-E", b"-c", at("conf"), b"-A", b"database_new=file:" + at("new") + end]),
+        ]
+    return lines
+
+
+def try_almost_named(program, tally):
+    with Folder() as folder:
+        folder.pair()
+        for name in ("conf", "old", "new"):
+            with open(folder.at(name), "rb") as plain, open(folder.at(name) + b"_packed.gz", "wb") as packed:
+                packed.write(gzip.compress(plain.read()))
+        for label, words in almost_named(folder.at):
+            want = wanted(words)
+            tally.add("the definitions at " + label, [] if want.status == 18 else ["status %d" % want.status])
+            tally.check(label, run(program, words), want)
+
+
 def command_lines(conf):
     """Command lines of many, long, empty and blank arguments, with the status that each is to have."""
     full = [b"-E", b"-c", conf] + FULL
@@ -144,4 +171,5 @@ def try_arguments(program, tally):
 
 def try_paths(program, tally):
     try_folders(program, tally)
+    try_almost_named(program, tally)
     try_arguments(program, tally)

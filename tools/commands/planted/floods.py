@@ -1,0 +1,57 @@
+"""Bugs of what people read first: its order, its shares, and the files that have the content of before."""
+from .plant import seen_by
+
+LISTING, BRIEF, MESSAGE, EXPLAINER, SAME, ENTRIES = (
+    "commands/lib/aide_compare/%s.py" % name
+    for name in ("show/listing", "show/brief", "mail/message", "reasons/explainer", "reasons/same_content", "reasons/entries")
+)
+PLANTED = (
+    seen_by(
+        "floods.try_order",
+        (LISTING, "sorted(found, key=is_added)", "found"),
+        (LISTING, "for group in range(len(ROOMS)):", "for group in (0, 2, 1):"),
+        (LISTING, "return 0 if owner in (None, ROOT) else 1 if owner < FIRST_USER else 2", "return 0"),
+        (
+            LISTING,
+            "FOLDER_SHARE, OWNER_SHARE, MOST_FOLDERS = 20, 50, 10",
+            "FOLDER_SHARE, OWNER_SHARE, MOST_FOLDERS = 21, 50, 10",
+        ),
+        (
+            LISTING,
+            "FOLDER_SHARE, OWNER_SHARE, MOST_FOLDERS = 20, 50, 10",
+            "FOLDER_SHARE, OWNER_SHARE, MOST_FOLDERS = 20, 99, 10",
+        ),
+        (LISTING, 'self.severity == "high" and change.owner == ROOT', "False"),
+        (
+            LISTING,
+            'self.severity == "high" and change.owner == ROOT',
+            'self.severity == "high" and change.owner in (None, ROOT)',
+        ),
+        (LISTING, "            rest.add(change)\n", "            pass\n"),
+        (ENTRIES, 'self.bits & USER and "uid" in self.places', '"uid" in self.places'),
+        (EXPLAINER, "        change.owner = least_owner(old, new)\n", ""),
+    )
+    + seen_by(
+        "floods.try_flooded_mail",
+        (LISTING, "ROOMS = (200, 100, 100)", "ROOMS = (200, 100, 10000)"),
+        (LISTING, '(("owner", change.owner), OWNER_SHARE)', '(("owner", change.owner), 10**6)'),
+        (LISTING, "sorted(self.counts.items(), key=lambda pair: (-pair[1], pair[0]))", "[]"),
+    )
+    + seen_by(
+        "floods.try_cut_lists",
+        (MESSAGE, 'ORDER = (b"changed", b"removed", b"added")', 'ORDER = (b"added", b"removed", b"changed")'),
+        (MESSAGE, "            self.rest.update([folder] if folder in self.shares else [])\n", ""),
+    )
+    + seen_by(
+        "floods.try_same_content",
+        (SAME, "LEAST_BYTES = 32", "LEAST_BYTES = 16"),
+        (SAME, 'DIFFERS = TIMES | {"inode"}', 'DIFFERS = TIMES | {"inode", "perm"}'),
+        (SAME, 'DIFFERS = TIMES | {"inode"}', 'DIFFERS = {"inode"}'),
+        (SAME, "not differ <= DIFFERS", "differ & {'perm', 'uid', 'gid'}"),
+        (SAME, "not differ or not differ <= DIFFERS", "not differ - {'sha256'} <= DIFFERS"),
+        (SAME, "    if stat.S_ISSOCK(new.mode) or stat.S_ISFIFO(new.mode):\n        return EMPTY\n", ""),
+        (SAME, "stat.S_ISSOCK(new.mode) or stat.S_ISFIFO(new.mode)", "stat.S_ISSOCK(new.mode)"),
+        (SAME, "stat.S_ISSOCK(new.mode) or stat.S_ISFIFO(new.mode)", "not new.is_file()"),
+        (EXPLAINER, "if change.reason is SAME:", "if change.reason:"),
+    )
+)

@@ -1,0 +1,59 @@
+"""Bugs of the administrator's defaults, of root's comparison by hand, and of the unit that says that one failed."""
+from .plant import seen_by
+
+DEFAULTS, HANDING, RUN, MAIL, CHECK, COMPARISON = (
+    "commands/lib/aide_compare/%s.py" % name
+    for name in ("base/defaults", "compare/handing", "commands/run", "commands/mail", "commands/check", "compare/comparison")
+)
+UNIT = "contrib/systemd/aide-compare-failed.service"
+PLANTED = (
+    seen_by(
+        "hands.try_failed_unit",
+        (UNIT, " --unit-failed aide-compare.service", ""),
+        (MAIL, '    return (given.unit_failed, "") if given.unit_failed else None\n', "    return None\n"),
+        (MAIL, '    if result != "success":', "    if False:"),
+        (MAIL, "    if not UNIT.fullmatch(text):\n", "    if not text:\n"),
+        (MAIL, "given.unit_failed and not given.send_queue", "False"),
+    )
+    + seen_by(
+        "hands.try_defaults",
+        (RUN, "given.without or given.no_defaults", "True"),
+        (RUN, "given.without or given.no_defaults", "given.no_defaults"),
+        (RUN, "given.without or given.no_defaults", "given.without"),
+        (RUN, "defaults_for(RUN, arguments[:cut]) + ", ""),
+        (CHECK, "defaults_for(CHECK, arguments) + ", ""),
+        (MAIL, "parsed(added + own, others + words)", "parsed(added + own, words)"),
+        (MAIL, "parsed(added + own, others + words)", "parsed(own, others + words)"),
+        (MAIL, '        if not value_of("--state", words):', "        if False:"),
+        (MAIL, 'without_value("--state", comparison.words)', "comparison.words"),
+        (DEFAULTS, " if name in options]", "]"),
+        (DEFAULTS, '{OFF, "--help"', '{"--help"'),
+    )
+    + seen_by(
+        "hands.try_faulty_defaults",
+        (DEFAULTS, 'lines_of(path, "the defaults")] if path', "[]] if path"),
+        (DEFAULTS, "        os.lstat(path)\n", "        os.stat(path)\n"),
+        (MAIL, "        given = parsed(own, words)\n        say", "        raise\n        say"),
+    )
+    + seen_by(
+        "hands.try_bad_lines",
+        (DEFAULTS, "if name not in ALL:", "if not name:"),
+        (DEFAULTS, "ALL[name] != PERHAPS and ", "ALL[name] == PERHAPS and "),
+        (MAIL, "        given.fault = fault.text\n", ""),
+        (MAIL, "        say(fault.text)\n", ""),
+    )
+    + seen_by(
+        "hands.try_owner",
+        (HANDING, "        become(owner)\n", ""),
+        (HANDING, "        owner = owner_of(baseline)\n", "        owner = None\n"),
+        (HANDING, "            output.is_childs = True\n", "            pass\n"),
+        (RUN, "os.geteuid() == 0 and not given.user", "os.geteuid() == 0"),
+        (RUN, "            output.put()\n", "            pass\n"),
+        (RUN, "        wanted.write_nothing()\n    for", "        pass\n    for"),
+    )
+    + seen_by(
+        "hands.try_lost_child",
+        (HANDING, "        ctypes.CDLL(None).prctl(PR_SET_PDEATHSIG, signal.SIGKILL)\n", ""),
+        (HANDING, "        if status not in KNOWN:\n", "        if False:\n"),
+    )
+)
