@@ -1,0 +1,1 @@
+"""The tests of the whole repository: their parts, how these are counted, and what they cost."""

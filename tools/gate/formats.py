@@ -1,0 +1,42 @@
+"""Whether the sources have the layout that their tools give them."""
+import glob
+import os
+import shutil
+import subprocess
+
+from tools.gate.counting import TOP
+from tools.lib.tally import side_by_side
+from tools.source.checker import kit
+
+
+def crates():
+    """The folders of the crates, each with its files."""
+    for folder in sorted(glob.glob(os.path.join(TOP, "crates", "*"))):
+        files = [
+            os.path.relpath(name, folder)
+            for part in ("src", "specs", "proofs")
+            for ending in ("rt", "antt")
+            for name in glob.glob(os.path.join(folder, part, "**", "*." + ending), recursive=True)
+        ]
+        if files:
+            yield folder, sorted(files)
+
+
+def faults():
+    """What `rt fmt` and black would change, where they are there."""
+    found = []
+    if shutil.which("rt"):
+        words = [os.path.join(kit(), "bin", "rattle"), "fmt", "--check"]
+        for faults in side_by_side(4, lambda crate: said([*words, *crate[1]], crate[0]), crates()):
+            found += faults
+    if shutil.which("black"):
+        found += said(["black", "--quiet", "--check", "commands", "tools", "bench"], TOP)
+    return found
+
+
+def said(words, folder):
+    """What a command says that refuses something."""
+    done = subprocess.run(words, cwd=folder, stdin=subprocess.DEVNULL, stdout=subprocess.PIPE, stderr=subprocess.STDOUT)
+    return (
+        ["%s: %s" % (os.path.relpath(folder, TOP), done.stdout.decode("utf-8", "replace")[-2000:])] if done.returncode else []
+    )

@@ -1,0 +1,67 @@
+"""The parts of the tests: the command of each, how many trials it counts, and whether tools/quick runs it too.
+
+A number is exact where a part tries the same on every machine. Parts with random trials, or with trials that ask for root or
+for a program of the machine, have a least number. A part that counts another number has failed: a table or a list of trials
+has lost rows, or has new ones, whose number belongs here.
+"""
+from collections import namedtuple
+
+Part = namedtuple("Part", "words number is_exact")
+
+PROGRAM = "crates/aide/out/aide"
+IN_MEMORY = "crates/aide_in_memory/out/aide_in_memory"
+
+
+def exactly(number, *words):
+    return Part(words, number, True)
+
+
+def at_least(number, *words):
+    return Part(words, number, False)
+
+
+FILES = [
+    exactly(207, "tools.source.check_edits"),
+    exactly(510, "tools.source.check_docs"),
+    exactly(84, "tools.source.check_layout"),
+    exactly(149, "tools.source.check_layers"),
+    exactly(554, "tools.source.check_tools"),
+    exactly(839, "tools.source.check_planted"),
+    exactly(1804, "tools.wrong_bodies.check"),
+]
+
+
+def proofs():
+    """What needs the toolchain: rt ci, and one wrong body of each crate, judged anew over the libraries that it has proved."""
+    return [at_least(190, "rt", "ci"), exactly(22, "tools.wrong_bodies.sample")]
+
+
+def trials(program, in_memory):
+    """The trials of the built program and of the commands."""
+    return [
+        at_least(2600, "tools.program.end_to_end", program),
+        at_least(3550, "tools.program.try_configurations", program),
+        exactly(341, "tools.program.try_fields", program),
+        at_least(1600, "tools.program.failed_allocations", program, "--in-memory", in_memory),
+        at_least(310, "tools.program.failed_calls", program),
+        at_least(739, "tools.pages.try_manual", program),
+        at_least(1500, "tools.packaging.try_install", program),
+        at_least(2000, "tools.commands.try_tools", program),
+        at_least(900, "tools.commands.try_viewers", program, "--count", "40"),
+        at_least(450, "tools.pages.try_recipes", program),
+        at_least(360, "tools.pages.try_commands", program),
+        exactly(12, "tools.gate.sample", program),
+    ]
+
+
+def quick_trials(program):
+    """Those that take seconds. The others prove something, let each allocation fail, install, or wait for processes."""
+    return [
+        at_least(970, "tools.program.end_to_end", program, "--quick", "--sessions", "50"),
+        exactly(341, "tools.program.try_fields", program),
+        at_least(310, "tools.program.failed_calls", program),
+        at_least(739, "tools.pages.try_manual", program),
+        at_least(900, "tools.commands.try_tools", program, "--quick"),
+        at_least(600, "tools.commands.try_viewers", program, "--count", "20"),
+        at_least(360, "tools.pages.try_commands", program),
+    ]

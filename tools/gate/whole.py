@@ -1,0 +1,61 @@
+"""The tests of the whole repository: the layout of the crates, `rt ci`, then the built program over real files.
+
+The very last line is 'N passed, M failed' of all together; the status is 1 if something failed. What the run cost is kept
+in `out/cost.json`.
+"""
+import os
+import sys
+
+from tools.gate import cost, parts
+from tools.gate.counting import TOP, Count
+from tools.lib.arguments import parser_of
+
+
+def jobs():
+    """How many checks at a time: three for each four processors, with 4 GB of memory for each.
+
+    A check reads its libraries with two threads, so with more checks than that they get in each other's way, and all take
+    more processor time. Without a number `rt ci` counts a gigabyte for each thousand lines of a crate, and runs few checks
+    beside that of a crate of tests.
+    """
+    processors = len(os.sched_getaffinity(0))
+    with open("/proc/meminfo") as file:
+        free = next(int(line.split()[1]) for line in file if line.startswith("MemAvailable:"))
+    return max(1, min(processors - processors // 4, free // 4000000))
+
+
+def prove(count):
+    """What the gate has proved it builds too: those very programs are tried, and none that was there before."""
+    for name in (parts.PROGRAM, parts.IN_MEMORY):
+        if os.path.lexists(os.path.join(TOP, name)):
+            os.remove(os.path.join(TOP, name))
+    os.environ.setdefault("RT_JOBS", str(jobs()))
+    ci, *others = parts.proofs()
+    with cost.Watch() as watch:
+        count.run(ci)
+    for part in others:
+        count.run(part)
+    return watch.crates()
+
+
+def main():
+    parser = parser_of("tools.gate.whole", __doc__)
+    parser.add_argument("--cost", action="store_true", help="run nothing, and print what the last run here cost")
+    if parser.parse_args().cost:
+        print(cost.printed())
+        return 0
+    count = Count()
+    for part in parts.FILES:
+        count.run(part)
+    crates = prove(count)
+    if os.access(os.path.join(TOP, parts.PROGRAM), os.X_OK):
+        for part in parts.trials(parts.PROGRAM, parts.IN_MEMORY):
+            count.run(part)
+    else:
+        count.fail("the program was not built")
+    cost.keep(crates, count.spent)
+    return count.status()
+
+
+if __name__ == "__main__":
+    sys.exit(main())

@@ -1,0 +1,29 @@
+"""Commands that cannot change the machine: for bugs that are planted, whose trials attack what should guard it."""
+import functools
+import os
+import subprocess
+
+# Bound onto themselves and read-only in a mount namespace of the command's own. Trials write below /tmp, /var/tmp and /run.
+FOLDERS = "/boot /etc /home /opt /root /srv /usr /var/lib /var/log /var/mail /var/spool"
+SCRIPT = (
+    "for folder in %s; do [ ! -d $folder ] || { mount --bind $folder $folder && mount -o remount,bind,ro $folder; } || exit 125; done\n"
+    'exec "$@"'
+) % FOLDERS
+PREFIX = ["unshare", "--mount", "--propagation", "private", "sh", "-c", SCRIPT, "sh"]
+
+
+@functools.lru_cache(maxsize=None)
+def prefix():
+    """The words before a command, or none: without root's rights the machine's folders are safe, and some machines refuse."""
+    if os.geteuid() != 0:
+        return []
+    try:
+        done = subprocess.run(PREFIX + ["true"], stdout=subprocess.DEVNULL, stderr=subprocess.DEVNULL)
+    except OSError:
+        return []
+    return PREFIX if done.returncode == 0 else []
+
+
+def apart(words):
+    """The words of a command that runs so."""
+    return prefix() + list(words)
