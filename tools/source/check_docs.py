@@ -8,11 +8,11 @@
 - Each file of a crate's specs/ is reached from the contract of a public call, as tools/source/public_specs.py finds, or
   cited by the laws of the crate, and no file of specs/code/ is.
 - Each clause that docs/LIBRARY.md names for a call is a clause of this call.
-- Each kind of change in CONTRIBUTING.md names all files that have a text of its example, and no others.
+- docs/HEADLINE.md is what tools/source/headline_page.py prints of the definitions.
+- Each text that CONTRIBUTING.md gives for a kind of change stands in a file.
 
 Prints what fails and, at the end, `N passed, M failed`.
 """
-import fnmatch
 import glob
 import os
 import re
@@ -21,14 +21,12 @@ import sys
 
 from tools.lib.arguments import parser_of
 from tools.lib.tally import Tally
-from tools.source import public_specs
+from tools.source import headline_page, public_specs
 
 TOP = public_specs.TOP
 ENDINGS = r"(?:rt|antt|py|md|sh|c|txt|conf|edit|[15])"
 NAMED = re.compile(r"`((?:[\w.-]+/)*[\w.-]+\.%s)`" % ENDINGS)
 BELOW = re.compile(r"`((?:tools|packaging|commands|docs|crates|examples|contrib|man|bench)/[\w./-]*)`")
-
-COPIES = re.compile(r"tools/wrong_bodies/(base|bodies|results)/|docs/WRONG_BODIES\.md$")
 
 
 class Kinds(Tally):
@@ -124,21 +122,13 @@ def check_promised(tally):
 
 
 def check_changes(tally):
-    """Each kind of change in CONTRIBUTING names just the files that have one of the texts of its example: no other file has
-    one, and each file or pattern finds one that has. Wrong bodies copy the text of functions; what is stale there is told by
-    tools/wrong_bodies/check.py."""
+    """Each kind of change in CONTRIBUTING has texts that files of the repository have."""
     page = read("CONTRIBUTING.md")
-    part = page[page.index("## What a change touches") :].split("\n## ")[0]
-    texts = {name: read_text(name) for name in tracked() if name != "CONTRIBUTING.md" and not COPIES.match(name)}
-    for example, rows in re.findall(r"^### .*\((`[^`]+`(?:, `[^`]+`)*)\)\n\n((?:[-|  ].*\n)+)", part, re.M):
-        literals = re.findall(r"`([^`]+)`", example)
-        patterns = [pattern for pattern in re.findall(r"`([^`\s]+)`", rows) if "/" in pattern or pattern.endswith(".md")]
-        having = [name for name, text in texts.items() if any(literal in text for literal in literals)]
-        missed = [name for name in having if not any(fnmatch.fnmatch(name, pattern) for pattern in patterns)]
-        idle = [pattern for pattern in patterns if not any(fnmatch.fnmatch(name, pattern) for name in having)]
-        tally.is_so("kind of change", "a file has %s" % example, having)
-        tally.is_so("kind of change", "%s is also in %s" % (example, " ".join(missed)), not missed)
-        tally.is_so("kind of change", "%s is not in %s" % (example, " ".join(idle)), not idle)
+    part = page[page.index("| Kind of change |") :].split("\n\n")[0]
+    found = [read_text(name) for name in tracked() if name != "CONTRIBUTING.md"]
+    for kind, texts in re.findall(r"^\| ([^|]+) \| (`[^|]+`) \|", part, re.M):
+        for text in re.findall(r"`([^`]+)`", texts):
+            tally.is_so("kind of change", "%s: a file has %s" % (kind, text), any(text in one for one in found))
 
 
 def read_text(name):
@@ -168,10 +158,13 @@ def main():
             text = read(page)
             check_names(page, text, tally)
             check_copies(page, text, tally)
+    tally.is_so("written page", headline_page.PAGE, read_text(headline_page.PAGE) == headline_page.page())
     check_promised(tally)
     check_clauses(tally)
     check_changes(tally)
-    return tally.status_of(["link", "file", "copied code", "place of a definition", "clause", "kind of change"])
+    return tally.status_of(
+        ["link", "file", "copied code", "written page", "place of a definition", "clause", "kind of change"]
+    )
 
 
 if __name__ == "__main__":

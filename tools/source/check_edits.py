@@ -29,7 +29,7 @@ FEWEST_FUNCTIONS = 160
 FEWEST_EDITS = 150
 
 FUNCTION = re.compile(r"^( *)(pub )?(?:pub\([a-z]+\) )?(?:const |unsafe )*fn (\w+)")
-CONSTANT = re.compile(r"^ *(?:pub(?:\([a-z]+\))? )?const (\w+):")
+CONSTANT = re.compile(r"^ *(?:pub(?:\([a-z]+\))? )?(?:const|static) (\w+):")
 IMPL = re.compile(r"^impl(?:<[^>]*(?:<[^>]*>[^>]*)*>)? (?:(\w+)(?:<.*>)? for )?([\w\[&]+)")
 EXPORT = re.compile(r"^pub use ([\w:]+?)::(?:\{([^}]*)\}|(\w+));", re.MULTILINE)
 TRAIT = re.compile(r"^pub trait (\w+)", re.MULTILINE)

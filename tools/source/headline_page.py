@@ -1,0 +1,286 @@
+#!/usr/bin/env python3
+"""Prints docs/HEADLINE.md: the headline, and each definition that it rests on, with the sentence over it.
+
+From the contracts of `aide_headline` this follows each name to its definition, and from there to the definitions that it
+uses, as tools/source/public_specs.py does for all public calls. A definition stands before those that it uses. With --write
+the page is written; tools/source/check_docs.py compares it with the definitions.
+"""
+import os
+import re
+import sys
+import textwrap
+
+from tools.lib.arguments import parser_of
+from tools.source.definitions import TOP, WORD, Definitions, crates, imports_of
+
+PAGE = "docs/HEADLINE.md"
+COMPARE = "crates/aide_headline/src/comparison.rt"
+PROGRAM = "crates/aide_headline/src/program.rt"
+RUN = "crates/aide_report/src/comparison.rt"
+WIDTH = 138
+# Lines of a definition that are no longer than this share a line.
+SHORT = 48
+# What contracts see of a desk, which no clause names by its type.
+DESK = ("aide_db", "DeskView", "DeskView")
+# Where the traits of the devices are, by their names; a site is sources too.
+TRAITS = {
+    "Sources": "crates/aide_db/src/sources.rt",
+    "Site": "crates/aide_db/src/sources.rt",
+    "Sink": "crates/aide_text/src/sink.rt",
+}
+# What a configuration means and what arguments ask for are premises of the second call. Their definitions are not printed.
+PREMISES = [("aide_conf", "ReadResult", "ReadsAs"), ("aide_words", "Job", "job_of")]
+# The words of the toolchain's library that say more than their names do, and of other crates all: what each means.
+MEANINGS = {
+    "Appends": "known bytes have grown by exactly these. If the bytes of a device are not known, it says nothing",
+    "FinMap": "a finite map that is kept in the order of its keys. Two maps with the same entries are equal",
+    "decimal": "a number in decimal digits, without leading zeros",
+    "percent_decode": "each `%` and two hexadecimal digits become the byte that the digits name. All other bytes stay",
+    "standard": "base64 with the alphabet of RFC 4648 that ends with `+/`, with padding",
+    "decoded_of": "the bytes that a base64 text encodes, or nothing if it is no base64. Padding is needed, and unused bits are 0",
+    "encode_of": "the base64 text of bytes",
+    "encode_lower": "bytes in hexadecimal, in small letters",
+    "sha256": "the SHA-256 of bytes, by FIPS 180-4",
+    "Text": "a list of bytes",
+}
+INTRO = """\
+# The headline, and what it rests on
+
+This page is written by `python3 -m tools.source.headline_page --write`. `tools/source/check_docs.py`, a part of the tests, compares it with
+the definitions. It is all that has to be read to know what the headline of the [README](../README.md) says of two databases. How it was proved
+need not be read: the toolchain has checked that. Of the whole program it has all but what arguments and configurations mean.
+
+How to read a definition: its first line has its name, its type and what it means. A text is a list of bytes (`List ℕ`). A type that ends in
+`Type 0` makes the name a kind of data, or a fact about what comes before. `A → B` is a function, and between facts "if A then B". `A × B`
+is a pair, and between facts "both". `A ⊎ B` is "one of the two". `⊥` is never so. `xs ++ ys` joins lists, and `x ∷ xs` puts x before the
+list xs. `codes "text"` is that text. `f x y` is f of x and y, `λ x. y` is the function that gives y for x, and `r.part` is a part of the
+record r. If a definition has several lines, the first that fits counts; `_` fits everything. A `;` is between two lines or parts that share
+a line. A name that two files define, such as `row_of`, is that of the same file or of the part that is spoken of. In the clauses `.old` is
+before the call, `.new` after it, and `.now` is what a reference points to. `S.x`, `W.x` and `E.x` are what contracts see of the sources or
+the site, of the output and of standard error; a table at the end has them.
+"""
+ASKED = """\
+Its premise also says which job the arguments ask for, and that the configuration is accepted with these settings. What that means is not
+printed here:"""
+FILES = "The files of a machine tell contracts no bytes, so no clause above speaks of them. Two clauses of `run` do:"
+WORDS = "All words of other crates, and those of the library that say more than their names do:"
+PLAIN = "The other words of the library mean what their names say: "
+
+
+def read(name):
+    with open(os.path.join(TOP, name), encoding="utf-8") as file:
+        return file.read()
+
+
+def contract_of(text, name):
+    """A public function without its body: the line that names it, its arguments and its clauses."""
+    begin = text.index("pub fn %s<" % name)
+    return text[begin : text.index("\n{\n", begin)]
+
+
+def clauses_of(contract, names):
+    """The clauses of a contract by their names."""
+    parts = re.split(r"\n(?=    (?:ensures|requires|//))", contract)
+    return [part for part in parts if any(part.startswith("    ensures %s {" % name) for name in names)]
+
+
+class Page:
+    """The page, part by part: each definition is printed once."""
+
+    def __init__(self):
+        self.definitions = Definitions(crates())
+        self.lines, self.printed, self.outside = INTRO.split("\n")[:-1], [], []
+
+    def add(self, *lines):
+        self.lines += lines
+
+    def block(self, kind, text):
+        self.add("```" + kind, *(text.split("\n") + ["```"]))
+
+    def part(self, title, text, contract, imports, stops=()):
+        """A heading with a text, and the definitions that a contract needs and that are not on the page yet."""
+        first, named = self.definitions.named_by(WORD.findall(contract), imports)
+        order, outside = self.definitions.reached(first + [DESK] if "desk." in contract else first, stops)
+        self.outside += [each for each in named + outside if each not in self.outside]
+        new = [place for place in order if place not in self.printed]
+        self.printed += new
+        self.add("", "## " + title, "", *text)
+        self.block("text", "\n".join(self.shown(new))[1:])
+
+    def shown(self, places):
+        """Lines with these definitions by file, users first."""
+        files = list(dict.fromkeys(place[:2] for place in places))
+        users = {file: {place[:2] for place in places if self.uses_file(place, file)} for file in files}
+        lines = []
+        for file in users_first(files, users):
+            name = "crates/%s/specs/%s.antt" % (file[0], file[1].replace(".", "/"))
+            lines += [""] + wrapped("==== %s: %s" % (name, self.definitions.files[file].head), "-- ")
+            inside = [place for place in places if place[:2] == file]
+            among = {one: {other for other in inside if one in self.definitions.used_by(other)[0]} for one in inside}
+            for place in users_first(inside, among):
+                lines += shown(self.definitions.definition(place))
+        return lines
+
+    def uses_file(self, place, file):
+        return any(used[:2] == file for used in self.definitions.used_by(place)[0])
+
+
+def users_first(items, users):
+    """Items in an order in which each comes after those that use it; of several the one that was met first."""
+    left, order = list(items), []
+    while left:
+        free = [item for item in left if not (users[item] & set(left)) - {item}]
+        order.append((free or left)[0])
+        left.remove(order[-1])
+    return order
+
+
+def equations(definition):
+    """The lines of a definition in groups: each begins a line of its own, a field or a constructor, and the others go on."""
+    groups = []
+    for line in definition.lines:
+        begins = definition.is_group() and re.match(r"  (?:pub )?[A-Za-z_][\w']* :|  --", line)
+        if groups and line.startswith((" ", "}")) and not begins:
+            groups[-1].append(line)
+        else:
+            groups.append([line])
+    return groups
+
+
+def filled(pieces, indent):
+    """Lines with these pieces, as many in a line as fit, with a `;` between two."""
+    lines = []
+    for piece in pieces:
+        if lines and len(lines[-1]) + 2 + len(piece) <= WIDTH:
+            lines[-1] += "; " + piece
+        else:
+            lines.append(indent + piece)
+    return lines
+
+
+def laid_out(group):
+    """A part of a definition: in one line if it fits; the parts of a record as many in a line as fit; otherwise as it is."""
+    joined = " ".join([group[0]] + [line.strip() for line in group[1:]])
+    if len(joined) <= WIDTH:
+        return [joined]
+    if group[0].endswith("record {") and group[-1].strip() == "}":
+        parts = re.split(r"; (?=\w+ =)", " ".join(line.strip() for line in group[1:-1]).rstrip(";"))
+        return [group[0]] + filled(parts, "  ") + ["}"]
+    return group
+
+
+def shown(definition):
+    """The lines of a definition; a short sentence is in its first line."""
+    groups = equations(definition)
+    lines = [line for group in groups for line in laid_out(group)]
+    lines = [re.sub(r"^( *)(?:(?:abbrev|unfoldable|pub) )+", r"\1", line) for line in lines]
+    rest, indent = [line.strip() for line in lines[1:]], "  " if definition.is_group() else ""
+    are_short = indent and len("; ".join(rest)) <= WIDTH or all(len(line) <= SHORT for line in rest)
+    if are_short and not any("--" in line for line in rest):
+        lines[1:] = filled(rest, indent)
+    if len(lines[0]) + 4 + len(definition.sentence) <= WIDTH:
+        return [lines[0] + "  -- " + definition.sentence] + lines[1:]
+    return wrapped(definition.sentence, "-- ") + lines
+
+
+def wrapped(text, front):
+    return [front + line for line in textwrap.wrap(text, WIDTH - len(front), break_on_hyphens=False)]
+
+
+def members_of(contracts):
+    """A table of what contracts see of devices: the ghost members that these name, as `S.failures`, by their traits."""
+    found = []
+    for contract in contracts:
+        bounds = dict(re.findall(r"\b([A-Z]): (\w+)", contract.split("(")[0]))
+        for letter, name in re.findall(r"\b([A-Z])\.(\w+)", contract):
+            row = TRAITS[bounds[letter]], name
+            found += [row] if row not in found else []
+    lines = ["| Member | Is | File |", "|---|---|---|"]
+    for file, name in found:
+        above = re.search(r"((?: +/// .*\n)+) +ghost %s:" % name, read(file)).group(1)
+        lines.append("| `%s` | %s | `%s` |" % (name, " ".join(above.replace("/// ", "").split()).rstrip("."), file))
+    return lines
+
+
+def type_of(target):
+    """The type of the code that a name is of: its crate, the path of its module, its name."""
+    parts = [part for part in target[1].split(".")[1:] if part not in ("TheConstants", "TheVariants")]
+    modules = [part for part in parts if part[0].islower()]
+    return target[0], "/".join(modules), [part for part in parts if not part[0].islower()][0]
+
+
+def types_of(outside):
+    """A table of the types of the code that definitions name."""
+    own = crates()
+    found = sorted({type_of(each) for each in outside if each[1].startswith("declared.") and each[0] in own})
+    lines = ["| Type | Is | File |", "|---|---|---|"]
+    for crate, module, name in found:
+        file = "crates/%s/src/%s.rt" % (crate, module)
+        above = re.search(r"((?:/// .*\n)+)(?:#\[.*\]\n)*pub (?:struct|enum|trait) %s\b" % name, read(file))
+        words = " ".join(above.group(1).replace("/// ", "").split()) if above else ""
+        lines.append("| `%s` | %s | `%s` |" % (name, words.split(". ")[0].rstrip("."), file))
+    return lines
+
+
+def library_words(outside):
+    """The words of the library: a table of those that need trust, and a list of the others. Another crate's word without a
+    meaning in the table ends the program."""
+    own = crates()
+    of_library = [each for each in outside if each[0] not in own]
+    names = {name for _, _, name in of_library}
+    untold = [each for each in of_library if each[0] != "std" and each[2] not in MEANINGS]
+    if untold or set(MEANINGS) - names:
+        sys.exit("MEANINGS has to have %s, and not %s" % (untold, sorted(set(MEANINGS) - names)))
+    lines = ["| Word | From | Means |", "|---|---|---|"]
+    for name, means in MEANINGS.items():
+        crate, file = [each[:2] for each in of_library if each[2] == name][0]
+        lines.append("| `%s` | `%s`, `%s` | %s |" % (name, crate, file, means))
+    plain = sorted({name for _, file, name in of_library if name not in MEANINGS and "declared" not in file})
+    return lines, ", ".join("`%s`" % name for name in plain)
+
+
+def premises(definitions):
+    """What the premises of the second call are, in lines of a list."""
+    lines = [ASKED, ""]
+    for place in PREMISES:
+        order = definitions.reached([place])[0]
+        count = sum(len(definitions.definition(each).lines) for each in order)
+        files = len({each[:2] for each in order})
+        lines.append("- `%s` of `crates/%s/specs/%s.antt`: " % (place[2], place[0], place[1]))
+        lines[-1] += "%d definitions, %d lines, in %d files" % (len(order), count, files)
+    return lines + [""]
+
+
+def page():
+    """The text of the page."""
+    made, run = Page(), read(RUN)
+    compare, program = contract_of(read(COMPARE), "compare_databases"), contract_of(read(PROGRAM), "run_program")
+    told = "\n".join(clauses_of(contract_of(run, "run"), ["consistent", "opens_told"]))
+    made.add("", "## The clauses", "", "Two databases (`%s`):" % COMPARE, "")
+    made.block("rust", compare)
+    made.add("", "The whole program, by arguments and files (`%s`):" % PROGRAM, "")
+    made.block("rust", program)
+    made.part("What the first call rests on", [], compare, imports_of(read(COMPARE)))
+    made.part("What the second call has besides", premises(made.definitions), program, imports_of(read(PROGRAM)), PREMISES)
+    made.part("Only for files that tell no bytes", [FILES, "", "```rust", told, "```", ""], told, imports_of(run))
+    made.add("", "## What contracts see of the sources, the site and the sinks", "", *members_of([compare, program]))
+    made.add("", "## Types of the code", "", *types_of(made.outside))
+    table, plain = library_words(made.outside)
+    made.add("", "## Words of the toolchain's library", "", WORDS, "", *table, "", *wrapped(PLAIN + plain + ".", ""))
+    return "\n".join(made.lines) + "\n"
+
+
+def main():
+    parser = parser_of("tools.source.headline_page", __doc__)
+    parser.add_argument("--write", action="store_true", help="write " + PAGE)
+    arguments = parser.parse_args()
+    if arguments.write:
+        with open(os.path.join(TOP, PAGE), "w", encoding="utf-8") as file:
+            file.write(page())
+    else:
+        sys.stdout.write(page())
+    return 0
+
+
+if __name__ == "__main__":
+    sys.exit(main())
