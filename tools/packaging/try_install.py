@@ -30,6 +30,7 @@ PARTS = [
     texts.try_units,
     texts.try_cron,
     texts.try_version,
+    texts.try_unproved,
     completions.try_files,
     completions.try_bash,
     completions.try_zsh,

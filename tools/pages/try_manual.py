@@ -31,6 +31,8 @@ OTHER_PAGES = [
     "man1/getfacl.1",
     "man1/gpgv.1",
     "man1/ls.1",
+    "man8/aideinit.8",
+    "man8/cron.8",
     "man8/getcap.8",
     "man8/rpm.8",
     "man8/rpmbuild.8",

@@ -56,14 +56,14 @@ def try_code(trial):
         return
     source, prefix = trial.copy("coded"), trial.path("code")
     modules = os.path.join(source, "commands/lib/aide_compare")
-    os.rename(os.path.join(modules, "weekly.py"), trial.path("weekly.py"))
+    os.rename(os.path.join(modules, "mail/weekly.py"), trial.path("weekly.py"))
     # Its text is edited when it is installed.
-    trial.write("coded/commands/lib/aide_compare/former.py", "TABLE = '/usr/local/share/aide-compare/severity.conf'\n")
+    trial.write("coded/commands/lib/aide_compare/show/former.py", "TABLE = '/usr/local/share/aide-compare/severity.conf'\n")
     install(trial, "a first time", source, prefix)
     for change in ("nothing", "two modules"):
         if change == "two modules":
-            os.remove(os.path.join(modules, "former.py"))
-            os.rename(trial.path("weekly.py"), os.path.join(modules, "weekly.py"))
+            os.remove(os.path.join(modules, "show/former.py"))
+            os.rename(trial.path("weekly.py"), os.path.join(modules, "mail/weekly.py"))
         install(trial, "again, with %s changed" % change, source, prefix)
     tree_of = os.path.join(source, "examples/small_tree")
     words = [tree_of + "/old.db", tree_of + "/new.db"]
@@ -71,7 +71,10 @@ def try_code(trial):
     loaded = re.findall(r"^# code object from '?(\S*?)'?$", done[2], re.M)
     own = [path for path in loaded if "/aide_compare/" in path]
     trial.holds("the tools start from byte code", len(own) > 10 and all(path.endswith(".pyc") for path in own), own)
-    more = [path for path in own if "/reasons/" in path or "/explaining." in path]
+    options = ("/__init__.", "/evidence_options.")
+    more = [
+        path for path in own if "/explaining." in path or "/reasons/" in path and not any(name in path for name in options)
+    ]
     trial.holds("without --reasons nothing is loaded that looks for reasons", not more, more)
     done = trial.install("--prefix", prefix, "--uninstall", source=source)
     trial.holds("byte code is removed with the modules", done[0] == 0 and not os.path.exists(prefix), done)

@@ -35,8 +35,6 @@ KNOWN = [
 ]
 FOLDERS = {
     "commands/bin": "bin",
-    "commands/lib/aide_compare": "lib/aide-compare/python/aide_compare",
-    "commands/lib/aide_compare/reasons": "lib/aide-compare/python/aide_compare/reasons",
     "commands/share": "share/aide-compare",
     "commands/nagios": "lib/nagios/plugins",
     "commands/fleet": "lib/aide-compare/fleet",
@@ -48,10 +46,16 @@ FOLDERS = {
     "examples/small_tree": DOCUMENTS + "/examples/small_tree",
 }
 
+FOR_USERS = ("DIFFERENCES.md", "PROVED.md", "RECIPES.md")
+
 
 def target_of(path):
     """Where a file of the repository is installed, below the prefix; nothing if it is not."""
     folder, name = os.path.split(path)
+    if folder == "docs" and name.endswith(".md") and name not in FOR_USERS:
+        return None
+    if folder.startswith("commands/lib/"):
+        return "lib/aide-compare/python/" + path[len("commands/lib/") :]
     if folder in FOLDERS:
         return FOLDERS[folder] + "/" + name
     if folder == "man":

@@ -47,7 +47,8 @@ def try_pages(trial):
         trial.skip("what man warns of: it is not installed")
     commands = [path for path in tree(trial.path("first/usr/local")) if re.match(r"(bin|lib/nagios/plugins)/.", path)]
     for path in sorted(commands):
-        trial.holds("a manual page of " + path, "share/man/man1/%s.1" % os.path.basename(path) in pages)
+        names = ["share/man/man%d/%s.%d" % (section, os.path.basename(path), section) for section in (1, 8)]
+        trial.holds("a manual page of " + path, any(name in pages for name in names))
     for path, text in pages.items():
         trial.holds("the version in " + path, ("\n.Os aide-compare %s\n" % trial.version) in text)
         trial.holds("no path of the repository in " + path, not SOURCE_PATH.search(text), SOURCE_PATH.findall(text))
@@ -179,3 +180,16 @@ def try_version(trial):
             found = re.findall(r"aide-compare[_-]\d[\w.-]*?(?:-x86_64|_amd64)", file.read())
         wanted = ["aide-compare-%s-x86_64" % trial.version, "aide-compare_%s-1_amd64" % trial.version]
         trial.holds("the packages that %s names" % name, all(one in wanted for one in found), found)
+
+
+def try_unproved(trial):
+    """A program that is not proved, by its name, marks the version of each command, and is never packed."""
+    program = shutil.copy(trial.program, trial.path("aide-unproved"))
+    done = trial.install("--destdir", trial.path("unproved"), "--program", program)
+    trial.holds("an unproved program is installed", done[0] == 0, done)
+    done = trial.run([trial.path("unproved/usr/local/bin/aide-compare-run"), "--version"])
+    trial.holds("the version says so", done[:2] == (0, "aide-compare-run %s, unproved\n" % trial.version), done)
+    script = os.path.join(trial.source, "packaging", "make_package")
+    done = trial.run(["sh", script, "--output", trial.path("packed"), "--program", program])
+    trial.holds("it is not packed", done[0] == 1 and "is not proved" in done[2], done)
+    trial.holds("nothing is packed", not os.path.exists(trial.path("packed")))

@@ -28,7 +28,7 @@ def source(page):
     name = os.path.basename(page).rpartition(".")[0]
     files = [glob.glob(os.path.join(HERE, "commands", folder, name)) for folder in ("bin", "nagios", "fleet")]
     if any("aide_compare" in read(os.path.relpath(path, HERE)) for some in files for path in some):
-        files.append(glob.glob(os.path.join(HERE, "commands/lib/aide_compare/*.py")))
+        files.append(glob.glob(os.path.join(HERE, "commands/lib/aide_compare/*/*.py")))
     return "".join(JOINT.sub("", PROSE.sub("", read(os.path.relpath(path, HERE)))) for some in files for path in some)
 
 

@@ -112,6 +112,13 @@ ROWS = [
     ),
     Commands(
         "man/aide-compare-accept.1",
+        "Accept all changes but one, and keep the question open why /etc/hosts.deny is new:",
+        [0],
+        expectations.prints("/var/lib/aide/aide.db.new is the baseline now, but for what stays open: "),
+        prepare=expectations.put_examples,
+    ),
+    Commands(
+        "man/aide-compare-accept.1",
         "Keep the records of packages for a baseline that aideinit has made:",
         [0],
         expectations.prints("packages: dpkg's records of now are kept as "),
@@ -299,6 +306,10 @@ ROWS = [
         README, "From source, with ...", "it builds, and installs for the whole machine", "tools/packaging/try_install.py"
     ),
     Elsewhere(README, "This runs the program before anything is proved ...", "this script is a part of it", "tools/test"),
+    Elsewhere(
+        RUN, "A line that means programs too begins with a reason:", "it is no command", "tools/commands/trials/without.py"
+    ),
+    Elsewhere(RUN, "/etc/aide-compare/defaults has options ...", "it is no command", "tools/commands/trials/hands.py"),
 ]
 ROWS += [
     Elsewhere(MAIN, "Cm %s ..." % level, "a report, which is compared level for level", "tools/pages/try_manual.py")

@@ -19,6 +19,16 @@ SUMMARY = (
 AIDE = "/var/lib/aide/aide.db"
 STORE = "/var/lib/aide-compare"
 STATE = STORE + "/daily/state"
+# Folders that are empty before each display. What one leaves in them would be read by the next one.
+FRESH = (
+    "/tmp",
+    "/root",
+    "/srv/aide",
+    "/etc/aide-compare",
+    "/var/lib/aide",
+    STORE,
+    "/var/lib/prometheus/node-exporter",
+)
 # The commands of other programs that the pages name, in the place of the real ones.
 SSH = """\
 while [ "${1#-}" != "$1" ]; do [ "$1" = -o ] && shift; shift; done
@@ -57,7 +67,7 @@ class Sandbox:
 
     def fill(self, old=OLD, new=NEW):
         """Writes every database and configuration that a page names, as if no command had run before."""
-        for folder in ("/tmp", "/root", "/srv/aide", "/var/lib/aide", STORE, "/var/lib/prometheus/node-exporter"):
+        for folder in FRESH:
             shutil.rmtree(self.path(folder), ignore_errors=True)
             os.makedirs(self.path(folder), 0o700)
         for name, text in (("old", old), ("new", new)):

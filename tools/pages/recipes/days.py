@@ -6,7 +6,7 @@ import shutil
 import time
 
 from .hosts import HOSTS, STORE, digest_in, lines_of, put_stub
-from .said import digest_of, introduction
+from .said import introduction
 from .trial import FLEET, NOBODY
 from .watched import PASSED_OVER, STORED, Watched
 
@@ -178,7 +178,8 @@ def play(trial, page, watched):
     trial.holds("first: folder and databases are given to the user of the timer", taken(trial, "owners") == given)
     page.prints("first", done[1])
     # The days that follow are those of the unit as it is installed.
-    shutil.rmtree(trial.path("/etc/systemd/system/aide-compare.service.d"))
+    for name in ("defaults", "without"):
+        os.remove(trial.path("/etc/aide-compare/" + name))
     done = page.run("at once")
     trial.holds("at once", done[0] == 0 and done[2] == trial.below(PASSED_OVER), done)
     page.prints("at once", done[1])
@@ -231,6 +232,10 @@ def accept(trial, page, counts, yesterday, today):
     ):
         done = accept_by(trial, page, digest)
         trial.holds(name + " is refused", done[0] == 24 and open(baseline, "rb").read() == before, done)
+    partly = trial.below(page.text("accept partly")).replace("DIGEST", digest_in_mail(trial, page, today))
+    done = trial.shell(partly)
+    refused = done[0] == 24 and "nothing that differs is kept open" in done[2]
+    trial.holds("no change is below the folder that stays open", refused and open(baseline, "rb").read() == before, done)
     done = accept_by(trial, page, digest_in_mail(trial, page, today)[:16])
     same = open(baseline, "rb").read() == open(new, "rb").read()
     trial.holds("the first 16 digits of today's mail are enough", done[0] == 0 and same, done)

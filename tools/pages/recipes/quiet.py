@@ -12,7 +12,7 @@ from .said import introduction, left_out
 from .trial import NOBODY
 
 WITHOUT = "/usr/local/share/doc/aide-compare/examples/aide/debian.without"
-DROP_IN = "/etc/systemd/system/aide-compare.service.d"
+OF_ALL = ("/etc/aide-compare/defaults", "/etc/aide-compare/without")
 # A night in which only logs, a cache and AIDE's own database have changed, and the same night with an intruder.
 LOGS = ["/var/log/auth.log", "/var/log/kern.log", "/var/log/syslog"]
 OLD = dict.fromkeys(["/etc/passwd", "/var/cache/man/da", "/var/cache/man/de", "/var/lib/aide/aide.db"] + LOGS, 1)
@@ -85,15 +85,12 @@ def try_timer(trial, page):
     trial.holds("the timer as installed mails a night of logs", ": 7 unexplained of 7 changes" in mail, mail)
     done = page.run("quiet timer")
     trial.holds("quiet timer", done == (0, "", ""), done)
-    text = trial.read(DROP_IN + "/local.conf")
-    trial.holds("quiet timer: the command is replaced, not added", "[Service]\nExecStart=\nExecStart=/" in text, text)
     try_job(trial, "timer", unit_commands(trial))
 
 
 def try_cron(trial, page):
     page.run("cron daily")
-    done = page.run("quiet cron")
-    trial.holds("quiet cron", done == (0, "", ""), done)
+    page.run("quiet timer")
     try_job(trial, "cron", [crons_command(trial)])
 
 
@@ -169,7 +166,8 @@ def try_owner(trial, page):
 
 # A night in which openssl is upgraded, and another one with an intruder.
 FILES = ("/usr/bin/openssl", "/usr/lib/ssl.so")
-COLUMNS = "@@begin_db\n@@db_spec name attr perm uid gid size md5\n"
+COLUMNS = "@@begin_db\n@@db_spec name attr perm uid gid size md5 sha256\n"
+RECORDS = ["/var/lib/dpkg/" + name for name in ("diversions", "info/openssl.list", "info/openssl.md5sums", "status")]
 
 
 def sums_of(texts):
@@ -177,10 +175,12 @@ def sums_of(texts):
 
 
 def put_night(trial, name, texts):
-    """A database of files with these texts, which root owns."""
+    """A database of files with these texts, which root owns, and of dpkg's records as they are, for which it vouches."""
     lines = [
-        "%s 4156 100755 0 0 1 %s\n" % (path, base64.b64encode(sum.digest()).decode()) for path, sum in sums_of(texts).items()
+        "%s 4156 100755 0 0 1 %s 0\n" % (path, base64.b64encode(sum.digest()).decode()) for path, sum in sums_of(texts).items()
     ]
+    sums = ((path, hashlib.sha256(trial.read(path).encode()).digest()) for path in RECORDS)
+    lines += ["%s 28 100644 0 0 1 0 %s\n" % (trial.path(path), base64.b64encode(digest).decode()) for path, digest in sums]
     trial.write(name, gzip.compress((COLUMNS + "".join(sorted(lines)) + "@@end_db\n").encode()), 0o600)
 
 
@@ -202,16 +202,23 @@ def try_upgrade(trial, page):
     trial.holds("a quiet night", is_sign_of_life(mails_of(trial, unit_commands(trial))))
     put_packages(trial, "3.0.17-1", {path: sum.hexdigest() for path, sum in sums_of(after).items() if path in FILES})
     put_night(trial, NEWEST, after)
-    trial.holds("a night of an upgrade", is_sign_of_life(mails_of(trial, unit_commands(trial))))
+    mail = mails_of(trial, unit_commands(trial)) or ""
+    trial.holds(
+        "a night of an upgrade: a mail of the records that dpkg has written", ": 2 not verified of 5 changes" in mail, mail
+    )
     state = trial.read(STATE)
-    trial.holds("the state of an upgrade", "\nexplained=2\n" in state and "\nunexplained=0\n" in state, state)
+    trial.holds("the state of an upgrade", "\nexplained=3\n" in state and "\nunexplained=0\n" in state, state)
     put_night(trial, NEWEST, {**after, "/usr/bin/ls": "with a back door"})
     mail = mails_of(trial, unit_commands(trial)) or ""
     subject, _, text = mail.partition("\n\n")
-    trial.holds("the subject after an intruder", ": 1 unexplained of 3 changes, 1 high\n" in subject + "\n", mail)
+    trial.holds(
+        "the subject after an intruder",
+        ": 1 unexplained, 2 not verified of 6 changes, 1 high, 2 medium\n" in subject + "\n",
+        mail,
+    )
     page.prints("first mail", text)
     done = page.run("reasons")
-    trial.holds("reasons", done[0] == 4 and "1 unexplained of 3 changes" in done[2], done)
+    trial.holds("reasons", done[0] == 4 and "1 unexplained, 2 not verified of 6 changes" in done[2], done)
     page.prints("reasons", done[1])
     taken(trial, "owners")
 
@@ -237,5 +244,7 @@ def try_quiet(trial, page, with_packages):
     trial.write("/etc/aide/aide.conf", "".join("%s=file:%s\n" % (key, trial.path(name)) for key, name in names))
     for part in (try_timer, try_cron, try_own_files, try_owner, try_one_mail, try_upgrade, try_lines):
         part(trial, page)
-        shutil.rmtree(trial.path(DROP_IN), ignore_errors=True)
+        for name in OF_ALL:
+            if os.path.exists(trial.path(name)):
+                os.remove(trial.path(name))
     try_command(trial, page)
