@@ -88,9 +88,10 @@ BITS = {77: "", 138: "4095", 165: "112744996797", 259: "112744996797"}
 class Pair:
     """How two databases differ, and the number of lists and details that their report has."""
 
-    def __init__(self, changed=0, added=0, alone=0, upgraded=0, more_columns=(), sections=2):
-        """One entry in so many is changed, is only in the new database, is on one side only, or has new times."""
-        self.changed, self.added, self.alone, self.upgraded = changed, added, alone, upgraded
+    def __init__(self, changed=0, added=0, removed=0, alone=0, upgraded=0, more_columns=(), sections=2):
+        """One entry in so many is changed, is only in the new database, is only in the old one, is on one side only, or
+        has new times."""
+        self.changed, self.added, self.removed, self.alone, self.upgraded = changed, added, removed, alone, upgraded
         self.more_columns, self.sections = list(more_columns), sections
 
     def openings(self, level):
@@ -98,7 +99,7 @@ class Pair:
         return 2 if level == "minimal" else 2 + self.sections
 
     def has(self, number, is_new):
-        if self.added and number % self.added == 0 and not is_new:
+        if is_one_of(self.removed if is_new else self.added, number):
             return False
         return not self.alone or number % self.alone != (77 if is_new else 78)
 
@@ -114,6 +115,7 @@ PAIRS = {
     "none changed": Pair(sections=0),
     "10 % added": Pair(added=10),
     "100 % added": Pair(added=1),
+    "100 % removed": Pair(removed=1),
     "a column more": Pair(more_columns=["capabilities"], sections=0),
     "an upgrade": Pair(upgraded=10),
 }

@@ -5,8 +5,9 @@ It makes pairs of databases that differ in one way each and prints a table in Ma
 is one reading of both databases: the report at `minimal` takes two, and every other report one more for each list of
 entries and one for the details. `sha256sum` reads both databases as often as the program opens them.
 
-With --instructions, valgrind's callgrind counts the instructions of the program and of `sha256sum`. The counts are the
-same in every run, and the rows are ordered by their ratio. Without it they are ordered by the ratio of times.
+With --instructions, valgrind's cachegrind counts the instructions of the program and of `sha256sum`. The counts are the
+same in every run, and the rows are ordered by their ratio. Without it they are ordered by the ratio of times. With --counts
+they are all that is measured but for the greatest memory, so the table is the same beside any other work.
 
 To measure times, the program and `sha256sum` run at the same time on one processor, again and again for some seconds. The
 system switches between them every few milliseconds. So a change of the machine's speed affects both, and the ratio of their
@@ -31,15 +32,16 @@ from databases import PAIRS, write_pair
 DEFAULT, WHOLE = "changed_attributes", "added_removed_entries"
 # The pairs with the lengths of their lines, in bytes, and the levels at which they are compared.
 CASES = [
-    ("none changed", (77,), ("minimal", DEFAULT)),
+    ("none changed", (77, 138), ("minimal", DEFAULT)),
     ("0.1 % changed", (165, 259), ("minimal", DEFAULT)),
     ("a few of each", (165, 259), (DEFAULT, WHOLE)),
     ("1 % changed", (165,), ("minimal", DEFAULT)),
-    ("10 % changed", (77, 165, 259), ("minimal", DEFAULT)),
+    ("10 % changed", (77, 138, 165, 259), ("minimal", DEFAULT)),
     ("100 % changed", (77, 138, 165, 259), ("minimal", DEFAULT)),
-    ("10 % added", (259,), (WHOLE,)),
-    ("100 % added", (77, 259), (WHOLE,)),
-    ("a column more", (165,), ("minimal", DEFAULT)),
+    ("10 % added", (165, 259), (WHOLE,)),
+    ("100 % added", (77, 138, 165, 259), (WHOLE,)),
+    ("100 % removed", (77, 138, 165, 259), (WHOLE,)),
+    ("a column more", (77, 165, 259), ("minimal", DEFAULT)),
     ("an upgrade", (165, 259), ("minimal", DEFAULT)),
 ]
 # The pairs that are measured with more entries too, and those that AIDE compares.
@@ -134,9 +136,9 @@ def least_seconds(words, runs):
 
 
 def instructions_of(words):
-    """How many instructions a command takes, as callgrind counts them."""
+    """How many instructions a command takes, as cachegrind counts them."""
     done = subprocess.run(
-        ["valgrind", "--tool=callgrind", "--callgrind-out-file=/dev/null"] + words,
+        ["valgrind", "--tool=cachegrind", "--cache-sim=no", "--cachegrind-out-file=/dev/null"] + words,
         stdin=subprocess.DEVNULL,
         stdout=subprocess.DEVNULL,
         stderr=subprocess.PIPE,
@@ -173,6 +175,7 @@ class Row:
         self.name, self.form, self.entries, self.level = name, form, entries, level
         self.openings = PAIRS[name].openings(level)
         self.instructions = self.hashed = self.aide = self.alone = None
+        self.runs, self.ratios = [], []
 
     def measure(self, given, folder):
         program = compare(given.program, folder, self.level)
@@ -180,6 +183,9 @@ class Row:
         if given.instructions:
             self.instructions, self.hashed = instructions_of(program), instructions_of(hashes)
         self.written = written_by(program)
+        if given.counts:
+            self.memory = run_at_once(program)[0].memory
+            return
         self.runs = run_often(given, program, hashes)
         self.seconds = min(run[0].seconds for run in self.runs)
         self.ratios = statistics.quantiles((run[0].seconds / run[1].seconds for run in self.runs), n=4)
@@ -194,7 +200,7 @@ class Row:
         return self.instructions / self.hashed if self.instructions else self.ratios[1]
 
     def cells(self):
-        counted = self.instructions is not None
+        counted, timed = self.instructions is not None, bool(self.runs)
         return [
             self.name,
             self.form,
@@ -203,13 +209,13 @@ class Row:
             self.openings,
             "%.1f" % (self.instructions / 1e6) if counted else "",
             "%.2f" % (self.instructions / self.hashed) if counted else "",
-            "%.3f" % self.seconds,
-            "%.2f" % self.ratios[1],
-            "%.2f to %.2f" % (self.ratios[0], self.ratios[2]),
-            len(self.runs),
+            "%.3f" % self.seconds if timed else "",
+            "%.2f" % self.ratios[1] if timed else "",
+            "%.2f to %.2f" % (self.ratios[0], self.ratios[2]) if timed else "",
+            len(self.runs) if timed else "",
             "%.1f" % (self.written / 1e6),
-            "%.0f" % (self.written / 1e6 / self.seconds),
-            "%.0f" % (self.written / 1e6 / self.unhashed) if self.unhashed > 0 else "",
+            "%.0f" % (self.written / 1e6 / self.seconds) if timed else "",
+            "%.0f" % (self.written / 1e6 / self.unhashed) if timed and self.unhashed > 0 else "",
             "%.2f" % self.aide if self.aide else "",
             "%.0f" % (self.aide / self.alone) if self.aide else "",
             "%.1f" % (self.memory / 1024),
@@ -250,6 +256,15 @@ def output_of(*words):
         return "not installed"
 
 
+def print_table(rows):
+    """Prints the rows in Markdown, without the columns that have nothing in any row."""
+    cells = [[str(cell) for cell in row.cells()] for row in rows]
+    filled = [index for index in range(len(HEADINGS)) if any(row[index] for row in cells)]
+    print("| %s |\n|%s" % (" | ".join(HEADINGS[index] for index in filled), "---|" * len(filled)))
+    for row in cells:
+        print("| %s |" % " | ".join(row[index] for index in filled))
+
+
 def print_head(program):
     print(
         "Measured on %s: %s, %d processors, %s."
@@ -264,7 +279,6 @@ def print_head(program):
             output_of("aide", "--version"),
         )
     )
-    print("| %s |\n|%s" % (" | ".join(HEADINGS), "---|" * len(HEADINGS)), flush=True)
 
 
 def main():
@@ -275,16 +289,17 @@ def main():
     parser.add_argument("--seconds", type=float, default=5, help="how long each row of the program is measured")
     parser.add_argument("--least-runs", type=int, default=3, help="how often each row is measured at least")
     parser.add_argument("--instructions", action="store_true", help="count instructions by valgrind")
+    parser.add_argument("--counts", action="store_true", help="count instructions, and measure no times")
     parser.add_argument("--aide-up-to", type=int, default=100000, help="the greatest number of entries that AIDE gets")
     parser.add_argument("--folder", help="where the databases are made")
     given = parser.parse_args()
     given.program = os.path.abspath(given.program)
+    given.instructions = given.instructions or given.counts
     if given.instructions and not shutil.which("valgrind"):
-        parser.error("--instructions needs valgrind")
+        parser.error("--instructions and --counts need valgrind")
     rows = sorted(all_rows(given), key=Row.badness, reverse=True)
     print_head(given.program)
-    for row in rows:
-        print("| %s |" % " | ".join(map(str, row.cells())))
+    print_table(rows)
 
 
 if __name__ == "__main__":
