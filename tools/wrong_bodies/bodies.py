@@ -10,7 +10,8 @@ A list has a block for each body, and a blank line between two blocks:
 
 `file`, `old` and `new` mean what they mean in a must-fail edit: each `old` is on one line and stands once in its file,
 and a further pair applies to what the earlier ones made. A line `in: FUNCTION`, or `in: TYPE::FUNCTION`, asks for texts
-that stand once in that function.
+that stand once in that function. A block without `file` has that of the block before it, and without `in` that one's
+function too; a `file` ends the `in` of the blocks before.
 
 A body may stand in the place of all that its function has, and call the function itself:
 
@@ -63,7 +64,9 @@ class Body:
 def take_line(body, word, rest, state):
     """Takes a line of a block or of an edit."""
     if word == "file":
-        state["file"] = body.file = rest.strip()
+        state["file"], state["in"] = rest.strip(), ""
+    elif word == "in":
+        state["in"] = rest.strip()
     elif word == "old":
         state["old"] = rest
     elif word == "new":
@@ -72,8 +75,9 @@ def take_line(body, word, rest, state):
         body.pairs.append((state["file"], state.pop("old"), rest))
     elif word == "whole":
         body.whole.append(rest)
-    else:
-        setattr(body, "within" if word == "in" else word, rest.strip())
+    elif word != "body":
+        setattr(body, word, rest.strip())
+    body.file, body.within = state.get("file", ""), state.get("in", "")
 
 
 def read_list(crate, path):
@@ -81,7 +85,7 @@ def read_list(crate, path):
     found, body, state = [], None, {}
     for number, line in enumerate(path.read_text(encoding="utf-8").splitlines(), 1):
         if not line.strip():
-            body, state = None, {}
+            body = None
             continue
         place = f"{path.relative_to(ROOT)}:{number}"
         word, colon, rest = line.partition(":")
@@ -91,16 +95,37 @@ def read_list(crate, path):
         if word == "body":
             body = Body(crate, rest.strip(), place)
             found.append(body)
-        else:
-            take_line(body, word, rest, state)
+            state.pop("old", None)
+        take_line(body, word, rest, state)
     for body in found:
-        if not body.why or bool(body.pairs) == bool(body.whole):
+        if not body.why or not body.file or bool(body.pairs) == bool(body.whole):
             raise ListError(f"{body.place}: `{body.name}` needs a `why`, a `file`, and an `old` with its `new` or a `whole`")
         if body.whole and not body.within:
             raise ListError(f"{body.place}: `{body.name}`: a `whole` needs an `in`")
         if body.right and body.test:
             raise ListError(f"{body.place}: `{body.name}` is either right or seen by a test")
     return found
+
+
+def printed(found):
+    """A list of these bodies, those of a file and of a function together."""
+    blocks, last = [], ("", "")
+    files = list(dict.fromkeys(body.file for body in found))
+    places = list(dict.fromkeys((body.file, body.within) for body in found))
+    for body in sorted(found, key=lambda body: (files.index(body.file), places.index((body.file, body.within)))):
+        lines, place = [("body", body.name), ("why", body.why)], (body.file, body.within)
+        if body.file != last[0] or (last[1] and not body.within):
+            lines.append(("file", body.file))
+            last = (body.file, "")
+        if place != last:
+            lines.append(("in", body.within))
+        for _, old, new in body.pairs:
+            lines += [("old", old), ("new", new)]
+        lines += [("whole", line) for line in body.whole]
+        lines += [(word, getattr(body, word)) for word in ("right", "test", "differs") if getattr(body, word)]
+        blocks.append("".join(f"{word}: {text}".rstrip() + "\n" for word, text in lines))
+        last = place
+    return "\n".join(blocks)
 
 
 def bodies_of(crate):

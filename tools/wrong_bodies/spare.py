@@ -40,10 +40,9 @@ def take_out(crate, spare):
     """Takes bodies out of the crate's lists, with their verdicts."""
     names = {body.name for body in spare}
     for path in sorted((bodies.LISTS / crate).glob("*.txt")):
-        blocks = path.read_text(encoding="utf-8").strip("\n").split("\n\n")
-        left = [block for block in blocks if block.split("\n", 1)[0].partition(": ")[2].strip() not in names]
+        left = [body for body in bodies.read_list(crate, path) if body.name not in names]
         if left:
-            path.write_text("\n\n".join(left) + "\n", encoding="utf-8")
+            path.write_text(bodies.printed(left), encoding="utf-8")
         else:
             path.unlink()
     rows.write(results.path_of(crate), {name: row for name, row in results.stored(crate).items() if name not in names})
