@@ -1,5 +1,5 @@
 """Bugs of aide-compare-accept."""
-from .plant import Plant
+from .plant import seen_by
 
 ACCEPT, ACCEPTING, BASELINE, FOLDERS, RIGHTS, OPEN, SOUND, UNEXPLAINED = (
     "commands/lib/aide_compare/%s.py" % name
@@ -45,120 +45,82 @@ COPY_FIRST = """        self._rename(self.part, self.previous)
 RECORDS_FIRST = """            self._put_away()
             found = self._named_copy(source, self.mark)
 """
-PLANTED = [
-    Plant(
-        file=BASELINE,
-        old="            found = self._named_copy(source, self.mark)\n",
-        new=RECORDS_FIRST,
-        seen_by="accept_kills.try_kills_of_records",
-    ),
-    Plant(file=ACCEPTING, old="return digest.startswith(self.digits)", new="return True", seen_by="accept.try_refusals"),
-    Plant(file=ACCEPT, old="        if given.state:\n            raise\n", new="", seen_by="accept.try_refusals"),
-    Plant(
-        file=ACCEPTING,
-        old="done.is_replaced = done.former != done.sha256",
-        new="done.is_replaced = True",
-        seen_by="accept.try_digests",
-    ),
-    Plant(file=ACCEPT, old="state.old_sha256 != done.former", new="False", seen_by="accept.try_told"),
-    Plant(
-        file=ACCEPT,
-        old="        return Status.DEVICE\n    return Status.OK",
-        new="    return Status.OK",
-        seen_by="accept.try_refusals",
-    ),
-    Plant(file=BASELINE, old="            os.fsync(new)\n", new="", seen_by="accept_kills.try_order"),
-    Plant(
-        file=BASELINE,
-        old="            self._settle()\n        os.fsync(self.folder)\n",
-        new="            self._settle()\n",
-        seen_by="accept_kills.try_order",
-    ),
-    Plant(
-        file=BASELINE,
-        old="self.former.st_mode & FILE_MODES if",
-        new="self.former.st_mode & 0o7777 if",
-        seen_by="accept.try_modes",
-    ),
-    Plant(
-        file=BASELINE, old="            self._give(new,", new="            (lambda *_: None)(new,", seen_by="accept.try_modes"
-    ),
-    Plant(
-        file=BASELINE,
-        old="return fcntl.flock(self.folder, fcntl.LOCK_EX | fcntl.LOCK_NB)",
-        new="return None",
-        seen_by="accept.try_at_once",
-    ),
-    Plant(
-        file=BASELINE, old="        if not stat.S_ISREG(found.st_mode):", new="        if False:", seen_by="accept.try_places"
-    ),
-    Plant(file=BASELINE, old=EXCHANGE, new=NO_NAME, seen_by="accept_kills.try_kills"),
-    Plant(file=BASELINE, old=EXCHANGE, new=COPY_FIRST, seen_by="accept_kills.try_kills"),
-    Plant(file=BASELINE, old=EXCHANGE, new=COPY_FIRST, seen_by="accept_partly.try_late_failure"),
-    Plant(file=ACCEPTING, old="    baseline.settle()\n", new="", seen_by="accept_kills.try_kills"),
-    Plant(
-        file=BASELINE, old="if is_done and self._identity(name) not", new="if False and name not", seen_by="accept.try_digests"
-    ),
-    Plant(file=SOUND, old="if ended.status > 7:", new="if False:", seen_by="accept_partly.try_unsound"),
-    Plant(
-        file=ACCEPTING,
-        old="refuse_unsound(wish.beside, offered.copy, old)",
-        new="refuse_unsound(wish.beside, offered.copy)",
-        seen_by="accept_partly.try_refused",
-    ),
-    Plant(
-        file=ACCEPTING,
-        old="unused = patterns.unused()",
-        new="unused = []",
-        seen_by="accept_partly.try_refused",
-    ),
-    Plant(
-        file=OPEN,
-        old="        sides[NEW].refuse_other_columns(sides[OLD])\n",
-        new="",
-        seen_by="accept_partly.try_refused",
-    ),
-    Plant(file=OPEN, old="yield key_of(fields", new="yield bytes(fields", seen_by="accept_partly.try_many"),
-    Plant(
-        file=OPEN,
-        old="counts[KINDS[OLD in lines, NEW in lines]] += 1",
-        new="counts[KINDS[True, NEW in lines]] += 1",
-        seen_by="accept_partly.try_open",
-    ),
-    Plant(
-        file=UNEXPLAINED,
-        old='not fields.get("reason", {}).get("verified")',
-        new='"reason" not in fields',
-        seen_by="accept_partly.try_explained_only",
-    ),
-    Plant(
-        file=ACCEPTING,
-        old='["--user", user_of(baseline.owner)] if baseline.owner is not None else []',
-        new="[]",
-        seen_by="accept_partly.try_explained_only",
-    ),
-    Plant(
-        file=BASELINE,
-        old="        if self.owner is None:\n            return work()",
-        new="        if True:\n            return work()",
-        seen_by="accept.try_owner",
-    ),
-    Plant(
-        file=ACCEPTING,
-        old="self.fd = reopened(packed, os.O_RDONLY)",
-        new="self.fd = os.open(path, os.O_RDONLY)",
-        seen_by="accept_attacks.try_swapped_database",
-    ),
-    Plant(file=ACCEPTING, old=REPLACE, new=THROUGH_A_LINK, seen_by="accept_attacks.try_baseline_at_calls"),
-    Plant(file=ACCEPTING, old=REPLACE, new=THROUGH_A_LINK, seen_by="accept_attacks.try_baseline_in_a_loop"),
-    Plant(file=ACCEPTING, old=REPLACE, new=FOLDER_BY_NAME, seen_by="accept_attacks.try_folder_at_calls"),
-    Plant(file=ACCEPTING, old=REPLACE, new=FOLDER_BY_NAME, seen_by="accept_attacks.try_folder_in_a_loop"),
-    Plant(file=ACCEPTING, old=REPLACE, new=THROUGH_A_LINK, seen_by="accept_attacks.try_names_taken"),
-    Plant(
-        file=RIGHTS,
-        old="        _become(uid, _group_of(uid), [])\n",
-        new="",
-        seen_by="accept_attacks.try_baseline_at_calls",
-    ),
-    Plant(file=BASELINE, old="            self._check_place(answer)\n", new="", seen_by="accept_attacks.try_moved_folder"),
-]
+PLANTED = (
+    seen_by(
+        "accept_kills.try_kills_of_records",
+        (BASELINE, "            found = self._named_copy(source, self.mark)\n", RECORDS_FIRST),
+    )
+    + seen_by(
+        "accept.try_refusals",
+        (ACCEPTING, "return digest.startswith(self.digits)", "return True"),
+        (ACCEPT, "        if given.state:\n            raise\n", ""),
+        (ACCEPT, "        return Status.DEVICE\n    return Status.OK", "    return Status.OK"),
+    )
+    + seen_by(
+        "accept.try_digests",
+        (ACCEPTING, "done.is_replaced = done.former != done.sha256", "done.is_replaced = True"),
+        (BASELINE, "if is_done and self._identity(name) not", "if False and name not"),
+    )
+    + seen_by("accept.try_told", (ACCEPT, "state.old_sha256 != done.former", "False"))
+    + seen_by(
+        "accept_kills.try_order",
+        (BASELINE, "            os.fsync(new)\n", ""),
+        (BASELINE, "            self._settle()\n        os.fsync(self.folder)\n", "            self._settle()\n"),
+    )
+    + seen_by(
+        "accept.try_modes",
+        (BASELINE, "self.former.st_mode & FILE_MODES if", "self.former.st_mode & 0o7777 if"),
+        (BASELINE, "            self._give(new,", "            (lambda *_: None)(new,"),
+    )
+    + seen_by(
+        "accept.try_at_once",
+        (BASELINE, "return fcntl.flock(self.folder, fcntl.LOCK_EX | fcntl.LOCK_NB)", "return None"),
+    )
+    + seen_by("accept.try_places", (BASELINE, "        if not stat.S_ISREG(found.st_mode):", "        if False:"))
+    + seen_by(
+        "accept_kills.try_kills",
+        (BASELINE, EXCHANGE, NO_NAME),
+        (BASELINE, EXCHANGE, COPY_FIRST),
+        (ACCEPTING, "    baseline.settle()\n", ""),
+    )
+    + seen_by("accept_partly.try_late_failure", (BASELINE, EXCHANGE, COPY_FIRST))
+    + seen_by("accept_partly.try_unsound", (SOUND, "if ended.status > 7:", "if False:"))
+    + seen_by(
+        "accept_partly.try_refused",
+        (ACCEPTING, "refuse_unsound(wish.beside, offered.copy, old)", "refuse_unsound(wish.beside, offered.copy)"),
+        (ACCEPTING, "unused = patterns.unused()", "unused = []"),
+        (OPEN, "        sides[NEW].refuse_other_columns(sides[OLD])\n", ""),
+    )
+    + seen_by("accept_partly.try_many", (OPEN, "yield key_of(fields", "yield bytes(fields"))
+    + seen_by(
+        "accept_partly.try_open",
+        (OPEN, "counts[KINDS[OLD in lines, NEW in lines]] += 1", "counts[KINDS[True, NEW in lines]] += 1"),
+    )
+    + seen_by(
+        "accept_partly.try_explained_only",
+        (UNEXPLAINED, 'not fields.get("reason", {}).get("verified")', '"reason" not in fields'),
+        (ACCEPTING, '["--user", user_of(baseline.owner)] if baseline.owner is not None else []', "[]"),
+    )
+    + seen_by(
+        "accept.try_owner",
+        (
+            BASELINE,
+            "        if self.owner is None:\n            return work()",
+            "        if True:\n            return work()",
+        ),
+    )
+    + seen_by(
+        "accept_attacks.try_swapped_database",
+        (ACCEPTING, "self.fd = reopened(packed, os.O_RDONLY)", "self.fd = os.open(path, os.O_RDONLY)"),
+    )
+    + seen_by(
+        "accept_attacks.try_baseline_at_calls",
+        (ACCEPTING, REPLACE, THROUGH_A_LINK),
+        (RIGHTS, "        _become(uid, _group_of(uid), [])\n", ""),
+    )
+    + seen_by("accept_attacks.try_baseline_in_a_loop", (ACCEPTING, REPLACE, THROUGH_A_LINK))
+    + seen_by("accept_attacks.try_folder_at_calls", (ACCEPTING, REPLACE, FOLDER_BY_NAME))
+    + seen_by("accept_attacks.try_folder_in_a_loop", (ACCEPTING, REPLACE, FOLDER_BY_NAME))
+    + seen_by("accept_attacks.try_names_taken", (ACCEPTING, REPLACE, THROUGH_A_LINK))
+    + seen_by("accept_attacks.try_moved_folder", (BASELINE, "            self._check_place(answer)\n", ""))
+)

@@ -1,212 +1,139 @@
 """Bugs in the report of all hosts, each seen by a trial of try_tools."""
-from .plant import Plant
+from .plant import seen_by
 
 LIB = "commands/lib/aide_compare/"
-PLANTED = [
-    Plant(
-        file=LIB + "hosts/host_changes.py",
-        old='OWN = frozenset(["Bcount", "Atime", "Mtime", "Ctime", "Inode", "Linkcount"])',
-        new='OWN = frozenset(["Bcount", "Atime", "Mtime", "Ctime", "Linkcount"])',
-        seen_by="hosts_report.try_same",
-    ),
-    Plant(
-        file=LIB + "hosts/host_changes.py",
-        old='digest_of([fields["kind"], fields.get("type"), new,',
-        new='digest_of([fields["kind"], fields.get("type"),',
-        seen_by="hosts_report.try_same",
-    ),
-    Plant(
-        file=LIB + "hosts/host_changes.py",
-        old="self.is_old_same &= old == self.old",
-        new="pass",
-        seen_by="hosts_report.try_same",
-    ),
-    Plant(file=LIB + "hosts/host_changes.py", old="self.own |= own", new="pass", seen_by="hosts_report.try_same"),
-    Plant(
-        file=LIB + "commands/hosts_report.py",
-        old="in given.only_path:",
-        new="in given.only_path[:1]:",
-        seen_by="hosts_report.try_mail",
-    ),
-    Plant(
-        file=LIB + "show/page_streams.py",
-        old="    if any(row[side] is VARIOUS for row in entry.rows):\n        return VARIOUS\n",
-        new="",
-        seen_by="hosts_page.try_removed",
-    ),
-    Plant(file=LIB + "hosts/host_changes.py", old='.replace(b"%", b"%25")', new="", seen_by="hosts_report.try_hostile_names"),
-    Plant(
-        file=LIB + "commands/hosts_report.py",
-        old='if order == "rare" else GREATEST - fields["hosts"]',
-        new="",
-        seen_by="hosts_report.try_orders",
-    ),
-    Plant(
-        file=LIB + "commands/hosts_report.py",
-        old="return not patterns or any(",
-        new="return not patterns or all(not ",
-        seen_by="hosts_report.try_orders",
-    ),
-    Plant(
-        file=LIB + "lines/cut_reports.py",
-        old="        if place > size:\n            break\n",
-        new="",
-        seen_by="cut_reports.try_every_cut",
-    ),
-    Plant(
-        file=LIB + "lines/cut_reports.py",
-        old='line.startswith(kind + b": /")',
-        new="False",
-        seen_by="cut_reports.try_every_cut",
-    ),
-    Plant(
-        file=LIB + "hosts/hosts_read.py",
-        old="host.report = CUT if report.size else UNREADABLE",
-        new="host.report = UNREADABLE",
-        seen_by="cut_reports.try_every_cut",
-    ),
-    Plant(
-        file=LIB + "hosts/hosts_read.py",
-        old="    except OSError as error:\n        host = ",
-        new="    except FileNotFoundError as error:\n        host = ",
-        seen_by="hosts_report.try_broken",
-    ),
-    Plant(
-        file=LIB + "hosts/hosts_read.py",
-        old="if counts != host.state.counts and counts:",
-        new="if False:",
-        seen_by="cut_reports.try_cut_stream",
-    ),
-    Plant(
-        file=LIB + "hosts/hosts_read.py",
-        old="        place.lock(time.monotonic() + given.time, fcntl.LOCK_SH)\n",
-        new="",
-        seen_by="hosts_report.try_not_compared",
-    ),
-    Plant(
-        file=LIB + "hosts/hosts_read.py",
-        old="            place.close()\n",
-        new="            pass\n",
-        seen_by="hosts_ends.try_many_hosts",
-    ),
-    Plant(
-        file=LIB + "commands/hosts_report.py",
-        old='"--smtp", type=server',
-        new='"--smtp", type=some_text',
-        seen_by="hosts_report.try_orders",
-    ),
-    Plant(
-        file=LIB + "hosts/hosts_text.py",
-        old='fields.get("type", "Entry"), shown(path))',
-        new='fields.get("type", "Entry"), path.decode("utf-8", "replace"))',
-        seen_by="hosts_report.try_hostile_names",
-    ),
-    Plant(
-        file=LIB + "show/page_items.py",
-        old='text += "<code>%s</code>%s" % (escape(name),',
-        new='text += "<code>%s</code>%s" % (name,',
-        seen_by="hosts_page.try_markup",
-    ),
-    Plant(
-        file=LIB + "hosts/hosts_page.py",
-        old="None, shown_path(path), ",
-        new='None, path.decode("utf-8", "replace"), ',
-        seen_by="hosts_page.try_markup",
-    ),
-    Plant(
-        file=LIB + "hosts/hosts_page.py",
-        old="yield head(summary, hosts, remark_of(items.left_out, command))",
-        new='yield head(summary, hosts, "")',
-        seen_by="hosts_page.try_room",
-    ),
-    Plant(
-        file=LIB + "hosts/hosts_page.py",
-        old='row[1] if "old" in attributes[LABELS[row[0]]] else VARIOUS',
-        new="row[1]",
-        seen_by="hosts_page.try_values",
-    ),
-    Plant(
-        file=LIB + "hosts/hosts_page.py",
-        old='host_list("Not compared", refused, True)',
-        new='""',
-        seen_by="hosts_page.try_values",
-    ),
-    Plant(
-        file=LIB + "hosts/hosts_page.py",
-        old='fields["hosts"] - len(fields["names"])',
-        new="0",
-        seen_by="hosts_page.try_values",
-    ),
-    Plant(
-        file=LIB + "hosts/hosts_page.py",
-        old='"Not compared", "not_compared")',
-        new='"Not compared", "hosts")',
-        seen_by="hosts_page.try_values",
-    ),
-    Plant(
-        file=LIB + "commands/hosts_report.py",
-        old='alert("%s; %s" % (fault.text, headline(self.summary)))',
-        new="pass",
-        seen_by="hosts_ends.try_no_mailer",
-    ),
-    Plant(
-        file=LIB + "commands/hosts_report.py",
-        old="else self.worst):\n",
-        new="else False):\n",
-        seen_by="hosts_report.try_mail",
-    ),
-    Plant(
-        file=LIB + "commands/hosts_report.py",
-        old="    return stoppable(work)\n",
-        new="    return work()\n",
-        seen_by="hosts_ends.try_ends",
-    ),
-    Plant(
-        file=LIB + "hosts/comparing.py",
-        old="before, after, others, rest = [LEVEL], [], [], list(arguments)",
-        new="before, after, others, rest = [], [], [], list(arguments)",
-        seen_by="hosts_report.try_same",
-    ),
-    Plant(
-        file=LIB + "base/private_room.py",
-        old="    signal.setitimer(signal.ITIMER_REAL, AGAIN, AGAIN)\n",
-        new="",
-        seen_by="hosts_ends.try_dropped",
-    ),
-    Plant(
-        file=LIB + "commands/hosts_report.py",
-        old='self.is_alarm if given.alarm == "unexplained" else ',
-        new="",
-        seen_by="hosts_quiet.try_reports",
-    ),
-    Plant(
-        file=LIB + "hosts/host_changes.py",
-        old="standing = 0 if reason is None else 1",
-        new="standing = 1 if reason is None else 0",
-        seen_by="hosts_quiet.try_reports",
-    ),
-    Plant(
-        file=LIB + "hosts/comparing.py",
-        old="    if rules is None:\n",
-        new="    if True:\n",
-        seen_by="hosts_quiet.try_idle",
-    ),
-    Plant(
-        file=LIB + "hosts/fetching.py",
-        old="    place.remove(RECORDS)",
-        new="    pass",
-        seen_by="hosts_quiet.try_records",
-    ),
-    Plant(
-        file=LIB + "commands/hosts_accept.py",
-        old="        part.write(mark_of(digest, digest))\n",
-        new="",
-        seen_by="hosts_quiet.try_records",
-    ),
-    Plant(
-        file=LIB + "commands/hosts_compare.py",
-        old='is_told = status and not (is_explained and given.alarm == "unexplained")',
-        new="is_told = status",
-        seen_by="hosts_quiet.try_reasons",
-    ),
-]
+PLANTED = (
+    seen_by(
+        "hosts_report.try_same",
+        (
+            LIB + "hosts/host_changes.py",
+            'OWN = frozenset(["Bcount", "Atime", "Mtime", "Ctime", "Inode", "Linkcount"])',
+            'OWN = frozenset(["Bcount", "Atime", "Mtime", "Ctime", "Linkcount"])',
+        ),
+        (
+            LIB + "hosts/host_changes.py",
+            'digest_of([fields["kind"], fields.get("type"), new,',
+            'digest_of([fields["kind"], fields.get("type"),',
+        ),
+        (LIB + "hosts/host_changes.py", "self.is_old_same &= old == self.old", "pass"),
+        (LIB + "hosts/host_changes.py", "self.own |= own", "pass"),
+        (
+            LIB + "hosts/comparing.py",
+            "before, after, others, rest = [LEVEL], [], [], list(arguments)",
+            "before, after, others, rest = [], [], [], list(arguments)",
+        ),
+    )
+    + seen_by(
+        "hosts_report.try_mail",
+        (LIB + "commands/hosts_report.py", "in given.only_path:", "in given.only_path[:1]:"),
+        (LIB + "commands/hosts_report.py", "else self.worst):\n", "else False):\n"),
+    )
+    + seen_by(
+        "hosts_page.try_removed",
+        (
+            LIB + "show/page_streams.py",
+            "    if any(row[side] is VARIOUS for row in entry.rows):\n        return VARIOUS\n",
+            "",
+        ),
+    )
+    + seen_by(
+        "hosts_report.try_hostile_names",
+        (LIB + "hosts/host_changes.py", '.replace(b"%", b"%25")', ""),
+        (
+            LIB + "hosts/hosts_text.py",
+            'fields.get("type", "Entry"), shown(path))',
+            'fields.get("type", "Entry"), path.decode("utf-8", "replace"))',
+        ),
+    )
+    + seen_by(
+        "hosts_report.try_orders",
+        (LIB + "commands/hosts_report.py", 'if order == "rare" else GREATEST - fields["hosts"]', ""),
+        (LIB + "commands/hosts_report.py", "return not patterns or any(", "return not patterns or all(not "),
+        (LIB + "commands/hosts_report.py", '"--smtp", type=server', '"--smtp", type=some_text'),
+    )
+    + seen_by(
+        "cut_reports.try_every_cut",
+        (LIB + "lines/cut_reports.py", "        if place > size:\n            break\n", ""),
+        (LIB + "lines/cut_reports.py", 'line.startswith(kind + b": /")', "False"),
+        (LIB + "hosts/hosts_read.py", "host.report = CUT if report.size else UNREADABLE", "host.report = UNREADABLE"),
+    )
+    + seen_by(
+        "hosts_report.try_broken",
+        (
+            LIB + "hosts/hosts_read.py",
+            "    except OSError as error:\n        host = ",
+            "    except FileNotFoundError as error:\n        host = ",
+        ),
+    )
+    + seen_by(
+        "cut_reports.try_cut_stream",
+        (LIB + "hosts/hosts_read.py", "if counts != host.state.counts and counts:", "if False:"),
+    )
+    + seen_by(
+        "hosts_report.try_not_compared",
+        (LIB + "hosts/hosts_read.py", "        place.lock(time.monotonic() + given.time, fcntl.LOCK_SH)\n", ""),
+    )
+    + seen_by(
+        "hosts_ends.try_many_hosts",
+        (LIB + "hosts/hosts_read.py", "            place.close()\n", "            pass\n"),
+    )
+    + seen_by(
+        "hosts_page.try_markup",
+        (
+            LIB + "show/page_items.py",
+            'text += "<code>%s</code>%s" % (escape(name),',
+            'text += "<code>%s</code>%s" % (name,',
+        ),
+        (LIB + "hosts/hosts_page.py", "None, shown_path(path), ", 'None, path.decode("utf-8", "replace"), '),
+    )
+    + seen_by(
+        "hosts_page.try_room",
+        (
+            LIB + "hosts/hosts_page.py",
+            "yield head(summary, hosts, remark_of(items.left_out, command))",
+            'yield head(summary, hosts, "")',
+        ),
+    )
+    + seen_by(
+        "hosts_page.try_values",
+        (LIB + "hosts/hosts_page.py", 'row[1] if "old" in attributes[LABELS[row[0]]] else VARIOUS', "row[1]"),
+        (LIB + "hosts/hosts_page.py", 'host_list("Not compared", refused, True)', '""'),
+        (LIB + "hosts/hosts_page.py", 'fields["hosts"] - len(fields["names"])', "0"),
+        (LIB + "hosts/hosts_page.py", '"Not compared", "not_compared")', '"Not compared", "hosts")'),
+    )
+    + seen_by(
+        "hosts_ends.try_no_mailer",
+        (LIB + "commands/hosts_report.py", 'alert("%s; %s" % (fault.text, headline(self.summary)))', "pass"),
+    )
+    + seen_by(
+        "hosts_ends.try_ends",
+        (LIB + "commands/hosts_report.py", "    return stoppable(work)\n", "    return work()\n"),
+    )
+    + seen_by(
+        "hosts_ends.try_dropped",
+        (LIB + "base/private_room.py", "    signal.setitimer(signal.ITIMER_REAL, AGAIN, AGAIN)\n", ""),
+    )
+    + seen_by(
+        "hosts_quiet.try_reports",
+        (LIB + "commands/hosts_report.py", 'self.is_alarm if given.alarm == "unexplained" else ', ""),
+        (
+            LIB + "hosts/host_changes.py",
+            "standing = 0 if reason is None else 1",
+            "standing = 1 if reason is None else 0",
+        ),
+    )
+    + seen_by("hosts_quiet.try_idle", (LIB + "hosts/comparing.py", "    if rules is None:\n", "    if True:\n"))
+    + seen_by(
+        "hosts_quiet.try_records",
+        (LIB + "hosts/fetching.py", "    place.remove(RECORDS)", "    pass"),
+        (LIB + "commands/hosts_accept.py", "        part.write(mark_of(digest, digest))\n", ""),
+    )
+    + seen_by(
+        "hosts_quiet.try_reasons",
+        (
+            LIB + "commands/hosts_compare.py",
+            'is_told = status and not (is_explained and given.alarm == "unexplained")',
+            "is_told = status",
+        ),
+    )
+)
