@@ -4,9 +4,9 @@
 The last line is 'N passed, M failed'.
 
 A case begins with a sentence that says what it shows. Then come sections, each under a line `-- NAME --`: `words` (the
-arguments, one a line), files of the folder in which the case is run (`conf`, `old`, `new`), and the right answer:
-`stdout`, `stderr`, `status`. `/@DIR@` is replaced by the folder. A section `NAME (escaped)` is read as one line, with
-backslashes as in C. So are the arguments.
+arguments, with blanks between), files of the folder in which the case is run (`conf`, `old`, `new`), and the right answer:
+`stdout` and `stderr`, which are left out where they are empty, and a line `-- status NUMBER --`. `/@DIR@` is replaced by
+the folder. A section `NAME (escaped)` is read as one line, with backslashes as in C. So is each argument.
 """
 import glob
 import os
@@ -18,7 +18,7 @@ from tools.oracle.session import Answer
 from tools.lib.arguments import parser_of
 from tools.lib.tally import Tally, difference, file_at, program_of, run, wanted
 
-HEADER = re.compile(r"^-- (\w+)( \(escaped\))? --$")
+HEADER = re.compile(r"^-- (\w+)( \(escaped\)| \d+)? --$")
 ANSWERS = ["stdout", "stderr", "status"]
 FOLDER = os.path.join(os.path.dirname(os.path.abspath(__file__)), "cases")
 DIR = b"/@DIR@"
@@ -44,8 +44,9 @@ def parse(text):
     for line in lines_of(text):
         found = HEADER.match(line.rstrip("\n"))
         if found:
-            name, is_escaped = found.group(1), bool(found.group(2))
-            sections[name] = b""
+            name, more = found.group(1), found.group(2) or ""
+            is_escaped = more == " (escaped)"
+            sections[name] = more.encode() if name == "status" else b""
         elif name is None:
             title.append(line)
         else:
@@ -65,7 +66,9 @@ def is_plain(text):
 def printed(case):
     parts = [case.title]
     for name, text in case.sections.items():
-        if is_plain(text):
+        if name == "status":
+            parts.append("-- status %d --\n" % int(text))
+        elif is_plain(text):
             parts.append("-- %s --\n%s" % (name, text.decode()))
         else:
             lines = [line.encode("latin-1") for line in lines_of(text.decode("latin-1"))]
@@ -79,12 +82,11 @@ def answers_in(case, folder, answer):
         if name not in ANSWERS + ["words"]:
             with open(os.path.join(folder, name.encode()), "wb") as file:
                 file.write(text.replace(DIR, folder) if name == "conf" else text)
-    lines = case.sections["words"].decode().split("\n")[:-1]
-    return answer([unescaped(line).replace(DIR, folder) for line in lines])
+    return answer([unescaped(word).replace(DIR, folder) for word in case.sections["words"].decode().split()])
 
 
 def stored(case, folder):
-    output, errors, status = (case.sections[name].replace(DIR, folder) for name in ANSWERS)
+    output, errors, status = (case.sections.get(name, b"").replace(DIR, folder) for name in ANSWERS)
     return Answer(output, errors, int(status))
 
 
@@ -99,8 +101,10 @@ def write(path):
     with tempfile.TemporaryDirectory() as folder:
         folder = folder.encode()
         answer = answers_in(case, folder, wanted)
-        texts = [answer.output, answer.errors, b"%d\n" % answer.status]
-        case.sections.update((name, text.replace(folder, DIR)) for name, text in zip(ANSWERS, texts))
+        sections = {name: text for name, text in case.sections.items() if name not in ANSWERS}
+        texts = [answer.output, answer.errors, b"%d" % answer.status]
+        sections.update((name, text.replace(folder, DIR)) for name, text in zip(ANSWERS, texts) if text)
+        case = Case(case.title, sections)
     with open(path, "w", encoding="utf-8") as file:
         file.write(printed(case))
 
