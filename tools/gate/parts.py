@@ -27,7 +27,7 @@ FILES = [
     exactly(149, "tools.source.check_layers"),
     exactly(554, "tools.source.check_tools"),
     exactly(839, "tools.source.check_planted"),
-    exactly(1804, "tools.wrong_bodies.check"),
+    exactly(1792, "tools.wrong_bodies.check"),
 ]
 
 
