@@ -22,11 +22,11 @@ def at_least(number, *words):
 
 FILES = [
     exactly(207, "tools.source.check_edits"),
-    exactly(510, "tools.source.check_docs"),
+    exactly(515, "tools.source.check_docs"),
     exactly(84, "tools.source.check_layout"),
     exactly(149, "tools.source.check_layers"),
-    exactly(554, "tools.source.check_tools"),
-    exactly(839, "tools.source.check_planted"),
+    exactly(560, "tools.source.check_tools"),
+    exactly(855, "tools.source.check_planted"),
     exactly(1792, "tools.wrong_bodies.check"),
 ]
 
@@ -42,6 +42,7 @@ def trials(program, in_memory):
         at_least(2600, "tools.program.end_to_end", program),
         at_least(3550, "tools.program.try_configurations", program),
         exactly(341, "tools.program.try_fields", program),
+        exactly(804, "tools.program.try_line_definitions"),
         at_least(1600, "tools.program.failed_allocations", program, "--in-memory", in_memory),
         at_least(310, "tools.program.failed_calls", program),
         at_least(739, "tools.pages.try_manual", program),
@@ -59,6 +60,7 @@ def quick_trials(program):
     return [
         at_least(970, "tools.program.end_to_end", program, "--quick", "--sessions", "50"),
         exactly(341, "tools.program.try_fields", program),
+        exactly(564, "tools.program.try_line_definitions", "--count", "60"),
         at_least(310, "tools.program.failed_calls", program),
         at_least(739, "tools.pages.try_manual", program),
         at_least(900, "tools.commands.try_tools", program, "--quick"),

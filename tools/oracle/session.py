@@ -111,15 +111,15 @@ def read_database(side, path, files):
     return refused(b"%s database:%d: %s" % (side, fault.line, words.encode()), BAD_DATABASE)
 
 
-def compare(settings, files):
-    """The answer of a comparison under good settings."""
+def compare(settings, files, written):
+    """The answer of a comparison under good settings: `written` gives what goes out, and the status."""
     texts = []
     for side, name in ((b"old", "database_in"), (b"new", "database_new")):
         texts.append(read_database(side, settings[name], files))
         if isinstance(texts[-1], Answer):
             return texts[-1]
     old, new = (database_of(text) for text in texts)
-    output, status = report_of(old, new, texts, settings)
+    output, status = written(old, new, texts, settings)
     errors = b"".join(
         b"aide: %s database: column %d skipped\n" % (side, column)
         for side, database in ((b"old", old), (b"new", new))
@@ -128,10 +128,15 @@ def compare(settings, files):
     return Answer(output, errors, status)
 
 
-def answer_of(words, files):
+def says_nothing(settings):
+    return b""
+
+
+def answer_of(words, files, written=report_of, checked=says_nothing):
     """The answer to the words of a command line, the program's name aside.
 
-    `files` gives the bytes of a path, None for a file that is not there, and `Unread` for one that cannot be read.
+    `files` gives the bytes of a path, None for a file that is not there, and `Unread` for one that cannot be read. A
+    comparison puts out what `written` gives, and a check of the configuration what `checked` gives.
     """
     try:
         for word in words:
@@ -150,4 +155,4 @@ def answer_of(words, files):
     if isinstance(settings, configuration.Fault):
         words_of_fault = CONFIGURATION_WORDS[settings.kind]
         return refused(("%s:%d: %s" % (settings.text, settings.line, words_of_fault)).encode(), BAD_CONFIGURATION)
-    return compare(settings, files) if "compare" in job else Answer(b"", b"", 0)
+    return compare(settings, files, written) if "compare" in job else Answer(checked(settings), b"", 0)

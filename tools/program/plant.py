@@ -32,7 +32,9 @@ WORDS = {
     "random_sessions": ["120", "7"],
     "failed_calls": [],
     "try_manual": [],
+    "try_line_definitions": ["--count", "100", "--seed", "7"],
 }
+WITHOUT_PROGRAM = ["try_line_definitions"]
 ELSEWHERE = {"try_manual": "tools.pages.try_manual"}
 PARTS = {
     "devices": "devices.try_devices",
@@ -48,7 +50,8 @@ def words_of(trial, program):
     """The command that runs a trial."""
     if trial in PARTS:
         return [sys.executable, "-m", "tools.program.plant", "--trial", trial, program]
-    return [sys.executable, "-m", ELSEWHERE.get(trial, "tools.program." + trial), program] + WORDS[trial]
+    tried = [] if trial in WITHOUT_PROGRAM else [program]
+    return [sys.executable, "-m", ELSEWHERE.get(trial, "tools.program." + trial)] + tried + WORDS[trial]
 
 
 def run_part(trial, program):

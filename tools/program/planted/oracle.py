@@ -1,9 +1,9 @@
 """Bugs of the definitions in tools/oracle, which say what the program has to answer."""
 from tools.commands.planted.plant import seen_by
 
-ATTRIBUTES, COMPARISON, CONFIGURATION, DATABASE, FIELDS, REPORT, SESSION, TEXTS = (
+ATTRIBUTES, COMPARISON, CONFIGURATION, DATABASE, FIELDS, LINES, REPORT, SESSION, TEXTS = (
     "tools/oracle/%s.py" % name
-    for name in ("attributes", "comparison", "configuration", "database", "fields", "report", "session", "texts")
+    for name in ("attributes", "comparison", "configuration", "database", "fields", "lines", "report", "session", "texts")
 )
 PLANTED = (
     seen_by(
@@ -86,5 +86,24 @@ PLANTED = (
             'return Fault(len(lines), "NoEnd" if parts.begin else "NoBegin", None)',
         ),
         (SESSION, "            if name in job:\n                return None\n", ""),
+    )
+    + seen_by(
+        "try_line_definitions",
+        (LINES, "EXACT = 2**53", "EXACT = 2**53 + 1"),
+        (LINES, "if abs(value) < EXACT", "if value < EXACT"),
+        (LINES, "*range(0x7F, 0xA0)", "*range(0x80, 0xA0)"),
+        (LINES, "*range(0x2028, 0x202F)", "*range(0x202A, 0x202F)"),
+        (LINES, "    0x61C,\n", ""),
+        (LINES, 'value.decode("utf-8")', 'value.decode("utf-8", "replace")'),
+        (LINES, 'return name + "_hex", string', "return name, string"),
+        (LINES, 'attribute.form == "link" and value is None', 'attribute.form == "link" and not value'),
+        (LINES, '"%04o" % value', '"%o" % value'),
+        (LINES, '{**settings, "report_level": "added_removed_entries"}', "settings"),
+        (LINES, "+ side_members(\"old\", change.old, names)", "+ side_members(\"old\", change.new, names)"),
+        (LINES, "if kind_of(change, settings)]", "if shown(change, settings)]"),
+        (LINES, "    if kind is not None:\n", "    if title is not None:\n"),
+        (LINES, 'number(len(new.entries))', "number(len(old.entries))"),
+        (LINES, "(\"new\", \"database_new\", texts[1], new)", "(\"new\", \"database_new\", texts[1], old)"),
+        (LINES, "if attribute in settings[name]]", "if attribute in settings[SET_OPTIONS[0]]]"),
     )
 )
