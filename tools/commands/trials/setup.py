@@ -83,6 +83,9 @@ def try_steps(sandbox):
     sandbox.holds("the timer is on", "enable --now aide-compare.timer" in calls, calls)
     sandbox.expect("setup --check, after", sandbox.call(TOOL, "--check"), 0, b"nothing is missing", b"")
     sandbox.write("root/etc/aide-compare/defaults", "--reasons\n")
+    sandbox.expect("setup again, for root's mail", sandbox.call(TOOL), 0, b"a test mail\n", b"")
+    calls = made(sandbox)[1]
+    sandbox.holds("a mail to root", calls[-1:] == ["mail --test --user %s" % pwd.getpwuid(NOBODY).pw_name], calls)
     again = sandbox.call(TOOL, "--no-mail")
     sandbox.holds("each step is passed over the second time", again.output.count(b": is there") == 8, again)
     sandbox.holds("what an administrator wrote stays", sandbox.read("root/etc/aide-compare/defaults") == b"--reasons\n")

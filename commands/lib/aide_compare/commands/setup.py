@@ -204,9 +204,8 @@ def make(machine):
     if machine.given.no_mail or machine.given.dry_run:
         return Status.OK
     tell("a test mail%s" % (" to " + shown(machine.given.to) if machine.given.to else ""))
-    run(
-        ["aide-compare-mail", "--test", "--user", machine.user.pw_name] + ["--to=" + machine.given.to] * bool(machine.given.to)
-    )
+    to = ["--to=" + machine.given.to] if machine.given.to else []
+    run(["aide-compare-mail", "--test", "--user", machine.user.pw_name] + to)
     return Status.OK
 
 
