@@ -1,5 +1,5 @@
 #!/usr/bin/env python3
-"""Tries docs/RECIPES.md over several days, with the tools that packaging/install installs into a folder of its own.
+"""Tries the pages with recipes (docs/RECIPES.md, HOSTS.md, MONITORING.md) over several days, with the tools that packaging/install installs into a folder of its own.
 
 Each block of the page that is marked for it is run without changes, except that the folders that it names are below a
 folder of this run. The trials play five days of a watched host: nothing changes, an intruder comes, every kind of alarm is

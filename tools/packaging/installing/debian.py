@@ -40,8 +40,8 @@ def try_texts(trial, folder):
         said = re.findall(r"ends with status (\d+)", readme)
         trial.holds("the first answer", [str(done[0])] == said and done[1].startswith("AIDE found differences"), done)
     for name in re.findall(r"/(?:usr|etc)/[\w./-]*\w", readme):
-        # What the administrator makes for this machine is in no package.
-        if not name.startswith("/etc/systemd/system/"):
+        # What the administrator or aide-compare-setup makes for this machine is in no package.
+        if not name.startswith(("/etc/systemd/system/", "/etc/aide-compare/defaults")):
             trial.holds("what README.Debian names: " + name, os.path.exists(folder + name))
 
 

@@ -46,7 +46,7 @@ FOLDERS = {
     "examples/small_tree": DOCUMENTS + "/examples/small_tree",
 }
 
-FOR_USERS = ("DIFFERENCES.md", "PROVED.md", "RECIPES.md")
+FOR_USERS = ("DIFFERENCES.md", "HOSTS.md", "MONITORING.md", "PROVED.md", "RECIPES.md")
 
 
 def target_of(path):

@@ -175,7 +175,7 @@ def try_version(trial):
     with open(os.path.join(HERE, "CHANGELOG.md")) as file:
         parts = re.findall(r"^## (\S+)", file.read(), re.M)
     trial.holds("a part of CHANGELOG.md for the version", trial.version in parts, parts)
-    for name in ("README.md", "docs/RECIPES.md"):
+    for name in ("README.md", "docs/RECIPES.md", "docs/MONITORING.md"):
         with open(os.path.join(HERE, name)) as file:
             found = re.findall(r"aide-compare[_-]\d[\w.-]*?(?:-x86_64|_amd64)", file.read())
         wanted = ["aide-compare-%s-x86_64" % trial.version, "aide-compare_%s-1_amd64" % trial.version]

@@ -6,7 +6,7 @@ import os
 import re
 import shutil
 
-from .days import BASELINE, NEWEST, STATE, crons_command, put_packages, put_stubs, taken, unit_commands
+from .days import BASELINE, NEWEST, STATE, crons_command, put_packages, put_stubs, set_up, taken, unit_commands
 from .hosts import HEAD
 from .said import introduction, left_out
 from .trial import NOBODY
@@ -190,15 +190,13 @@ def is_sign_of_life(mail):
 
 
 def try_upgrade(trial, page):
-    """The first three commands: a quiet night, one of an upgrade, and then an intruder beside it."""
+    """The first recipe: a quiet night, one of an upgrade, and then an intruder beside it."""
     before = {**dict.fromkeys(FILES, "old"), "/usr/bin/ls": "as it is"}
     after = {**before, **dict.fromkeys(FILES, "new")}
-    trial.stub("aideinit", "exit 0")
     put_packages(trial, "3.0.16-1", {})
     put_night(trial, BASELINE, before)
     put_night(trial, NEWEST, before)
-    done = page.run("first")
-    trial.holds("the first three commands", done[0] == 0 and done[2] == "", done)
+    set_up(trial, page)
     trial.holds("a quiet night", is_sign_of_life(mails_of(trial, unit_commands(trial))))
     put_packages(trial, "3.0.17-1", {path: sum.hexdigest() for path, sum in sums_of(after).items() if path in FILES})
     put_night(trial, NEWEST, after)
@@ -220,7 +218,6 @@ def try_upgrade(trial, page):
     done = page.run("reasons")
     trial.holds("reasons", done[0] == 4 and "1 unexplained, 2 not verified of 6 changes" in done[2], done)
     page.prints("reasons", done[1])
-    taken(trial, "owners")
 
 
 def try_lines(trial, page):
