@@ -330,7 +330,7 @@ def is_shortened_report(sandbox, text):
 
 def is_first_answer(sandbox, done):
     """README says what its first command prints and what it ends with."""
-    said = re.search(r"\(`(\w+=\w+)`\), prints `([^`]+)` and ends with\s+status (\d+)\.", read("README.md"))
+    said = re.search(r"\(`(\w+=\w+)`\)\. Then it prints [^`]+`([^`]+)` and ends with\s+status (\d+)\.", read("README.md"))
     sandbox.holds("the page says the output and the status", said)
     if said:
         sandbox.holds("the status, as the page says", [int(said.group(3))] == done[0], done)
@@ -338,9 +338,45 @@ def is_first_answer(sandbox, done):
         sandbox.holds("what rt says, as the page says", not sandbox.with_rt or said.group(1) in done[1] + done[2], done)
 
 
+def is_first_mail(sandbox, text):
+    """The text begins the mail that docs/RECIPES.md shows, which tools.pages.try_recipes compares with a mail."""
+    found = re.search(r"<!-- prints: first mail -->\n```text\n(.*?)^```$", read("docs/RECIPES.md"), re.M | re.S)
+    sandbox.holds("the mail of the recipes begins so", found and found.group(1).startswith(text), text)
+
+
+def begins(text):
+    """What is printed begins with a text."""
+
+    def look(sandbox, done):
+        sandbox.holds("begins with %r" % text, done[1].startswith(text), done[1][:200])
+
+    return look
+
+
+def says_number(sentence, printed):
+    """What is printed has the number of a sentence of examples/README.md."""
+
+    def look(sandbox, done):
+        said, got = re.search(sentence, read("examples/README.md")), re.search(printed, done[1])
+        sandbox.holds("the number, as the page says", said and got and said.group(1) == got.group(1), done)
+
+    return look
+
+
+def is_refused_as_said(sandbox, done):
+    said = re.search(r"It prints `([^`]+)` and no report", read("examples/README.md"))
+    sandbox.holds("the line, as the page says", said and done[2] == said.group(1) + "\n" and not done[1], done)
+
+
+def set_program(sandbox):
+    """The variable of the first block of examples/README.md."""
+    os.environ["aide"] = sandbox.path("/tmp/clone/crates/aide/out/aide")
+
+
 def is_package(sandbox, text):
     name = "aide-compare_%s-1_amd64.deb" % read("VERSION").strip()
-    sandbox.holds("the package that packaging/make_package writes", text == "dpkg -i %s\n" % name, name)
+    wanted = "apt install aide ./out/%s\naide-compare-setup\n" % name
+    sandbox.holds("the package that packaging/make_package writes", text == wanted, name)
 
 
 def set_pages(sandbox):

@@ -266,46 +266,65 @@ ROWS = [
         expectations.is_mailed_for_hosts,
         prepare=expectations.put_baseline,
     ),
-    Shown(
-        README,
-        "A report of two databases that AIDE has written (`examples/small_tree`), shortened:",
-        expectations.is_shortened_report,
+    FirstAnswer(
+        README, "AIDE, the Advanced Intrusion Detection Environment, ...", [7], expectations.is_first_answer
     ),
-    FirstAnswer(README, "## First answer in a minute", [7], expectations.is_first_answer),
-    Commands(README, "## Use", [7], expectations.has_summary),
+    Shown(README, "`rt` builds the program first, ...", expectations.is_shortened_report),
+    Commands(README, "With the installed commands, ...", [7], expectations.begins("AIDE found differences between ")),
+    Shown(README, "On a Debian with `aide-compare-setup`, ...", expectations.is_first_mail),
     Commands(
         README, "aide-compare-run OLD NEW | aide-compare-json | aide-compare-html > page.html", [0], expectations.has_page
     ),
     Commands(
-        README, "man aide-compare", [0], expectations.prints("AIDE-COMPARE(1)"), prepare=expectations.set_pages, needs="man"
-    ),
-    Commands(
         README,
-        "man aide-compare.conf",
+        "man aide-compare-run",
         [0],
-        expectations.prints("AIDE-COMPARE.CONF(5)"),
+        expectations.prints("AIDE-COMPARE-RUN(1)"),
         prepare=expectations.set_pages,
         needs="man",
     ),
     WithRt(README, "rt version", [0], expectations.is_kit),
     Commands(
         EXAMPLES,
-        "Each folder has an old database, a new one, and a configuration. ...",
+        "Each directory has an old database, a new one, and a configuration. ...",
         [0, 7, 7, 7],
         expectations.are_examples,
         folder="/tmp/clone",
     ),
+    Commands(
+        EXAMPLES,
+        "Ignore changed times and counts of links. ...",
+        [7],
+        expectations.says_number("Now (\\d+) entries are changed", "  Changed entries: +(\\d+)"),
+        prepare=expectations.set_program,
+        folder="/tmp/clone",
+    ),
+    Commands(
+        EXAMPLES,
+        "Give it a damaged database. ...",
+        [0, 24],
+        expectations.is_refused_as_said,
+        prepare=expectations.set_program,
+        folder="/tmp/clone",
+    ),
+    Commands(
+        EXAMPLES,
+        "Make JSON of the report. ...",
+        [0],
+        expectations.begins('{"record":"summary",'),
+        prepare=expectations.set_program,
+        folder="/tmp/clone",
+    ),
     Elsewhere(
         README,
-        "dpkg -i aide-compare_...",
+        "With the package on Debian, as root, ...",
         "it installs for the whole machine",
-        "tools/packaging/installing/packages.py",
+        "tools/commands/trials/setup.py",
         expectations.is_package,
     ),
     Elsewhere(
-        README, "From source, with ...", "it builds, and installs for the whole machine", "tools/packaging/try_install.py"
+        README, "No package is published. ...", "it builds, and installs for the whole machine", "tools/packaging/try_install.py"
     ),
-    Elsewhere(README, "This runs the program before anything is proved ...", "this script is a part of it", "tools/test"),
     Elsewhere(
         RUN, "A line that means programs too begins with a reason:", "it is no command", "tools/commands/trials/without.py"
     ),

@@ -93,7 +93,8 @@ class Sandbox:
         built = self.path("/tmp/clone/crates/aide/out/aide")
         os.makedirs(os.path.dirname(built))
         os.symlink(self.trial.program, built)
-        os.symlink(os.path.join(HERE, "examples"), self.path("/tmp/clone/examples"))
+        for name in ("examples", "commands"):
+            os.symlink(os.path.join(HERE, name), self.path("/tmp/clone/" + name))
 
     def pair(self, old, new):
         return "database_in=file:%s\ndatabase_new=file:%s\n" % (self.path(old), self.path(new))
