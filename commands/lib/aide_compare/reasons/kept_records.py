@@ -65,7 +65,7 @@ def _of_that_time(path, digest, accepted):
             return None
         target = copied(descriptor, None, MOST_ALL)[0]
         os.lseek(target, 0, os.SEEK_END)
-        write_all(target, b"" if digest == accepted else _mark(digest, accepted))
+        write_all(target, b"" if digest == accepted else mark_of(digest, accepted))
         return target
     except Refuted:
         return None

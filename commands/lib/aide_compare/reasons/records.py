@@ -13,7 +13,7 @@ import tarfile
 from aide_compare.base.ending import Fault, Status, reason
 from aide_compare.base.escapes import shown
 from aide_compare.base.folders import open_folder
-from aide_compare.compare.unpack import Opened, copy_opened
+from aide_compare.compare.unpack import BLOCK, Opened, copy_opened
 from aide_compare.reasons.packed import Bounded, members
 from aide_compare.reasons.rpm import MOST_TEXT, RPM_NAME, RpmRecords, has_rpm
 from aide_compare.base.trusted import open_trusted, read_whole
@@ -116,8 +116,8 @@ def write_records(target, folder=DPKG, records=None):
     """Writes the packages' records of now to an open file of bytes. The same records give the same bytes."""
     records = records or records_now(folder)
     try:
-        with gzip.GzipFile(filename="", mode="wb", fileobj=target, mtime=0) as packed:
-            with tarfile.open(fileobj=packed, mode="w:", format=tarfile.GNU_FORMAT) as archive:
+        with gzip.GzipFile(filename="", mode="wb", compresslevel=1, fileobj=target, mtime=0) as packed:
+            with tarfile.open(fileobj=packed, mode="w|", bufsize=BLOCK, format=tarfile.GNU_FORMAT) as archive:
                 for name in records.names:
                     text = records.read(name)
                     member = tarfile.TarInfo(name)
