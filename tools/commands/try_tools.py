@@ -44,6 +44,7 @@ from tools.commands.trials.smtp import try_smtp
 from tools.commands.trials.sorting import try_sorting
 from tools.commands.trials.state import try_readers
 from tools.commands.trials.without import try_without
+from tools.commands.trials.without_random import try_without_random
 from tools.lib.tally import Tally, program_of, side_by_side
 
 BASE = [try_texts, try_configurations, try_files]
@@ -86,6 +87,7 @@ TRIALS = [
     try_reasons_packages,
     try_reasons_archive,
     try_without,
+    try_without_random,
     try_explained,
     try_explained_readers,
     try_age,

@@ -8,7 +8,7 @@ PLANTED = (
     seen_by("without.try_names", (WITHOUT, 'decoded(fields[self.columns["name"]])', 'fields[self.columns["name"]]'))
     + seen_by(
         "without.try_damage",
-        (WITHOUT, 'cut.keeps(line) else b"\\n"', 'cut.keeps(line) else b""'),
+        (WITHOUT, 'self.keeps(lines[at:end]) else b"\\n"', 'self.keeps(lines[at:end]) else b""'),
         (WITHOUT, "len(fields) != self.width", 'len(fields) <= self.columns["name"]'),
         (WITHOUT, '            self.is_over = fields[0] == b"@@end_db"\n', ""),
     )
@@ -29,6 +29,15 @@ PLANTED = (
             "rule if may_be_left_out(found, rule) else None",
         ),
         (WITHOUT, "[^() \\t][^()]*", "[^()]*"),
+    )
+    + seen_by(
+        "without_random.try_without_random",
+        (WITHOUT, "            if start in self.by_start:\n                return 0\n", ""),
+        (WITHOUT, 'FOLDERS = re.compile(rb"/[^%\\s]*/")', 'FOLDERS = re.compile(rb"/[^\\s]*/")'),
+        (WITHOUT, "end - at > LINE or ", ""),
+        (WITHOUT, 'self.columns.get("name") == 0', '"name" in self.columns'),
+        (WITHOUT, "(?:\\1[^\\n]*\\n)*", "(?:[^\\n]*\\n)*"),
+        (WITHOUT, 'rest = b"" if rest.endswith(b"\\n") else source', "rest = source"),
     )
     + seen_by("without.try_patterns", (PATTERNS, "                retry += 1\n", "                retry += 2\n"))
     + seen_by(

@@ -6,6 +6,7 @@ import os
 import re
 import stat
 from collections import Counter
+from functools import lru_cache
 
 from aide_compare.base.ending import Fault, Status, reason, write_all
 from aide_compare.base.escapes import shown
@@ -18,9 +19,10 @@ MOST_PATH = 4096  # PATH_MAX of Linux: no path of a file is longer, so a longer 
 LINE = (1 << 20) + 1  # The longest line of a database, with its newline. aide-compare refuses a longer one.
 FIELDS = re.compile(rb"[^ \t]+")
 ESCAPE = re.compile(rb"%([0-9A-Fa-f]{2})")
+FOLDERS = re.compile(rb"/[^%\s]*/")  # As far as nothing of a path is escaped: a / may be.
 # A line that also leaves out programs begins so: the reason is between the brackets.
 PROGRAMS = re.compile(rb"programs\(([^()]*[^() \t][^()]*)\)[ \t]+(/.*)")
-OUTPUT_BLOCK = 1 << 18
+BLOCK = 1 << 18
 ABSENT, RUN_BITS, SET_ID, ANY_BITS = b"0", 0o111, 0o6000, 0o777
 MEASURES_CAPABILITIES = 1 << 37  # A bit of the column `attr`.
 STAYING = "a program, a set-ID bit, capabilities, a device, or no mode"
@@ -64,6 +66,17 @@ class Rules:
         for number, rule in enumerate(rules):
             self.by_start.setdefault(rule.pattern.fixed, []).append((number, rule))
         self.longest = max((len(start) for start in self.by_start), default=0)
+        self.open = {start[:size] for start in self.by_start for size in range(len(start))}
+
+    def depth_of(self, pieces):
+        """How many of these pieces make a folder below which no rule means anything; 0 if none do."""
+        for size in range(len(pieces) + 1):
+            start = tuple(pieces[:size])
+            if start in self.by_start:
+                return 0
+            if start not in self.open:
+                return size
+        return 0
 
     def of(self, path, is_meant=lambda rule: True):
         """The first rule that means a path, of those that `is_meant` lets pass, or None."""
@@ -125,6 +138,25 @@ class _Cut:
         self.rules, self.columns, self.width, self.is_over = rules, {}, 0, False
         self.counts, self.staying = Counter(), 0
 
+    def parts(self, lines):
+        """The bytes of whole lines, in parts. An entry that is left out becomes an empty line, so that all keep their numbers."""
+        at = 0
+        while at < len(lines):
+            end = self._free_until(lines, at)
+            if end == at:
+                end = lines.index(b"\n", at) + 1
+                yield lines[at:end] if end - at > LINE or self.keeps(lines[at:end]) else b"\n"
+            else:
+                yield lines[at:end]
+            at = end
+
+    def _free_until(self, lines, at):
+        """Where the lines end that begin at `at` and are all below a folder of which no rule means anything. Their first field
+        is the path there, so that no other one has to be looked at."""
+        folders = FOLDERS.match(lines, at) if self.columns.get("name") == 0 else None
+        depth = self.rules.depth_of(folders.group()[1:-1].split(b"/")) if folders else 0
+        return _run(depth).match(lines, at).end() if depth else at
+
     def keeps(self, line):
         """Whether a line stays. Lines that are no entries stay, also those that lack a field or have one too many, which
         aide-compare refuses, and so does all after the end line."""
@@ -157,13 +189,22 @@ class _Cut:
         return False
 
 
-def _cut_lines(source, cut):
-    """The bytes of the copy: an entry that is left out becomes an empty line, so that all lines keep their numbers."""
-    whole = True
-    for line in iter(lambda: source.readline(LINE), b""):
-        ends = line.endswith(b"\n")
-        yield line if not whole or not ends or cut.keeps(line) else b"\n"
-        whole = ends
+@lru_cache(maxsize=None)
+def _run(depth):
+    """Lines that begin with the same folder, which is as deep as that."""
+    return re.compile(rb"((?:/[^/%%\s]*){%d}/)[^\n]*\n(?:\1[^\n]*\n)*" % depth)
+
+
+def _cut_parts(source, cut):
+    """The bytes of the copy, in parts. What has no end of a line, or more bytes than a line of a database can have, stays."""
+    for lines in iter(lambda: source.read(BLOCK), b""):
+        lines += source.readline(LINE)
+        whole = lines.rfind(b"\n") + 1
+        yield b"".join(cut.parts(lines[:whole]))
+        rest = lines[whole:]
+        while rest:
+            yield rest
+            rest = b"" if rest.endswith(b"\n") else source.readline(LINE)
 
 
 class LeftOut:
@@ -184,17 +225,12 @@ class LeftOut:
 def cut_copy(descriptor, rules):
     """A private copy of an unpacked database without the entries that rules leave out, and the LeftOut. The database is read
     from its beginning."""
-    cut, target, waiting, size = _Cut(rules), nameless(), [], 0
+    cut, target = _Cut(rules), nameless()
     os.lseek(descriptor, 0, os.SEEK_SET)
     try:
         with os.fdopen(os.dup(descriptor), "rb", 1 << 16) as source:
-            for line in _cut_lines(source, cut):
-                waiting.append(line)
-                size += len(line)
-                if size >= OUTPUT_BLOCK:
-                    write_all(target, b"".join(waiting))
-                    waiting, size = [], 0
-            write_all(target, b"".join(waiting))
+            for part in _cut_parts(source, cut):
+                write_all(target, part)
     except OSError as error:
         os.close(target)
         raise Fault(Status.DEVICE, "cannot copy a database without the entries that are left out: %s" % reason(error))
