@@ -185,9 +185,9 @@ def try_rights(tally, _):
 
 def copied(path, most=1 << 40):
     copy = unpack.copy_database("new", path, most)
-    text = os.pread(copy.fd, copy.size + 1, 0)
+    text, digest = os.pread(copy.fd, copy.size + 1, 0), copy.sha256
     os.close(copy.fd)
-    return text if copy.sha256 == hashlib.sha256(text).hexdigest() else "another SHA-256"
+    return text if digest == hashlib.sha256(text).hexdigest() else "another SHA-256"
 
 
 def try_copies(tally, folder):

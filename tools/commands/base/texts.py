@@ -1,4 +1,5 @@
 """Escapes, times, the command line, the state file, the head of reports, and how a command ends."""
+import base64
 import json
 import os
 import subprocess
@@ -157,8 +158,17 @@ def try_reports(tally, _):
         [reports.status_of(counts) for counts in ((0, 0, 0), (9, 0, 0), (0, 9, 0), (0, 0, 9), (1, 1, 1))],
         [0, 1, 2, 4, 7],
     )
+    old, new = bytes(range(32)), bytes(range(100, 132))
+    for label, text in (("64", lambda data: base64.b64encode(data).decode()), ("16", bytes.hex)):
+        tail = DIGESTS % (text(old)[:32], text(old)[32:], text(new)[:32], text(new)[32:])
+        expect(tally, "digests in base " + label, reports.digests_of(b"x\n" + tail.encode()), [old.hex(), new.hex()])
+        for cut in (tail[:-1], tail + "\n", tail.replace("Old", "New"), tail.replace("attributes", "names"), ""):
+            expect(tally, "no digests in %.40r" % cut, reports.digests_of(cut.encode()), [])
 
 
+DIGESTS = "\nThe attributes of the databases:\n" + "-" * 51 + "\n\n" + "".join(
+    side + " database: /proc/self/fd/3\n  SHA256    : %s\n              %s\n" for side in ("Old", "New")
+)
 END = """import sys
 sys.path.insert(0, %r)
 from aide_compare.base.ending import *

@@ -17,7 +17,7 @@ from aide_compare.compare.configuration import (
     without_includes,
 )
 from aide_compare.compare.hints import explained
-from aide_compare.compare.reports import DIFFER, HEAD_BYTES, SAME, counts_of, lists_entries, status_of
+from aide_compare.compare.reports import DIFFER, END_BYTES, HEAD_BYTES, SAME, counts_of, digests_of, lists_entries, status_of
 from aide_compare.compare.unpack import copy_opened, open_database
 from aide_compare.compare.without import cut_copy
 
@@ -161,6 +161,9 @@ class Comparison:
                 Status.DEVICE,
                 "%s ended with status %d, but its report does not say so" % (shown(self.program), outcome.status),
             )
+        if not self.request.without:
+            for side, digest in zip(("old", "new"), digests_of(os.pread(outcome.report, END_BYTES, max(size - END_BYTES, 0)))):
+                outcome.copies[side].take_digest(digest)
 
     def _counted(self):
         """The counts by a second run at the level summary: only the level minimal has none. None if it ends otherwise."""

@@ -6,7 +6,6 @@ one that has changed keeps its old line. Both databases are sound and in path or
 import os
 import re
 from collections import Counter
-from hashlib import sha256
 from heapq import merge
 from itertools import groupby
 from operator import itemgetter
@@ -83,7 +82,7 @@ class _Target:
     """The lines of the new baseline, in a private file."""
 
     def __init__(self):
-        self.fd, self.waiting, self.room, self.size, self.digest = nameless(), [], BLOCK, 0, sha256()
+        self.fd, self.waiting, self.room, self.size = nameless(), [], BLOCK, 0
 
     def put(self, line):
         self.waiting.append(line)
@@ -94,7 +93,6 @@ class _Target:
     def flush(self):
         text = b"".join(self.waiting)
         write_all(self.fd, text)
-        self.digest.update(text)
         self.size, self.waiting, self.room = self.size + len(text), [], BLOCK
 
 
@@ -125,4 +123,4 @@ def keep_open(old, new, is_open):
         target.flush()
     except OSError as error:
         raise Fault(Status.DEVICE, "cannot make a database of which a part is open: %s" % reason(error))
-    return Copy(target.fd, target.size, target.digest.hexdigest(), new.name, new.written), counts
+    return Copy(target.fd, target.size, new.name, new.written), counts

@@ -28,8 +28,21 @@ class Copy:
     """A private copy: the descriptor of its unpacked bytes, how many, their SHA-256 in base 16, the name of the database,
     and when its file was last modified (None for a pipe)."""
 
-    def __init__(self, descriptor, size, digest, name, written):
-        self.fd, self.size, self.sha256, self.name, self.written = descriptor, size, digest, name, written
+    def __init__(self, descriptor, size, name, written):
+        self.fd, self.size, self.name, self.written, self._digest = descriptor, size, name, written, None
+
+    @property
+    def sha256(self):
+        """The digest. All bytes are read for it, unless whoever has read them has told it."""
+        if self._digest is None:
+            digest = sha256()
+            for at in range(0, self.size, BLOCK):
+                digest.update(os.pread(self.fd, BLOCK, at))
+            self._digest = digest.hexdigest()
+        return self._digest
+
+    def take_digest(self, digest):
+        self._digest = digest
 
 
 def given_descriptor(path):
@@ -66,7 +79,7 @@ def _keep(opened, descriptor, data):
 
 
 class _Target:
-    """Where the unpacked bytes go: counted, hashed, refused beyond the limit, and kept if there is a descriptor."""
+    """Where the unpacked bytes go: counted, refused beyond the limit, and kept if there is a descriptor, hashed if not."""
 
     def __init__(self, opened, most, descriptor=None):
         self.opened, self.most, self.size, self.digest, self.fd = opened, most, 0, sha256(), descriptor
@@ -75,8 +88,9 @@ class _Target:
         self.size += len(data)
         if self.size > self.most:
             raise Fault(Status.DEVICE, "%s has more than %d bytes unpacked" % (self.opened.words, self.most))
-        self.digest.update(data)
-        if self.fd is not None:
+        if self.fd is None:
+            self.digest.update(data)
+        else:
             _keep(self.opened, self.fd, data)
 
 
@@ -156,7 +170,7 @@ def copy_opened(opened, most):
             raise
     finally:
         os.close(opened.fd)
-    return Copy(target.fd, target.size, target.digest.hexdigest(), opened.path, opened.written)
+    return Copy(target.fd, target.size, opened.path, opened.written)
 
 
 def copy_database(side, path, most):
