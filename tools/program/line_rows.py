@@ -122,7 +122,7 @@ SETTINGS = [
         '"report_ignore_removed_attrs":[],"report_ignore_changed_attrs":[],"report_force_attrs":[]}\n',
     ),
     (
-        b"database_in=file:/o%20\"\ndatabase_new=file:/n\nreport_level=minimal\nreport_grouped=no\n"
+        b'database_in=file:/o%20"\ndatabase_new=file:/n\nreport_level=minimal\nreport_grouped=no\n'
         b"report_summarize_changes=no\nreport_base16=yes\nreport_quiet=yes\nreport_ignore_added_attrs=s+p\n"
         b"report_ignore_removed_attrs=L-acl-selinux-xattrs\nreport_ignore_changed_attrs=sha512_256\nreport_force_attrs=ftype\n",
         '{"format":2,"database_in":"/o%20\\"","database_new":"/n","report_level":"minimal","report_grouped":false,'

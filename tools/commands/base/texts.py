@@ -166,8 +166,11 @@ def try_reports(tally, _):
             expect(tally, "no digests in %.40r" % cut, reports.digests_of(cut.encode()), [])
 
 
-DIGESTS = "\nThe attributes of the databases:\n" + "-" * 51 + "\n\n" + "".join(
-    side + " database: /proc/self/fd/3\n  SHA256    : %s\n              %s\n" for side in ("Old", "New")
+DIGESTS = (
+    "\nThe attributes of the databases:\n"
+    + "-" * 51
+    + "\n\n"
+    + "".join(side + " database: /proc/self/fd/3\n  SHA256    : %s\n              %s\n" for side in ("Old", "New"))
 )
 END = """import sys
 sys.path.insert(0, %r)

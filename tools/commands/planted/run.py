@@ -221,8 +221,10 @@ PLANTED = (
         "lost_modules.try_lost_modules",
         ("commands/bin/aide-compare-log", "except BaseException as error:", "except ImportError as error:"),
     )
-    + seen_by('run.try_state', (COMPARISON, 'zip(("old", "new"), digests_of(', 'zip(("new", "old"), digests_of('))
-    + seen_by('without.try_left_out', (COMPARISON, '        if not self.request.without:\n', '        if True:\n'))
-    + seen_by('base.try_reports', ('commands/lib/aide_compare/compare/reports.py', 'DIGEST % b"New" + rb"\\Z")', 'DIGEST % b"New")'))
-    + seen_by('base.try_files', (UNPACK, 'os.pread(self.fd, BLOCK, at)', 'os.pread(self.fd, BLOCK, 0)'))
+    + seen_by("run.try_state", (COMPARISON, 'zip(("old", "new"), digests_of(', 'zip(("new", "old"), digests_of('))
+    + seen_by("without.try_left_out", (COMPARISON, "        if not self.request.without:\n", "        if True:\n"))
+    + seen_by(
+        "base.try_reports", ("commands/lib/aide_compare/compare/reports.py", 'DIGEST % b"New" + rb"\\Z")', 'DIGEST % b"New")')
+    )
+    + seen_by("base.try_files", (UNPACK, "os.pread(self.fd, BLOCK, at)", "os.pread(self.fd, BLOCK, 0)"))
 )

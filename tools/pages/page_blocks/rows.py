@@ -266,9 +266,7 @@ ROWS = [
         expectations.is_mailed_for_hosts,
         prepare=expectations.put_baseline,
     ),
-    FirstAnswer(
-        README, "AIDE, the Advanced Intrusion Detection Environment, ...", [7], expectations.is_first_answer
-    ),
+    FirstAnswer(README, "AIDE, the Advanced Intrusion Detection Environment, ...", [7], expectations.is_first_answer),
     Shown(README, "`rt` builds the program first, ...", expectations.is_shortened_report),
     Commands(README, "With the installed commands, ...", [7], expectations.begins("AIDE found differences between ")),
     Shown(README, "On a Debian with `aide-compare-setup`, ...", expectations.is_first_mail),
@@ -323,7 +321,10 @@ ROWS = [
         expectations.is_package,
     ),
     Elsewhere(
-        README, "No package is published. ...", "it builds, and installs for the whole machine", "tools/packaging/try_install.py"
+        README,
+        "No package is published. ...",
+        "it builds, and installs for the whole machine",
+        "tools/packaging/try_install.py",
     ),
     Elsewhere(
         RUN, "A line that means programs too begins with a reason:", "it is no command", "tools/commands/trials/without.py"

@@ -99,11 +99,11 @@ PLANTED = (
         (LINES, 'attribute.form == "link" and value is None', 'attribute.form == "link" and not value'),
         (LINES, '"%04o" % value', '"%o" % value'),
         (LINES, '{**settings, "report_level": "added_removed_entries"}', "settings"),
-        (LINES, "+ side_members(\"old\", change.old, names)", "+ side_members(\"old\", change.new, names)"),
+        (LINES, '+ side_members("old", change.old, names)', '+ side_members("old", change.new, names)'),
         (LINES, "if kind_of(change, settings)]", "if shown(change, settings)]"),
         (LINES, "    if kind is not None:\n", "    if title is not None:\n"),
-        (LINES, 'number(len(new.entries))', "number(len(old.entries))"),
-        (LINES, "(\"new\", \"database_new\", texts[1], new)", "(\"new\", \"database_new\", texts[1], old)"),
+        (LINES, "number(len(new.entries))", "number(len(old.entries))"),
+        (LINES, '("new", "database_new", texts[1], new)', '("new", "database_new", texts[1], old)'),
         (LINES, "if attribute in settings[name]]", "if attribute in settings[SET_OPTIONS[0]]]"),
     )
 )
