@@ -26,7 +26,7 @@ FILES = [
     exactly(84, "tools.source.check_layout"),
     exactly(149, "tools.source.check_layers"),
     exactly(561, "tools.source.check_tools"),
-    exactly(865, "tools.source.check_planted"),
+    exactly(875, "tools.source.check_planted"),
     exactly(1792, "tools.wrong_bodies.check"),
 ]
 

@@ -20,7 +20,7 @@ def try_files(tally, folder):
         os.mkdir(os.path.join(folder, name))
     for name, mode in (("sticky", 0o1777), ("group", 0o775)):
         os.chmod(os.path.join(folder, name), mode)
-    for part in (try_walks, try_links, try_replacements, try_nameless, try_copies, try_programs) + (
+    for part in (try_walks, try_links, try_replacements, try_order, try_nameless, try_copies, try_programs) + (
         (try_rights,) if os.getuid() == 0 else ()
     ):
         part(tally, folder)
@@ -99,6 +99,29 @@ def replaced(path, *texts):
     found = os.lstat(path)
     with open(path, "rb") as file:
         return file.read(), stat.S_IMODE(found.st_mode), found.st_uid, sorted(os.listdir(os.path.dirname(path)))
+
+
+def try_order(tally, folder):
+    """A file is on the disk before it has its name, and the folder after that; by another name too, where it is an old one."""
+    calls, real = [], {name: getattr(os, name) for name in ("fsync", "link", "rename")}
+
+    def noted(name):
+        def call(*given, **more):
+            is_folder = name == "fsync" and stat.S_ISDIR(os.fstat(given[0]).st_mode)
+            calls.append("folder" if is_folder else name)
+            return real[name](*given, **more)
+
+        return call
+
+    try:
+        for name in real:
+            setattr(os, name, noted(name))
+        replaced(folder + "/order/state", b"one")
+    finally:
+        for name, call in real.items():
+            setattr(os, name, call)
+    names = [call for call in calls if call in ("link", "rename")]
+    expect(tally, "fsync, names, fsync of the folder", calls, ["fsync", *names, "folder"] if names else None)
 
 
 def try_replacements(tally, folder):
@@ -220,6 +243,8 @@ def try_copies(tally, folder):
     expect_fault(tally, "members without end", outcome(copied, path, 1000), 18, "has more than")
     _try_small_members(tally, path)
     _try_pipes(tally, text[:999])
+    blocks = iter([b"a", b"bc", b"the rest"])
+    expect(tally, "a start is no more than it needs", (unpack._start(blocks), next(blocks)), (b"abc", b"the rest"))
 
 
 def _try_pipes(tally, text):

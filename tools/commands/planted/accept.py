@@ -123,4 +123,13 @@ PLANTED = (
     + seen_by("accept_attacks.try_folder_in_a_loop", (ACCEPTING, REPLACE, FOLDER_BY_NAME))
     + seen_by("accept_attacks.try_names_taken", (ACCEPTING, REPLACE, THROUGH_A_LINK))
     + seen_by("accept_attacks.try_moved_folder", (BASELINE, "            self._check_place(answer)\n", ""))
+    + seen_by(
+        "accept.try_told",
+        (
+            ACCEPTING,
+            '    except Fault:\n        return ""\n    finally:',
+            "    except Fault:\n        return None\n    finally:",
+        ),
+        (ACCEPTING, 'return None if baseline.former is None else ""', "return None"),
+    )
 )

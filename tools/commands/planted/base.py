@@ -76,4 +76,10 @@ PLANTED = (
         "bounded.try_sweep",
         (ROOM, "if left <= 0 or time.monotonic() > limit:", "if time.monotonic() > limit:"),
     )
+    + seen_by(
+        "base.try_files",
+        (FILES, "            os.fsync(part)\n", ""),
+        (FILES, "            os.fsync(folder)\n", "            pass\n"),
+        (UNPACK, "            break\n    return first", "            continue\n    return first"),
+    )
 )

@@ -101,4 +101,8 @@ PLANTED = (
         (SMTP, "in_child(str(self.place), lambda: self._hand_over(message), self.seconds)", "self._hand_over(message)"),
     )
     + seen_by("smtp.try_places", (SMTP, "len(port) <= 5 and 0 < int(port) < 65536", "int(port) < 65536"))
+    + seen_by(
+        "mail.try_bounds",
+        (MESSAGE, "                if title not in TITLES and title != TOGETHER:\n                    return\n", ""),
+    )
 )

@@ -227,4 +227,13 @@ PLANTED = (
         "base.try_reports", ("commands/lib/aide_compare/compare/reports.py", 'DIGEST % b"New" + rb"\\Z")', 'DIGEST % b"New")')
     )
     + seen_by("base.try_files", (UNPACK, "os.pread(self.fd, BLOCK, at)", "os.pread(self.fd, BLOCK, 0)"))
+    + seen_by("attacks.try_broken_off", (RUN, "if memory else (Status.DEVICE", "if not memory else (Status.DEVICE"))
+    + seen_by(
+        "attacks.try_user",
+        (
+            "commands/lib/aide_compare/base/rights.py",
+            "    if os.getuid() == os.geteuid() == entry.pw_uid:\n        return\n",
+            "",
+        ),
+    )
 )

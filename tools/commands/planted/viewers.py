@@ -202,4 +202,12 @@ PLANTED = (
         ),
     )
     + seen_by("viewers.try_installed", ("commands/bin/aide-compare-json", "    sys.dont_write_bytecode = True\n", ""))
+    + seen_by(
+        "viewers.try_blank_ends",
+        (
+            LIB + "base/shown_text.py",
+            ' if "uncertain" in fields else notes',
+            ' if "uncertain" not in fields else notes',
+        ),
+    )
 )

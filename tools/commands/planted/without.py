@@ -67,4 +67,8 @@ PLANTED = (
     )
     + seen_by("without.try_random", (PATTERNS, "part.search(name, found.end())", "part.search(name)"))
     + seen_by("without.try_shipped", ("contrib/aide/debian.without", "/var/cache/**\n", "/var/**\n"))
+    + seen_by(
+        "without.try_damage",
+        (WITHOUT, 'if not fields or fields[0].startswith(b"#"):', 'if not fields and fields[0].startswith(b"#"):'),
+    )
 )

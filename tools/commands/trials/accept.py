@@ -62,6 +62,14 @@ def try_told(sandbox):
     sandbox.write("state", STATE % (sha256(OLD), sha256(OLDER)))
     done = accept(sandbox, sha256(NEW), "--state", "state")
     sandbox.expect("the state of another database", done, 0, [b"no counts are known", b", written 20"], b"")
+    unknown = b"former: SHA-256 unknown, it cannot be read, kept as"
+    fresh(sandbox)
+    sandbox.write("base/aide.db", gzip.compress(OLD)[:-9], 0o600)
+    sandbox.expect("a damaged baseline", accept(sandbox, sha256(NEW)), 0, unknown, b"")
+    if os.getuid() == 0:
+        fresh(sandbox, NOBODY)
+        done = accept(sandbox, sha256(NEW), before=AS_NOBODY)
+        sandbox.expect("a baseline that the caller may not read", done, 0, unknown, b"")
 
 
 def try_refusals(sandbox):

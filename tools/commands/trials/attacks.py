@@ -22,6 +22,7 @@ def try_attacks(sandbox):
         try_names_that_clash,
         try_few_descriptors,
         try_little_memory,
+        try_broken_off,
         try_no_process,
         try_each_moment,
         try_waiting,
@@ -86,8 +87,24 @@ def try_little_memory(sandbox):
     )
     sandbox.holds("the interpreter starts with little memory", least < 40, least)
     for size in [*range(least + 1, least + 6), *range(least + 6, 60, 3)]:
-        answer = with_memory(sandbox, size, TOOL, "old.db", "new.db")
+        sandbox.write("state", b"as before\n")
+        answer = with_memory(sandbox, size, TOOL, "old.db", "new.db", "--state", "state")
         sandbox.holds("%d MB of memory" % size, compared(answer) or answer.status in NO_COMPARISON, answer)
+        state = sandbox.read("state")
+        is_new = state != b"as before\n" and sandbox.state()["status"] == str(answer.status)
+        sandbox.holds("the state with %d MB" % size, is_new or not compared(answer) and state == b"as before\n", state)
+
+
+def try_broken_off(sandbox):
+    """What breaks a comparison off is told as what it is, by the state too."""
+    name, place = "lib/aide_compare/commands/run.py", "            reasons = _compared(request, outcome, wanted)\n"
+    text = sandbox.read(name)
+    for raised, status, said in (("MemoryError", 22, b"out of memory"), ("OSError(5, 'why')", 18, b"why")):
+        sandbox.edit(name, place, "            raise %s\n" % raised)
+        answer = sandbox.call(TOOL, "old.db", "new.db", "--state", "state")
+        sandbox.expect("a comparison that ends by " + raised, answer, status, b"", said)
+        sandbox.holds("the state of it", sandbox.state()["status"] == str(status), sandbox.state())
+        sandbox.write(name, text)
 
 
 def try_no_process(sandbox):
@@ -220,6 +237,8 @@ def try_user(sandbox):
     sandbox.write("secret.db", OLD, 0o600)
     sandbox.expect("--user", sandbox.call(TOOL, "--user", "nobody", "secret.db", "new.db"), 18, b"", b"ermission denied")
     sandbox.holds("--user that may read", compared(sandbox.call(TOOL, "--user", "nobody", "old.db", "new.db.gz")))
+    answer = sandbox.call(TOOL, "--user", "nobody", "old.db", "new.db", before=AS_NOBODY)
+    sandbox.holds("--user of who calls", compared(answer), answer)
     sandbox.expect("an unknown user", sandbox.call(TOOL, "--user", "nobody-else", "old.db", "new.db"), 15, b"", b"no user")
     answer = sandbox.call(TOOL, "--user", "root", "old.db", "new.db", before=AS_NOBODY)
     sandbox.expect("--user without the right", answer, 15, b"", b"only root can become root")

@@ -243,6 +243,12 @@ def try_damage(sandbox):
         sandbox.write("damaged.db", text)
         answer = sandbox.call(TOOL, "--without-path", "/var/log/**", "o.db", "damaged.db")
         sandbox.expect(label, answer, 24, b"", [b"new database" + (b"" if b"end" in said else said)])
+    # Lines that are no entries: none is left out, and none stops the comparison.
+    for label, line in (("an empty line", b""), ("a blank line", b"   "), ("a comment", b"# no entry")):
+        sandbox.write("lines.db", NEW.replace(END, line + b"\n" + END))
+        want = sandbox.call("aide-compare-run", "o.db", "lines.db")
+        answer = sandbox.call(TOOL, "--without-path", "/nowhere/**", "o.db", "lines.db")
+        sandbox.holds(label, (answer.output, answer.status) == (want.output, want.status) and want.status < 8, answer)
     late = HEAD + b"/a 36 100644 1\n" + END + b"/var/log/late 36 100644 1\n"
     sandbox.write("late.db", late)
     answer = sandbox.call(TOOL, "--without-path", "/var/log/**", "late.db", "late.db")

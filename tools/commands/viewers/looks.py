@@ -148,11 +148,12 @@ def try_blank_ends(tally):
     """A blank at the end of a value is seen, also beside a summary string that ends with one."""
     summary = {**objects_of(rich_report({}))[0], "lines": 2, "total": 1, "added": 0, "removed": 0, "changed": 1}
     entry = {"record": "entry", "kind": "changed", "path": "/l", "summary": "l =.... mc....  . ", "type": "Link"}
-    for value, want in (("/t ", "/t\\040"), (" /t", "\\040/t"), ("/t", "/t")):
-        objects = [summary, {**entry, "attributes": {"Lname": {"old": "/a", "new": value}}}]
+    rows = [("/t ", {}, ">/t\\040<"), (" /t", {}, ">\\040/t<"), ("/t", {}, ">/t<")]
+    for value, more, want in rows + [("/t", {"uncertain": ["new-blanks"]}, "perhaps with blanks at its end")]:
+        objects = [summary, {**entry, "attributes": {"Lname": {"old": "/a", "new": value, **more}}}]
         lines = b"".join(json.dumps(fields, separators=(",", ":")).encode() + b"\n" for fields in objects)
         text = b"".join(page(io.BytesIO(lines), None, True)).decode()
-        tally.holds("%r is shown as %s" % (value, want), ">%s<" % want in text, text[-1500:])
+        tally.holds("%r is shown as %s" % (value, want), want in text, text[-1500:])
 
 
 def try_heading(tally):
