@@ -1,7 +1,8 @@
 #!/usr/bin/env python3
 """Plants each bug of the lists in planted/ into a copy, one at a time, and runs the trial that is to see it.
 
-A list is a module with PLANTED: bugs of the definitions (oracle) and of a manual page (pages), planted in their text; and
+A list is a module with PLANTED: bugs of the definitions (oracle), of a manual page (pages) and of what the
+checks of files read (checks), planted in their text; and
 bugs of what stands between the program and the machine (machine), planted around PROGRAM: its arguments and status are
 changed, or the answers of the C library. NAME is the name of a list, or of one bug as LIST:NUMBER from 1. A bug has to be
 seen: at least one check of its trial fails with it. Each trial is also run without a bug, and has to pass. The last line is
@@ -19,7 +20,7 @@ from tools.lib.arguments import parser_of
 from tools.lib import signals
 from tools.lib.apart import apart
 from tools.lib.tally import Tally, program_of
-from tools.program.planted import machine, oracle, pages
+from tools.program.planted import checks, machine, oracle, pages
 
 HERE = os.path.dirname(os.path.dirname(os.path.dirname(os.path.abspath(__file__))))
 FAILED = re.compile("[0-9]+ passed, [1-9][0-9]* failed")
@@ -34,8 +35,8 @@ WORDS = {
     "try_manual": [],
     "try_line_definitions": ["--count", "100", "--seed", "7"],
 }
-WITHOUT_PROGRAM = ["try_line_definitions"]
-ELSEWHERE = {"try_manual": "tools.pages.try_manual"}
+WITHOUT_PROGRAM = ["try_line_definitions", *checks.MODULES]
+ELSEWHERE = {"try_manual": "tools.pages.try_manual", **checks.MODULES}
 PARTS = {
     "devices": "devices.try_devices",
     "paths": "paths.try_paths",
@@ -51,7 +52,7 @@ def words_of(trial, program):
     if trial in PARTS:
         return [sys.executable, "-m", "tools.program.plant", "--trial", trial, program]
     tried = [] if trial in WITHOUT_PROGRAM else [program]
-    return [sys.executable, "-m", ELSEWHERE.get(trial, "tools.program." + trial)] + tried + WORDS[trial]
+    return [sys.executable, "-m", ELSEWHERE.get(trial, "tools.program." + trial)] + tried + WORDS.get(trial, [])
 
 
 def run_part(trial, program):
@@ -68,6 +69,16 @@ def last_line(trial, program, folder):
         apart(words_of(trial, program)), cwd=folder, stdin=subprocess.DEVNULL, stdout=subprocess.PIPE, stderr=subprocess.STDOUT
     )
     return done.stdout.decode("utf-8", "replace").rstrip("\n").rpartition("\n")[2]
+
+
+def cloned(folder):
+    """A repository of the files as they are: the checks ask git which files there are."""
+    listed = subprocess.run(["git", "ls-files", "-z"], cwd=HERE, stdout=subprocess.PIPE, check=True).stdout
+    for name in map(os.fsdecode, filter(None, listed.split(b"\0"))):
+        os.makedirs(os.path.dirname(os.path.join(folder, name)), exist_ok=True)
+        shutil.copy(os.path.join(HERE, name), os.path.join(folder, name))
+    for words in (["init", "-q"], ["add", "-A", "-f"]):
+        subprocess.run(["git", *words], cwd=folder, check=True)
 
 
 def copied(folder):
@@ -93,7 +104,7 @@ def faults_of(plant, program):
     """The faults of a bug: none if its trial sees it."""
     with tempfile.TemporaryDirectory(prefix="plant-") as folder:
         os.chmod(folder, 0o755)
-        copied(folder)
+        (cloned if plant.seen_by in checks.MODULES else copied)(folder)
         if isinstance(plant, machine.Around):
             program, fault = machine.planted_around(plant, program, folder), None
         else:
@@ -105,7 +116,7 @@ def faults_of(plant, program):
 
 def bugs(only):
     """The bugs of all lists, by name."""
-    for module in (machine, oracle, pages):
+    for module in (checks, machine, oracle, pages):
         name = module.__name__.rpartition(".")[2]
         for number, plant in enumerate(module.PLANTED, 1):
             if only in (None, name, "%s:%d" % (name, number)):

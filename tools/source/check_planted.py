@@ -55,7 +55,7 @@ def check_program(tally):
             faults = faults if plant.calls else []
         else:
             faults = text_faults(plant)
-        known = plant.seen_by in program.WORDS or plant.seen_by in program.PARTS
+        known = plant.seen_by in {**program.WORDS, **program.PARTS, **program.checks.MODULES}
         tally.add("program, %s" % name, faults + ([] if known else ["no such trial: %s" % plant.seen_by]))
 
 
