@@ -24,7 +24,7 @@ GROWING, MOVES, ENTRIES, PACKAGES, MADE, PARENTS, PROTECTED, RULES, SEVERITY, DP
 CONTENT, RECORDS, LINES, EXPLAINER, PACKED, TABLE, LINKS, MERGED = (
     LIB + name + ".py" for name in ("content", "records", "lines", "explainer", "packed", "table", "hard_links", "merged")
 )
-TRUSTED = "commands/lib/aide_compare/base/trusted.py"
+TRUSTED, SEVERITIES = "commands/lib/aide_compare/base/trusted.py", "commands/share/severity.conf"
 
 
 PLANTED = (
@@ -73,7 +73,12 @@ PLANTED = (
             "[each for each in sum(self.by_stem.values(), []) if _kept_of(self.read(each)[0]) == _kept_of(new)]",
         ),
     )
-    + seen_by("reasons_severity.try_shipped", ("commands/share/severity.conf", "high    any     /usr/local/lib/*.so.*\n", ""))
+    + seen_by(
+        "reasons_severity.try_shipped",
+        (SEVERITIES, "high    any     /usr/local/lib/*.so.*\n", ""),
+        (SEVERITIES, "high    any     /etc/ssl/certs/**\n", ""),
+        (SEVERITIES, "high    any             /etc/alternatives/*\n", ""),
+    )
     + seen_by(
         "reasons_packages.try_content",
         (PACKAGES, "        if old and not differ <= CONTENT:\n            return None\n", ""),
@@ -202,8 +207,8 @@ PLANTED = (
         (SEVERITY, "return 0 if stat.S_ISDIR(mode) else mode & SET_ID", "return mode & SET_ID"),
         (SEVERITY, " and not stat.S_ISLNK(mode) and not (stat.S_ISDIR(mode) and mode & stat.S_ISVTX)", ""),
         (SEVERITY, "lambda row: all(test(old, new) for test in row.tests)", "lambda row: True"),
-        ("commands/share/severity.conf", "high    any     /etc/sudoers.d/**\n", ""),
-        ("commands/share/severity.conf", "high    executable      /usr/bin/*\n", ""),
+        (SEVERITIES, "high    any     /etc/sudoers.d/**\n", ""),
+        (SEVERITIES, "high    executable      /usr/bin/*\n", ""),
     )
     + seen_by(
         "reasons_severity.try_tests",

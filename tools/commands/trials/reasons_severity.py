@@ -88,7 +88,8 @@ def try_tables(sandbox):
 
 
 def try_shipped(sandbox):
-    """Levels of the shipped table for libraries that are found before those of the system, and for their neighbours."""
+    """Levels of the shipped table for libraries that are found before those of the system, for certificates and alternatives,
+    and for the neighbours of them."""
     host = Host()
     levels = {
         b"/usr/local/lib/libm.so.6": "high",
@@ -96,6 +97,17 @@ def try_shipped(sandbox):
         b"/usr/local/lib/x86_64-linux-gnu/libm.so.6": "high",
         b"/usr/local/lib/libm.a": "medium",
         b"/usr/local/lib/python3.11/libm.so": "medium",
+        b"/etc/ssl/certs/ca-certificates.crt": "high",
+        b"/etc/ssl/certs/18856ac4.0": "high",
+        b"/etc/ssl/openssl.cnf": "medium",
+        b"/etc/ca-certificates.conf": "high",
+        b"/etc/ca-certificates/update.d/x": "high",
+        b"/etc/pki/ca-trust/source/anchors/x.pem": "high",
+        b"/etc/pki/tls/certs/x.pem": "high",
+        b"/usr/local/share/ca-certificates/x.crt": "high",
+        b"/usr/share/ca-certificates/mozilla/x.crt": "high",
+        b"/etc/alternatives/editor": "high",
+        b"/etc/alternatives": "medium",
     }
     for path in levels:
         host.new.file(path, b"x")
