@@ -8,7 +8,7 @@ LISTING, BRIEF, MESSAGE, EXPLAINER, SAME, ENTRIES = (
 PLANTED = (
     seen_by(
         "floods.try_order",
-        (LISTING, "sorted(found, key=is_added)", "found"),
+        (LISTING, "(folders.is_only_that(change), change.old_at is None)", "folders.is_only_that(change)"),
         (LISTING, "for group in range(len(ROOMS)):", "for group in (0, 2, 1):"),
         (LISTING, "return 0 if owner in (None, ROOT) else 1 if owner < FIRST_USER else 2", "return 0"),
         (
@@ -30,6 +30,20 @@ PLANTED = (
         (LISTING, "            rest.add(change)\n", "            pass\n"),
         (ENTRIES, 'self.bits & USER and "uid" in self.places', '"uid" in self.places'),
         (EXPLAINER, "        change.owner = least_owner(old, new)\n", ""),
+    )
+    + seen_by(
+        "floods.try_folders",
+        (LISTING, "(folders.is_only_that(change), change.old_at is None)", "change.old_at is None"),
+        (LISTING, "if not (stat.S_ISDIR(change.old_mode) and stat.S_ISDIR(change.new_mode)):", "if change.is_replaced:"),
+        (LISTING, "return has_other_names(old, new, differences(old, new))", "return True"),
+        (
+            LISTING,
+            "is_named = change.path in self.named and self.is_only_that(change)",
+            "is_named = self.is_only_that(change)",
+        ),
+        (LISTING, "change.path in self.named and self.is_only_that(change)", "change.path in self.named"),
+        (LISTING, "[change.folder()] if change.is_replaced else []", "[change.folder()]"),
+        (LISTING, "        self.count += is_named\n", ""),
     )
     + seen_by(
         "floods.try_flooded_mail",

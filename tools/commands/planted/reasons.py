@@ -176,15 +176,15 @@ PLANTED = (
     + seen_by(
         "reasons_places.try_folders",
         (PARENTS, "return NOT_VERIFIED if names.unverified else VERIFIED", "return VERIFIED"),
-        (PARENTS, "        if not _only_names(old, new, differ):\n            return None\n", ""),
+        (PARENTS, "        if not has_other_names(old, new, differ):\n            return None\n", ""),
         (PARENTS, "return None not in flags and flags[0] ^ flags[1] == INDEX", "return True"),
         (PARENTS, "return None not in flags and flags[0]", "return flags[0]"),
         (PARENTS, "change.new_at is None or (names", "(names"),
         (PARENTS, "if change.reason is None and not change.is_never:", "if change.reason is None:"),
         (PARENTS, "            if change.is_replaced:\n", "            if True:\n"),
         (PARENTS, "return ANEW_NOT_VERIFIED if names.unverified else ANEW", "return NOT_VERIFIED"),
-        (PARENTS, "if not names or not _only", "if not _only"),
-        (PARENTS, 'not names or not _only_names(old, new, differ - {"inode"})', "not names"),
+        (PARENTS, "if not names or not has_other", "if not has_other"),
+        (PARENTS, 'not names or not has_other_names(old, new, differ - {"inode"})', "not names"),
     )
     + seen_by(
         "reasons_places.try_rules",

@@ -67,7 +67,7 @@ def hostile_files(count):
 
 
 def try_floods(sandbox):
-    for trial in (try_order, try_flooded_mail, try_cut_lists, try_same_content):
+    for trial in (try_order, try_folders, try_flooded_mail, try_cut_lists, try_same_content):
         trial(sandbox)
 
 
@@ -83,7 +83,7 @@ def try_order(sandbox):
     hostile += [entry(b"/home/bob/%03d/.ssh/x" % number, owner=1001) for number in range(90)]
     hostile += [entry(b"/opt/root/.ssh/%02d" % number) for number in range(30)]
     hostile += [entry(b"/srv/.ssh/%02d" % number, attr=ATTR & ~8, owner=0) for number in range(30)]
-    write_night(sandbox, hostile)
+    write_night(sandbox, hostile + [entry(b"/srv/www/.ssh/x", owner=33)])
     lines = [line for line in brief_of(sandbox, "night.old", "night.new") if line.startswith("  high")]
     names = [re.sub(r": .*", "", line[10:]) for line in lines]
     roots = [
@@ -94,7 +94,7 @@ def try_order(sandbox):
     ]
     roots += ["added    /etc/cron.d/evil"] + ["added    /opt/root/.ssh/%02d" % number for number in range(30)]
     roots += ["added    /srv/.ssh/%02d" % number for number in range(20)] + ["added    /usr/local/sbin/.x"]
-    others = ["added    /home/anna/.ssh/%03d" % number for number in range(20)]
+    others = ["added    /srv/www/.ssh/x"] + ["added    /home/anna/.ssh/%03d" % number for number in range(20)]
     others += ["added    /home/bob/%03d/.ssh/x" % number for number in range(50)] + ["added    /home/anna/.ssh"]
     sandbox.holds("root's changes come first", names[: len(roots)] == roots, names[:80])
     sandbox.holds("what is not listed of a folder whose owner is not known", "added    /srv/.ssh" in names, names[50:80])
@@ -102,6 +102,44 @@ def try_order(sandbox):
     sandbox.holds("then those of others", rest[: len(others)] == others, rest)
     sandbox.holds("a folder that is counted", "  high    added    /home/anna/.ssh: 230 more files" in lines, lines[-20:])
     sandbox.holds("folders that are not named", lines[-1] == "  high    and 31 more in 31 more folders", lines[-3:])
+
+
+def try_folders(sandbox):
+    """A folder in which only names came and went comes last in its group, or is counted if such a name is listed by then."""
+
+    def night(time, mode):
+        """Folders, of which two get another mode and one another inode; a file with another content, a device with other times."""
+        folders = [entry(path, mode=b"40755", mtime=time) for path in b"/etc/cron.d /etc/ssh /opt /root/.ssh /srv".split()]
+        folders += [entry(b"/usr/local/sbin", mode=b"40755", mtime=time), entry(b"/etc/pam.d", mode=mode)]
+        folders.append(entry(b"/usr/local/bin", mode=mode, mtime=time))
+        folders += [entry(b"/etc/sudoers.d", mode=b"40755", inode=time), entry(b"/srv/a", b"a" * time)]
+        return folders + [entry(b"/etc/rc.local", mode=b"20600", mtime=time)]
+
+    names = b"/etc/cron.d/evil /etc/pam.d/x /etc/sudoers.d/x /opt/x /usr/local/bin/x /usr/local/sbin/.x".split()
+    added = [entry(path) for path in names] + [entry(b"/root/.ssh/x", owner=1000)]
+    sandbox.write("folders.old", database(night(1, b"40755")))
+    sandbox.write("folders.new", database(night(2, b"40775") + added))
+    lines = brief_of(sandbox, "folders.old", "folders.new")
+    got = [re.sub(r": .*", "", line[2:]) for line in lines[lines.index("Unexplained:") + 1 :] if line]
+    wanted = [
+        "high    changed  /etc/pam.d",
+        "high    changed  /etc/rc.local",
+        "high    changed  /etc/sudoers.d",
+        "high    added    /etc/cron.d/evil",
+        "high    added    /etc/pam.d/x",
+        "high    added    /etc/sudoers.d/x",
+        "high    added    /usr/local/bin/x",
+        "high    added    /usr/local/sbin/.x",
+        "high    changed  /etc/ssh",
+        "high    changed  /root/.ssh",
+        "high    added    /root/.ssh/x",
+        "medium  changed  /srv/a",
+        "medium  added    /opt/x",
+        "low     changed  /usr/local/bin",
+        "low     changed  /srv",
+        "3 folders of what is listed changed too",
+    ]
+    sandbox.holds("the lines of folders", got == wanted, got)
 
 
 def try_flooded_mail(sandbox):

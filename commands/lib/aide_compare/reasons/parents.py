@@ -27,7 +27,7 @@ class _Names:
         self.unverified = self.unverified or (reason is not None and not reason.verified)
 
 
-def _only_names(old, new, differ):
+def has_other_names(old, new, differ):
     """Whether a folder differs only as it does when names come and go in it."""
     rest = differ - NAMES
     if rest == {"e2fsattrs"}:
@@ -60,10 +60,10 @@ class Parents:
             return None
         differ = differences(old, new)
         if "inode" in differ:
-            if not names or not _only_names(old, new, differ - {"inode"}):
+            if not names or not has_other_names(old, new, differ - {"inode"}):
                 return None
             return ANEW_NOT_VERIFIED if names.unverified else ANEW
-        if not _only_names(old, new, differ):
+        if not has_other_names(old, new, differ):
             return None
         if names:
             return NOT_VERIFIED if names.unverified else VERIFIED

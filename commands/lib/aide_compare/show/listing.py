@@ -2,13 +2,17 @@
 
 By severity; then root's changes, those of system users, and those of all others; then what was removed or changed, and what was
 added; then by path. All of root's with severity high are listed. Of all else each folder and each owner has a share of the
-room, and what is left is counted, a line for each folder.
+room, and what is left is counted, a line for each folder. A folder in which only names came and went comes last in its group; if
+such a name is listed by then, it is only counted, in a line at the end.
 """
 import stat
 from collections import Counter
 
 from aide_compare.base.escapes import shown
+from aide_compare.compare.reason_counts import counted
+from aide_compare.reasons.entries import differences
 from aide_compare.reasons.entry_words import words_of
+from aide_compare.reasons.parents import has_other_names
 
 # Lines of one severity for root's changes, for those of system users, and for those of all others.
 ROOMS = (200, 100, 100)
@@ -91,26 +95,49 @@ class Listing:
 
     def lines(self, read):
         """The lines, by severity and by the groups of owners."""
+        folders = Folders(read)
         for severity, changes in self.changes.items():
             shares = Shares(severity)
             for group in range(len(ROOMS)):
                 found = [change for change in changes if group_of_owner(change.owner) == group]
-                for line in group_lines(sorted(found, key=is_added), shares, read):
+                found.sort(key=lambda change: (folders.is_only_that(change), change.old_at is None))
+                for line in group_lines(found, shares, folders):
                     yield "  %-6s  %s" % (severity, line)
+        if folders.count:
+            yield "  %s of what is listed changed too" % counted(folders.count, "folder")
 
 
-def is_added(change):
-    return change.old_at is None
+class Folders:
+    """The folders of the names that were listed, and how many changed folders are counted for that."""
+
+    def __init__(self, read):
+        self.read, self.named, self.count = read, set(), 0
+
+    def is_only_that(self, change):
+        """Whether a folder changed, and only as it does when names in it come and go."""
+        if not (stat.S_ISDIR(change.old_mode) and stat.S_ISDIR(change.new_mode)):
+            return False
+        old, new = self.read(change)
+        return has_other_names(old, new, differences(old, new))
+
+    def counts(self, change):
+        """Whether such a name of a folder is listed, and nothing else has changed of the folder."""
+        is_named = change.path in self.named and self.is_only_that(change)
+        self.count += is_named
+        return is_named
 
 
-def group_lines(changes, shares, read):
+def group_lines(changes, shares, folders):
     """The lines for the changes of one severity and one group of owners: first those that there is room for."""
     rest = Rest()
     for change in changes:
+        if folders.counts(change):
+            continue
         if shares.takes(change):
-            words = words_of(*read(change))
+            words = words_of(*folders.read(change))
             path = shown(change.path, MOST_PATHS[group_of_owner(change.owner)])
             yield "%-7s  %s%s" % (kind_of(change), path, words and ": " + words)
+            folders.named.update([change.folder()] if change.is_replaced else [])
         else:
             rest.add(change)
     yield from rest.lines()
