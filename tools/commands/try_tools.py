@@ -32,6 +32,7 @@ from tools.commands.trials.hosts_ends import try_hosts_ends
 from tools.commands.trials.hosts_page import try_hosts_page
 from tools.commands.trials.hosts_quiet import try_hosts_quiet
 from tools.commands.trials.hosts_report import try_hosts_report
+from tools.commands.trials.hosts_shares import try_hosts_shares
 from tools.commands.trials.faults import try_faults, try_signals
 from tools.commands.trials.lost_modules import try_lost_modules
 from tools.commands.trials.mail import try_mail
@@ -77,6 +78,7 @@ TRIALS = [
     try_hosts_page,
     try_hosts_ends,
     try_hosts_quiet,
+    try_hosts_shares,
     try_cut_reports,
     try_faults,
     try_accept,

@@ -25,9 +25,9 @@ FILES = [
     exactly(520, "tools.source.check_docs"),
     exactly(84, "tools.source.check_layout"),
     exactly(149, "tools.source.check_layers"),
-    exactly(554, "tools.source.check_tools"),
-    exactly(848, "tools.source.check_planted"),
-    exactly(1804, "tools.wrong_bodies.check"),
+    exactly(562, "tools.source.check_tools"),
+    exactly(870, "tools.source.check_planted"),
+    exactly(1792, "tools.wrong_bodies.check"),
 ]
 
 

@@ -1,6 +1,6 @@
 # Completions of fish for compare-hosts.
 complete -c compare-hosts -l jobs -x -d 'How many hosts at a time'
-complete -c compare-hosts -l share -x -d 'Only each Nth host, from the Kth on'
+complete -c compare-hosts -l share -x -d 'Only the hosts of the Kth of N shares'
 complete -c compare-hosts -l quiet -d 'Only hosts whose status is not 0'
 complete -c compare-hosts -l no-fetch -d 'Compare what was fetched before'
 complete -c compare-hosts -l one -d 'The name of one host in place of a file'

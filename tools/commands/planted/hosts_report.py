@@ -4,6 +4,18 @@ from .plant import seen_by
 LIB = "commands/lib/aide_compare/"
 PLANTED = (
     seen_by(
+        "hosts_shares.try_hosts_shares",
+        (LIB + "hosts/fleet_store.py", "% shares + 1", "% (shares + 1) + 1"),
+        (LIB + "hosts/fleet_store.py", 'host.encode("utf-8", "surrogateescape")', "host[:4].encode()"),
+        (
+            LIB + "commands/hosts_report.py",
+            "given.store[share_of(name, len(given.store)) - 1]",
+            "given.store[place % len(given.store)]",
+        ),
+        (LIB + "hosts/hosts_read.py", "if age and reading.age > age:", "if False:"),
+        (LIB + "hosts/hosts_read.py", "        if not os.path.isdir(store):\n", "        if False:\n"),
+    )
+    + seen_by(
         "hosts_report.try_same",
         (
             LIB + "hosts/host_changes.py",

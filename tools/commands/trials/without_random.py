@@ -9,7 +9,7 @@ from .without import means, modules
 NAMES = [b"a", b"b", b"ab", b"%61", b"a%2Fb", b"b%zz", b"a\x0bb", b"c"]
 PIECES, WHOLE = [b"a", b"b", b"ab", b"c", b"*", b"?b", b"**"], [8, 6, 3, 3, 2, 1, 3]
 MODES = [b"100644", b"100755", b"40755", b"42755", b"104755", b"120777", b"20600", b"60000", b"100111", b"0", b"x"]
-COLUMNS = [b"name", b"attr", b"perm", b"size", b"capabilities"]
+COLUMNS = [b"name", b"lname", b"attr", b"perm", b"size", b"capabilities"]
 SMALL_LINE, SMALL_BLOCK = 90, 64
 
 
@@ -105,6 +105,7 @@ def random_case(numbers):
     for _ in range(numbers.randint(1, 20)):
         entry = {
             b"name": numbers.choice(folders) + b"/" + numbers.choice(NAMES),
+            b"lname": numbers.choice([b"0", b"0", b"/c/b/a", b"/b/a"]),
             b"attr": b"%d" % numbers.choice([36, 1 << 37, 1 << 37]),
             b"perm": numbers.choice(MODES[:2] if numbers.random() < 0.6 else MODES),
             b"size": b"1" * numbers.choice([1, 1, 5, 60]),

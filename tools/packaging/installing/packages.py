@@ -172,7 +172,7 @@ def try_debian(trial, path, time):
     trial.holds("the package has what is installed", set(kept) == renamed, sorted(set(kept) ^ renamed))
     for name, text in texts(found).items():
         # A table of severities names the administrator's own libraries, wherever the commands are.
-        named = [] if "/kubernetes" in name else re.findall(r"/usr/local/(?:bin/a|lib/|share/)[\w./-]*", text)
+        named = re.findall(r"/usr/local/(?:bin/a|lib/|share/)[\w./-]*", text)
         named = [path for path in named if not (name.endswith("/severity.conf") and path == "/usr/local/lib/")]
         trial.holds("no /usr/local in " + name, not named, named)
         trial.holds("the interpreter of " + name, not text.startswith("#!/usr/bin/env python3") or "/examples/" in name)

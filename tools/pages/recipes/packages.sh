@@ -229,13 +229,17 @@ END
     slurmctld -D > "$folder/slurmctld" 2>&1 &
     slurmd -D > "$folder/slurmd" 2>&1 &
     check 'Slurm is up' wait_for 60 slurm_is_ready
-    sed "s/^#SBATCH --nodelist=.*/#SBATCH --nodelist=$node/; s/^#SBATCH --mem=.*//" \
+    for share in 1 2; do
+        mkdir -p "/var/lib/aide-compare/shares/$share"
+        cp -a /var/lib/aide-compare/hosts "/var/lib/aide-compare/shares/$share/"
+    done
+    sed "s/^#SBATCH --mem=.*//" \
         /usr/local/share/doc/aide-compare/examples/fleet/compare.sbatch > "$folder/compare.sbatch"
     check 'an array of jobs in Slurm: the greatest status' \
         ends_with 18 sbatch --wait --array=1-2 "$folder/compare.sbatch" /etc/aide-compare/hosts
-    cat /var/log/aide-compare/*_1.log > "$folder/lines"
+    cat /var/log/aide-compare/*_[12].log > "$folder/lines"
     check 'the job of the first host' grep -qx 'www 7 added 1, removed 1, changed 1' "$folder/lines"
-    check 'the job of the second host' grep -q '^down 18 ' /var/log/aide-compare/*_2.log
+    check 'the job of the second host' grep -q '^down 18 ' "$folder/lines"
 }
 
 try_ansible() {

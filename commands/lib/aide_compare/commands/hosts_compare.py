@@ -10,7 +10,7 @@ from aide_compare.base.escapes import guarded, shown
 from aide_compare.base.files import open_regular
 from aide_compare.base.options import Parser
 from aide_compare.hosts import comparing, fetching
-from aide_compare.hosts.fleet_store import Place, check_name
+from aide_compare.hosts.fleet_store import Place, check_name, share_of
 from aide_compare.show.readers import ALARMS
 
 NAME = "compare-hosts"
@@ -139,7 +139,7 @@ def hosts_of(path, share):
     names = list(dict.fromkeys(line for line in lines if line and not line.startswith("#")))
     if not names:
         raise Fault(Status.DEVICE, "there is no host in the file %s" % shown(path))
-    return names[share[0] - 1 :: share[1]]
+    return [name for name in names if share_of(name, share[1]) == share[0]]
 
 
 def share(text):
@@ -182,7 +182,7 @@ def options():
         "compared, more if a host was not; 15 if arguments or a host's name are wrong; 18 if it cannot run.",
     )
     parser.add_argument("--jobs", type=jobs, default=8, metavar="N", help="how many hosts at a time (8)")
-    parser.add_argument("--share", type=share, default=(1, 1), metavar="K/N", help="only each Nth host, from the Kth on")
+    parser.add_argument("--share", type=share, default=(1, 1), metavar="K/N", help="only the hosts of the Kth of N shares")
     parser.add_argument(
         "--quiet", action="store_true", help="only hosts whose status is not 0, and a summary if there are any"
     )

@@ -12,7 +12,7 @@ from aide_compare.base.patterns import BadPattern, Pattern
 from aide_compare.base.private_room import stoppable
 from aide_compare.commands.hosts_compare import hosts_of
 from aide_compare.commands.mail import address
-from aide_compare.hosts.fleet_store import STORE
+from aide_compare.hosts.fleet_store import STORE, share_of
 from aide_compare.hosts.host_changes import ChangeLines, encoded, path_in, same_changes, standing_of
 from aide_compare.hosts.hosts_read import CUT, WHOLE, read_host
 from aide_compare.mail.smtp import server
@@ -41,7 +41,9 @@ def pattern(text):
 
 def words_of(given):
     """The command that prints all that this one leaves out, with the options that say what it is about."""
-    words = [sys.argv[0], "--store", os.path.abspath(given.store)]
+    words = [sys.argv[0]]
+    for store in given.store:
+        words += ["--store", os.path.abspath(store)]
     for each in given.only_path:
         words += ["--only-path", os.fsdecode(each.text)]
     if given.age != AGE:
@@ -63,7 +65,7 @@ def read_hosts(names, given, sorter):
             if is_wanted(fields, given.only_path):
                 sorter.put(lines.of(place, fields))
 
-        hosts.append(read_host(name, given, take))
+        hosts.append(read_host(name, given.store[share_of(name, len(given.store)) - 1], given, take))
     return hosts
 
 
@@ -173,7 +175,11 @@ def options():
         "its work.",
     )
     parser.add_argument(
-        "--store", type=some_text, default=STORE, metavar="DIR", help="where the reports are kept (%s)" % STORE
+        "--store",
+        type=some_text,
+        action="append",
+        metavar="DIR",
+        help="where the reports are kept (%s); given N times: the Kth one is that of --share K/N" % STORE,
     )
     parser.add_argument(
         "--order",
@@ -219,7 +225,9 @@ def main(arguments):
     if given.most_mail < LEAST_MAIL:
         raise Fault(Status.USAGE, "--most-mail needs at least %d bytes" % LEAST_MAIL)
     names = hosts_of(given.file, (1, 1))
-    open_folder(given.store).close()
+    given.store = given.store or [STORE]
+    if len(given.store) == 1:
+        open_folder(given.store[0]).close()
 
     def work():
         report = HostsReport(names, given)

@@ -1,6 +1,7 @@
 """What the collecting host keeps of each watched host: folders, locks, parts of files and states."""
 import errno
 import fcntl
+import hashlib
 import os
 import re
 import time
@@ -24,6 +25,11 @@ def check_name(host):
             "no two dots together, and at most 200 characters",
         )
     return host
+
+
+def share_of(host, shares):
+    """Which of so many shares a host belongs to, from 1 on. Its name alone says so: hosts that come or go move no other one."""
+    return int.from_bytes(hashlib.sha256(host.encode("utf-8", "surrogateescape")).digest()[:8], "big") % shares + 1
 
 
 def seconds_left(deadline):

@@ -119,14 +119,16 @@ def changes_of(host, place):
         report.close() if report else os.close(descriptor)
 
 
-def read_host(name, given, take):
-    """Reads what is kept of a host, and gives each object of its changes to `take`. No run is at work on the host then."""
+def read_host(name, store, given, take):
+    """Reads what a store keeps of a host, and gives each object of its changes to `take`. No run is at work on the host then."""
     place = None
     try:
         check_name(name)
-        if not os.path.lexists("%s/hosts/%s" % (given.store, name)):
+        if not os.path.isdir(store):
+            return Host(name, Status.DEVICE, "its share is missing: there is no folder %s" % shown(store))
+        if not os.path.lexists("%s/hosts/%s" % (store, name)):
             return Host(name, Status.DEVICE, "was never compared")
-        place = Place(given.store, name)
+        place = Place(store, name)
         place.lock(time.monotonic() + given.time, fcntl.LOCK_SH)
         host = state_of(place, name, given.age)
     except Fault as fault:
