@@ -22,11 +22,11 @@ def at_least(number, *words):
 
 FILES = [
     exactly(207, "tools.source.check_edits"),
-    exactly(520, "tools.source.check_docs"),
+    exactly(522, "tools.source.check_docs"),
     exactly(84, "tools.source.check_layout"),
     exactly(149, "tools.source.check_layers"),
-    exactly(562, "tools.source.check_tools"),
-    exactly(870, "tools.source.check_planted"),
+    exactly(566, "tools.source.check_tools"),
+    exactly(863, "tools.source.check_planted"),
     exactly(1792, "tools.wrong_bodies.check"),
 ]
 

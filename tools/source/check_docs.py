@@ -8,7 +8,8 @@
 - Each file of a crate's specs/ is reached from the contract of a public call, as tools/source/public_specs.py finds, or
   cited by the laws of the crate, and no file of specs/code/ is.
 - Each clause that docs/LIBRARY.md names for a call is a clause of this call.
-- docs/HEADLINE.md is what tools/source/headline_page.py prints of the definitions.
+- docs/HEADLINE.md is what tools/source/headline_page.py prints of the definitions, and docs/TRIALS.md has the table that
+  tools/gate/trials_page.py makes of its rows and of the numbers of the gate.
 - Each text that CONTRIBUTING.md gives for a kind of change stands in a file.
 
 Prints what fails and, at the end, `N passed, M failed`.
@@ -21,6 +22,7 @@ import sys
 
 from tools.lib.arguments import parser_of
 from tools.lib.tally import Tally
+from tools.gate import trials_page
 from tools.source import headline_page, public_specs
 
 TOP = public_specs.TOP
@@ -159,6 +161,7 @@ def main():
             check_names(page, text, tally)
             check_copies(page, text, tally)
     tally.is_so("written page", headline_page.PAGE, read_text(headline_page.PAGE) == headline_page.page())
+    tally.is_so("written page", trials_page.PAGE, read_text(trials_page.PAGE) == trials_page.page())
     check_promised(tally)
     check_clauses(tally)
     check_changes(tally)

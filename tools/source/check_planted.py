@@ -1,13 +1,11 @@
 #!/usr/bin/env python3
-"""Checks the lists of planted bugs against the sources: the text of each stands there once, and its trial is there. The page
-docs/TRIALS.md has to say how many there are.
+"""Checks the lists of planted bugs against the sources: the text of each stands there once, and its trial is there.
 
 A list that no longer fits its sources would plant nothing. Whether its trial sees a bug, tools/commands/plant.py and
 tools/program/plant.py find out. The last line is 'N passed, M failed'.
 """
 import importlib
 import os
-import re
 
 from tools.lib.arguments import parser_of
 from tools.commands import plant as commands
@@ -59,24 +57,11 @@ def check_program(tally):
         tally.add("program, %s" % name, faults + ([] if known else ["no such trial: %s" % plant.seen_by]))
 
 
-def check_page(tally):
-    """The page says how many bugs are planted in the commands, and in the definitions and a manual page."""
-    lists = [name.partition(":")[0] for name, _ in program.bugs(None)]
-    for what, want in (
-        ("commands", "%d" % len(list(commands.bugs(None)))),
-        ("definitions", "%d and %d" % (lists.count("oracle"), lists.count("pages"))),
-    ):
-        found = re.findall(r"^\| bugs planted in the %s.*\| ([0-9, and]+) \|[^|]*\|$" % what, text_of("docs/TRIALS.md"), re.M)
-        faults = [] if found == [want] else ["docs/TRIALS.md says %r, and there are %s" % (found, want)]
-        tally.add("the number of bugs in the %s" % what, faults)
-
-
 def main():
     parser_of("tools.source.check_planted", __doc__).parse_args()
     tally = Tally()
     check_commands(tally)
     check_program(tally)
-    check_page(tally)
     tally.end()
 
 

@@ -1,4 +1,4 @@
-"""Compares the lists of wrong bodies with the sources, their stored results and docs/TRIALS.md. No prover runs.
+"""Compares the lists of wrong bodies with the sources, their stored results and docs/WRONG_PROGRAMS.md. No prover runs.
 
 Fails when a list cannot be read, an `old` text does not stand once where it must, a body has no stored result, it or its
 function was changed since, a proved crate has too few bodies, a body proves without a reason, a kept answer is not told

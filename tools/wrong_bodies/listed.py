@@ -1,11 +1,11 @@
-"""The table of docs/TRIALS.md with the wrong programs that somebody might write. Its last column tells for each row the best
+"""The table of docs/WRONG_PROGRAMS.md with the wrong programs that somebody might write. Its last column tells for each row the best
 verdict of the must-fail edits and wrong bodies that the row names: shown false, or open, with the stored answers taken away.
 """
 import re
 
 from tools.wrong_bodies import bodies, results, verdicts
 
-TRIALS = bodies.ROOT / "docs" / "TRIALS.md"
+PAGE = bodies.ROOT / "docs" / "WRONG_PROGRAMS.md"
 HEAD = "| Wrong body | Edits, bodies, clauses or tests | Without the stored answers |"
 NAME = re.compile(r"`(\w+)`")
 TEST = "a test"
@@ -13,13 +13,13 @@ GOOD = (verdicts.FALSE, verdicts.OPEN, verdicts.LAW)
 
 
 def table_of(text):
-    """The lines of the table of docs/TRIALS.md, with its ruler first."""
+    """The lines of the table of docs/WRONG_PROGRAMS.md, with its ruler first."""
     return text.partition(HEAD)[2].partition("\n\n")[0].strip("\n").split("\n")
 
 
 def names():
-    """What the rows of docs/TRIALS.md name: edits, bodies, clauses, tests and crates."""
-    return set(NAME.findall("\n".join(table_of(TRIALS.read_text(encoding="utf-8")))))
+    """What the rows of docs/WRONG_PROGRAMS.md name: edits, bodies, clauses, tests and crates."""
+    return set(NAME.findall("\n".join(table_of(PAGE.read_text(encoding="utf-8")))))
 
 
 def known():
@@ -57,7 +57,7 @@ def with_verdicts(text):
     """The page with the last column of the table as the stored results have it."""
     before, head, after = text.partition(HEAD)
     if not head:
-        raise bodies.ListError("docs/TRIALS.md has no table of the wrong programs that somebody might write")
+        raise bodies.ListError("docs/WRONG_PROGRAMS.md has no table of the wrong programs that somebody might write")
     table, blank, rest = after.partition("\n\n")
     ruler, *rows = table.strip("\n").split("\n")
     found = known()
@@ -70,8 +70,8 @@ def faults(text):
     """The rows that no edit or body shows without a stored answer, and no test."""
     table = table_of(text)[1:]
     if not table:
-        yield "docs/TRIALS.md has no rows of wrong programs that somebody might write"
+        yield "docs/WRONG_PROGRAMS.md has no rows of wrong programs that somebody might write"
     for row in table:
         first, _, verdict = (cell.strip() for cell in row.strip("|").split(" | "))
         if not is_seen(verdict):
-            yield f"docs/TRIALS.md: no edit or body shows this without a stored answer, and no test: {first}: {verdict}"
+            yield f"docs/WRONG_PROGRAMS.md: no edit or body shows this without a stored answer, and no test: {first}: {verdict}"

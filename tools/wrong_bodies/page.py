@@ -1,4 +1,4 @@
-"""Prints the wrong bodies with their stored verdicts, and writes what docs/TRIALS.md says of them."""
+"""Prints the wrong bodies with their stored verdicts, and writes what docs/WRONG_PROGRAMS.md says of them."""
 import re
 
 from tools.wrong_bodies import bodies, clauses, listed, results, verdicts
@@ -96,29 +96,29 @@ def lines_of(crates):
 
 
 def sentence():
-    """What TRIALS.md says of the lists, on one line."""
+    """What WRONG_PROGRAMS.md says of the lists, on one line."""
     sums = [sum(column) for column in zip(*(counts_of(crate) for crate in bodies.crates_with_lists()))]
     told = ", ".join(f"{count} {kind}" for count, kind in zip(sums, verdicts.KINDS) if count)
     clauses_told = "{} of {} clauses of public functions, and {} of {} of all functions".format(*named_by_all())
     return f"{BEGINNING} {sum(sums)} wrong bodies: {told}. They and the must-fail edits name {clauses_told}."
 
 
-def told_in_trials():
-    """TRIALS.md with this sentence in the place of the one that it has, and the verdicts of its table."""
-    lines = listed.with_verdicts(listed.TRIALS.read_text(encoding="utf-8")).split("\n")
+def told_in_page():
+    """WRONG_PROGRAMS.md with this sentence in the place of the one that it has, and the verdicts of its table."""
+    lines = listed.with_verdicts(listed.PAGE.read_text(encoding="utf-8")).split("\n")
     return "\n".join(sentence() if line.startswith(BEGINNING) else line for line in lines)
 
 
 def write():
-    listed.TRIALS.write_text(told_in_trials(), encoding="utf-8")
+    listed.PAGE.write_text(told_in_page(), encoding="utf-8")
 
 
 def faults():
-    """What of TRIALS.md is not what the stored results say."""
-    trials = listed.TRIALS.read_text(encoding="utf-8")
+    """What of WRONG_PROGRAMS.md is not what the stored results say."""
+    trials = listed.PAGE.read_text(encoding="utf-8")
     if sentence() not in trials.split("\n"):
-        yield f"{listed.TRIALS.relative_to(bodies.ROOT)} has not this line: {sentence()}"
-    elif trials != told_in_trials():
-        yield f"{listed.TRIALS.relative_to(bodies.ROOT)}: the last column of its wrong programs is not what the stored results say"
+        yield f"{listed.PAGE.relative_to(bodies.ROOT)} has not this line: {sentence()}"
+    elif trials != told_in_page():
+        yield f"{listed.PAGE.relative_to(bodies.ROOT)}: the last column of its wrong programs is not what the stored results say"
     yield from listed.faults(trials)
     yield from clauses.faults()

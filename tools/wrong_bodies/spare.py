@@ -1,6 +1,6 @@
 """Lists the wrong bodies that the lists do not need: each goal of its function at which such a body was shown false, or which it
 left open, is named by the verdict on another body that stays. Bodies that the contracts let through, those that a kept answer
-refuses and those that the table of docs/TRIALS.md names are always needed.
+refuses and those that the table of docs/WRONG_PROGRAMS.md names are always needed.
 
 Of bodies that name the same goals, the one stays that was shown false, and then the one that names the fewest: a verdict that
 names one clause says more of it than a verdict that names six. With `--write` the others are taken out of the lists, with
