@@ -10,6 +10,9 @@
 - Each clause that docs/LIBRARY.md names for a call is a clause of this call.
 - docs/HEADLINE.md is what tools/source/headline_page.py prints of the definitions, and docs/TRIALS.md has the table that
   tools/gate/trials_page.py makes of its rows and of the numbers of the gate.
+- Each block of a page whose blocks no trial runs has a mark: run by hand, no command, or copied from a file. In README.md,
+  examples/README.md and the manual tools.pages.try_commands asks for a row of each, and in the recipes tools.pages.try_recipes
+  for a mark.
 - Each text that CONTRIBUTING.md gives for a kind of change stands in a file.
 
 Prints what fails and, at the end, `N passed, M failed`.
@@ -23,9 +26,12 @@ import sys
 from tools.lib.arguments import parser_of
 from tools.lib.tally import Tally
 from tools.gate import trials_page
+from tools.pages.page_blocks.pages import INDENT, MARKDOWN, paragraphs
+from tools.pages.recipes.page import PAGES
 from tools.source import headline_page, public_specs
 
 TOP = public_specs.TOP
+MARK = re.compile(r"<!-- (by hand|no command|from): ")
 ENDINGS = r"(?:rt|antt|py|md|sh|c|txt|conf|edit|[15])"
 NAMED = re.compile(r"`((?:[\w.-]+/)*[\w.-]+\.%s)`" % ENDINGS)
 BELOW = re.compile(r"`((?:tools|packaging|commands|docs|crates|examples|contrib|man|bench)/[\w./-]*)`")
@@ -108,6 +114,16 @@ def check_copies(page, text, tally):
         tally.is_so("copied code", page + ": " + name, block == read(name))
 
 
+def check_blocks(page, text, tally):
+    if page in MARKDOWN + [headline_page.PAGE] + ["docs/" + name for name in PAGES]:
+        return
+    before = ""
+    for part in paragraphs(text):
+        if ("```" in part or part.startswith(INDENT)) and "```mermaid" not in part:
+            tally.is_so("block", "%s: %s" % (page, part[:60]), MARK.search(part) or MARK.search(before))
+        before = part
+
+
 def check_promised(tally):
     """A folder `specs/` has just the files that public contracts reach or laws cite, and `specs/code/` has the others."""
     found = public_specs.met(public_specs.crates())
@@ -160,13 +176,14 @@ def main():
             text = read(page)
             check_names(page, text, tally)
             check_copies(page, text, tally)
+            check_blocks(page, text, tally)
     tally.is_so("written page", headline_page.PAGE, read_text(headline_page.PAGE) == headline_page.page())
     tally.is_so("written page", trials_page.PAGE, read_text(trials_page.PAGE) == trials_page.page())
     check_promised(tally)
     check_clauses(tally)
     check_changes(tally)
     return tally.status_of(
-        ["link", "file", "copied code", "written page", "place of a definition", "clause", "kind of change"]
+        ["link", "file", "copied code", "block", "written page", "place of a definition", "clause", "kind of change"]
     )
 
 
