@@ -25,8 +25,8 @@ FILES = [
     exactly(529, "tools.source.check_docs"),
     exactly(84, "tools.source.check_layout"),
     exactly(149, "tools.source.check_layers"),
-    exactly(566, "tools.source.check_tools"),
-    exactly(863, "tools.source.check_planted"),
+    exactly(568, "tools.source.check_tools"),
+    exactly(900, "tools.source.check_planted"),
     exactly(1792, "tools.wrong_bodies.check"),
 ]
 

@@ -16,7 +16,9 @@ from tools.program import plant as program
 PAGE = "docs/TRIALS.md"
 TOP = os.path.dirname(os.path.dirname(os.path.dirname(os.path.abspath(__file__))))
 HEAD = "| What | By | How often | When |\n|---|---|---|---|"
-TABLE = re.compile(r"(?<=<!-- table: python3 -m tools\.gate\.trials_page --write -->\n\n).*?(?=\n<!-- end of the table -->)", re.S)
+TABLE = re.compile(
+    r"(?<=<!-- table: python3 -m tools\.gate\.trials_page --write -->\n\n).*?(?=\n<!-- end of the table -->)", re.S
+)
 WIDEST = 120
 
 

@@ -20,7 +20,12 @@ def by_hand(date):
 
 
 MEMORY = [
-    Row("allocations that fail, alone or with all later ones", "program/failed_allocations.py", Tool("failed_allocations"), GATE),
+    Row(
+        "allocations that fail, alone or with all later ones",
+        "program/failed_allocations.py",
+        Tool("failed_allocations"),
+        GATE,
+    ),
     Row("the same inside the crates, at each level", "`aide_faults`, `aide_in_memory`", EACH, GATE),
     Row("the same by the toolchain", "`rt try --fail-alloc N`", "53 numbers", HAND),
     Row("little memory, in steps of 4 kB", "program/end_to_end.py", Tool("end_to_end"), GATE),
@@ -35,10 +40,20 @@ DEVICES = [
 ]
 TEXTS = [
     Row("random sessions against the definitions", "program/random_sessions.py", "200; 12,000", BOTH),
-    Row("configurations that are refused or only just allowed", "program/try_configurations.py", Tool("try_configurations"), GATE),
+    Row(
+        "configurations that are refused or only just allowed",
+        "program/try_configurations.py",
+        Tool("try_configurations"),
+        GATE,
+    ),
     Row("the same at random, of three texts", "program/try_configurations.py", "1,000; 20,000", BOTH),
     Row("fields of each form, and pairs of fields", "program/try_fields.py", Tool("try_fields"), GATE),
-    Row("definitions of the changes as lines, beside the oracle", "program/try_line_definitions.py", Tool("try_line_definitions"), GATE),
+    Row(
+        "definitions of the changes as lines, beside the oracle",
+        "program/try_line_definitions.py",
+        Tool("try_line_definitions"),
+        GATE,
+    ),
     Row("odd paths, arguments and missing files", "program/end_to_end.py", PART, GATE),
     Row("a database cut at each byte", "`aide_faults`, program/end_to_end.py", EACH, GATE),
     Row("a database with each byte changed, taken out, put in", "program/hostile.py", "14,000", HAND),
@@ -66,6 +81,7 @@ COMMANDS = [
     Row("100,000 hostile paths, a flooded mail, and root's changes", "commands/try_tools.py", PART, GATE),
     Row("reasons: packages, logs, archives; what may be forged", "commands/try_tools.py", PART, GATE),
     Row("many hosts: quiet nights, hostile hosts, one report", "commands/try_tools.py", PART, GATE),
+    Row("1,000 hosts over 4 workers, one of which is killed", "commands/try_tools.py", "40 hosts; 1,000", BOTH),
     Row("reports as JSON and as a page, whole and cut at each byte", "commands/try_viewers.py", Tool("try_viewers"), GATE),
     Row("the page in Chromium 156: views, keyboard, no scripts", "commands/try_page.py", "109", HAND),
     Row("a page of 106,576 changes; a report of 168 MB", "commands/try_page.py, try_viewers.py --large", "once", HAND),
@@ -78,7 +94,12 @@ MACHINES = [
     Row("reasons on 17 pairs of nights of Debian 12, 6 with intruders", "aide-compare-reasons", "once", by_hand("2026-11-25")),
     Row("nights of a booted Debian 12: idle, rotation, upgrade, intruder", "the units as shipped", "4", by_hand("2026-11-25")),
     Row("mails by Postfix 3.7, Exim 4.96 and dma; 12,289 changes", "the units as shipped", "once", by_hand("2026-11-25")),
-    Row("14 odd states: links, FIFOs, full disks, killed three times", "the units as shipped", "once each", by_hand("2026-11-26")),
+    Row(
+        "14 odd states: links, FIFOs, full disks, killed three times",
+        "the units as shipped",
+        "once each",
+        by_hand("2026-11-26"),
+    ),
     Row("rpm 4.18: `rpmbuild`, `rpm --root`; no system of rpm", "aide-compare-run --reasons", "once", by_hand("2026-11-25")),
     Row("the rule file for AIDE, by `aide --path-check`", "AIDE 0.18.3", EACH, by_hand("2026-11-25")),
     Row("records kept by a drop-in of dailyaidecheck.service", "", "never", ""),

@@ -34,7 +34,9 @@ def read_words():
     parser.add_argument("--stale", action="store_true", help=STALE)
     parser.add_argument("--edits", action="store_true", help="judge the crate's must-fail edits in place of its list")
     parser.add_argument("--compiles", action="store_true", help=COMPILES)
-    parser.add_argument("--write", action="store_true", help="store the results, and write what docs/WRONG_PROGRAMS.md says of them")
+    parser.add_argument(
+        "--write", action="store_true", help="store the results, and write what docs/WRONG_PROGRAMS.md says of them"
+    )
     parser.add_argument("--page", action="store_true", help="print the stored verdicts (of all crates, if none is named)")
     parser.add_argument("--most", type=int, default=24, metavar="N", help="the bodies of one check (default: 24)")
     parser.add_argument("--scratch", metavar="FOLDER", help="a folder for the copy, which is kept (default: a new one)")
