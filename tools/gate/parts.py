@@ -25,9 +25,9 @@ FILES = [
     exactly(529, "tools.source.check_docs"),
     exactly(84, "tools.source.check_layout"),
     exactly(149, "tools.source.check_layers"),
-    exactly(568, "tools.source.check_tools"),
-    exactly(900, "tools.source.check_planted"),
-    exactly(1792, "tools.wrong_bodies.check"),
+    exactly(554, "tools.source.check_tools"),
+    exactly(851, "tools.source.check_planted"),
+    exactly(1804, "tools.wrong_bodies.check"),
 ]
 
 

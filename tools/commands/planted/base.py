@@ -1,7 +1,23 @@
 """Bugs of the modules that all commands share, each seen by a trial of those modules themselves."""
 from .plant import seen_by
 
-ESCAPES, TIMES, OPTIONS, STATE, REPORTS, ENDING, CONFIGURATION, FOLDERS, FILES, RIGHTS, CHILD, UNPACK, PROGRAM, ROOM = (
+(
+    ESCAPES,
+    TIMES,
+    OPTIONS,
+    STATE,
+    REPORTS,
+    ENDING,
+    CONFIGURATION,
+    FOLDERS,
+    FILES,
+    RIGHTS,
+    CHILD,
+    UNPACK,
+    PROGRAM,
+    ROOM,
+    FETCHING,
+) = (
     "commands/lib/aide_compare/%s.py" % name
     for name in (
         "base/escapes",
@@ -18,6 +34,7 @@ ESCAPES, TIMES, OPTIONS, STATE, REPORTS, ENDING, CONFIGURATION, FOLDERS, FILES, 
         "compare/unpack",
         "base/program",
         "base/private_room",
+        "hosts/fetching",
     )
 )
 
@@ -65,6 +82,12 @@ PLANTED = (
         (UNPACK, "rest, step = block[at : at + step], min(2 * step, BLOCK)", "rest = block[at:]"),
         (UNPACK, "        if len(first) > 1:\n", "        if first:\n"),
         (UNPACK, "            member = zlib.decompressobj(31) if rest else member\n", "            return\n"),
+    )
+    + seen_by(
+        "bounded.try_no_end",
+        (ENDING, "        if empty == MOST_EMPTY:\n", "        if False:\n"),
+        (ENDING, "empty = 0 if count else empty + 1", "empty += not count"),
+        (FETCHING, "        if seconds_left(deadline) <= 0:\n            return None\n", ""),
     )
     + seen_by("bounded.try_name_taken", (FILES, "            return False\n", "            raise\n"))
     + seen_by("bounded.try_group_bit", (ROOM, "& ~stat.S_ISGID == 0o700", "== 0o700"))

@@ -24,10 +24,33 @@ try:
 except Fault as fault:
     print(fault.status, fault.text)
 """
+# A device that takes no bytes, and a child that does not end when it is killed.
+NO_END = """
+import os, sys, time
+sys.path.insert(0, sys.argv[1])
+from aide_compare.base.ending import write_all
+from aide_compare.hosts import fetching
+real, fetching.STOP_SECONDS, begin = os.write, 0.2, time.monotonic()
+os.write = lambda descriptor, data: 0
+try:
+    write_all(1, b"x")
+except OSError as error:
+    os.write = real
+    print(error.strerror)
+answers = iter([0, 1, 0, 1, 0, 1])
+os.write = lambda descriptor, data: next(answers)
+write_all(1, b"xyz")
+os.write, os.waitpid = real, lambda child, options: (0, 0)
+child = os.fork()
+if not child:
+    os.setpgid(0, 0)
+    time.sleep(60)
+print(fetching.stop(child), time.monotonic() - begin < 10)
+"""
 
 
 def try_bounded(sandbox):
-    for trial in (try_name_taken, try_group_bit, try_odd_room, try_sweep):
+    for trial in (try_name_taken, try_group_bit, try_odd_room, try_sweep, try_no_end):
         trial(sandbox)
 
 
@@ -94,3 +117,14 @@ def try_sweep(sandbox):
     for words, left in ((("swept", 5, 60), 7), (("swept", 1000, 0), 7), (("swept", 1000, 60), 0)):
         got = room(sandbox, *words)
         sandbox.holds("leftovers are swept by %r" % (words,), got == ("made\n", left), got)
+
+
+def try_no_end(sandbox):
+    """What waits for a device gives up: a write that takes nothing three times, and the end of a child that was killed."""
+    done = subprocess.run(
+        [sys.executable, "-I", "-c", NO_END, sandbox.path("lib")],
+        stdout=subprocess.PIPE,
+        stderr=subprocess.STDOUT,
+        timeout=20,
+    )
+    sandbox.holds("nothing waits for ever", done.stdout == b"the device takes no bytes\nNone True\n", done.stdout)

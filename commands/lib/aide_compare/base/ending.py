@@ -1,4 +1,5 @@
 """How a command ends: its statuses, its error lines, and never with a status that the interpreter chose."""
+import errno
 import os
 import sys
 from enum import IntEnum
@@ -32,14 +33,21 @@ class Done(Exception):
     """The command has ended before its work, as after --help."""
 
 
+MOST_EMPTY = 3
+
 _name = "aide-compare"
 
 
 def write_all(descriptor, data):
-    """Writes all bytes; Python's own buffers would keep some and fail once more at the end."""
-    rest = memoryview(data)
+    """Writes all bytes; Python's own buffers would keep some and fail once more at the end. A device that takes none in three
+    calls one after another has failed."""
+    rest, empty = memoryview(data), 0
     while rest:
-        rest = rest[os.write(descriptor, rest) :]
+        count = os.write(descriptor, rest)
+        empty = 0 if count else empty + 1
+        if empty == MOST_EMPTY:
+            raise OSError(errno.EIO, "the device takes no bytes")
+        rest = rest[count:]
 
 
 def say(text):

@@ -14,6 +14,7 @@ from aide_compare.hosts.fleet_store import BLOCK, STORE, Part, Place, check_name
 NAME = "fetch-host"
 PATH, MOST, SECONDS = "/var/lib/aide/aide.db.new", 1 << 30, 600
 MOST_ERRORS = 65536
+STOP_SECONDS = 10
 RECORDS = "aide.db.new.packages"
 SEND_RECORDS = "tar -C /var/lib/dpkg -czf - status diversions info"
 SSH = (
@@ -47,12 +48,24 @@ def start(words, output, errors):
 
 
 def stop(child):
+    """Kills a child with its group. One that waits for a device does not end by that, and is left to itself in the end."""
     for kill in (os.killpg, os.kill):
         try:
             kill(child, signal.SIGKILL)
         except ProcessLookupError:
             pass
-    return os.waitpid(child, 0)[1]
+    return ended(child, time.monotonic() + STOP_SECONDS)
+
+
+def ended(child, deadline):
+    """The status with which a child ends; None if it has not ended by then."""
+    while True:
+        found, status = os.waitpid(child, os.WNOHANG)
+        if found:
+            return status
+        if seconds_left(deadline) <= 0:
+            return None
+        time.sleep(0.01)
 
 
 class Transfer:
@@ -93,13 +106,10 @@ class Transfer:
 
     def end(self, child):
         """The status of ssh, which may go on after it has closed its output."""
-        while True:
-            found, status = os.waitpid(child, os.WNOHANG)
-            if found:
-                return os.waitstatus_to_exitcode(status)
-            if seconds_left(self.deadline) <= 0:
-                raise self.too_slow()
-            time.sleep(0.01)
+        status = ended(child, self.deadline)
+        if status is None:
+            raise self.too_slow()
+        return os.waitstatus_to_exitcode(status)
 
     def run(self, words):
         output, errors = os.pipe(), os.pipe()
