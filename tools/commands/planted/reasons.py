@@ -30,13 +30,14 @@ TRUSTED, SEVERITIES = "commands/lib/aide_compare/base/trusted.py", "commands/sha
 PLANTED = (
     seen_by(
         "reasons_logs.try_growing",
+        (GROWING, "return UNCHANGED if _has_long_digest(old) else LATER", "return UNCHANGED if old.digests() else LATER"),
         (GROWING, "before <= after) for", "True) for"),
         (GROWING, 'GROWS = DIGESTS | TIMES | {"size", "bcount"}', 'GROWS = DIGESTS | TIMES | {"size", "bcount", "inode"}'),
         (GROWING, "    if not (old.bits & GROWING and old.is_file()", "    if not (new.bits & GROWING and old.is_file()"),
         (GROWING, 'if "size" in differ:', "if differ & DIGESTS:"),
         (ENTRIES, '    if (old.bits ^ new.bits) & ~SPECIAL:\n        found.add("attributes")\n', ""),
         (ENTRIES, "    if (old.bits ^ new.bits) & ~SPECIAL:\n", "    if old.bits ^ new.bits:\n"),
-        (GROWING, "    return UNCHANGED if old.digests() else LATER\n", "    return UNCHANGED\n"),
+        (GROWING, "    return UNCHANGED if _has_long_digest(old) else LATER\n", "    return UNCHANGED\n"),
     )
     + seen_by(
         "reasons_logs.try_added",
@@ -44,6 +45,7 @@ PLANTED = (
     )
     + seen_by(
         "reasons_logs.try_rotated",
+        (GROWING, "is_same = _has_long_digest(old)", "is_same = bool(old.digests())"),
         (GROWING, "    if not (old.bits & SAME_INODE and old.is_file()):\n        return None\n", ""),
         (GROWING, 'if differ <= {"ctime"}:', 'if differ <= {"ctime", "perm"}:'),
         (

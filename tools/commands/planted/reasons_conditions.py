@@ -93,7 +93,7 @@ PLANTED = (
     + seen_by("reasons_rpm.try_links", (LINKS, "if reason and new.is_file() and count", "if reason and count"))
     + seen_by(
         "reasons_logs.try_rotated",
-        (GROWING, "is_same = bool(old.digests())", "is_same = True"),
-        (GROWING, "is_same = bool(old.digests())", 'is_same = old.field("md5") != b"0"'),
+        (GROWING, "is_same = _has_long_digest(old)", "is_same = True"),
+        (GROWING, "is_same = _has_long_digest(old)", 'is_same = old.field("md5") != b"0"'),
     )
 )

@@ -70,6 +70,8 @@ def try_growing(sandbox):
         {"md5": "0", "sha256": "0", "mtime": LATER},
         bits=LOG,
     )
+    short = {"content": b"one", "sha256": "0"}
+    case("touched, with a digest of 128 bits", "growing databases", short, {**short, "mtime": LATER}, bits=LOG)
     case("larger, with the digests of before", GREW, {"content": b"one"}, {**grown, "content": b"one", "size": 9}, bits=LOG)
     case("no time before", "-", {"content": b"one", "mtime": "0"}, grown, bits=LOG)
     case("no time now", "-", {"content": b"one"}, {**grown, "mtime": "0"}, bits=LOG)
@@ -111,6 +113,8 @@ def try_rotated(sandbox):
     case, fresh = logs.rotation, {"content": b"new"}
     case("renamed", MOVED_SAME, {"content": b"one"}, {"content": b"one"}, fresh)
     case("renamed, without digests", MOVED, {"md5": "0", "sha256": "0"}, {"md5": "0", "sha256": "0"}, fresh)
+    short = {"content": b"one", "sha256": "0"}
+    case("renamed, with a digest of 128 bits", MOVED, short, short, fresh)
     case("renamed, with digests that cannot be read", MOVED, {"md5": "!", "sha256": "!"}, {"md5": "!", "sha256": "!"}, fresh)
     case("renamed, and the old name is gone", MOVED_SAME, {"content": b"one"}, {"content": b"one"})
     case("renamed and grown", MOVED, {"content": b"one"}, {"content": b"one two", "mtime": LATER}, fresh)

@@ -5,6 +5,7 @@ The bit of `growing`, of `I` and of `ARF` counts in the old database, that of `A
 from aide_compare.base.escapes import shown
 from aide_compare.reasons.entries import DIGESTS, GROWING, NEW_FILES, REMOVED_FILES, SAME_INODE, TIMES
 from aide_compare.reasons.reason import Reason
+from aide_compare.reasons.same_content import LEAST_BYTES
 
 GROWS = DIGESTS | TIMES | {"size", "bcount"}
 GREW = Reason("growing", "grew, content not verified", False, "databases")
@@ -27,13 +28,18 @@ def has_grown(old, new, differ):
     return differ <= GROWS and _is_later(old, new) and old.places.keys() >= {"size"} and (grew or not differ & DIGESTS)
 
 
+def _has_long_digest(entry):
+    """Whether a digest of an entry says what its content is. Two files with one short digest may be made on purpose."""
+    return any(len(digest) >= LEAST_BYTES for digest in entry.digests().values())
+
+
 def explain_growing(old, new, differ):
     """The reason for a file that grew under a rule with `growing`, or None. Without its inode it is another file."""
     if not (old.bits & GROWING and old.is_file() and has_grown(old, new, differ)):
         return None
     if "size" in differ:
         return GREW
-    return UNCHANGED if old.digests() else LATER
+    return UNCHANGED if _has_long_digest(old) else LATER
 
 
 def explain_added(new):
@@ -51,7 +57,7 @@ def explain_move(source, old, new, differ):
         return None
     name = shown(source.rpartition(b"/")[2], 200)
     if differ <= {"ctime"}:
-        is_same = bool(old.digests())
+        is_same = _has_long_digest(old)
         text = "renamed from %s" if is_same else "renamed from %s, content not verified"
         return Reason("moved", text % name, is_same, "databases")
     if old.bits & GROWING and has_grown(old, new, differ):
