@@ -26,7 +26,7 @@ FILES = [
     exactly(84, "tools.source.check_layout"),
     exactly(149, "tools.source.check_layers"),
     exactly(554, "tools.source.check_tools"),
-    exactly(853, "tools.source.check_planted"),
+    exactly(854, "tools.source.check_planted"),
     exactly(1804, "tools.wrong_bodies.check"),
 ]
 

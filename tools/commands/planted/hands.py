@@ -1,9 +1,17 @@
 """Bugs of the administrator's defaults, of root's comparison by hand, and of the unit that says that one failed."""
 from .plant import seen_by
 
-DEFAULTS, HANDING, RUN, MAIL, CHECK, COMPARISON = (
+DEFAULTS, HANDING, RUN, MAIL, CHECK, COMPARISON, REASONS = (
     "commands/lib/aide_compare/%s.py" % name
-    for name in ("base/defaults", "compare/handing", "commands/run", "commands/mail", "commands/check", "compare/comparison")
+    for name in (
+        "base/defaults",
+        "compare/handing",
+        "commands/run",
+        "commands/mail",
+        "commands/check",
+        "compare/comparison",
+        "commands/reasons",
+    )
 )
 UNIT = "contrib/systemd/aide-compare-failed.service"
 PLANTED = (
@@ -29,6 +37,7 @@ PLANTED = (
         (DEFAULTS, " if name in options]", "]"),
         (DEFAULTS, '{OFF, "--help"', '{"--help"'),
     )
+    + seen_by("hands.try_defaults_of_reasons", (REASONS, "defaults_for(OPTIONS, arguments) + ", ""))
     + seen_by(
         "hands.try_faulty_defaults",
         (DEFAULTS, 'lines_of(path, "the defaults")] if path', "[]] if path"),

@@ -1,6 +1,7 @@
 """The command aide-compare-reasons: the lines of aide-compare-json with reasons and severities."""
 import os
 
+from aide_compare.base.defaults import add_off, defaults_for
 from aide_compare.base.options import size
 from aide_compare.commands.viewers import parser_of, run as run_over
 from aide_compare.compare.unpack import copy_database
@@ -11,6 +12,8 @@ from aide_compare.reasons.lines import Lines
 
 NAME = "aide-compare-reasons"
 MOST_DATABASE = 4 << 30
+# The defaults of the administrator that are options of this command too.
+OPTIONS = "--most --archive --keyring --rules --severity".split()
 
 
 def _write(source, target, databases, given):
@@ -33,7 +36,8 @@ def main(arguments):
         "--most", type=size, default=MOST_DATABASE, metavar="BYTES", help="refuse a database that has more bytes unpacked (4G)"
     )
     add_evidence_options(parser)
-    given = parser.parse(arguments)
+    add_off(parser)
+    given = parser.parse(defaults_for(OPTIONS, arguments) + arguments)
     copies = [copy_database(side, path, given.most) for side, path in zip(("old", "new"), given.databases)]
     for copy in copies:
         os.lseek(copy.fd, 0, os.SEEK_SET)
