@@ -22,7 +22,7 @@ def at_least(number, *words):
 
 FILES = [
     exactly(207, "tools.source.check_edits"),
-    exactly(529, "tools.source.check_docs"),
+    exactly(512, "tools.source.check_docs"),
     exactly(84, "tools.source.check_layout"),
     exactly(149, "tools.source.check_layers"),
     exactly(554, "tools.source.check_tools"),
