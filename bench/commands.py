@@ -74,12 +74,16 @@ def rows_of(bench, entries):
     lines_after = "database_in=file:%s\ndatabase_new=file:%s\n%s" % (old, new, LEVEL[1])
     run = ["aide-compare-run", old, new, "--", *LEVEL]
     with_state = ["aide-compare-run", "--state", bench.path("state"), *run[1:]]
+    without = [*with_state[:3], "--without", os.path.join(HERE, "contrib", "aide", "debian.without"), *run[1:]]
+    nightly = [*without[:5], "--reasons", "--lines", bench.path("kept"), "--brief", bench.path("brief"), *run[1:]]
     bench.rows(
         entries,
         bench.runs,
         ("`aide-compare`, the program alone", ["aide-compare", "-E", "-c", "/dev/null", "-A", lines_after], None, None),
         ("`aide-compare-run OLD NEW`", run, None, report),
         ("`aide-compare-run --state FILE OLD NEW`", with_state, None, None),
+        ("the same with `--without debian.without`", without, None, None),
+        ("the nightly call of the unit, with `--reasons --lines --brief` too", nightly, None, None),
         ("`aide-compare-json`, of this report", ["aide-compare-json", report], None, lines),
         ("`aide-compare-html`, of these lines", ["aide-compare-html", lines], None, bench.path("page")),
         ("`aide-compare-sort`, of a database in order", ["aide-compare-sort", old], None, None),
