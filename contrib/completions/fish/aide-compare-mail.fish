@@ -10,7 +10,7 @@ complete -c aide-compare-mail -l without -rF -d 'Leave out what the lines of a f
 complete -c aide-compare-mail -l without-path -x -d 'Leave out what a path or a pattern names'
 complete -c aide-compare-mail -l most-mail -x -d 'Cut a larger mail'
 complete -c aide-compare-mail -l test -d 'Send a test mail'
-complete -c aide-compare-mail -l weekly -d 'Send a sign of life once a week'
+complete -c aide-compare-mail -l weekly -d 'Send a heartbeat once a week'
 complete -c aide-compare-mail -l smtp -x -d 'Send by SMTP to this server'
 complete -c aide-compare-mail -l mail-time -x -d 'How long sending may take'
 complete -c aide-compare-mail -l queue -rF -d 'Keep the mail in a folder'

@@ -56,7 +56,7 @@ PLANTED = (
         (HINTS, 'columns = kept if kept.lstrip(b" \\t").startswith(b"@@db_spec") else columns', "pass"),
         (
             HINTS,
-            '    if line:\n        yield "line %d: %s" % (number, shown(line, 200))\n',
+            '    if line and not is_binary(line):\n        yield "line %d: %s" % (number, shown(line, 200))\n',
             '    if line:\n        yield "line %d: %s" % (number, line.decode("latin-1"))\n',
         ),
     )
@@ -122,7 +122,7 @@ PLANTED = (
         "age.try_pipes",
         (
             COMPARISON,
-            '        raise Fault(Status.DEVICE, "%s is no regular file, so --age cannot tell its age" % opened.words)\n',
+            '        raise Fault(Status.DEVICE, "%s is not a regular file, so --age does not know its age" % opened.words)\n',
             "        return\n",
         ),
     )

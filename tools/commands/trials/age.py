@@ -122,7 +122,7 @@ def try_pipes(sandbox):
     """A pipe has no age: with a limit it is refused, and nobody waits for a writer. A redirected file has one."""
     for name, more in (("/dev/stdin", {"text": NEW}),):
         answer = sandbox.call(TOOL, "--state", "state", "--age", "7200", "old.db", name, **more)
-        line = "aide-compare-run: the new database %s is no regular file, so --age cannot tell its age" % name
+        line = "aide-compare-run: the new database %s is not a regular file, so --age does not know its age" % name
         sandbox.expect("a pipe with --age, " + name, answer, 18, b"", line.encode())
         sandbox.holds("the state of a pipe with --age, " + name, sandbox.state()["error"] == line, sandbox.state())
     sandbox.expect(

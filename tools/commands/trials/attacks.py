@@ -138,7 +138,7 @@ def try_waiting(sandbox):
     for name in ("fifo", "/dev/zero", "/dev/tty", "/dev/null"):
         for words in ((name, "new.db"), ("old.db", name)):
             answer = sandbox.call(TOOL, *words, limit=60)
-            sandbox.expect("the databases %s and %s" % words, answer, 18, b"", b"no regular file")
+            sandbox.expect("the databases %s and %s" % words, answer, 18, b"", b"not a regular file")
     sandbox.expect("a FIFO as the configuration", sandbox.call(TOOL, "-c", "fifo"), 18, b"", b"it is a FIFO")
     for name in ("/dev/stdin", "/dev/fd/0", "/proc/self/fd/0"):
         sandbox.holds(

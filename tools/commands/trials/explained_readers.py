@@ -1,4 +1,4 @@
-"""What people and monitoring read of explained changes: mails, the sign of life, the check, the metrics, the line for the log."""
+"""What people and monitoring read of explained changes: mails, the heartbeat, the check, the metrics, the line for the log."""
 import os
 import time
 
@@ -35,7 +35,7 @@ def try_values(sandbox):
     sandbox.call("aide-compare-run", *REASONS, "--lines", "lines", "o.db", "n.db")
     answer = sandbox.call("aide-compare-html", "--plain", text=sandbox.read("lines"))
     sandbox.expect("a plain page", answer, 0, [b"<table>", b"/usr/.x y"], b"")
-    sandbox.holds("nothing is cut on it", b"Values are shown of" not in answer.output, answer)
+    sandbox.holds("nothing is cut on it", b"Values are shown for" not in answer.output, answer)
 
 
 def prepare(sandbox):
@@ -105,7 +105,7 @@ def try_sign_of_life(sandbox):
         "the numbers that are kept", sandbox.read("quiet.state.quiet") == b"7 0 2\n", sandbox.read("quiet.state.quiet")
     )
     found = call(sandbox, *words, day, "o.db", "gone.db")
-    sandbox.holds("the sign of life", found[:2] == (2, mail.SUBJECT + "8 quiet runs, 3 changes explained"), found)
+    sandbox.holds("the heartbeat", found[:2] == (2, mail.SUBJECT + "8 quiet runs, 3 changes explained"), found)
     found = call(sandbox, *words, other, "o.db", "gone.db")
     sandbox.holds(
         "it begins anew", sandbox.read("quiet.state.quiet").split()[::2] == [b"1", b"1"], sandbox.read("quiet.state.quiet")

@@ -52,12 +52,16 @@ def try_database_hints(sandbox):
         ("gzip twice", gzip.compress(gzip.compress(NEW)), [b"compressed twice"]),
         ("a byte order mark", b"\xef\xbb\xbf" + NEW, [b"byte order mark"]),
         ("UTF-16", NEW.decode().encode("utf-16"), [b"UTF-16"]),
-        ("another file", b"root:x:0:0\n", [b"no @@begin_db\n", b"line 1: root:x:0:0\n", b"no database of AIDE"]),
+        ("another file", b"root:x:0:0\n", [b"no @@begin_db\n", b"line 1: root:x:0:0\n", b"not an AIDE database"]),
     ):
         sandbox.write(name, text)
         answer = sandbox.call(TOOL, "old.db", name)
         sandbox.expect("a hint on %s" % label, answer, 24, b"", errors)
         lines = answer.errors.split(b"\n")
+        if b"compressed" in errors[0]:
+            sandbox.holds(
+                "%s: the cause first, no quotation" % label, errors[0] in lines[1] and b"line 1:" not in answer.errors, answer
+            )
         sandbox.holds(
             "lines of %s" % label,
             lines[0].startswith(b"aide: ")
@@ -75,15 +79,16 @@ def try_configuration_hints(sandbox):
                 b"aide: config:2: unknown attribute\n",
                 b"the configuration is odd conf\n",
                 b"line 2:  report_lvel=minimal\n",
-                b"report_lvel is no option",
+                b"report_lvel is not an option",
             ],
         ),
         ("report_level=minmal", [b"aide: config:1: bad value\n", b"a level is minimal, summary"]),
+        ("report_format=json", [b"aide: config:1: left out of this profile\n", b"give the report to aide-compare-json"]),
         ("report_ignore_changed_attrs=xyz", [b"line 1: report_ignore_changed_attrs=xyz\n"]),
         ("@@ifhost x", [b"aide: config:1: left out of this profile\n", b"leave AIDE's own configuration as it is"]),
         (
             "@@include /etc/x\n@@x_include /x\n@@odd",
-            [b"aide: config:3: unknown directive\n", b"line 3: @@odd\n", b"AIDE may know it"],
+            [b"aide: config:3: unknown directive\n", b"line 3: @@odd\n", b"aide-compare does not support it"],
         ),
         ("a\x1b[1m\x80", [b"line 1: a\\033[1m"]),
     ):
@@ -93,7 +98,7 @@ def try_configuration_hints(sandbox):
         if "lvel" not in text:
             sandbox.holds(
                 "no more than a hint on %r" % text,
-                b"lvel is no option" not in answer.errors and b"attrs is no option" not in answer.errors,
+                b"lvel is not an option" not in answer.errors and b"attrs is not an option" not in answer.errors,
                 answer,
             )
     for option, name in (("-A", b"after"), ("-B", b"before")):

@@ -346,13 +346,13 @@ def try_test_and_weekly(sandbox):
     words = ["old.db", "old.db", "--state", "weekly.state", "--weekly"]
     for _ in range(2):
         sandbox.expect("another day", call(sandbox, *words, other), 0, b"", b"")
-        sandbox.holds("no sign of life on another day", sent(sandbox) is None)
+        sandbox.holds("no heartbeat on another day", sent(sandbox) is None)
     sandbox.expect("the day", call(sandbox, *words, day), 0, b"", b"")
-    sandbox.holds("the sign of life", subject(sent(sandbox)) == SUBJECT + "no difference in 3 runs")
+    sandbox.holds("the heartbeat", subject(sent(sandbox)) == SUBJECT + "no difference in 3 runs")
     sandbox.expect("the day again", call(sandbox, *words, day), 0, b"", b"")
     sandbox.holds("only once a day", sent(sandbox) is None)
     call(sandbox, "old.db", "old.db", "--state", "first.state", "--weekly", day)
-    sandbox.holds("the sign of life of a single run", subject(sent(sandbox)) == SUBJECT + "no difference in 1 run")
+    sandbox.holds("the heartbeat of a single run", subject(sent(sandbox)) == SUBJECT + "no difference in 1 run")
     os.mkdir(sandbox.path("odd.state.quiet"))
     answer = call(sandbox, "old.db", "old.db", "--state", "odd.state", "--weekly", day)
     sandbox.expect("a folder in the place of the number", answer, 18, b"", b"odd.state.quiet: it is a folder")
@@ -361,8 +361,8 @@ def try_test_and_weekly(sandbox):
         ("later than now, by a clock that was ahead", int(time.time()) + 86400),
     ):
         sandbox.write("weekly.state.quiet", "7 %d 0\n" % number)
-        sandbox.expect("the last sign of life: " + label, call(sandbox, *words, day), 0, b"", b"")
-        sandbox.holds("a sign of life after " + label, subject(sent(sandbox)) == SUBJECT + "no difference in 8 runs")
+        sandbox.expect("the last heartbeat: " + label, call(sandbox, *words, day), 0, b"", b"")
+        sandbox.holds("a heartbeat after " + label, subject(sent(sandbox)) == SUBJECT + "no difference in 8 runs")
         sandbox.holds("the time is that of now", abs(int(sandbox.read("weekly.state.quiet").split()[1]) - time.time()) < 60)
 
 

@@ -51,7 +51,7 @@ def open_regular(path, what=""):
         try:
             mode = os.fstat(file).st_mode
             if not stat.S_ISREG(mode):
-                raise failure(errno.EINVAL, "it is %s and no regular file" % kind_of(mode))
+                raise failure(errno.EINVAL, "it is %s, not a regular file" % kind_of(mode))
             return reopened(file, os.O_RDONLY | os.O_NONBLOCK | os.O_NOCTTY)
         finally:
             os.close(file)
@@ -169,7 +169,7 @@ class Replacement:
         except FileNotFoundError:
             return
         if not stat.S_ISREG(mode):
-            raise failure(errno.EINVAL, "it is %s and no regular file" % kind_of(mode))
+            raise failure(errno.EINVAL, "it is %s, not a regular file" % kind_of(mode))
 
     def _try(self):
         self._refuse_other_kinds()

@@ -12,7 +12,9 @@ def seconds_of(text):
     """The seconds of "90", "90s", "15m", "26h" or "3d", at most 30 days; a Fault otherwise."""
     digits, unit = (text[:-1], UNITS[text[-1]]) if text[-1:] in UNITS else (text, 1)
     if not (digits.isascii() and digits.isdigit() and len(digits) <= 9):
-        raise Fault(Status.USAGE, "no time: %s; write a number and s, m, h or d, as in 26h" % (shown(text, 100) or "''"))
+        raise Fault(
+            Status.USAGE, "not a duration: %s; write a number and s, m, h or d, as in 26h" % (shown(text, 100) or "''")
+        )
     seconds = int(digits) * unit
     if seconds > MOST_SECONDS:
         raise Fault(Status.USAGE, "more than 30 days: %s" % shown(text, 100))

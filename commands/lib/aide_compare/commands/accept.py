@@ -91,7 +91,7 @@ def _parser():
         "--sha256",
         metavar="DIGEST",
         type=some_text,
-        help="the SHA-256 in the report or mail that was read: 16 or more first digits of base 16, or all of it in " "base 64",
+        help="the SHA-256 in the report or mail that was read: 16 to 64 hexadecimal digits, or all of it in base64",
     )
     add(
         "--state",

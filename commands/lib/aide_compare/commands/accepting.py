@@ -22,7 +22,7 @@ BLOCK = 1 << 18
 
 
 class Wanted:
-    """The digest on the command line: all 64 digits of base 16, or the first of them."""
+    """The digest on the command line: all 64 hexadecimal digits, or the first of them."""
 
     def __init__(self, text):
         joined = "".join(text.split())
@@ -30,8 +30,8 @@ class Wanted:
         if self.digits.strip(DIGITS) or not FEWEST_DIGITS <= len(self.digits) <= ALL_DIGITS:
             raise Fault(
                 Status.USAGE,
-                "no SHA-256: %s; give its first 16 or more digits of base 16, or all 44 "
-                "characters of base 64" % (shown(text, 100) or "''"),
+                "not a SHA-256: %s; give 16 to 64 hexadecimal digits, or all 44 characters of base64"
+                % (shown(text, 100) or "''"),
             )
 
     @staticmethod

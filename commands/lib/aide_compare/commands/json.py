@@ -37,7 +37,7 @@ def _options():
         default=[],
         type=member,
         metavar="NAME=VALUE",
-        help="a member more in each line, such as site=berlin",
+        help="an additional member for each line, such as site=berlin",
     )
     add("--state", metavar="FILE", type=some_text, help="the state file of this comparison: names, times and status")
     add("--old", metavar="NAME", type=some_text, help="the name of the old database, in place of the one in the report")

@@ -92,14 +92,14 @@ def parser():
         nargs="?",
         const="Mon",
         choices=weekly.DAYS,
-        help="with --state: mail a sign of life on one day of the week (Mon)",
+        help="with --state: mail a heartbeat on one day of the week (Mon)",
     )
     add("--smtp", metavar="HOST[:PORT]", type=server, help="send by SMTP to this server in place of sendmail")
     add("--mail-time", metavar="TIME", type=duration, default=SECONDS, help="how long sending may take (60s)")
     add("--queue", metavar="FOLDER", type=some_text, help="keep the mail in this folder; --send-queue sends it")
     add("--send-queue", metavar="FOLDER", type=some_text, help="compare nothing, and send the mails of this folder")
     add("--unit-failed", metavar="NAME", type=unit, help="with --send-queue: mail first that this unit of systemd has failed")
-    add("--user", metavar="NAME", type=some_text, help="give up root's rights first, for those of this user")
+    add("--user", metavar="NAME", type=some_text, help="drop privileges to this user first")
     add("--alarm-sent-is-success", action="store_true", help="end with 0 also after differences or errors that were mailed")
     return made
 
@@ -250,7 +250,7 @@ def simple(given, subject, text):
 
 
 def quiet_text(runs, explained):
-    """The subject and the text of a sign of life."""
+    """The subject and the text of a heartbeat."""
     if not explained:
         return "no difference in %s" % counted(runs, "run"), "%s found no difference.\n" % counted(runs, "comparison")
     return "%s, %s explained" % (counted(runs, "quiet run"), counted(explained, "change")), (

@@ -68,7 +68,7 @@ def add_options(parser):
     add("--lines", metavar="FILE", type=some_text, help="write the report to FILE as aide-compare-json does, with the reasons")
     add("--brief", metavar="FILE", type=some_text, help="with --reasons: write to FILE what people should read first")
     add_evidence_options(parser)
-    add("--user", metavar="NAME", type=some_text, help="give up root's rights first, for those of this user")
+    add("--user", metavar="NAME", type=some_text, help="drop privileges to this user first")
     add_off(parser)
 
 

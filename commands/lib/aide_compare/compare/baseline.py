@@ -89,7 +89,7 @@ class Baseline:
         found = os.fstat(descriptor)
         if not stat.S_ISREG(found.st_mode):
             hint = ", which is not followed: name the file itself" if stat.S_ISLNK(found.st_mode) else ""
-            raise self.fault("it is %s and no regular file%s" % (kind_of(found.st_mode), hint))
+            raise self.fault("it is %s, not a regular file%s" % (kind_of(found.st_mode), hint))
         return descriptor, found
 
     def reading(self):

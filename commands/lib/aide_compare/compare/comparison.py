@@ -233,7 +233,7 @@ def check_age(opened, most):
     if not most:
         return
     if opened.written is None:
-        raise Fault(Status.DEVICE, "%s is no regular file, so --age cannot tell its age" % opened.words)
+        raise Fault(Status.DEVICE, "%s is not a regular file, so --age does not know its age" % opened.words)
     age = int(time.time() - opened.written)
     if age < -CLOCKS_DIFFER:
         raise Fault(Status.DEVICE, "%s was written %s in the future: is a clock wrong?" % (opened.words, age_in_words(-age)))

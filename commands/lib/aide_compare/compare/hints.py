@@ -50,12 +50,21 @@ def line_and_columns(descriptor, number):
     return kept, columns
 
 
+def is_binary(line):
+    """Whether a line has bytes that no text has, or begins as a packed file does: quoted, it would hide the lines around it."""
+    return line.startswith(tuple(mark for mark, _ in KINDS)) or any(byte < 32 and byte not in b"\t\r\x1b" for byte in line)
+
+
 def _database_hints(side, number, words, copy):
+    if words == b"no @@begin_db" and copy.size:
+        head = os.pread(copy.fd, 8, 0)
+        unknown = "this is not an AIDE database, or its beginning is missing"
+        yield next((text for mark, text in KINDS if head.startswith(mark)), unknown)
     yield "the %s is %s" % (side, shown(copy.name))
     if not copy.size:
         yield "it is empty: does AIDE run now? It fills its new database at its end"
     line, columns = line_and_columns(copy.fd, number)
-    if line:
+    if line and not is_binary(line):
         yield "line %d: %s" % (number, shown(line, 200))
     column = COLUMN.match(words)
     if column:
@@ -63,11 +72,6 @@ def _database_hints(side, number, words, copy):
         names, fields = columns.split()[1:], [field for field in re.split(b"[ \t]+", line) if field]
         if 0 < place <= len(names) and place <= len(fields):
             yield "column %d is %s: %s" % (place, shown(names[place - 1], 200), shown(fields[place - 1], 200))
-    elif words == b"no @@begin_db":
-        head = os.pread(copy.fd, 8, 0)
-        yield next(
-            (text for mark, text in KINDS if head.startswith(mark)), "it is no database of AIDE, or its beginning is missing"
-        )
     elif words == b"no @@end_db":
         yield "it ends too early: was the disk full, or is AIDE still writing it?"
     elif words == b"entry out of path order":
@@ -81,11 +85,13 @@ def _configuration_hints(number, words, text, introduction):
     if line.strip():
         yield "line %d: %s" % (number, shown(line, 200))
     name = shown(line.partition(b"=")[0].strip(b" \t"), 200)
-    if words in (b"unknown attribute", b"bad expression"):
+    if name == "report_format":
+        yield "for JSON, give the report to aide-compare-json: aide-compare-run OLD NEW | aide-compare-json"
+    elif words in (b"unknown attribute", b"bad expression"):
         if not re.fullmatch("report_ignore_[a-z]+_attrs|report_force_attrs", name):
-            yield "%s is no option, so the line defines a group of attributes; is it a misspelt option?" % name
+            yield "%s is not an option, so the line defines a group of attributes; is it a misspelt option?" % name
     elif words in (b"left out of this profile", b"unknown directive"):
-        yield "AIDE may know it, and aide-compare does not: leave AIDE's own configuration as it is, and name OLD and NEW " "(no configuration is needed then), or write a short one, as in aide-compare.conf(5)"
+        yield "aide-compare does not support it, AIDE may: leave AIDE's own configuration as it is, and name OLD and NEW (no configuration is needed then), or write a short one, as in aide-compare.conf(5)"
     elif words == b"bad value" and name == "report_level":
         yield LEVELS
 

@@ -1,1 +1,1 @@
-"""Messages, the ways to send them, the queue and the sign of life."""
+"""Messages, the ways to send them, the queue and the heartbeat."""

@@ -1,4 +1,4 @@
-"""The sign of life: how many quiet runs there were, how many changes were explained in them, and when it was mailed last. The
+"""The heartbeat: how many quiet runs there were, how many changes were explained in them, and when it was mailed last. The
 numbers are kept beside the state."""
 import os
 import time
@@ -11,7 +11,7 @@ DAYS = ("Mon", "Tue", "Wed", "Thu", "Fri", "Sat", "Sun")
 
 
 def _read(path):
-    """The number of quiet runs, the time of the last sign of life, and the number of explained changes; zeros without such a
+    """The number of quiet runs, the time of the last heartbeat, and the number of explained changes; zeros without such a
     file. One with two numbers is of a time when no changes were explained."""
     try:
         descriptor = open_regular(path)
@@ -26,7 +26,7 @@ def _read(path):
 
 
 def count(state, day, explained, send):
-    """Counts a quiet run and its explained changes. On the day, or a week after the last sign of life, `send(runs, changes)`
+    """Counts a quiet run and its explained changes. On the day, or a week after the last heartbeat, `send(runs, changes)`
     is called and both counts begin anew."""
     path, now = state + ".quiet", int(time.time())
     runs, sent, changes = _read(path)

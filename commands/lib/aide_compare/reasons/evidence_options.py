@@ -35,4 +35,4 @@ def add_evidence_options(parser):
     parser.add_argument(
         "--rules", metavar="FILE", type=some_text, help="reasons of your own: what may differ, patterns and texts"
     )
-    parser.add_argument("--severity", metavar="FILE", type=some_text, help="a table of severities in place of the shipped one")
+    parser.add_argument("--severity", metavar="FILE", type=some_text, help="a table of severities instead of the built-in one")

@@ -39,7 +39,7 @@ class Lines:
         except (ValueError, RecursionError):
             fields = None
         if line[-1:] != b"\n" or not isinstance(fields, dict) or not fields:
-            raise Refused(self.number, "this is no line of aide-compare-json")
+            raise Refused(self.number, "this is not a line of aide-compare-json")
         if any(name in fields for name in OURS):
             raise Refused(self.number, "this line has a severity or a reason already")
         return fields
@@ -58,7 +58,7 @@ class Lines:
         counts = [self.summary.get(kind) for kind in KINDS]
         whole = None if None in counts else sum(counts)
         if self.number - 1 != self.summary.get("lines") or self.entry_count not in (0, whole):
-            raise Refused(self.number - 1, "lines of aide-compare-json are missing")
+            raise Refused(self.number - 1, "this ends too early: the last line of aide-compare-json is missing")
 
     def _judge(self, fields):
         """Refuses an entry that no database can have, or that is not after the one before."""

@@ -116,7 +116,7 @@ class Contents:
         if names < count:
             notes.append("These lists have room for %s of %s; the others are only counted." % (entries(names), number(count)))
         if values < names:
-            notes.append("Values are shown of %s of them, the first ones." % number(values))
+            notes.append("Values are shown for the first %s only." % number(values))
         return notes
 
     def notes_of_script(self):
