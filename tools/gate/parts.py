@@ -22,12 +22,12 @@ def at_least(number, *words):
 
 FILES = [
     exactly(207, "tools.source.check_edits"),
-    exactly(512, "tools.source.check_docs"),
+    exactly(530, "tools.source.check_docs"),
     exactly(84, "tools.source.check_layout"),
     exactly(149, "tools.source.check_layers"),
-    exactly(554, "tools.source.check_tools"),
-    exactly(854, "tools.source.check_planted"),
-    exactly(1804, "tools.wrong_bodies.check"),
+    exactly(568, "tools.source.check_tools"),
+    exactly(906, "tools.source.check_planted"),
+    exactly(1792, "tools.wrong_bodies.check"),
 ]
 
 
