@@ -29,4 +29,12 @@ PLANTED = (
         "reasons_records.try_now",
         (RECORDS, "not has_records(folder) and has_rpm()", "has_rpm()"),
     )
+    + seen_by(
+        "reasons_records.try_of_that_time",
+        (
+            "commands/lib/aide_compare/reasons/kept_records.py",
+            "else mark_of(digest, accepted)",
+            "else mark_of(accepted, accepted)",
+        ),
+    )
 )

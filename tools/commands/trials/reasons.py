@@ -128,6 +128,7 @@ def try_reasons_lines(sandbox):
         reasons_records.try_large,
         reasons_records.try_folder,
         reasons_records.try_now,
+        reasons_records.try_of_that_time,
         reasons_lines.try_interface,
         try_nights,
     ):

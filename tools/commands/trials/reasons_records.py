@@ -156,3 +156,14 @@ def try_now(sandbox):
                 sandbox.write("now/status", text)
             got, want = records.records_now(sandbox.path("now")), "rpm" if has_rpm and label != "packages" else "dpkg"
             sandbox.holds("the records of now, %s, rpm: %s" % (label, has_rpm), got == want, got)
+
+
+def try_of_that_time(sandbox):
+    """Records that came with a database of which only a part became the baseline: they name both."""
+    kept_records, whole, part = own_module("aide_compare.reasons.kept_records"), "a" * 64, "b" * 64
+    path = sandbox.write("came.packages", gzip.compress(b"records") + kept_records.mark_of(whole, whole), 0o600)
+    for digest in (whole, part):
+        descriptor = kept_records._of_that_time(path, digest, whole)
+        sandbox.holds("the baseline that records name", kept_records.digest_in(descriptor) == digest, digest)
+        os.close(descriptor)
+    sandbox.holds("records of another database", kept_records._of_that_time(path, part, part) is None)
