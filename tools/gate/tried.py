@@ -27,7 +27,7 @@ MEMORY = [
         GATE,
     ),
     Row("the same inside the crates, at each level", "`aide_faults`, `aide_in_memory`", EACH, GATE),
-    Row("the same by the toolchain", "`rt try --fail-alloc N`", "53 numbers", HAND),
+    Row("the same by the toolchain", "`rt try --fail-alloc N`", "12 numbers", HAND),
     Row("little memory, in steps of 4 kB", "program/end_to_end.py", Tool("end_to_end"), GATE),
     Row("64 kB of stack; 48 kB are right, 44 kB failed 4 of 12", "program/end_to_end.py", PART, BOTH),
 ]
@@ -67,8 +67,14 @@ PAGES = [
     Row("README's first command by the toolchain, and `rt version`", "pages/try_commands.py --with-rt", "2", HAND),
     Row("what DIFFERENCES says of AIDE, on AIDE 0.18.3", "pages/beside_aide.py", EACH, HAND),
     Row("pairs of databases of real trees beside AIDE 0.18.3", "pages/random_beside_aide.py", "100 pairs", HAND),
-    Row("databases of AIDE 0.17.3 and 0.19.1", "", "3 pairs", by_hand("2026-11-26")),
-    Row("AIDE's own nights, cron, ssh, Slurm, Nagios", "pages/try_recipes.py --with-packages", "once", by_hand("2026-11-23")),
+    Row("databases of AIDE 0.17.3 and 0.19.1", "", "once each", HAND),
+    Row(
+        "AIDE, cron, ssh, Slurm, Nagios, a package; not since",
+        "the former shell commands",
+        "once",
+        by_hand("2026-11-23"),
+    ),
+    Row("QUIETREPORTS of Debian's job: read, and no night was mailed", "pages/try_recipes.py", "never at night", GATE),
     Row("Ansible 2.14, two runs on one machine", "pages/try_recipes.py --with-packages", "once", by_hand("2026-11-25")),
     Row("Kubernetes: the file as YAML, its command for ten parts", "pages/try_recipes.py", "never as a job", GATE),
     Row("Icinga, NRPE, Prometheus, rsyslog, logcheck", "", "never by these programs", ""),
@@ -91,7 +97,7 @@ COMMANDS = [
     Row("bugs planted in definitions and in a manual page", "program/plant.py", Bugs(("oracle", "pages")), HAND),
 ]
 MACHINES = [
-    Row("reasons on 17 pairs of nights of Debian 12, 6 with intruders", "aide-compare-reasons", "once", by_hand("2026-11-25")),
+    Row("reasons on 17 pairs of nights, before records were measured", "aide-compare-reasons", "once", by_hand("2026-11-25")),
     Row("nights of a booted Debian 12: idle, rotation, upgrade, intruder", "the units as shipped", "4", by_hand("2026-11-25")),
     Row("mails by Postfix 3.7, Exim 4.96 and dma; 12,289 changes", "the units as shipped", "once", by_hand("2026-11-25")),
     Row(
