@@ -1,0 +1,51 @@
+-- The line of one path at which the databases differ.
+use Rattle.std.specs.Prelude.{ℕ, Bool, List, [], ◌∷◌, ◌++◌, Option, Some, None, codes}
+use Rattle.aide_attr.specs.Summary.{first_type}
+use Rattle.aide_attr.specs.declared.attr.Attr.{Attr}
+use Rattle.aide_attr.specs.declared.attr.Attr.TheVariants.{Ftype}
+use Rattle.aide_attr.specs.declared.file_type.FileType.{FileType}
+use Rattle.aide_entry.specs.Attributes.{Attributes, type_in}
+use Rattle.aide_json.specs.Json.{quoted}
+use Rattle.aide_json.specs.Member.{member, text_member}
+use Rattle.aide_json.specs.Object.{line}
+use Rattle.aide_line_text.specs.Attribute.{type_string, entry_object}
+
+-- what the old and the new database have at one path
+abbrev pub Found : Type 0
+Found = Option Attributes × Option Attributes
+
+-- the word for what became of the path
+abbrev pub kind_word : Found → List ℕ
+kind_word (None, None) = []
+kind_word (None, Some new_entry) = codes "added"
+kind_word (Some old_entry, None) = codes "removed"
+kind_word (Some old_entry, Some new_entry) = codes "changed"
+
+-- the type of an entry, if there is an entry and it has one
+abbrev pub type_on : Option Attributes → Option FileType
+type_on None = None
+type_on (Some values) = type_in (values Ftype)
+
+-- the type at the path: the new entry's if it has one, otherwise the old entry's
+abbrev pub type_at : Found → Option FileType
+type_at found = first_type (type_on found.1) (type_on found.0)
+
+-- the member of a type, if there is one
+abbrev pub type_members : Option FileType → List (List ℕ)
+type_members None = []
+type_members (Some kind) = member (codes "type") (type_string kind) ∷ []
+
+-- the member of one database's entry, if there is one: its attributes that pass
+abbrev pub entry_members : List ℕ → (Attr → Bool) → Option Attributes → List (List ℕ)
+entry_members name shows None = []
+entry_members name shows (Some values) = member name (entry_object shows values) ∷ []
+
+-- The line of a path: what became of it, the path, the summary string, the type, and the attributes
+-- that pass on either side.
+unfoldable pub entry_line : (path letters : List ℕ) → (Attr → Bool) → Found → List ℕ
+entry_line path letters shows found =
+    line (member (codes "kind") (quoted (kind_word found))
+    ∷ text_member (codes "path") path
+    ∷ member (codes "summary") (quoted letters)
+    ∷ (type_members (type_at found)
+    ++ (entry_members (codes "old") shows found.0 ++ entry_members (codes "new") shows found.1)))

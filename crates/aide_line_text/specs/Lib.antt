@@ -1,0 +1,5 @@
+pub mod Attribute
+pub mod Entry
+pub mod Ends
+pub mod SidesView
+pub mod code

@@ -1,0 +1,120 @@
+//! Writes the line of a path.
+ghost use Rattle.std.specs.Prelude.{◌≡◌, ◌∷◌, ◌++◌, [], Some, codes};
+ghost use Rattle.aide_attr.specs.Set.{has};
+ghost use Rattle.aide_entry.specs.View.{entry_in};
+ghost use Rattle.aide_json.specs.Object.{behind};
+ghost use Rattle.aide_line_text.specs.Entry.{entry_line, entry_members, kind_word, type_at};
+ghost use Rattle.aide_line_text.specs.Entry.{type_members};
+ghost use Rattle.aide_line_text.specs.code.Parts.{entries_behind, entry_head};
+ghost use Rattle.aide_line_text.specs.SidesView.{found_in};
+ghost use Rattle.aide_text.specs.PenSheet.{on_sheet};
+ghost use Rattle.aide_text.specs.Sheet.{Wrote};
+
+use crate::attribute::put_type;
+use crate::side::put_entry;
+use crate::sides::Sides;
+use aide_attr::{AttrSet, FileType};
+use aide_db::View;
+use aide_json::{put_name, put_text_member, put_word_member};
+use aide_text::{Feed, Pen, Sink, put};
+
+/// Returns the word for what became of the path.
+fn kind_word(sides: Sides<'_>) -> &'static [u8]
+    ensures { result.now ≡ kind_word (found_in sides.entry) }
+{
+    match sides {
+        Sides::Added(_) => b"added",
+        Sides::Removed(_) => b"removed",
+        Sides::Common(_, _) => b"changed",
+    }
+}
+
+/// Returns the type at the path: the new entry's if it has one, otherwise the old entry's.
+fn type_at(sides: Sides<'_>) -> Option<FileType>
+    ensures { result ≡ type_at (found_in sides.entry) }
+{
+    match sides {
+        Sides::Added(new) => new.kind(),
+        Sides::Removed(old) => old.kind(),
+        Sides::Common(old, new) => match new.kind() {
+            None => old.kind(),
+            Some(kind) => Some(kind),
+        },
+    }
+}
+
+/// Writes the beginning of a line: what became of the path, the path, and the summary string.
+fn put_head<W: Sink, B: Feed + Copy>(
+    out: &mut W,
+    pen: &mut Pen,
+    word: &[u8],
+    path: B,
+    letters: &[u8],
+)
+    ensures { Wrote (entry_head word.now (B.rest path) letters.now)
+        (on_sheet W.Sink out.old pen.old) (on_sheet W.Sink out.new pen.new) }
+{
+    put(out, pen, b"{");
+    put_word_member(out, pen, b"kind", word);
+    put(out, pen, b",");
+    put_text_member(out, pen, b"path", path);
+    put(out, pen, b",");
+    put_word_member(out, pen, b"summary", letters);
+}
+
+fn put_type_behind<W: Sink>(out: &mut W, pen: &mut Pen, kind: Option<FileType>)
+    ensures { Wrote (behind (type_members kind))
+        (on_sheet W.Sink out.old pen.old) (on_sheet W.Sink out.new pen.new) }
+{
+    if let Some(kind) = kind {
+        put(out, pen, b",");
+        put_type(out, pen, b"type", kind);
+    }
+}
+
+fn put_entry_behind<W: Sink>(
+    out: &mut W,
+    pen: &mut Pen,
+    name: &[u8],
+    view: &View<'_>,
+    shown: AttrSet,
+)
+    ensures { Wrote (behind (entry_members name.now (has shown) (Some (entry_in view.now).1)))
+        (on_sheet W.Sink out.old pen.old) (on_sheet W.Sink out.new pen.new) }
+{
+    put(out, pen, b",");
+    put_name(out, pen, name);
+    put_entry(out, pen, view, shown);
+}
+
+fn put_sides<W: Sink>(out: &mut W, pen: &mut Pen, sides: Sides<'_>, shown: AttrSet)
+    ensures { Wrote (entries_behind (has shown) (found_in sides.entry))
+        (on_sheet W.Sink out.old pen.old) (on_sheet W.Sink out.new pen.new) }
+{
+    match sides {
+        Sides::Added(new) => put_entry_behind(out, pen, b"new", &new, shown),
+        Sides::Removed(old) => put_entry_behind(out, pen, b"old", &old, shown),
+        Sides::Common(old, new) => {
+            put_entry_behind(out, pen, b"old", &old, shown);
+            put_entry_behind(out, pen, b"new", &new, shown);
+        }
+    }
+}
+
+/// Writes the line of a path, with the attributes that are shown.
+pub fn put_entry_line<W: Sink, B: Feed + Copy>(
+    out: &mut W,
+    pen: &mut Pen,
+    path: B,
+    letters: &[u8],
+    shown: AttrSet,
+    sides: Sides<'_>,
+)
+    ensures { Wrote (entry_line (B.rest path) letters.now (has shown) (found_in sides.entry))
+        (on_sheet W.Sink out.old pen.old) (on_sheet W.Sink out.new pen.new) }
+{
+    put_head(out, pen, kind_word(sides), path, letters);
+    put_type_behind(out, pen, type_at(sides));
+    put_sides(out, pen, sides, shown);
+    put(out, pen, b"}\n");
+}
