@@ -18,6 +18,7 @@ PROVED = (
     "aide_faults",
     "aide_headline",
     "aide_json",
+    "aide_line_text",
     "aide_report",
     "aide_session",
     "aide_text",
