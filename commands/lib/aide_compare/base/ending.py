@@ -111,10 +111,15 @@ def _status_of(main):
     return Status.DEVICE
 
 
-def command(name, main):
-    """Runs `main(arguments)` and returns the status with which the command ends."""
+def called(name):
+    """From now on error lines begin with this name."""
     global _name
     _name = name
+
+
+def command(name, main):
+    """Runs `main(arguments)` and returns the status with which the command ends."""
+    called(name)
     try:
         return int(_status_of(main)) & 255
     except MemoryError:

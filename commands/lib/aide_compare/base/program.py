@@ -1,4 +1,4 @@
-"""Runs aide-compare: found, tried once, given its databases as descriptors, and ended when the command ends."""
+"""Runs the proved program: found, tried once, given its databases as descriptors, and ended when the command ends."""
 import ctypes
 import fcntl
 import os
@@ -32,13 +32,25 @@ class Ended:
             raise Fault(Status.DEVICE, "%s could not be run: status %d" % (shown(program), self.status))
 
 
-def find_program(beside):
-    """The path of aide-compare: in the folder of the command, otherwise in PATH."""
-    for folder in [beside] + os.environ.get("PATH", "").split(":"):
-        path = folder + "/aide-compare"
-        if folder.startswith("/") and os.path.isfile(path) and os.access(path, os.X_OK):
-            return path
-    raise Fault(Status.DEVICE, "cannot find aide-compare beside this command or in PATH")
+def find_installed(name):
+    """A file below the prefix of the commands. Their modules are in PREFIX/lib/aide-compare/python where they are installed,
+    and in PREFIX/lib in the repository. PATH does not count: the `aide` that it names is AIDE."""
+    library = os.path.dirname(os.path.dirname(os.path.dirname(os.path.realpath(__file__))))
+    prefix = os.path.realpath(library + ("/../../.." if os.path.basename(library) == "python" else "/.."))
+    path = os.path.join(prefix, name)
+    if not (os.path.isfile(path) and os.access(path, os.X_OK)):
+        raise Fault(Status.DEVICE, "cannot find %s, which came with this command" % shown(path))
+    return path
+
+
+def find_front():
+    """The path of the command that runs all subcommands."""
+    return find_installed("bin/aide-compare")
+
+
+def find_program():
+    """The path of the proved program."""
+    return find_installed("libexec/aide-compare/aide")
 
 
 def accepts(program):

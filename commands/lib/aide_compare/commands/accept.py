@@ -1,4 +1,4 @@
-"""aide-compare-accept: a database becomes the baseline if its SHA-256 is the one that was given."""
+"""aide-compare accept: a database becomes the baseline if its SHA-256 is the one that was given."""
 import os
 
 from aide_compare.base.ending import Fault, Status, say, write_all
@@ -12,7 +12,7 @@ from aide_compare.compare.state import read_state
 from aide_compare.reasons.evidence_options import add_evidence_options
 from aide_compare.reasons.kept_records import Records
 
-NAME = "aide-compare-accept"
+NAME = "aide-compare accept"
 STATE = "/var/lib/aide-compare/daily/state"
 KINDS = ("added", "removed", "changed")
 DESCRIPTION = (
@@ -117,7 +117,7 @@ def _parser():
     add(
         "--explained-only",
         action="store_true",
-        help="only the changes with a verified reason, as aide-compare-run --reasons finds them; all others stay open",
+        help="only the changes with a verified reason, as aide-compare --reasons finds them; all others stay open",
     )
     add_evidence_options(parser)
     add(

@@ -3,7 +3,6 @@ import base64
 import binascii
 import gzip
 import os
-import sys
 
 from aide_compare.base.ending import Fault, Status
 from aide_compare.base.escapes import shown
@@ -76,7 +75,6 @@ class Wish:
     def __init__(self, digest, most=MOST_BYTES, keeps_records=True, patterns=(), reasons=None):
         self.digest, self.most, self.keeps_records = Wanted(digest), most, keeps_records
         self.patterns, self.reasons = list(patterns), reasons
-        self.beside = os.path.dirname(os.path.realpath(sys.argv[0]))
 
     def is_partial(self):
         return bool(self.patterns) or self.reasons is not None
@@ -124,17 +122,17 @@ def _old_copy(baseline, most):
 def _with_open_part(wish, offered, baseline):
     """The Copy of the new database with the old entries of what stays open, and the counts of these."""
     old = _old_copy(baseline, wish.most)
-    refuse_unsound(wish.beside, offered.copy, old)
+    refuse_unsound(offered.copy, old)
     patterns, unexplained = Patterns(wish.patterns), Listed(())
     if wish.reasons is not None:
         user = ["--user", user_of(baseline.owner)] if baseline.owner is not None else []
         options = user + ["--most", str(wish.most)] + wish.reasons
-        unexplained = Listed(unexplained_keys(wish.beside, options, baseline.path, (old, offered.copy)))
+        unexplained = Listed(unexplained_keys(options, baseline.path, (old, offered.copy)))
     merged, counts = keep_open(old, offered.copy, lambda key: any([patterns(key), unexplained(key)]))
     unused = patterns.unused()
     if unused:
         raise Fault(Status.DATABASE, "refused: nothing that differs is kept open by %s" % shown(unused[0].text, 200))
-    refuse_unsound(wish.beside, merged)
+    refuse_unsound(merged)
     return merged, counts
 
 
@@ -155,7 +153,7 @@ def accept(wish, new, path):
         merged, done.open = _with_open_part(wish, offered, baseline)
         done.sha256, source = merged.sha256, offered.packed(merged)
     else:
-        refuse_unsound(wish.beside, offered.copy)
+        refuse_unsound(offered.copy)
     _put_in_place(done, baseline, source, new + SUFFIX if wish.keeps_records else None)
     return done
 

@@ -65,7 +65,7 @@ def text_of(state, counts):
 def judged(given):
     """A status, a text and the numbers for graphs."""
     if not os.path.lexists(given.state):
-        return UNKNOWN, "there is no %s; aide-compare-run --state writes it" % shown(given.state), ""
+        return UNKNOWN, "there is no %s; aide-compare --state writes it" % shown(given.state), ""
     reading = Reading(given.state)
     state, age = reading.state, reading.age
     if reading.future:
@@ -95,11 +95,11 @@ def main(arguments):
     try:
         options = parser(
             NAME,
-            "Says in one line what the last aide-compare-run found.",
+            "Says in one line what the last comparison found.",
             "the result is UNKNOWN if it is older",
             "Status: 0 OK, no difference; 1 WARNING, entries were added; 2 CRITICAL, entries were removed or\n"
             "changed; 3 UNKNOWN, all else. With --alarm unexplained or a LIMIT, and the counts of\n"
-            "aide-compare-run --reasons: 0 OK, all is explained; 1 WARNING, a reason is not verified;\n"
+            "aide-compare --reasons: 0 OK, all is explained; 1 WARNING, a reason is not verified;\n"
             "2 CRITICAL, something is unexplained. A LIMIT takes the place of one of these two: a number of\n"
             "changes that are not explained or not verified, or the least severity of one, high, medium or low.",
         )

@@ -5,17 +5,18 @@ import time
 from aide_compare.base.ending import Fault, Status, write_all
 from aide_compare.base.files import copy_file, open_regular
 from aide_compare.base.options import Parser, size, some_text
+from aide_compare.base.program import find_front
 from aide_compare.base.times import date_of
 from aide_compare.compare.sound import refuse_unsound
 from aide_compare.compare.state import read_state
 from aide_compare.compare.unpack import copy_database, digest_of, open_database
 from aide_compare.hosts.comparing import MOST_BASELINE
-from aide_compare.hosts.explaining import BASELINES, NEWEST, find_command
+from aide_compare.hosts.explaining import BASELINES, NEWEST
 from aide_compare.hosts.fetching import add_place
 from aide_compare.hosts.fleet_store import BLOCK, Part, Place, check_name, no_room
 from aide_compare.reasons.kept_records import mark_of
 
-NAME = "accept-host"
+NAME = "aide-compare hosts accept"
 
 
 def accept_first(place, most):
@@ -26,7 +27,7 @@ def accept_first(place, most):
     part, source = Part(place.fd), open_regular(place.file("aide.db.new"))
     try:
         copy = copy_database("new", place.file("aide.db.new"), most)
-        refuse_unsound(os.path.dirname(find_command("aide-compare") or ""), copy)
+        refuse_unsound(copy)
         for block in iter(lambda: os.read(source, BLOCK), b""):
             part.write(block)
         part.keep("aide.db", replace=False)
@@ -73,12 +74,10 @@ def keep_records(place):
 
 
 def accept(place, given):
-    """The command aide-compare-accept does the work."""
-    program = find_command("aide-compare-accept")
-    if program is None:
-        raise place.fault("cannot find aide-compare-accept")
+    """The command aide-compare accept does the work."""
+    program = find_front()
     say_what(place, given.sha256)
-    words = [program, "--no-packages", "--sha256", given.sha256]
+    words = [program, "accept", "--no-packages", "--sha256", given.sha256]
     for pattern in given.keep_open:
         words += ["--keep-open", pattern]
     child = os.posix_spawn(program, words + [place.file("aide.db.new"), place.file("aide.db")], os.environ)
@@ -122,7 +121,7 @@ def main(arguments):
         action="append",
         default=[],
         type=some_text,
-        help="with --sha256: all but the changes of these paths; see aide-compare-accept",
+        help="with --sha256: all but the changes of these paths; see aide-compare accept",
     )
     parser.add_argument("host", metavar="HOST")
     given = parser.parse(arguments)
@@ -130,6 +129,6 @@ def main(arguments):
         raise Fault(Status.USAGE, "--keep-open goes with --sha256", "try: %s --help" % NAME)
     place = Place(given.store, check_name(given.host))
     if not place.has("aide.db.new"):
-        raise place.fault("nothing was fetched yet; see fetch-host --help")
+        raise place.fault("nothing was fetched yet; see aide-compare hosts fetch --help")
     place.lock(time.monotonic() + given.time)
     return accept_first(place, given.most_unpacked) if given.first else accept(place, given)

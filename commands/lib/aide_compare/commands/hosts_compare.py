@@ -13,7 +13,7 @@ from aide_compare.hosts import comparing, fetching
 from aide_compare.hosts.fleet_store import Place, check_name, share_of
 from aide_compare.show.readers import ALARMS
 
-NAME = "compare-hosts"
+NAME = "aide-compare hosts compare"
 MOST_LIST = 16 << 20
 GRACE = 15
 PAUSE = 0.2  # A process that was ended may go on, in a call that does not return.

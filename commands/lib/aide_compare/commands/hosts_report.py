@@ -1,7 +1,6 @@
-"""report-hosts: what differs on all hosts, each change once with its hosts, as text, as JSON, as a page or as a mail."""
+"""aide-compare hosts report: what differs on all hosts, each change once, as text, as JSON, as a page or as a mail."""
 import os
 import shlex
-import sys
 
 from aide_compare.base.ending import Fault, Status, say, write_all
 from aide_compare.base.external_sort import ExternalSort
@@ -10,6 +9,7 @@ from aide_compare.base.folders import open_folder
 from aide_compare.base.options import Parser, duration, size, some_text
 from aide_compare.base.patterns import BadPattern, Pattern
 from aide_compare.base.private_room import stoppable
+from aide_compare.base.program import find_front
 from aide_compare.commands.hosts_compare import hosts_of
 from aide_compare.commands.mail import address
 from aide_compare.hosts.fleet_store import STORE, share_of
@@ -18,7 +18,7 @@ from aide_compare.hosts.hosts_read import CUT, WHOLE, read_host
 from aide_compare.mail.smtp import server
 from aide_compare.show.readers import AGE, ALARMS
 
-NAME = "report-hosts"
+NAME = "aide-compare hosts report"
 FORMAT = 1
 BLOCK = 1 << 18
 MOST_NAMES = 100000
@@ -41,7 +41,7 @@ def pattern(text):
 
 def words_of(given):
     """The command that prints all that this one leaves out, with the options that say what it is about."""
-    words = [sys.argv[0]]
+    words = [find_front(), "hosts", "report"]
     for store in given.store:
         words += ["--store", os.path.abspath(store)]
     for each in given.only_path:
@@ -168,9 +168,9 @@ class HostsReport:
 def options():
     parser = Parser(
         NAME,
-        "Reports what differs on the hosts of HOSTS-FILE, as compare-hosts has found it: which hosts were\n"
+        "Reports what differs on the hosts of HOSTS-FILE, as aide-compare hosts compare has found it: which hosts were\n"
         "not compared, and each change once with the hosts that have it.",
-        epilog="Ends with the greatest status of all hosts, as compare-hosts does: 0, up to 7 if there are\n"
+        epilog="Ends with the greatest status of all hosts, as aide-compare hosts compare does: 0, up to 7 if there are\n"
         "differences and each host was compared, more if a host was not. 15, 18 or 22 if it cannot do\n"
         "its work.",
     )

@@ -1,12 +1,12 @@
-"""aide-compare-json: a report of aide-compare as JSON."""
+"""aide-compare json: a report of aide-compare as JSON."""
 from aide_compare.base.files import nameless
 from aide_compare.base.options import some_text
 from aide_compare.commands.viewers import BLOCK, parser_of, run
 
-NAME = "aide-compare-json"
+NAME = "aide-compare json"
 DESCRIPTION = "Reads a report of aide-compare and writes it as JSON, one object a line."
 EPILOG = """The manual page aide-compare-json(1) describes the objects.
-Example: aide-compare-run --state state old.gz new.gz | aide-compare-json --full --state state"""
+Example: aide-compare --state state old.gz new.gz | aide-compare json --full --state state"""
 
 
 def _options():

@@ -4,7 +4,7 @@ from aide_compare.base.escapes import guarded, shown
 from aide_compare.base.times import date_of
 from aide_compare.show.readers import Reading, parser, write_line
 
-NAME = "aide-compare-log"
+NAME = "aide-compare status"
 MOST = 8000
 
 
@@ -13,7 +13,7 @@ def line_of(path, most_age):
     try:
         reading = Reading(path)
     except Fault:
-        return "no comparison: %s cannot be read, or is no state file of aide-compare-run" % shown(path)
+        return "no comparison: %s cannot be read, or is no state file of aide-compare" % shown(path)
     state = reading.state
     if reading.age > most_age or reading.future:
         return "no comparison: the last one ended at " + date_of(state.time)
@@ -29,7 +29,7 @@ def line_of(path, most_age):
 def main(arguments):
     options = parser(
         NAME,
-        "Writes the result of the last aide-compare-run as one line, for logger(1).",
+        "Writes the result of the last comparison as one line, for logger(1).",
         "an older result counts as no comparison",
         "Status: 0 written; 15 bad arguments; 18 the line cannot be written.",
     )

@@ -1,15 +1,15 @@
-"""aide-compare-mail: compares two databases and mails what differs, or why nothing was compared."""
+"""aide-compare mail: compares two databases and mails what differs, or why nothing was compared."""
 import fcntl
 import os
 import re
 import shlex
-import sys
 
 from aide_compare.base.defaults import MAIL, RUN, defaults_for
 from aide_compare.base.ending import Fault, Status, say, write_all
 from aide_compare.base.escapes import shown_lines
 from aide_compare.base.files import nameless
 from aide_compare.base.options import Parser, duration, size, some_text
+from aide_compare.base.program import find_front
 from aide_compare.compare.reason_counts import counted
 from aide_compare.mail import weekly
 from aide_compare.mail.message import Result, build, clean, host, text_of
@@ -17,10 +17,10 @@ from aide_compare.mail.sending import SECONDS, alert, deliver, way_out
 from aide_compare.mail.smtp import server
 from aide_compare.show.readers import ALARMS
 
-NAME = "aide-compare-mail"
-DESCRIPTION = """Runs aide-compare-run with all other arguments, and mails the report if the databases differ, or the errors if
+NAME = "aide-compare mail"
+DESCRIPTION = """Runs aide-compare with all other arguments, and mails the report if the databases differ, or the errors if
 nothing was compared. No mail is sent if there is no difference."""
-EPILOG = """Status: that of aide-compare-run(1); 18 if no mail can be sent. With --alarm-sent-is-success it is 0 if the mail
+EPILOG = """Status: that of aide-compare-compare(1); 18 if no mail can be sent. With --alarm-sent-is-success it is 0 if the mail
 went out or was kept in the queue."""
 RUN_VALUES = (
     "-c",
@@ -54,7 +54,7 @@ OWN_VALUES = (
 UNIT = re.compile(r"[A-Za-z0-9:_.\\@-]{1,255}")  # As systemd.unit(5) has it.
 OWN_FLAGS = ("--html", "--test", "--alarm-sent-is-success", "--help", "-h", "--version")
 MOST_ERRORS = 1 << 20
-BRIEF, LINES = 3, 4  # The descriptors of what aide-compare-run writes for a mail beside the report.
+BRIEF, LINES = 3, 4  # The descriptors of what aide-compare writes for a mail beside the report.
 
 
 def address(text):
@@ -74,7 +74,7 @@ def unit(text):
 
 
 def parser():
-    made = Parser(NAME, DESCRIPTION, epilog=EPILOG, usage="%(prog)s [OPTIONS] [ARGUMENTS of aide-compare-run]")
+    made = Parser(NAME, DESCRIPTION, epilog=EPILOG, usage="%(prog)s [OPTIONS] [ARGUMENTS of aide-compare]")
     add = made.add_argument
     add("--to", metavar="ADDRESS", type=address, default="root", help="where the mail goes (root)")
     add("--html", action="store_true", help="send the report as a text and as a page")
@@ -105,7 +105,7 @@ def parser():
 
 
 def split(arguments):
-    """The options of this command, and all others, for aide-compare-run, in their order."""
+    """The options of this command, and all others, for aide-compare, in their order."""
     own, others, rest = [], [], list(arguments)
     while rest:
         word = rest.pop(0)
@@ -127,13 +127,13 @@ def before_dashes(words):
 
 
 def has_flag(flag, words):
-    """Whether aide-compare-run is given an option that has no value."""
+    """Whether aide-compare is given an option that has no value."""
     words = before_dashes(words)
     return any(word == flag and before not in RUN_VALUES for word, before in zip(words, [""] + words))
 
 
 def value_of(option, words):
-    """The value of an option of aide-compare-run; None without it."""
+    """The value of an option of aide-compare; None without it."""
     words = before_dashes(words)
     pairs = zip(words, words[1:] + [""])
     return next((word.partition("=")[2] or following for word, following in pairs if word.partition("=")[0] == option), None)
@@ -152,16 +152,16 @@ def without_value(option, words):
 
 
 class Comparison:
-    """aide-compare-run, run to its end. Its output goes to private files, so their room is known before a mail is begun."""
+    """aide-compare, run to its end. Its output goes to private files, so their room is known before a mail is begun."""
 
-    def __init__(self, folder, words, wants_lines, has_reasons):
-        self.path, self.words, self.has_reasons = os.path.join(folder, "aide-compare-run"), words, has_reasons
+    def __init__(self, words, wants_lines, has_reasons):
+        self.path, self.words, self.has_reasons = find_front(), words, has_reasons
         self.report, self.errors, self.brief = nameless(), nameless(), nameless()
         self.lines = nameless() if wants_lines else None
 
     def _start(self):
         actions = [(os.POSIX_SPAWN_DUP2, self.report, 1), (os.POSIX_SPAWN_DUP2, self.errors, 2)]
-        words = [self.path]
+        words = [self.path, "compare"]
         places = [(self.brief, BRIEF, "--brief")] if self.has_reasons else []
         places += [(self.lines, LINES, "--lines")] if self.lines is not None else []
         raised = [(fcntl.fcntl(descriptor, fcntl.F_DUPFD_CLOEXEC, 10), place, name) for descriptor, place, name in places]
@@ -177,7 +177,7 @@ class Comparison:
             raise Fault(Status.DEVICE, "cannot run %s: %s" % (self.path, error.strerror))
         text = os.pread(self.errors, MOST_ERRORS, 0)
         if status < 0 or (status > 7 and status not in (15, 17, 18, 22, 24)):
-            text += ("%s: aide-compare-run ended with %d\n" % (NAME, status)).encode()
+            text += ("%s: aide-compare ended with %d\n" % (NAME, status)).encode()
             status = int(Status.DEVICE)
         return Result(status, self.report, text + owner_hint(text), os.pread(self.brief, MOST_ERRORS, 0))
 
@@ -200,31 +200,31 @@ def owner_hint(text):
     ).encode()
 
 
-def page_of(folder, lines, most):
+def page_of(lines, most):
     """The plain page of the lines of a report, or None with the reason: an alarm is not lost if there can be no page."""
     if os.fstat(lines).st_size > most:
         return None, "the report is too large for one"
-    page, errors, path = nameless(), nameless(), os.path.join(folder, "aide-compare-html")
+    page, errors, path = nameless(), nameless(), find_front()
     os.lseek(lines, 0, os.SEEK_SET)
     actions = [(os.POSIX_SPAWN_DUP2, lines, 0), (os.POSIX_SPAWN_DUP2, page, 1), (os.POSIX_SPAWN_DUP2, errors, 2)]
     try:
         child = os.posix_spawn(
-            path, [path, "--plain", "--title", "File changes on %s" % host()], os.environ, file_actions=actions
+            path, [path, "page", "--plain", "--title", "File changes on %s" % host()], os.environ, file_actions=actions
         )
     except OSError as error:
-        return None, "cannot run aide-compare-html: %s" % error.strerror
+        return None, "cannot run aide-compare page: %s" % error.strerror
     if os.waitpid(child, 0)[1] != 0:
         why = os.pread(errors, 2000, 0).strip().split(b"\n")[-1]
-        return None, why.decode("utf-8", "replace") or "aide-compare-html failed"
+        return None, why.decode("utf-8", "replace") or "aide-compare page failed"
     made = os.pread(page, most + 1, 0)
     return (None, "it would be larger than --most-mail") if len(made) > most // 2 else (made, None)
 
 
-def message_of(given, folder, comparison, result):
+def message_of(given, comparison, result):
     command = shlex.join([comparison.path] + without_value("--state", comparison.words))
     text, page = text_of(result, given.most_mail, command), None
     if comparison.lines is not None and result.differs:
-        page, why = page_of(folder, comparison.lines, given.most_mail)
+        page, why = page_of(comparison.lines, given.most_mail)
         text += clean(("\n%s: there is no page: %s\n" % (NAME, why)).encode()) if page is None else b""
     if given.fault:
         text += clean(("\n%s: %s\n" % (NAME, given.fault)).encode("utf-8", "surrogateescape"))
@@ -268,8 +268,8 @@ def be_quiet(given, words, way, result):
     return 0 if given.alarm_sent_is_success else result.status
 
 
-def compare_and_mail(given, folder, words):
-    comparison = Comparison(folder, words, given.html, given.has_reasons)
+def compare_and_mail(given, words):
+    comparison = Comparison(words, given.html, given.has_reasons)
     result = comparison.result()
     if result.status > 7:
         os.truncate(result.report, 0)
@@ -282,7 +282,7 @@ def compare_and_mail(given, folder, words):
         raise Fault(fault.status, "%s; the comparison ended with status %d" % (fault.text, result.status))
     if result.status == 0 or (given.alarm == "unexplained" and result.is_explained):
         return be_quiet(given, words, way, result)
-    send(way, message_of(given, folder, comparison, result))
+    send(way, message_of(given, comparison, result))
     return 0 if given.alarm_sent_is_success else result.status
 
 
@@ -309,7 +309,7 @@ def empty_queue(given):
 
 
 def parsed(own, words):
-    """The options, where `words` are those of aide-compare-run; a Fault for options that mean nothing without another one."""
+    """The options, where `words` are those of aide-compare; a Fault for options that mean nothing without another one."""
     given = parser().parse(own)
     given.has_reasons, given.fault = has_flag("--reasons", words), ""
     if given.alarm == "unexplained" and not given.has_reasons:
@@ -346,6 +346,6 @@ def main(arguments):
     if given.send_queue:
         return empty_queue(given)
     if given.test:
-        send(way_of(given), simple(given, "test", "This is a test of aide-compare-mail. Mails of this host arrive.\n"))
+        send(way_of(given), simple(given, "test", "This is a test of aide-compare mail. Mails of this host arrive.\n"))
         return 0
-    return compare_and_mail(given, os.path.dirname(os.path.realpath(sys.argv[0])), words)
+    return compare_and_mail(given, words)

@@ -5,7 +5,7 @@ from aide_compare.compare.reason_counts import GRADE_KEYS, GRADES
 from aide_compare.compare.state import read_state
 from aide_compare.show.readers import parser
 
-NAME = "aide-compare-metrics"
+NAME = "aide-compare status"
 GAUGES = (
     ("status", "status", "Sum of 1 added, 2 removed and 4 changed; above 7 nothing was compared."),
     ("added_entries", "added", "Entries that only the new database has."),
@@ -34,7 +34,7 @@ def metrics_of(state):
 def main(arguments):
     options = parser(
         NAME,
-        "Writes the result of the last aide-compare-run for the node exporter of Prometheus.",
+        "Writes the result of the last comparison for the node exporter of Prometheus.",
         epilog="A folder in which another user can write, as Debian's user prometheus can in its own, is\n"
         "written with that user's rights.\n\n"
         "Status: 0 written; 15 bad arguments; 18 a file cannot be read or written.",

@@ -1,4 +1,4 @@
-"""The command aide-compare-reasons: the lines of aide-compare-json with reasons and severities."""
+"""The command aide-compare reasons: the lines of aide-compare json with reasons and severities."""
 import os
 
 from aide_compare.base.defaults import add_off, defaults_for
@@ -10,7 +10,7 @@ from aide_compare.reasons.evidence_options import add_evidence_options
 from aide_compare.reasons.explainer import Explainer
 from aide_compare.reasons.lines import Lines
 
-NAME = "aide-compare-reasons"
+NAME = "aide-compare reasons"
 MOST_DATABASE = 4 << 30
 # The defaults of the administrator that are options of this command too.
 OPTIONS = "--most --archive --keyring --rules --severity".split()
@@ -28,8 +28,8 @@ def main(arguments):
     parser = parser_of(
         NAME,
         "the lines",
-        "Adds a severity to each entry of aide-compare-json, and a reason where evidence explains it.",
-        "Example: aide-compare-run old.gz new.gz | aide-compare-json | %s --databases old.gz new.gz" % NAME,
+        "Adds a severity to each entry of aide-compare json, and a reason where evidence explains it.",
+        "Example: aide-compare old.gz new.gz | aide-compare json | %s --databases old.gz new.gz" % NAME,
     )
     parser.add_argument("--databases", nargs=2, metavar=("OLD", "NEW"), required=True, help="the databases that were compared")
     parser.add_argument(

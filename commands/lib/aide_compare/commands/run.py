@@ -1,6 +1,5 @@
-"""aide-compare-run: compares two databases, explains errors, and keeps the result in a state file."""
+"""aide-compare: compares two databases, explains errors, and keeps the result in a state file."""
 import os
-import sys
 
 from aide_compare.base.defaults import RUN, add_off, defaults_for, place_of
 from aide_compare.base.ending import Fault, Status, reason, say, write_all
@@ -15,9 +14,9 @@ from aide_compare.compare.outcome_state import left_out_of, state_of
 from aide_compare.compare.without import Rules, read_rules
 from aide_compare.reasons.evidence_options import add_evidence_options
 
-NAME = "aide-compare-run"
+NAME, TRY = "aide-compare", "try: aide-compare compare --help"
 DESCRIPTION = "Compares two AIDE databases, plain or compressed by gzip. The report goes to standard output."
-EPILOG = """after --, for aide-compare:
+EPILOG = """after --, for the program:
   -A TEXT, --after TEXT   lines that follow the configuration
   -B TEXT, --before TEXT  lines that precede it
 
@@ -25,11 +24,11 @@ Times are as in 90s, 15m, 26h or 3d; a plain number is seconds. Sizes are in byt
 Where another user can write in the folder of the state file, or above it, it is written with that user's rights.
 Root compares with the rights of the user in whose folder the baseline is, unless --user names another one.
 
-Status: that of aide-compare(1). 0 no difference, 1 to 7 differences, above 7 no comparison."""
+Status: that of aide-compare-program(8). 0 no difference, 1 to 7 differences, above 7 no comparison."""
 
 
 def add_options(parser):
-    """The options of a comparison, which aide-compare-mail has too."""
+    """The options of a comparison, which aide-compare mail has too."""
     add = parser.add_argument
     add(
         "databases",
@@ -65,7 +64,7 @@ def add_options(parser):
     )
     add("--without-path", metavar="PATTERN", action="append", default=[], type=some_text, help="the same for one line")
     add("--reasons", action="store_true", help="say which changes packages, logs and rules explain, and which nothing does")
-    add("--lines", metavar="FILE", type=some_text, help="write the report to FILE as aide-compare-json does, with the reasons")
+    add("--lines", metavar="FILE", type=some_text, help="write the report to FILE as aide-compare json does, with the reasons")
     add("--brief", metavar="FILE", type=some_text, help="with --reasons: write to FILE what people should read first")
     add_evidence_options(parser)
     add("--user", metavar="NAME", type=some_text, help="drop privileges to this user first")
@@ -80,17 +79,15 @@ def texts_of(words):
         name, equals, text = word.partition("=")
         if word in ("-A", "-B", "--after", "--before"):
             if not words:
-                raise Fault(Status.USAGE, "%s needs a text" % word, "try: %s --help" % NAME)
+                raise Fault(Status.USAGE, "%s needs a text" % word, TRY)
             name, text = word, words.pop(0)
         elif word[:2] in ("-A", "-B"):
             name, text = word[:2], word[3:] if word[2] == "=" else word[2:]
         elif name not in ("--after", "--before"):
-            raise Fault(
-                Status.USAGE, "after -- only -A TEXT and -B TEXT are allowed: %s" % shown(word, 200), "try: %s --help" % NAME
-            )
+            raise Fault(Status.USAGE, "after -- only -A TEXT and -B TEXT are allowed: %s" % shown(word, 200), TRY)
         name = name.lstrip("-")[0].lower()
         if name in found:
-            raise Fault(Status.USAGE, "-%s is given twice" % name.upper(), "try: %s --help" % NAME)
+            raise Fault(Status.USAGE, "-%s is given twice" % name.upper(), TRY)
         found[name] = text
     return found.get("b"), found.get("a")
 
@@ -99,7 +96,7 @@ def check_reasons(given):
     """A Fault for options that mean nothing without --reasons."""
     for name in ("brief", "packages", "packages_now", "archive", "keyring", "rules", "severity"):
         if getattr(given, name) and not given.reasons:
-            raise Fault(Status.USAGE, "--%s needs --reasons" % name.replace("_", "-"), "try: %s --help" % NAME)
+            raise Fault(Status.USAGE, "--%s needs --reasons" % name.replace("_", "-"), TRY)
 
 
 def rules_of(given):
@@ -109,7 +106,7 @@ def rules_of(given):
     return Rules(read_rules(files, given.without_path)) if files or given.without_path else None
 
 
-def request_of(given, words, beside, handing):
+def request_of(given, words, handing):
     """The Request that options and the words after -- ask for."""
     if len(given.databases) not in (0, 2):
         raise Fault(
@@ -117,12 +114,11 @@ def request_of(given, words, beside, handing):
             "name both databases, OLD and NEW, or none"
             if len(given.databases) < 2
             else "more than two databases: %s" % shown(given.databases[2], 200),
-            "try: %s --help" % NAME,
+            TRY,
         )
     before, after = texts_of(words)
     old, new = given.databases or (None, None)
     return Request(
-        beside,
         old,
         new,
         given.config,
@@ -235,7 +231,9 @@ def _run(request, state, wanted):
 
 def main(arguments):
     cut = arguments.index("--") if "--" in arguments else len(arguments)
-    parser = Parser(NAME, DESCRIPTION, epilog=EPILOG, usage="%(prog)s [OPTIONS] [OLD NEW] [-- ARGUMENTS]")
+    parser = Parser(
+        "aide-compare compare", DESCRIPTION, epilog=EPILOG, usage="aide-compare [compare] [OPTIONS] [OLD NEW] [-- ARGUMENTS]"
+    )
     add_options(parser)
     given = parser.parse(defaults_for(RUN, arguments[:cut]) + arguments[:cut])
     check_reasons(given)
@@ -243,6 +241,6 @@ def main(arguments):
         give_up(given.user)
     handing = Handing() if os.geteuid() == 0 and not given.user else None
     made = handing.later if handing else lambda output: output
-    request = request_of(given, arguments[cut + 1 :], os.path.dirname(os.path.realpath(sys.argv[0])), handing)
+    request = request_of(given, arguments[cut + 1 :], handing)
     wanted = wanted_of(given, made)
     return _run(request, made(Replacement(given.state, what="the state file").begin()) if given.state else None, wanted)

@@ -12,7 +12,7 @@ from aide_compare.base.escapes import shown
 from aide_compare.base.files import Replacement, open_folder, open_regular, reopened
 from aide_compare.base.options import Parser, some_text
 
-NAME = "aide-compare-setup"
+NAME = "aide-compare setup"
 HERE = os.path.dirname(os.path.realpath(__file__))
 ROOT = ""
 CONFIGURATIONS = ("/etc/aide/aide.conf", "/etc/aide.conf")
@@ -30,7 +30,7 @@ SHIPPED = ("/../../../../../share/doc/aide-compare/examples/", "/../../../../con
 BEGINS = (b"\x1f\x8b", b"@@begin_db", b"#")
 MOST_EXAMPLE, INIT_SECONDS, SECONDS = 1 << 20, 6 * 3600, 600
 TEXT = """\
-# Options of aide-compare-run, aide-compare-mail and check_aide_compare, one a line. See aide-compare-setup(8).
+# Options of aide-compare, aide-compare mail and check_aide_compare, one a line. See aide-compare-setup(8).
 --reasons
 --age 50h
 --weekly Mon
@@ -181,7 +181,7 @@ class Machine:
             what = "%s is %s's" % (os.path.join(DATABASES, name), self.user.pw_name)
             yield Step(what, lambda name=name: self.owns(name), lambda name=name: self.give(name))
         if os.path.isdir(ROOT + "/var/lib/dpkg/info"):
-            records = ["aide-compare-accept", "--only-packages", base]
+            records = ["aide-compare", "accept", "--only-packages", base]
             yield Step("records of the packages: %s.packages" % base, lambda: exists(base + ".packages"), lambda: run(records))
         yield Step(job, self.has_job, self.make_job)
 
@@ -205,7 +205,7 @@ def make(machine):
         return Status.OK
     tell("a test mail%s" % (" to " + shown(machine.given.to) if machine.given.to else ""))
     to = ["--to=" + machine.given.to] if machine.given.to else []
-    run(["aide-compare-mail", "--test", "--user", machine.user.pw_name] + to)
+    run(["aide-compare", "mail", "--test", "--user", machine.user.pw_name] + to)
     return Status.OK
 
 

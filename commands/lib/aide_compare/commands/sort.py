@@ -1,4 +1,4 @@
-"""aide-compare-sort: a database in path order, whatever its size, in little memory."""
+"""aide-compare sort: a database in path order, whatever its size, in little memory."""
 import re
 from array import array
 from bisect import bisect_left
@@ -187,7 +187,7 @@ def sort_database(name, most):
 
 def main(arguments):
     parser = Parser(
-        "aide-compare-sort",
+        "aide-compare sort",
         DESCRIPTION,
         epilog="Status: 0 sorted; 24 a path stands twice, or this is no " "database; 15, 18, 22: see aide-compare-sort(1).",
     )

@@ -1,4 +1,4 @@
-"""What the commands share that show a report in other forms, and aide-compare-html itself."""
+"""What the commands share that show a report in other forms, and aide-compare page itself."""
 import os
 import stat
 
@@ -55,10 +55,10 @@ def html_main(arguments):
     from aide_compare.show.page_view import fault_of
 
     parser = parser_of(
-        "aide-compare-html",
+        "aide-compare page",
         "the lines",
-        "Makes a page to look at from the lines of aide-compare-json.",
-        "Example: aide-compare-run old.gz new.gz | aide-compare-json | aide-compare-html > page.html",
+        "Makes a page to look at from the lines of aide-compare json.",
+        "Example: aide-compare old.gz new.gz | aide-compare json | aide-compare page > page.html",
     )
     parser.add_argument("--title", metavar="TEXT", help="the heading of the page, such as the name of the host")
     parser.add_argument("--plain", action="store_true", help="no script: the lists only, as for mail")

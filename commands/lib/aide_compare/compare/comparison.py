@@ -33,12 +33,11 @@ LETTERS_LIST = ENTRIES + b"report_grouped=yes\nreport_summarize_changes=yes\n"
 
 class Request:
     """What is to be compared. `old` and `new` are paths, or None if the configuration names both. `before` and `after` are
-    the texts of -B and -A. `beside` is the folder of the command. `counts`: the counts are wanted at every level. `without`:
+    the texts of -B and -A. `counts`: the counts are wanted at every level. `without`:
     the Rules of the entries that are left out, or None. `handing`: the Handing of a run of root's, or None."""
 
     def __init__(
         self,
-        beside,
         old=None,
         new=None,
         configuration=None,
@@ -51,7 +50,7 @@ class Request:
         without=None,
         handing=None,
     ):
-        self.beside, self.old, self.new, self.before, self.after = beside, old, new, before, after
+        self.old, self.new, self.before, self.after = old, new, before, after
         self.configuration = configuration or (default_configuration() if old is None else "/dev/null")
         self.most, self.most_age, self.most_report, self.counts = most, most_age, most_report, counts
         self.without, self.handing = without, handing
@@ -86,7 +85,7 @@ class Comparison:
 
     def __init__(self, request, outcome):
         self.request, self.outcome, self.path = request, outcome, request.configuration
-        self.program = find_program(request.beside)
+        self.program = find_program()
         accepts(self.program)
         self.texts = self._read_texts()
 

@@ -1,4 +1,4 @@
-"""A comparison that root asks for, with the rights of the user in whose folder the baseline is, as aide-compare-accept writes
+"""A comparison that root asks for, with the rights of the user in whose folder the baseline is, as aide-compare accept writes
 there. So root sees what a comparison of this user sees, and what others have written is read with no more than their rights.
 
 Root opens both databases. Then a child gives up root's rights for good and does the rest, and its parent puts in place what it

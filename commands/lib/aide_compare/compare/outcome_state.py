@@ -1,4 +1,4 @@
-"""The state of a comparison: what aide-compare-run keeps of its outcome, and what each of its lines says."""
+"""The state of a comparison: what aide-compare keeps of its outcome, and what each of its lines says."""
 from aide_compare.base.escapes import shown
 from aide_compare.compare.state import State
 

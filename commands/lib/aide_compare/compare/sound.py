@@ -11,10 +11,10 @@ MOST_ERRORS = 1 << 20
 WORDS = ["-E", "-c", "/dev/null", "-B", "report_level=minimal", "-A", DATABASES]
 
 
-def refuse_unsound(beside, copy, other=None):
-    """A Fault of status 24 if the program, which is looked for in the folder `beside`, finds a fault in an unpacked database.
+def refuse_unsound(copy, other=None):
+    """A Fault of status 24 if the program finds a fault in an unpacked database.
     `other` is the former one, if that has to be sound too. The copies are those of unpack.py."""
-    program, copies = find_program(beside), {"old": other or copy, "new": copy}
+    program, copies = find_program(), {"old": other or copy, "new": copy}
     accepts(program)
     report, errors = nameless(), nameless()
     try:

@@ -1,4 +1,4 @@
-"""The state file: the result of the last run of aide-compare-run, for the commands that show it."""
+"""The state file: the result of the last run of aide-compare, for the commands that show it."""
 import os
 
 from aide_compare.base.ending import Fault, Status
@@ -122,4 +122,4 @@ def read_state(path):
     try:
         return parse_state(data)
     except (ValueError, KeyError):
-        raise Fault(Status.DEVICE, "%s is no state file of aide-compare-run" % shown(path))
+        raise Fault(Status.DEVICE, "%s is no state file of aide-compare" % shown(path))

@@ -1,4 +1,4 @@
-"""Which changes nothing explains, as aide-compare-run finds them: what --explained-only of aide-compare-accept keeps open."""
+"""Which changes nothing explains, as aide-compare finds them: what --explained-only of aide-compare accept keeps open."""
 import fcntl
 import json
 import os
@@ -6,8 +6,9 @@ import os
 from aide_compare.base.ending import Fault, Status
 from aide_compare.base.files import nameless
 from aide_compare.base.path_keys import key_of_path
+from aide_compare.base.program import find_front
 
-NAME, LINES, NEW = "aide-compare-run", 4, 5
+LINES, NEW = 4, 5
 
 
 def _path_of(fields):
@@ -34,12 +35,12 @@ def _run(program, words, lines, new):
         raise Fault(Status(status) if known else Status.DEVICE, "refused: nothing was compared, so nothing is explained")
 
 
-def unexplained_keys(folder, options, old, copies):
+def unexplained_keys(options, old, copies):
     """The keys, in path order, of the changes that have no verified reason. `old` is the path of the baseline, beside which its
     packages' records are; `copies` are those of both databases, and it is a Fault if others were compared."""
     lines, new = nameless(), os.open("/proc/self/fd/%d" % copies[1].fd, os.O_RDONLY | os.O_CLOEXEC)
     words = ["--reasons", "--lines", "/dev/fd/%d" % LINES, *options, old, "/dev/fd/%d" % NEW]
-    _run(os.path.join(folder, NAME), words, lines, new)
+    _run(find_front(), ["compare"] + words, lines, new)
     os.close(new)
     return _keys_of(lines, copies)
 

@@ -17,11 +17,11 @@ from aide_compare.hosts.fetching import add_place
 from aide_compare.hosts.fleet_store import BLOCK, Part, Place, check_name, no_room, seconds_left
 from aide_compare.lines.cut_reports import CUT_WORDS
 
-NAME = "compare-host"
+NAME = "aide-compare hosts compare-one"
 MOST_BASELINE, LEAST_BOUND, MOST_REPORT, SAME_FOR = 4 << 30, 64 << 20, 4 << 20, 50 * 3600
 MOST_ERRORS = 1 << 20
 MOST_AHEAD = 600
-# The level at which an added file has its values, so that report-hosts can tell whether it is the same one on two hosts.
+# The level at which an added file has its values, so that the report can tell whether it is the same one on two hosts.
 LEVEL = "report_level=added_removed_entries"
 
 
@@ -134,8 +134,7 @@ def words_of(given, arguments, last=""):
 
 def compared(place, given, arguments, part, jobs):
     """Compares, and keeps the report. The counts come from its head, or from a second run if it has none."""
-    beside = os.path.realpath(os.path.dirname(os.path.realpath(__file__)) + "/../../../../../bin")
-    program = find_program(beside)
+    program = find_program()
     accepts(program)
     configuration = open_regular(given.conf, "the configuration ") if given.conf else None
     copies = copied(place, given)
@@ -223,8 +222,8 @@ def keep_text(place, name, data):
 def compare(place, given, arguments=(), jobs=1):
     """Compares under the lock of the host, and keeps report, errors and state. Returns the State."""
     for name, text in (
-        ("aide.db.new", "nothing was fetched yet; see fetch-host --help"),
-        ("aide.db", "there is no baseline yet; see accept-host --help"),
+        ("aide.db.new", "nothing was fetched yet; see aide-compare hosts fetch --help"),
+        ("aide.db", "there is no baseline yet; see aide-compare hosts accept --help"),
     ):
         if not place.has(name):
             raise place.fault(text)
@@ -322,5 +321,5 @@ def main(arguments):
     print_file(place.file("errors"), 2)
     print_file(place.file("report"), 1)
     if 0 < state.status <= 7:
-        say("to accept it: accept-host --sha256 %s %s" % (state.new_sha256, place.host))
+        say("to accept it: aide-compare hosts accept --sha256 %s %s" % (state.new_sha256, place.host))
     return state.status

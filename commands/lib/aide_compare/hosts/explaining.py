@@ -1,4 +1,4 @@
-"""What explains the changes of a host: aide-compare-run finds it out, with the packages' records that the host has sent."""
+"""What explains the changes of a host: aide-compare finds it out, with the packages' records that the host has sent."""
 import fcntl
 import json
 import os
@@ -8,13 +8,13 @@ import signal
 from aide_compare.base.ending import Fault, Status
 from aide_compare.base.files import nameless
 from aide_compare.base.options import some_text
-from aide_compare.base.program import PR_SET_PDEATHSIG
+from aide_compare.base.program import PR_SET_PDEATHSIG, find_front
 from aide_compare.compare.reason_counts import KEYS, ReasonCounts
 from aide_compare.compare.without import Rules, read_rules
 from aide_compare.hosts.fetching import RECORDS as NEWEST
 from aide_compare.reasons.kept_records import SUFFIX
 
-RUN, LINES, OLD, NEW, FIRST_FREE = "aide-compare-run", 3, 4, 5, 10
+RUN, LINES, OLD, NEW, FIRST_FREE = "aide-compare", 3, 4, 5, 10
 BASELINES = "aide.db" + SUFFIX
 # Of so many changes each takes some hundred bytes of memory. A host that sends more has other questions to answer.
 MOST_LINES, MOST_CHANGES = 256 << 20, 200000
@@ -26,7 +26,7 @@ def add_options(parser):
     add = parser.add_argument
     add("--without", metavar="FILE", action="append", default=[], type=some_text, help="leave out the paths of FILE")
     add("--without-path", metavar="PATTERN", action="append", default=[], type=some_text, help="the same for one line")
-    add("--reasons", action="store_true", help="say which changes packages, logs and rules explain; see aide-compare-run")
+    add("--reasons", action="store_true", help="say which changes packages, logs and rules explain; see aide-compare")
     for name in VALUES[:2]:
         add("--" + name, metavar="FILE", action="append", default=[], type=some_text, help="with --reasons: as there")
     for name in VALUES[2:]:
@@ -41,16 +41,8 @@ def rules_of(given):
     return Rules(read_rules(given.without, given.without_path)) if given.without or given.without_path else None
 
 
-def find_command(name):
-    """The path of a command, beside this one where the programs are installed, or from PATH; None if it is nowhere."""
-    here = os.path.dirname(os.path.realpath(__file__))
-    places = [os.path.realpath(here + folder) for folder in ("/../../../../../bin", "/../../../bin")]
-    paths = (folder + "/" + name for folder in places + os.environ.get("PATH", "").split(":"))
-    return next((path for path in paths if os.access(path, os.X_OK)), None)
-
-
 def _words(place, given):
-    """The options of aide-compare-run, and a line if no package can explain anything."""
+    """The options of aide-compare, and a line if no package can explain anything."""
     words, note = [], ""
     for name in ("without", "without_path") + VALUES:
         value = getattr(given, name) or []
@@ -65,7 +57,7 @@ def _words(place, given):
 
 
 def _become(program, words, places, most):
-    """In the child: aide-compare-run with bounds takes the place of this process, and ends when the command ends."""
+    """In the child: aide-compare with bounds takes the place of this process, and ends when the command ends."""
     import ctypes
 
     signal.setitimer(signal.ITIMER_REAL, 0)
@@ -78,9 +70,10 @@ def _become(program, words, places, most):
 
 
 def _run(place, given, copies, lines, errors, most):
-    program = find_command(RUN)
-    if program is None:
-        return "the changes are not explained: cannot find %s" % RUN
+    try:
+        program = find_front()
+    except Fault as fault:
+        return "the changes are not explained: %s" % fault.text
     options, note = _words(place, given)
     report = nameless()
     places = {1: report, 2: errors, LINES: lines, OLD: copies[0].fd, NEW: copies[1].fd}
@@ -90,7 +83,7 @@ def _run(place, given, copies, lines, errors, most):
             for copy in copies:
                 os.lseek(copy.fd, 0, os.SEEK_SET)
             names = ["/dev/fd/%d" % number for number in (OLD, NEW)]
-            _become(program, ["--reasons", "--lines", "/dev/fd/%d" % LINES] + options + names, places, most)
+            _become(program, ["compare", "--reasons", "--lines", "/dev/fd/%d" % LINES] + options + names, places, most)
         finally:
             os._exit(127)
     try:

@@ -11,7 +11,7 @@ from aide_compare.base.escapes import shown
 from aide_compare.base.options import Parser, duration, size, some_text
 from aide_compare.hosts.fleet_store import BLOCK, STORE, Part, Place, check_name, no_room, same_bytes, seconds_left
 
-NAME = "fetch-host"
+NAME = "aide-compare hosts fetch"
 PATH, MOST, SECONDS = "/var/lib/aide/aide.db.new", 1 << 30, 600
 MOST_ERRORS = 65536
 STOP_SECONDS = 10

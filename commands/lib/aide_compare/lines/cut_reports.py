@@ -5,8 +5,10 @@ import re
 from aide_compare.lines.report_lines import LINE_LIMIT, RULE
 
 # The last line of a report that was cut. No line of a report itself begins so.
-CUT_WORDS = "compare-host: cut here: the report has %d bytes, and --most-report allows %d\n"
-CUT_LINE = re.compile(rb"\ncompare-host: cut here: the report has ([0-9]{1,19}) bytes, and --most-report allows [0-9]+\n\Z")
+CUT_WORDS = "aide-compare hosts compare-one: cut here: the report has %d bytes, and --most-report allows %d\n"
+CUT_LINE = re.compile(
+    rb"\naide-compare hosts compare-one: cut here: the report has ([0-9]{1,19}) bytes, and --most-report allows [0-9]+\n\Z"
+)
 KINDS = (b"added", b"removed", b"changed")
 TITLES = {kind.capitalize() + b" entries:": kind for kind in KINDS}
 TOGETHER, DETAILS, DATABASES = (

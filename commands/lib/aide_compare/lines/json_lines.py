@@ -1,4 +1,4 @@
-"""Reads the lines of aide-compare-json, with or without those members that aide-compare-reasons adds: all, or none."""
+"""Reads the lines of aide-compare json, with or without those members that aide-compare reasons adds: all, or none."""
 import json
 import re
 from collections import namedtuple
@@ -167,11 +167,11 @@ class Report:
                 demand(line[-1:] == b"\n", "the line is cut, or too long")
                 self.add(json.loads(line.decode()), line)
             except (ValueError, KeyError, TypeError, AttributeError, IndexError, RecursionError) as error:
-                raise Refused(number, "this is not a line of aide-compare-json") from None
+                raise Refused(number, "this is not a line of aide-compare json") from None
             except Malformed as malformed:
                 raise Refused(number, malformed) from None
         if self.summary is None or number != self.summary["lines"] or self.count not in (0, self.changes()):
-            raise Refused(number, "this ends too early: the last line of aide-compare-json is missing")
+            raise Refused(number, "this ends too early: the last line of aide-compare json is missing")
 
     def add(self, fields, line):
         if self.summary is None:

@@ -1,4 +1,4 @@
-"""What each line of aide-compare-json says of the comparison: where, when, of which databases, with which status."""
+"""What each line of aide-compare json says of the comparison: where, when, of which databases, with which status."""
 import argparse
 import os
 import re
@@ -40,7 +40,7 @@ def members(pairs):
     found = dict(pairs)
     if len(found) < len(pairs) or len(found) > MOST_MEMBERS:
         raise Fault(
-            Status.USAGE, "more than %d members, or one given twice by --with" % MOST_MEMBERS, "try: aide-compare-json --help"
+            Status.USAGE, "more than %d members, or one given twice by --with" % MOST_MEMBERS, "try: aide-compare json --help"
         )
     return found
 

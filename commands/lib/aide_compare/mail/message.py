@@ -1,4 +1,4 @@
-"""The mails of aide-compare-mail: built from a report and its error lines, and never larger than allowed.
+"""The mails of aide-compare mail: built from a report and its error lines, and never larger than allowed.
 
 The text is written by the rules of RFC 5322 and MIME. The package email of the standard library takes 60 ms to load and adds
 nothing here: each header is ASCII of our own, and the text is one part.
@@ -22,11 +22,11 @@ FOLDER_SHARE, TREE_SHARE, MOST_FOLDERS = 20, 100, 10
 # What was removed or changed comes before what was added, since everybody can add files somewhere.
 ORDER = (b"changed", b"removed", b"added")
 REASONS = re.compile(
-    r"^aide-compare-run: [a-z0-9 ,]+: unexplained=(\d{1,18}) not_verified=(\d{1,18}) explained=(\d{1,18}) "
+    r"^aide-compare: [a-z0-9 ,]+: unexplained=(\d{1,18}) not_verified=(\d{1,18}) explained=(\d{1,18}) "
     r"high=(\d{1,18}) medium=(\d{1,18}) low=(\d{1,18})(?: explained_[a-z]+=\d{1,18})*\n",
     re.M,
 )
-DATABASE = re.compile(r"^aide-compare-run: (old|new) database: (.*), written (\S+), SHA-256 ([0-9a-f]{64})$", re.M)
+DATABASE = re.compile(r"^aide-compare: (old|new) database: (.*), written (\S+), SHA-256 ([0-9a-f]{64})$", re.M)
 BITS = ((1, "added"), (2, "removed"), (4, "changed"))
 
 
@@ -92,12 +92,12 @@ def opening(result):
     old, new = result.databases["old"][0], result.databases["new"][0]
     if "\\" in old + new:  # An escaped name is not the name, so no command is given that could mean another file.
         lines.append(
-            "To accept what is reported here: aide-compare-accept --sha256 %s NEW BASELINE" % result.databases["new"][2]
+            "To accept what is reported here: aide-compare accept --sha256 %s NEW BASELINE" % result.databases["new"][2]
         )
     else:
         lines += [
             "To accept what is reported here, and nothing else:",
-            "    aide-compare-accept --sha256 %s %s %s"
+            "    aide-compare accept --sha256 %s %s %s"
             % (result.databases["new"][2], shlex.quote(os.path.abspath(new)), shlex.quote(os.path.abspath(old))),
         ]
     return "\n".join(lines) + "\n\n"

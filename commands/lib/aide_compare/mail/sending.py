@@ -120,10 +120,10 @@ def way_out(server, seconds):
 
 def alert(text):
     """One line in the system log at the priority `alert`; False if there is no log either."""
-    line = "aide-compare-mail: " + shown(text, 800)
+    line = "aide-compare mail: " + shown(text, 800)
     for path, data in (
         (LOG, "<%d>%s" % (AUTH_ALERT, line)),
-        (JOURNAL, "PRIORITY=1\nSYSLOG_FACILITY=4\nSYSLOG_IDENTIFIER=aide-compare-mail\nMESSAGE=%s\n" % line),
+        (JOURNAL, "PRIORITY=1\nSYSLOG_FACILITY=4\nSYSLOG_IDENTIFIER=aide-compare\nMESSAGE=%s\n" % line),
     ):
         try:
             with socket.socket(socket.AF_UNIX, socket.SOCK_DGRAM) as log:

@@ -8,7 +8,7 @@ def add_evidence_options(parser):
         "--packages",
         metavar="FILE",
         type=some_text,
-        help="the packages' records of the time of the old database, as aide-compare-accept keeps them",
+        help="the packages' records of the time of the old database, as aide-compare accept keeps them",
     )
     parser.add_argument(
         "--packages-now",

@@ -88,7 +88,7 @@ def misfit(path, digest):
         found = digest_in(descriptor)
     finally:
         os.close(descriptor)
-    return "" if found in ("", digest) else "they belong to another baseline; aide-compare-accept writes them anew"
+    return "" if found in ("", digest) else "they belong to another baseline; aide-compare accept writes them anew"
 
 
 class Records:

@@ -1,4 +1,4 @@
-"""The lines of aide-compare-json: read whole and kept, then written with their reasons, and otherwise byte for byte."""
+"""The lines of aide-compare json: read whole and kept, then written with their reasons, and otherwise byte for byte."""
 import json
 
 from aide_compare.base.files import nameless
@@ -39,13 +39,13 @@ class Lines:
         except (ValueError, RecursionError):
             fields = None
         if line[-1:] != b"\n" or not isinstance(fields, dict) or not fields:
-            raise Refused(self.number, "this is not a line of aide-compare-json")
+            raise Refused(self.number, "this is not a line of aide-compare json")
         if any(name in fields for name in OURS):
             raise Refused(self.number, "this line has a severity or a reason already")
         return fields
 
     def entries(self):
-        """Yields the objects of the entries. Lines that are missing, or are none of aide-compare-json, are refused."""
+        """Yields the objects of the entries. Lines that are missing, or are none of aide-compare json, are refused."""
         for fields in iter(self._next, None):
             if fields.get("record") == "entry" and not self.databases:
                 self._judge(fields)
@@ -58,7 +58,7 @@ class Lines:
         counts = [self.summary.get(kind) for kind in KINDS]
         whole = None if None in counts else sum(counts)
         if self.number - 1 != self.summary.get("lines") or self.entry_count not in (0, whole):
-            raise Refused(self.number - 1, "this ends too early: the last line of aide-compare-json is missing")
+            raise Refused(self.number - 1, "this ends too early: the last line of aide-compare json is missing")
 
     def _judge(self, fields):
         """Refuses an entry that no database can have, or that is not after the one before."""

@@ -113,7 +113,7 @@ class Entries:
                     self.others.append({**fields, **self.full})
 
     def lines(self, left_out, reasons, members):
-        """A descriptor of all lines, as aide-compare-json --full and aide-compare-reasons write them. The summary says what was
+        """A descriptor of all lines, as aide-compare json --full and aide-compare reasons write them. The summary says what was
         left out, and has the counts of the reasons, if any; each entry has its `members`, if any."""
         target = nameless()
         with os.fdopen(os.dup(target), "wb", BLOCK) as file:

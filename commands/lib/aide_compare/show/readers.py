@@ -7,6 +7,8 @@ from aide_compare.compare.state import read_state
 
 STATE = "/var/lib/aide-compare/daily/state"
 AGE = 26 * 3600
+# The forms of aide-compare status.
+FORMATS = ("line", "prometheus", "nagios", "json")
 # Which changes raise an alarm: all, or only those that nothing explains for certain.
 ALARMS = ("differences", "unexplained")
 # Clocks of two machines that share a file may differ so much.
@@ -17,8 +19,10 @@ def parser(name, description, age="", epilog=None):
     """The options that the readers have in common; `age` is what --age means for one of them."""
     given = Parser(name, description, epilog=epilog)
     given.add_argument(
-        "--state", type=some_text, default=STATE, metavar="FILE", help="what aide-compare-run has written (%s)" % STATE
+        "--state", type=some_text, default=STATE, metavar="FILE", help="what aide-compare has written (%s)" % STATE
     )
+    if name.startswith("aide-compare status"):
+        given.add_argument("--format", choices=FORMATS, help="the form, and the options that it has (line)")
     if age:
         given.add_argument("--age", type=duration, default=AGE, metavar="TIME", help=age + " (26h)")
     return given

@@ -1,0 +1,138 @@
+"""aide-compare: finds the subcommand and runs its module. A command line as AIDE has it goes to the proved program as it is."""
+import os
+import re
+
+from aide_compare.base.ending import Fault, Status, called, reason, write_all
+from aide_compare.base.escapes import shown
+
+# The module and the function of each subcommand. Only that of the one that is asked for is loaded.
+COMMANDS = {
+    "compare": ("commands.run", "main"),
+    "json": ("commands.json", "main"),
+    "page": ("commands.viewers", "html_main"),
+    "reasons": ("commands.reasons", "main"),
+    "mail": ("commands.mail", "main"),
+    "accept": ("commands.accept", "main"),
+    "status": ("commands.status", "main"),
+    "sort": ("commands.sort", "main"),
+    "setup": ("commands.setup", "main"),
+    "version": ("commands.version", "main"),
+}
+HOSTS = {
+    "fetch": ("hosts.fetching", "main"),
+    "compare": ("commands.hosts_compare", "main"),
+    "compare-one": ("hosts.comparing", "main"),
+    "accept": ("commands.hosts_accept", "main"),
+    "report": ("commands.hosts_report", "main"),
+}
+JOBS = {"-E", "-D", "--compare", "--config-check"}
+USAGE = """\
+usage: aide-compare [compare] [OPTIONS] [OLD NEW]
+       aide-compare SUBCOMMAND [OPTIONS] ...
+
+  aide-compare old.db new.db             a report of what differs
+  aide-compare                           the databases of AIDE's configuration
+  aide-compare --reasons old.db new.db   and what packages, logs, rules explain
+  aide-compare setup                     each day on this machine, with a mail
+
+  compare    compare two databases       json     a report as lines of JSON
+  mail       compare, and send a mail    page     such lines as a page
+  status     the last result: for logs,  reasons  such lines with their reasons
+             Nagios and Prometheus       sort     put a database into path order
+  accept     make a database the         setup    make this machine ready
+             baseline                    version  the program, whether proved
+  hosts      fetch, compare, accept and report: the same for many hosts
+  help WORD  the options of a subcommand
+
+With -E, -D, --compare or --config-check all is for the proved program, which
+reads options as AIDE does: man aide-compare-program. The manual:
+man aide-compare
+"""
+HOSTS_USAGE = """\
+usage: aide-compare hosts fetch [OPTIONS] HOST          its new database, by ssh
+       aide-compare hosts compare [OPTIONS] HOSTS-FILE  fetch and compare all
+       aide-compare hosts compare-one [OPTIONS] HOST    the report of one host
+       aide-compare hosts accept [OPTIONS] HOST         a new baseline of a host
+       aide-compare hosts report [OPTIONS] HOSTS-FILE   what differs on all
+
+aide-compare hosts fetch --help and so on say more: man aide-compare-hosts
+"""
+HELP = ("--help", "-h")
+
+
+def become_program(arguments):
+    """The proved program takes the place of this process."""
+    import signal
+    from aide_compare.base.program import find_program
+
+    program = find_program()
+    for number in (signal.SIGPIPE, signal.SIGXFSZ):  # Which the interpreter ignores.
+        signal.signal(number, signal.SIG_DFL)
+    try:
+        os.execv(program, [program] + arguments)
+    except OSError as error:
+        raise Fault(Status.DEVICE, "cannot run %s: %s" % (shown(program), reason(error)))
+
+
+def refuse(word, names, what):
+    """A Fault that names the nearest one of what there is."""
+    import difflib
+
+    near = difflib.get_close_matches(word, names, 1)
+    hint = "did you mean: %s %s" % (what, near[0]) if near else "try: %s --help" % what
+    raise Fault(Status.USAGE, "there is no %s %s" % (what, shown(word, 100)), hint)
+
+
+def is_misspelt(word, arguments):
+    """Whether the first word is a subcommand with a mistake, and not the path of a database."""
+    if not re.fullmatch("[A-Za-z][A-Za-z-]{0,19}", word) or os.path.lexists(word):
+        return False
+    import difflib
+
+    return len(arguments) == 1 or bool(difflib.get_close_matches(word, [*COMMANDS, "hosts", "help"], 1))
+
+
+def run(name, place, arguments):
+    """Loads a module and runs the subcommand."""
+    import importlib
+
+    called(name)
+    module, function = place
+    return getattr(importlib.import_module("aide_compare." + module), function)(arguments)
+
+
+def hosts(arguments):
+    word = arguments[0] if arguments else "--help"
+    if word in HELP:
+        write_all(1, HOSTS_USAGE.encode())
+        return Status.OK
+    if word not in HOSTS:
+        refuse(word, HOSTS, "aide-compare hosts")
+    return run("aide-compare hosts " + word, HOSTS[word], arguments[1:])
+
+
+def help_of(words):
+    """The usage of the words after `help`, or of the whole."""
+    if not words or words[0] in HELP:
+        write_all(1, USAGE.encode())
+        return Status.OK
+    if words[0] not in COMMANDS and words[0] not in ("hosts", "help"):
+        refuse(words[0], [*COMMANDS, "hosts"], "aide-compare help")
+    return main(words[: 2 if words[0] == "hosts" else 1] + ["--help"])
+
+
+def main(arguments):
+    word = arguments[0] if arguments else ""
+    if word.startswith("-") and JOBS & set(arguments):
+        return become_program(arguments)
+    if word in HELP or word == "help":
+        return help_of(arguments[1:] if word == "help" else [])
+    if word == "hosts":
+        return hosts(arguments[1:])
+    if word == "--version":
+        word, arguments = "version", ["version"] + arguments[1:]
+    if word in COMMANDS:
+        return run("aide-compare" + (" " + word) * (word != "compare"), COMMANDS[word], arguments[1:])
+    if is_misspelt(word, arguments):
+        refuse(word, [*COMMANDS, "hosts", "help"], "aide-compare")
+    return run("aide-compare", COMMANDS["compare"], arguments)
