@@ -9,6 +9,6 @@
 #SBATCH --cpus-per-task=2
 #SBATCH --mem=512M
 set -u
-exec /usr/local/lib/aide-compare/fleet/compare-hosts --jobs 8 \
+exec /usr/local/bin/aide-compare hosts compare --jobs 8 \
     --store "/var/lib/aide-compare/shares/$SLURM_ARRAY_TASK_ID" \
     --share "$SLURM_ARRAY_TASK_ID/$SLURM_ARRAY_TASK_COUNT" -- "$1"

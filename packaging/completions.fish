@@ -1,0 +1,44 @@
+# Completions of fish for aide-compare, made by packaging/completions.
+
+# Whether the words before this one are about a subcommand. Without one they are about compare.
+function __fish_aide_compare_is
+    set -l words (commandline -opc)
+    contains -- -- $words; and return 1
+    if test "$argv[1]" = hosts
+        test "$words[2]" = hosts; and test "$words[3]" = "$argv[2]"
+        return
+    end
+    if contains -- "$words[2]" @FIRST@
+        test "$words[2]" = "$argv[1]"
+    else
+        test "$argv[1]" = compare
+    end
+end
+
+# Whether arguments for the program follow.
+function __fish_aide_compare_after
+    set -l words (commandline -opc)
+    contains -- -- $words; and contains -- "$words[2]" compare mail -- $words[2]
+end
+
+# One line of configuration, as -A and -B take it.
+function __fish_aide_compare_texts
+    for level in @LEVELS@
+        echo report_level=$level
+    end
+    for name in quiet grouped base16 summarize_changes
+        echo report_$name=yes
+        echo report_$name=no
+    end
+    for name in force_attrs ignore_added_attrs ignore_removed_attrs ignore_changed_attrs
+        echo report_$name=
+    end
+    echo database_in=file:/
+    echo database_new=file:/
+end
+
+complete -c aide-compare -n '__fish_is_first_token' -a '@FIRST@'
+complete -c aide-compare -n 'test (count (commandline -opc)) = 2; and contains hosts (commandline -opc)' -f -a '@HOSTS@'
+complete -c aide-compare -n '__fish_aide_compare_after' -f -a '-A --after' -d 'Lines after the configuration'
+complete -c aide-compare -n '__fish_aide_compare_after' -f -a '-B --before' -d 'Lines before the configuration'
+@LINES@
