@@ -4,7 +4,7 @@
 A tenth of the entries of 165 bytes are changed. PROGRAM and the commands are installed below a folder of this run, as
 packaging/install does it. The commands run in turn, several times, and print nothing to a terminal. Prints tables in
 Markdown: the least processor seconds (user and system) of a command with all programs that it starts, and the peak memory
-of the largest one of its processes. The first table is the fixed cost: what `aide-compare-run` takes for the two small
+of the largest one of its processes. The first table is the fixed cost: what `aide-compare` takes for the two small
 databases of examples/small_tree, with byte code and without it, beside Python itself, which does nothing.
 """
 import argparse
@@ -72,32 +72,32 @@ def rows_of(bench, entries):
     subprocess.run([sys.executable, "-c", MAKE, os.path.join(HERE, "bench"), bench.folder, str(entries)], check=True)
     old, new, report, lines = (bench.path(name) for name in ("old", "new", "report", "lines"))
     lines_after = "database_in=file:%s\ndatabase_new=file:%s\n%s" % (old, new, LEVEL[1])
-    run = ["aide-compare-run", old, new, "--", *LEVEL]
-    with_state = ["aide-compare-run", "--state", bench.path("state"), *run[1:]]
+    run = ["aide-compare", old, new, "--", *LEVEL]
+    with_state = ["aide-compare", "--state", bench.path("state"), *run[1:]]
     without = [*with_state[:3], "--without", os.path.join(HERE, "contrib", "aide", "debian.without"), *run[1:]]
     nightly = [*without[:5], "--reasons", "--lines", bench.path("kept"), "--brief", bench.path("brief"), *run[1:]]
     bench.rows(
         entries,
         bench.runs,
         ("`aide-compare`, the program alone", ["aide-compare", "-E", "-c", "/dev/null", "-A", lines_after], None, None),
-        ("`aide-compare-run OLD NEW`", run, None, report),
-        ("`aide-compare-run --state FILE OLD NEW`", with_state, None, None),
+        ("`aide-compare OLD NEW`", run, None, report),
+        ("`aide-compare --state FILE OLD NEW`", with_state, None, None),
         ("the same with `--without debian.without`", without, None, None),
         ("the nightly call of the unit, with `--reasons --lines --brief` too", nightly, None, None),
-        ("`aide-compare-json`, of this report", ["aide-compare-json", report], None, lines),
-        ("`aide-compare-html`, of these lines", ["aide-compare-html", lines], None, bench.path("page")),
-        ("`aide-compare-sort`, of a database in order", ["aide-compare-sort", old], None, None),
+        ("`aide-compare json`, of this report", ["aide-compare", "json", report], None, lines),
+        ("`aide-compare page`, of these lines", ["aide-compare", "page", lines], None, bench.path("page")),
+        ("`aide-compare sort`, of a database in order", ["aide-compare", "sort", old], None, None),
         ("`sha256sum` of both databases", ["/usr/bin/sha256sum", old, new], None, None),
     )
 
 
 def fixed_cost(bench):
-    """What `aide-compare-run` takes whatever it compares, with byte code and without it."""
+    """What `aide-compare` takes whatever it compares, with byte code and without it."""
     tree = os.path.join(HERE, "examples", "small_tree")
-    words = ["aide-compare-run", tree + "/old.db", tree + "/new.db"]
+    words = ["aide-compare", tree + "/old.db", tree + "/new.db"]
     print(HEAD, flush=True)
     nothing = ("`python3 -IS -c pass`", ["/usr/bin/python3", "-IS", "-c", "pass"], None, None)
-    bench.rows("few", 40, nothing, ("`aide-compare-run OLD NEW`", words, None, None))
+    bench.rows("few", 40, nothing, ("`aide-compare OLD NEW`", words, None, None))
     modules = os.path.join(bench.folder, "installed", "lib", "aide-compare", "python")
     for above, folders, _ in os.walk(modules):
         if "__pycache__" in folders:

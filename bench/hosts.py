@@ -1,11 +1,11 @@
 #!/usr/bin/env python3
-"""Measures how many hosts compare-hosts does in a minute, and in how much memory, by the number of jobs; then what
-report-hosts needs for all of them.
+"""Measures how many hosts aide-compare hosts compare does in a minute, and in how much memory, by the number of jobs; then what
+aide-compare hosts report needs for all of them.
 
 Makes a pair of databases, compressed by gzip, and N simulated hosts. A small program replaces ssh and prints the new
 database. One host in a hundred (--differ) differs from its baseline, by one entry (--changes). Prints for each number of
 jobs: the seconds by the clock, the hosts a minute, the processor seconds a host, and the greatest memory of all processes
-together (their proportional set size, measured 20 times a second). The same is printed for report-hosts, as text and as
+together (their proportional set size, measured 20 times a second). The same is printed for aide-compare hosts report, as text and as
 JSON, with the number of changes and the size of what it wrote. The load of the machine is printed too.
 """
 import argparse
@@ -104,7 +104,7 @@ def measured(root, words, target):
 
 
 def compare(root, jobs, hosts):
-    words = [root + "/usr/local/lib/aide-compare/fleet/compare-hosts", "--jobs", str(jobs), "--store", root + "/store"]
+    words = [root + "/usr/local/bin/aide-compare", "hosts", "compare", "--jobs", str(jobs), "--store", root + "/store"]
     with open(root + "/lines", "w+") as target:
         seconds, used, memory = measured(root, words + [root + "/hosts"], target)
         target.seek(0)
@@ -117,14 +117,14 @@ def compare(root, jobs, hosts):
 
 
 def report(root, form, hosts):
-    words = [root + "/usr/local/lib/aide-compare/fleet/report-hosts", "--store", root + "/store"] + form
+    words = [root + "/usr/local/bin/aide-compare", "hosts", "report", "--store", root + "/store"] + form
     with open(root + "/report", "w+") as target:
         seconds, used, memory = measured(root, words + [root + "/hosts"], target)
         size = os.fstat(target.fileno()).st_size
         target.seek(0)
         changes = sum(re.match('{"record":"change"|(added|removed|changed) on', line) is not None for line in target)
     print(
-        "report-hosts %-6s: %6.1f s, %.4f processor seconds a host, %5.0f MB; %d changes in %.1f MB"
+        "aide-compare hosts report %-6s: %6.1f s, %.4f processor seconds a host, %5.0f MB; %d changes in %.1f MB"
         % (" ".join(form), seconds, used / hosts, memory, changes, size / 1e6),
         flush=True,
     )
