@@ -1,4 +1,4 @@
-"""aide-compare-accept: digests, what is told, refusals, owners and modes, two at once."""
+"""aide-compare accept: digests, what is told, refusals, owners and modes, two at once."""
 import base64
 import fcntl
 import gzip
@@ -12,7 +12,7 @@ import time
 from .accepting import BASE, OLDER, accept, contents, fresh, marked, records_of, small_dpkg
 from .sandbox import AS_NOBODY, END, HEAD, NEW, NOBODY, OLD, UMASK, sha256
 
-TOOL = "aide-compare-accept"
+TOOL = "aide-compare accept"
 STATE = (
     "format=2\nstatus=7\ntime=1764000000\ndate=x\nadded=1\nremoved=1\nchanged=2\nold_sha256=%s\nnew_sha256=%s\n"
     "old=o\nnew=n\nold_written=\nnew_written=\nerror=\n"
@@ -96,7 +96,7 @@ def try_refusals(sandbox):
         (whole, ["--keep", "kept"], 15),
     ):
         answer = accept(sandbox, digest, *words)
-        sandbox.expect("the arguments %r %r" % (digest, words), answer, status, b"", b"aide-compare-accept: ")
+        sandbox.expect("the arguments %r %r" % (digest, words), answer, status, b"", b"aide-compare accept: ")
     for words in (["base/aide.db.new"], ["base/aide.db.new", "base/"], ["base/aide.db.new", "base/.."]):
         sandbox.expect("the files %r" % words, sandbox.call(TOOL, "--sha256", whole, *words), 15, b"")
     done = sandbox.call(TOOL, "--sha256", whole, "missing", "base/aide.db")

@@ -1,4 +1,4 @@
-"""Attacks on aide-compare-accept by the user who owns the folder of the baseline: what is root's stays as it is."""
+"""Attacks on aide-compare accept by the user who owns the folder of the baseline: what is root's stays as it is."""
 import gzip
 import os
 import time
@@ -15,7 +15,7 @@ FOR_THE_CALL, FOR_GOOD = 2, 3
 def try_accept_attacks(sandbox):
     try_swapped_database(sandbox)
     if os.getuid() != 0:
-        return print("skipped: attacks on aide-compare-accept by another user (they need root)")
+        return print("skipped: attacks on aide-compare accept by another user (they need root)")
     for trial in (
         try_baseline_at_calls,
         try_folder_at_calls,

@@ -1,4 +1,4 @@
-"""aide-compare-accept is killed before each of its calls, also on an old file system; and what is on the disk when."""
+"""aide-compare accept is killed before each of its calls, also on an old file system; and what is on the disk when."""
 import fcntl
 import os
 import shutil

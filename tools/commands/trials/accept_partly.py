@@ -1,4 +1,4 @@
-"""aide-compare-accept: what no sound database is, an exchange that fails late, and a baseline of which a part stays open."""
+"""aide-compare accept: what no sound database is, an exchange that fails late, and a baseline of which a part stays open."""
 import gzip
 import os
 import random
@@ -79,7 +79,7 @@ def try_open(sandbox):
         wanted = "sha256=%s part of sha256=%s\n" % (sha256(KEPT), sha256(NEW))
         sandbox.holds("the records name both digests", records == wanted, records)
         user = [] if owner is None else ["--user", "nobody"]
-        answer = sandbox.call("aide-compare-run", "--reasons", *user, BASE + "aide.db", BASE + "aide.db.new")
+        answer = sandbox.call("aide-compare", "--reasons", *user, BASE + "aide.db", BASE + "aide.db.new")
         sandbox.expect("it is told again", answer, 7, b"f+++++++++++++++++: /a\n", b"3 unexplained of 3 changes")
         sandbox.holds("the records are used", b"no package explains" not in answer.errors, answer)
         done = accept(sandbox, sha256(NEW), *words)
@@ -107,7 +107,7 @@ def try_refused(sandbox):
     done = accept(sandbox, sha256(OLD), "--keep-open", "/a")
     sandbox.expect("another digest", done, 24, b"", b"is not the database that was reported")
     for words in (["--keep-open", "a"], ["--keep-open", ""], ["--rules", "r"], ["--only-packages", "--keep-open", "/a"]):
-        sandbox.expect("the arguments %r" % words, accept(sandbox, sha256(NEW), *words), 15, b"", b"aide-compare-accept: ")
+        sandbox.expect("the arguments %r" % words, accept(sandbox, sha256(NEW), *words), 15, b"", b"aide-compare accept: ")
     os.remove(sandbox.path(BASE + "aide.db"))
     done = accept(sandbox, sha256(NEW), "--keep-open", "/a")
     sandbox.expect("no baseline", done, 18, b"", b"so nothing stays open")
@@ -140,7 +140,7 @@ def try_explained_only(sandbox):
     small_dpkg(sandbox)
     for owner in (None, NOBODY) if os.getuid() == 0 else (None,):
         put(sandbox, explained.OLD, explained.NEW)
-        sandbox.call("aide-compare-accept", "--only-packages", BASE + "aide.db")
+        sandbox.call("aide-compare accept", "--only-packages", BASE + "aide.db")
         if owner is not None:
             for name in ("", "/aide.db", "/aide.db.new", "/aide.db.packages"):
                 os.chown(sandbox.path("base" + name), owner, owner)

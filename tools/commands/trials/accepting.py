@@ -1,4 +1,4 @@
-"""The folder in which aide-compare-accept is tried, as it is before, and the library that acts at a call."""
+"""The folder in which aide-compare accept is tried, as it is before, and the library that acts at a call."""
 import gzip
 import os
 import shutil
@@ -7,7 +7,7 @@ from tools.lib import preload
 
 from .sandbox import NEW, OLD, sha256
 
-TOOL = "aide-compare-accept"
+TOOL = "aide-compare accept"
 BASE = "base/"
 OLDER = OLD.replace(b"/d 36", b"/c1 36")
 

@@ -1,4 +1,4 @@
-"""aide-compare-run --age: a new database that AIDE wrote too long ago is refused, and all that reads the state says so."""
+"""aide-compare --age: a new database that AIDE wrote too long ago is refused, and all that reads the state says so."""
 import gzip
 import os
 import re
@@ -7,9 +7,9 @@ import time
 from .sandbox import DIFFER, NEW, OLD
 from .run import KEYS
 
-TOOL = "aide-compare-run"
+TOOL = "aide-compare"
 HOUR = 3600
-REFUSAL = "aide-compare-run: the new database %s is %s old, more than --age allows: does AIDE still run?\n"
+REFUSAL = "aide-compare: the new database %s is %s old, more than --age allows: does AIDE still run?\n"
 
 
 def try_age(sandbox):
@@ -122,7 +122,7 @@ def try_pipes(sandbox):
     """A pipe has no age: with a limit it is refused, and nobody waits for a writer. A redirected file has one."""
     for name, more in (("/dev/stdin", {"text": NEW}),):
         answer = sandbox.call(TOOL, "--state", "state", "--age", "7200", "old.db", name, **more)
-        line = "aide-compare-run: the new database %s is not a regular file, so --age does not know its age" % name
+        line = "aide-compare: the new database %s is not a regular file, so --age does not know its age" % name
         sandbox.expect("a pipe with --age, " + name, answer, 18, b"", line.encode())
         sandbox.holds("the state of a pipe with --age, " + name, sandbox.state()["error"] == line, sandbox.state())
     sandbox.expect(
@@ -169,9 +169,13 @@ def try_readers(sandbox):
         b"",
     )
     sandbox.expect(
-        "the log of an old database", sandbox.call("aide-compare-log", "--state", "state"), 0, [b"no comparison", reason], b""
+        "the log of an old database",
+        sandbox.call("aide-compare status", "--state", "state"),
+        0,
+        [b"no comparison", reason],
+        b"",
     )
-    answer = sandbox.call("aide-compare-metrics", "--state", "state", "metrics.prom")
+    answer = sandbox.call("aide-compare status --format prometheus", "--state", "state", "metrics.prom")
     text = sandbox.read("metrics.prom")
     good = answer.status == 0 and re.search(rb"_status 18$", text, re.M) and b"_entries" not in text
     sandbox.holds("the metrics of an old database", good, (answer, text))

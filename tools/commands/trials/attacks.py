@@ -1,4 +1,4 @@
-"""Attacks on aide-compare-run: none gives a wrong answer, a status of a comparison, or a command that does not end."""
+"""Attacks on aide-compare: none gives a wrong answer, a status of a comparison, or a command that does not end."""
 import gzip
 import os
 import shutil
@@ -8,7 +8,7 @@ import time
 
 from .sandbox import AS_NOBODY, NEW, NOBODY, OLD, UMASK, sha256
 
-TOOL = "aide-compare-run"
+TOOL = "aide-compare"
 LIMITED = "resource.setrlimit(resource.RLIMIT_%s, (%d, %d))"
 NO_COMPARISON = (15, 17, 18, 22, 24)
 FINE = (
@@ -215,9 +215,9 @@ def try_devices(sandbox):
     sandbox.write("fine", FINE % int(time.time()))
     for label, words in (
         ("a state", (TOOL, "old.db", "new.db", "--state", "devices/null")),
-        ("metrics", ("aide-compare-metrics", "--state", "fine", "devices/null")),
-        ("a baseline", ("aide-compare-accept", "--sha256", sha256(NEW), "new.db", "devices/null")),
-        ("the state of a mail", ("aide-compare-mail", "old.db", "new.db", "--state", "devices/null")),
+        ("metrics", ("aide-compare status --format prometheus", "--state", "fine", "devices/null")),
+        ("a baseline", ("aide-compare accept", "--sha256", sha256(NEW), "new.db", "devices/null")),
+        ("the state of a mail", ("aide-compare mail", "old.db", "new.db", "--state", "devices/null")),
     ):
         sandbox.stub("sendmail", "cat > /dev/null")
         sandbox.expect("%s that is a device" % label, sandbox.call(*words), 18, b"")
@@ -259,7 +259,7 @@ def try_bounds(sandbox):
         b"",
         b"the report has more than 100 bytes; --most-report allows more",
     )
-    sandbox.expect("the version", sandbox.call(TOOL, "--version"), 0, b"aide-compare-run ", b"")
+    sandbox.expect("the version", sandbox.call(TOOL, "--version"), 0, b"aide-compare ", b"")
     reading, writing = os.pipe()
     os.close(reading)
     process = sandbox.start(TOOL, "old.db", "new.db", "--state", "state", stdout=writing)

@@ -6,7 +6,7 @@ import sys
 from .accepting import library
 from .sandbox import COUNTS, END, HEAD
 
-RUN, SORT, REMOVED = "aide-compare-run", "aide-compare-sort", 4
+RUN, SORT, REMOVED = "aide-compare", "aide-compare sort", 4
 SMALL = HEAD + b"/b 36 40755 4096\n/a 36 100644 1\n" + END
 # A private room is made where nothing that is made is its maker's alone, or is swept with a limit of its own.
 ROOM = """

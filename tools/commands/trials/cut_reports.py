@@ -41,7 +41,7 @@ def cuts(text, counts, whole, step):
 
 def try_every_cut(sandbox):
     """A report that is cut at any byte gives all that is whole in it: the entries of the lists first, then their values."""
-    hosts, program = four_hosts(sandbox), sandbox.path("bin/aide-compare")
+    hosts, program = four_hosts(sandbox), sandbox.program
     folder = sandbox.path("store/hosts/www1/")
     for option, step in (
         ("report_grouped=yes", 1),
@@ -55,7 +55,7 @@ def try_every_cut(sandbox):
             option,
         )
         text = subprocess.run([program, "-E", "-c", "/dev/null", "-A", lines], stdout=subprocess.PIPE).stdout
-        done = sandbox.call("aide-compare-json", "--no-text", text=text)
+        done = sandbox.call("aide-compare json", "--no-text", text=text)
         whole = [each for each in map(json.loads, done.output.splitlines()) if each["record"] == "entry"]
         got = cuts(text, (1, 1, 2), whole, step) if len(whole) == 4 else done
         sandbox.holds("a report cut at each byte, %r" % option, got == "", got)
@@ -70,7 +70,7 @@ def try_cut_stream(sandbox):
     hosts.compared(texts, "--most-report", "20k")
     sandbox.write("conf", "report_level=summary\n")
     hosts.put("listless", new, old)
-    hosts.call("compare-hosts", "--conf", sandbox.path("conf"), "--one", "listless")
+    hosts.call("aide-compare hosts compare", "--conf", sandbox.path("conf"), "--one", "listless")
     sandbox.write("store/hosts/damaged/report", sandbox.read("store/hosts/long/report").replace(b"Size", b"Sise"), 0o600)
     sandbox.write("hosts", "long\nshort\ndamaged\nlistless\n")
     summary, found, changes = hosts.objects()
@@ -82,7 +82,7 @@ def try_cut_stream(sandbox):
     sandbox.holds("and the first of its values", 5 < valued < 200, valued)
     status, output, _ = hosts.report()
     parts = (
-        "long: its report was cut (--most-report of compare-hosts); 201 of 201 changes are listed below, not all with ",
+        "long: its report was cut (--most-report of aide-compare hosts compare); 201 of 201 changes are listed below, not all with ",
         "listless: its report has no list of them; 0 of 201 changes are listed below",
     )
     sandbox.holds("the text says so", status == 4 and all(part in output for part in parts), output[:800])

@@ -1,4 +1,4 @@
-"""aide-compare-run --reasons: what is said of changes that something explains, in all places where people and programs read."""
+"""aide-compare --reasons: what is said of changes that something explains, in all places where people and programs read."""
 import gzip
 import json
 import os
@@ -8,7 +8,7 @@ from .accepting import marked
 from .reasons_host import NO_COUNTS
 from .sandbox import END
 
-TOOL = "aide-compare-run"
+TOOL = "aide-compare"
 HEAD = b"@@begin_db\n@@db_spec name attr perm uid gid size\n"
 ALL, GROWING, GOES = 60, 1 << 40, 1 << 29
 # A removed file and a grown one whose rules allow that, a file with another mode, and a new set-user-ID program.
@@ -84,8 +84,8 @@ def try_places(sandbox):
     plain = sandbox.call(TOOL, "o.db", "n.db")
     answer = run(sandbox, "--state", "state", "--brief", "brief", "o.db", "n.db")
     line = "%s: unexplained=2 not_verified=1 explained=1 high=1 medium=1 low=1 explained_databases=1\n" % WORDS
-    sandbox.expect("with reasons", answer, 7, plain.output, plain.errors + b"aide-compare-run: " + line.encode())
-    sandbox.holds("nothing else is said", len(answer.errors) == len(plain.errors) + len("aide-compare-run: " + line), answer)
+    sandbox.expect("with reasons", answer, 7, plain.output, plain.errors + b"aide-compare: " + line.encode())
+    sandbox.holds("nothing else is said", len(answer.errors) == len(plain.errors) + len("aide-compare: " + line), answer)
     state = sandbox.state()
     sandbox.holds("the state has the counts", COUNTS.items() <= state.items() and state["status"] == "7", state)
     sandbox.holds("what people read first", read(sandbox, "brief").decode() == BRIEF, read(sandbox, "brief"))
@@ -159,22 +159,22 @@ def try_outputs(sandbox):
 
 
 def try_lines(sandbox):
-    """The lines are those of aide-compare-json and aide-compare-reasons, and the summary also says what was left out."""
+    """The lines are those of aide-compare json and aide-compare reasons, and the summary also says what was left out."""
     prepare(sandbox)
     report = run(sandbox, "--state", "state", "--lines", "lines", "o.db", "n.db").output
-    json_lines = sandbox.call("aide-compare-json", "--full", "--state", "state", text=report).output
+    json_lines = sandbox.call("aide-compare json", "--full", "--state", "state", text=report).output
     reasons = sandbox.call(
-        "aide-compare-reasons", "--databases", "o.db", "n.db", "--severity", "table", text=json_lines
+        "aide-compare reasons", "--databases", "o.db", "n.db", "--severity", "table", text=json_lines
     ).output
     sandbox.holds("the lines with reasons", reasons and read(sandbox, "lines") == reasons, (read(sandbox, "lines"), reasons))
     answer = sandbox.call(TOOL, "--state", "state", "--lines", "lines", "o.db", "n.db")
-    json_lines = sandbox.call("aide-compare-json", "--full", "--state", "state", text=report).output
+    json_lines = sandbox.call("aide-compare json", "--full", "--state", "state", text=report).output
     sandbox.expect("the lines alone", answer, 7, report, b"SHA-256")
     sandbox.holds(
-        "they are those of aide-compare-json", read(sandbox, "lines") == json_lines and b"unexplained" not in answer.errors
+        "they are those of aide-compare json", read(sandbox, "lines") == json_lines and b"unexplained" not in answer.errors
     )
     answer = sandbox.call(TOOL, "--state", "state", "--lines", "lines", "--without-path", "/etc/*", "o.db", "n.db")
-    json_lines = sandbox.call("aide-compare-json", "--full", "--state", "state", text=answer.output).output
+    json_lines = sandbox.call("aide-compare json", "--full", "--state", "state", text=answer.output).output
     sandbox.holds("they are so if entries are left out", json_lines and read(sandbox, "lines") == json_lines, json_lines)
     summary = json.loads(read(sandbox, "lines").split(b"\n")[0] or b"{}")
     sandbox.holds(
@@ -185,7 +185,7 @@ def try_lines(sandbox):
     sandbox.holds(
         "what was left out", summary.get("left_out") == {"old": 2, "new": 1} and len(entries(sandbox, "lines")) == 2, summary
     )
-    page = sandbox.call("aide-compare-html", "--plain", "lines")
+    page = sandbox.call("aide-compare page", "--plain", "lines")
     sandbox.holds("a page of them", page.status == 0 and b">log<" in page.output, page.output[-2000:])
     sandbox.call(TOOL, "--lines", "lines", "o.db", "o.db")
     summary = json.loads(read(sandbox, "lines").split(b"\n")[0] or b"{}")
@@ -239,9 +239,9 @@ def try_records(sandbox):
     prepare(sandbox)
     sandbox.write("dpkg/status", "Package: one\nStatus: install ok installed\nVersion: 1\n\n")
     sandbox.write("dpkg/info/one.list", "/.\n")
-    done = sandbox.call("aide-compare-accept", "--only-packages", "o.db")
+    done = sandbox.call("aide-compare accept", "--only-packages", "o.db")
     sandbox.expect("the records are kept", done, 0, b"packages: dpkg's records of now are kept as o.db.packages\n", b"")
-    again = sandbox.call("aide-compare-accept", "--only-packages", "o.db")
+    again = sandbox.call("aide-compare accept", "--only-packages", "o.db")
     sandbox.expect("they are kept once", again, 0, b"packages: they are kept already\n", b"")
     answer = run(sandbox, "o.db", "n.db")
     sandbox.holds(

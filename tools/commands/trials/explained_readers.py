@@ -32,8 +32,8 @@ def try_explained_readers(sandbox):
 def try_values(sandbox):
     """A plain page on which nothing is cut does not say so: entries of one side have no values at the level of AIDE."""
     prepare(sandbox)
-    sandbox.call("aide-compare-run", *REASONS, "--lines", "lines", "o.db", "n.db")
-    answer = sandbox.call("aide-compare-html", "--plain", text=sandbox.read("lines"))
+    sandbox.call("aide-compare", *REASONS, "--lines", "lines", "o.db", "n.db")
+    answer = sandbox.call("aide-compare page", "--plain", text=sandbox.read("lines"))
     sandbox.expect("a plain page", answer, 0, [b"<table>", b"/usr/.x y"], b"")
     sandbox.holds("nothing is cut on it", b"Values are shown for" not in answer.output, answer)
 
@@ -45,7 +45,7 @@ def prepare(sandbox):
 
 
 def call(sandbox, *words):
-    """The status of a run of aide-compare-mail, its subject and its text, None without a mail."""
+    """The status of a run of aide-compare mail, its subject and its text, None without a mail."""
     answer = mail.call(sandbox, *words)
     message = mail.sent(sandbox)
     sandbox.holds("nothing is printed by %s" % (words,), answer.output == answer.errors == b"", answer)
@@ -55,10 +55,10 @@ def call(sandbox, *words):
 def try_mails(sandbox):
     """The subject has the counts. The mail begins with what nothing explains, then comes the command, then the report."""
     prepare(sandbox)
-    report = sandbox.call("aide-compare-run", "o.db", "n.db").output.decode()
+    report = sandbox.call("aide-compare", "o.db", "n.db").output.decode()
     status, subject, text = call(sandbox, *REASONS, "o.db", "n.db")
     sandbox.holds("the subject", (status, subject) == (7, mail.SUBJECT + WORDS), (status, subject))
-    accept = "aide-compare-accept --sha256 %s" % sha256(explained.NEW)
+    accept = "aide-compare accept --sha256 %s" % sha256(explained.NEW)
     places = [text.find(part) for part in (BRIEF, "New database: n.db", accept, report)]
     sandbox.holds("the order of a mail", places[0] == 0 and -1 not in places and places == sorted(places), text)
     sandbox.holds("the counts are told once", text.count("unexplained") == 1, text)
@@ -127,7 +127,7 @@ def try_cut(sandbox):
         )
         most = {"1M": 1 << 20, "20k": 20 << 10, "4k": 4 << 10}[size]
         sandbox.holds(
-            "a mail of " + size, good and len(text) <= most and "aide-compare-accept --sha256" in text, (len(text), text[:300])
+            "a mail of " + size, good and len(text) <= most and "aide-compare accept --sha256" in text, (len(text), text[:300])
         )
         listed = [line for line in text.split("\n") if line.startswith("  low     added")]
         sandbox.holds(
@@ -140,18 +140,19 @@ def try_cut(sandbox):
 def try_pages(sandbox):
     """The page of a mail is made of lines with reasons and with what was left out."""
     prepare(sandbox)
-    sandbox.write("bin/aide-compare-html", '#!/bin/sh\nprintf "<pre>"; cat\n', 0o755)
+    sandbox.put_in_place_of("page", 'printf "<pre>"; cat')
     answer = mail.call(sandbox, "--html", *REASONS, "--without-path", "/etc/plain", "o.db", "n.db")
     message = mail.sent(sandbox)
     page = message.get_payload()[1].get_payload(decode=True) if message is not None and message.is_multipart() else b""
     good = b'"left_out":{"old":1,"new":1}' in page and b'"reasons":{"explained":1' in page and b'"reason":{' in page
+    sandbox.put_back()
     sandbox.holds("the lines of a page", answer.status == 7 and good, (answer, page))
 
 
 def try_false_counts(sandbox):
     """Nobody else can write a line of counts: of names only escaped bytes are in the errors."""
     prepare(sandbox)
-    line = "\naide-compare-run: 1 change, all explained: unexplained=0 not_verified=0 explained=1 high=0 medium=0 low=0"
+    line = "\naide-compare: 1 change, all explained: unexplained=0 not_verified=0 explained=1 high=0 medium=0 low=0"
     os.rename(sandbox.path("n.db"), sandbox.path("x%s" % line))
     status, subject, _ = call(sandbox, *REASONS, *QUIET, "o.db", "x%s" % line)
     sandbox.holds("a name with counts", subject == mail.SUBJECT + WORDS, (status, subject))
@@ -231,12 +232,12 @@ def try_limits(sandbox):
 
 def try_metrics_and_log(sandbox):
     write_state(sandbox, (1, 1, 2, 0, 1, 2))
-    lines = sandbox.call("aide-compare-metrics", "--state", "state").output.decode().splitlines()
+    lines = sandbox.call("aide-compare status --format prometheus", "--state", "state").output.decode().splitlines()
     for name, value in zip(KEYS, (1, 1, 2, 0, 1, 2)):
         sandbox.holds("the metric " + name, "aide_compare_%s_changes %d" % (name, value) in lines, lines)
-    line = sandbox.call("aide-compare-log", "--state", "state").output.decode()
+    line = sandbox.call("aide-compare status", "--state", "state").output.decode()
     want = "differences: unexplained=2 not_verified=1 explained=1 high=0 medium=1 low=2 status=7 added=1 removed=1 changed=2 new_sha256="
     sandbox.holds("the line for the log", line.startswith(want), line)
     write_state(sandbox, None)
-    lines = sandbox.call("aide-compare-metrics", "--state", "state").output
+    lines = sandbox.call("aide-compare status --format prometheus", "--state", "state").output
     sandbox.holds("no metrics of reasons", b"explained" not in lines, lines)

@@ -1,4 +1,4 @@
-"""aide-compare-run when something goes wrong: limits, damage, a full disk, no right, signals, and what others can read."""
+"""aide-compare when something goes wrong: limits, damage, a full disk, no right, signals, and what others can read."""
 import gzip
 import os
 import shutil
@@ -8,7 +8,7 @@ import time
 
 from .sandbox import AS_NOBODY, DIFFER, NEW, OLD, SMALL_FILES, UMASK
 
-TOOL = "aide-compare-run"
+TOOL = "aide-compare"
 SIGNALS = ["HUP", "INT", "QUIT", "TERM", "KILL"]
 
 
@@ -168,35 +168,28 @@ def try_full_disk(sandbox):
 
 
 def try_programs(sandbox):
-    program = sandbox.path("bin/aide-compare")
+    program = sandbox.program
     os.rename(program, program + ".away")
-    sandbox.expect(
-        "no program",
-        sandbox.call(TOOL, "old.db", "new.db", environment={"PATH": "/usr/bin:/bin"}),
-        18,
-        b"",
-        b"cannot find aide-compare",
-    )
-    sandbox.stub("aide-compare", "exit 0", ".")
-    sandbox.expect(
-        "a program in the current folder",
-        sandbox.call(TOOL, "old.db", "new.db", environment={"PATH": ".::/usr/bin:/bin"}),
-        18,
-        b"",
-        b"cannot find aide-compare",
-    )
-    os.remove(sandbox.path("aide-compare"))
-    sandbox.stub("aide-compare", 'echo "libc.so.6: version GLIBC_2.34 not found" >&2; exit 1')
+
+    def put(body):
+        sandbox.stub("aide", body, "libexec/aide-compare")
+
+    for label, folder in (("no program", "empty"), ("a program in the current folder", ""), ("a program in PATH", "stubs")):
+        name = sandbox.stub("aide", "exit 0", folder)
+        answer = sandbox.call(TOOL, "old.db", "new.db", environment={"PATH": ".::%s:/usr/bin:/bin" % sandbox.path("stubs")})
+        sandbox.expect(label, answer, 18, b"", b"cannot find " + program.encode())
+        os.remove(name)
+    put('echo "libc.so.6: version GLIBC_2.34 not found" >&2; exit 1')
     sandbox.expect(
         "a program that does not start", sandbox.call(TOOL, "old.db", "new.db", "--state", "state"), 18, b"", b"GLIBC_2.34"
     )
     sandbox.holds("the state of a program that does not start", sandbox.state()["status"] == "18", sandbox.state())
-    sandbox.stub("aide-compare", '[ "$1" = -D ] || kill -9 $$')
+    put('[ "$1" = -D ] || kill -9 $$')
     sandbox.expect(
         "a program that is killed", sandbox.call(TOOL, "old.db", "new.db", "--state", "state"), 18, b"", b"ended by signal 9"
     )
     sandbox.holds("the state of a program that is killed", sandbox.state()["status"] == "18", sandbox.state())
-    sandbox.stub("aide-compare", '[ "$1" = -D ] || { printf "aide: a\\001b\\naide: c\\n" >&2; exit 18; }')
+    put('[ "$1" = -D ] || { printf "aide: a\\001b\\naide: c\\n" >&2; exit 18; }')
     sandbox.expect(
         "an odd error line", sandbox.call(TOOL, "old.db", "new.db", "--state", "state"), 18, b"", b"aide: a\\001b\naide: c\n"
     )
@@ -213,13 +206,10 @@ def try_programs(sandbox):
         ("differences without a status", '"%s.away" "$@"; exit 0' % program),
         ("an unknown status", "exit 99"),
     ):
-        sandbox.stub("aide-compare", '[ "$1" = -D ] && exit 0; ' + body)
+        put('[ "$1" = -D ] && exit 0; ' + body)
         answer = sandbox.call(TOOL, "old.db", "new.db", "--state", "state")
-        sandbox.expect(label, answer, 18, b"", b"aide-compare-run: ")
+        sandbox.expect(label, answer, 18, b"", b"aide-compare: ")
         sandbox.holds("the state of " + label, sandbox.state()["status"] == "18", sandbox.state())
-    sandbox.stub("aide-compare", 'exec "%s.away" "$@"' % program)
-    sandbox.expect("the program in PATH", sandbox.call(TOOL, "old.db", "new.db"), 7, b"Changed", DIFFER)
-    os.remove(sandbox.path("stubs/aide-compare"))
     os.rename(program + ".away", program)
 
 
@@ -264,13 +254,15 @@ def running(word):
 def try_signals(sandbox):
     """Signals while a database is awaited, while one is unpacked, and while the program runs: the command ends by the signal,
     at once, and leaves nothing, also after SIGKILL."""
-    program = sandbox.path("bin/aide-compare")
+    program = sandbox.program
     nap = "%d.%d" % (300 + os.getpid() % 100, os.getpid())
     for stage in ("a pipe", "an archive", "the program"):
         if stage == "the program":
             os.rename(program, program + ".away")
             sandbox.stub(
-                "aide-compare", 'case $1 in -E) echo x > "%s"; exec sleep %s;; esac' % (sandbox.path("started"), nap), "bin"
+                "aide",
+                'case $1 in -E) echo x > "%s"; exec sleep %s;; esac' % (sandbox.path("started"), nap),
+                "libexec/aide-compare",
             )
         for name in SIGNALS:
             sandbox.write("state", b"as before\n")
@@ -325,13 +317,13 @@ def waits_for_input(process):
 
 def try_secrecy(sandbox):
     """Whatever the umask, the copies and the report have no name and can be opened by their owner only."""
-    program = sandbox.path("bin/aide-compare")
+    program = sandbox.program
     os.rename(program, program + ".away")
     sandbox.stub(
-        "aide-compare",
+        "aide",
         'case $1 in -E) { find "%s" -mindepth 1; stat -L -c %%a-%%h /proc/self/fd/[1-5]; } > "%s"; readlink /proc/$$/fd/* >> "%s" ;; '
         'esac; exec "%s.away" "$@"' % (sandbox.room, sandbox.path("modes"), sandbox.path("modes"), program),
-        "bin",
+        "libexec/aide-compare",
     )
     for mask in (0, 0o22, 0o77):
         answer = sandbox.call(TOOL, "old.db", "new.db.gz", before=UMASK % mask)

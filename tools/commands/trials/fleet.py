@@ -39,8 +39,6 @@ class Fleet:
 
     def __init__(self, sandbox):
         self.sandbox = sandbox
-        for command in ("fetch-host", "compare-host", "accept-host", "compare-hosts", "report-hosts"):
-            sandbox.write("fleet/" + command, open_text(sandbox, command), 0o755)
         sandbox.stub("ssh", SSH.replace("ROOT", sandbox.root))
         for host in PAIR:
             self.put(host, NEW)
@@ -51,7 +49,7 @@ class Fleet:
             self.sandbox.write("store/hosts/%s/aide.db" % host, baseline, 0o600)
 
     def words(self, command, *words):
-        return [self.sandbox.path("fleet/" + command), "--store", self.sandbox.path("store")] + list(words)
+        return self.sandbox.command(command, "--store", self.sandbox.path("store"), *words)
 
     def start(self, words, **more):
         environment = self.sandbox.environment(
@@ -84,13 +82,6 @@ class Fleet:
         return dict(line.split(" ", 1) for line in output.splitlines()[:-1])
 
 
-def open_text(sandbox, command):
-    from .sandbox import HERE
-
-    with open(os.path.join(HERE, "commands", "fleet", command)) as file:
-        return file.read()
-
-
 def try_fleet(sandbox):
     for trial in (
         try_hostile,
@@ -113,7 +104,7 @@ def try_hostile(sandbox):
     fleet.put("evil", hostile(), links(b"x"))
     sandbox.write("hosts", "".join("%s\n" % host for host in ("evil",) + PAIR))
     status, output, errors = fleet.call(
-        "compare-hosts", "--most-unpacked", "200M", "--most-report", "2M", "--jobs", "3", sandbox.path("hosts")
+        "aide-compare hosts compare", "--most-unpacked", "200M", "--most-report", "2M", "--jobs", "3", sandbox.path("hosts")
     )
     lines = fleet.lines(output)
     good = all(lines.get(host) == "7 added 1, removed 1, changed 2" for host in PAIR)
@@ -122,11 +113,11 @@ def try_hostile(sandbox):
     report = sandbox.path("store/hosts/evil/report")
     tail = open(report, "rb").read()[-200:]
     sandbox.holds("what it takes of the store", fleet.size("evil") < 3 << 20, fleet.size("evil"))
-    sandbox.holds("its report says that it was cut", b"compare-host: cut here: the report has" in tail, tail)
+    sandbox.holds("its report says that it was cut", b"aide-compare hosts compare-one: cut here: the report has" in tail, tail)
     state = fleet.state("evil")
     sandbox.holds("its state has the counts", "\nchanged=60\n" in state, state)
     fleet.put("bomb", gzip.compress(bytes(80 << 20)))
-    status, output, errors = fleet.call("compare-hosts", "--one", "bomb")
+    status, output, errors = fleet.call("aide-compare hosts compare", "--one", "bomb")
     sandbox.holds(
         "more than 64 MB unpacked, without --most-unpacked", status == 18 and "has more than 67108864 bytes" in output, output
     )
@@ -154,7 +145,7 @@ def try_small_store(sandbox):
         SMALL,
         sandbox.path("small"),
         sandbox.path("store"),
-        sandbox.path("fleet/compare-hosts"),
+        *sandbox.command("aide-compare hosts compare"),
         "--time",
         "60s",
         sandbox.path("hosts"),
@@ -170,7 +161,7 @@ def try_endless(sandbox):
     fleet.put("endless", OLD)
     # No file can get more than 4 MB here: that it is said is not enough, it has to be kept.
     limited = ["sh", "-c", 'ulimit -f 8192; exec "$@"', "sh"]
-    status, output, errors = fleet.call("compare-hosts", "--most", "3M", "--one", "endless", before=limited)
+    status, output, errors = fleet.call("aide-compare hosts compare", "--most", "3M", "--one", "endless", before=limited)
     sandbox.holds("a host that sends without end", status == 18 and "sent more than 3145728 bytes" in output, (output, errors))
     left = [name for name in os.listdir(sandbox.path("store/hosts/endless")) if name not in ("aide.db", "lock")]
     sandbox.holds("nothing is left of what it sent", not left, left)
@@ -191,7 +182,7 @@ def try_slow(sandbox):
     for host in ("slow", "silent"):
         fleet.put(host, OLD)
         begun = time.time()
-        status, output, _ = fleet.call("compare-hosts", "--time", "1s", "--one", host)
+        status, output, _ = fleet.call("aide-compare hosts compare", "--time", "1s", "--one", host)
         good = status == 18 and "after 1 seconds" in output and time.time() - begun < 40
         sandbox.holds("a host that is " + host, good and "error=%s: had not sent" % host in fleet.state(host), output)
 
@@ -201,7 +192,7 @@ def try_ended(sandbox):
     fleet = Fleet(sandbox)
     sandbox.write("two", "silent\ngood1\n")
     for number in (signal.SIGTERM, signal.SIGHUP, signal.SIGKILL):
-        for command, last in (("compare-hosts", sandbox.path("two")), ("fetch-host", "silent")):
+        for command, last in (("aide-compare hosts compare", sandbox.path("two")), ("aide-compare hosts fetch", "silent")):
             pid = sandbox.path("ssh.pid")
             if os.path.exists(pid):
                 os.remove(pid)
@@ -239,12 +230,12 @@ def try_told(sandbox):
         ("coloured", r"a\033[31mb\302\233c (ssh ended with 1)"),
     ):
         fleet.put(host, OLD)
-        status, output, _ = fleet.call("compare-hosts", "--one", host)
+        status, output, _ = fleet.call("aide-compare hosts compare", "--one", host)
         sandbox.holds("what %s says" % host, status == 18 and output.split("\n")[0].endswith(want), output)
         sandbox.holds("its state", "\nstatus=18\n" in fleet.state(host) and want in fleet.state(host), fleet.state(host))
     fleet.put("killer", OLD)
     sandbox.write("lost", "good1\nkiller\ngood2\n")
-    status, output, _ = fleet.call("compare-hosts", sandbox.path("lost"))
+    status, output, _ = fleet.call("aide-compare hosts compare", sandbox.path("lost"))
     good = status == 18 and len(output.splitlines()) == 4 and "killer 18 ended without an answer" in output
     sandbox.holds("a host whose process is killed has a line", good and "\nstatus=18\n" in fleet.state("killer"), output)
 
@@ -252,10 +243,10 @@ def try_told(sandbox):
 def try_wrong(sandbox):
     fleet = Fleet(sandbox)
     for words in (["--same-for", "08x"], ["--same-for", "31d"], ["--time", "-1"], ["--most", "1T"]):
-        status, output, errors = fleet.call("compare-hosts", *words, sandbox.path("hosts"))
+        status, output, errors = fleet.call("aide-compare hosts compare", *words, sandbox.path("hosts"))
         sandbox.holds("the option %r" % words, status == 15 and not output and errors, (status, errors))
     for name in ("..", "a..b", "-x", "a/b", "a b", "x\ny", "é", "a" * 201, "a\n"):
-        status = fleet.call("fetch-host", "--", name)[0]
+        status = fleet.call("aide-compare hosts fetch", "--", name)[0]
         sandbox.holds("the name %r" % name[:9], status == 15 and name not in os.listdir(sandbox.path("store/hosts")), status)
 
 
@@ -264,7 +255,7 @@ def try_same_for(sandbox):
     fleet = Fleet(sandbox)
     for host, text, counts in (("good1", NEW, "; it differs: added 1, removed 1, changed 2"), ("same", OLD, "")):
         fleet.put(host, text)
-        fleet.call("compare-hosts", "--one", host)
+        fleet.call("aide-compare hosts compare", "--one", host)
         kept = sandbox.path("store/hosts/%s/aide.db.new" % host)
         os.utime(kept, (time.time() - 9 * 3600,) * 2)
         for words, want in (
@@ -272,7 +263,7 @@ def try_same_for(sandbox):
             (["--same-for", "10h"], 7 if counts else 0),
             (["--same-for", "0"], 7 if counts else 0),
         ):
-            status, output, _ = fleet.call("compare-hosts", *words, "--one", host)
+            status, output, _ = fleet.call("aide-compare hosts compare", *words, "--one", host)
             sandbox.holds("%s with %r" % (host, words), status == want, output)
             if want == 18:
                 good = (
@@ -280,19 +271,19 @@ def try_same_for(sandbox):
                 )
                 sandbox.holds("%s says so" % host, good, (output, fleet.state(host)))
         os.utime(kept, (time.time() + 7200,) * 2)
-        status, output, _ = fleet.call("compare-hosts", "--one", host)
+        status, output, _ = fleet.call("aide-compare hosts compare", "--one", host)
         sandbox.holds("%s from the future" % host, status == 18 and "in the future" in output, output)
 
 
 def try_accepting(sandbox):
     fleet = Fleet(sandbox)
     fleet.put("fresh", OLD, None)
-    fleet.call("fetch-host", "fresh")
-    sandbox.holds("no digest", fleet.call("accept-host", "fresh")[0] == 15)
-    status, output, _ = fleet.call("accept-host", "--first", "fresh")
+    fleet.call("aide-compare hosts fetch", "fresh")
+    sandbox.holds("no digest", fleet.call("aide-compare hosts accept", "fresh")[0] == 15)
+    status, output, _ = fleet.call("aide-compare hosts accept", "--first", "fresh")
     sandbox.holds("the first baseline", status == 0 and re.search("SHA-256 [0-9a-f]{64}\n", output), output)
     sandbox.holds("its mode", os.stat(sandbox.path("store/hosts/fresh/aide.db")).st_mode & 0o777 == 0o600)
-    sandbox.holds("a second first one", fleet.call("accept-host", "--first", "fresh")[0] == 24)
+    sandbox.holds("a second first one", fleet.call("aide-compare hosts accept", "--first", "fresh")[0] == 24)
 
 
 def try_shared(sandbox):
@@ -302,6 +293,6 @@ def try_shared(sandbox):
         print("skipped: a store of another user (not root)")
         return
     os.chown(sandbox.path("store/hosts/good1"), 65534, 65534)
-    status, output, _ = fleet.call("compare-hosts", "--one", "good1")
+    status, output, _ = fleet.call("aide-compare hosts compare", "--one", "good1")
     sandbox.holds("the folder of another user", status == 18 and "another user can write" in output, output)
     os.chown(sandbox.path("store/hosts/good1"), 0, 0)

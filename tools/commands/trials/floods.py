@@ -10,7 +10,7 @@ import re
 from . import mail
 from .sandbox import END, TIME_LIMIT
 
-TOOL = "aide-compare-run"
+TOOL = "aide-compare"
 SPEC = b"@@begin_db\n@@db_spec name attr perm uid gid size mtime inode md5 sha256\n"
 ATTR = 1 << 1 | 1 << 2 | 1 << 3 | 1 << 4 | 1 << 5 | 1 << 8 | 1 << 9 | 1 << 12 | 1 << 30
 # Root's changes: high ones of each kind, and a medium one; and what a service has that is taken over.

@@ -398,13 +398,13 @@ def try_between(sandbox):
     for side, night in (("old", host.old), ("new", host.new)):
         sandbox.write("night-%s.db" % side, night.database())
     write_dpkg(sandbox, host.old.files())
-    kept = sandbox.call("aide-compare-accept", "--only-packages", "night-old.db")
+    kept = sandbox.call("aide-compare accept", "--only-packages", "night-old.db")
     sandbox.holds("the records of the baseline are kept", kept.status == 0, kept)
     names = ("night-old.db", "night-new.db")
     for label, forge in (("held", HELD), ("of another version", NEWER)):
         write_dpkg(sandbox, {**host.new.files(), "status": forge(host), "info/kept.md5sums": sums(EVIL, KEPT)})
         words = ("--alarm-sent-is-success", "--state", "state", "--reasons", "--alarm", "unexplained")
-        answer = sandbox.call("aide-compare-mail", *words, *names)
+        answer = sandbox.call("aide-compare mail", *words, *names)
         message, state = mail.sent(sandbox), sandbox.state()
         sandbox.holds("a mail, though the package is " + label, message is not None and answer.status == 0, answer)
         sandbox.holds("its count, " + label, state.get("explained") == "0", state)
@@ -414,22 +414,22 @@ def try_between(sandbox):
     for side, night in (("old", host.old), ("new", host.new)):
         sandbox.write("night-%s.db" % side, night.database())
         write_dpkg(sandbox, night.files())
-        kept = sandbox.call("aide-compare-accept", "--only-packages", "night-%s.db" % side)
+        kept = sandbox.call("aide-compare accept", "--only-packages", "night-%s.db" % side)
         sandbox.holds("the records of the %s night are kept" % side, kept.status == 0, kept)
     later = host_of(tool=EVIL).new.package("tool", "3", {**TOOLS, TOOL: EVIL}, {CONF: EVIL}).files()
     write_dpkg(sandbox, later)
-    run = sandbox.call("aide-compare-run", "--reasons", "--state", "state", "--brief", "brief", *names)
+    run = sandbox.call("aide-compare", "--reasons", "--state", "state", "--brief", "brief", *names)
     explained = int(sandbox.state().get("explained_dpkg", 0))
     sandbox.holds("an upgrade after AIDE, and its records of before", explained >= 4 and run.status == 7, (run, explained))
     sandbox.holds("nothing is said of them", b"not verified: the" not in run.errors, run)
     digest = hashlib.sha256(host.new.database()).hexdigest()
     os.rename(sandbox.path("night-new.db.packages"), sandbox.path("away"))
-    run = sandbox.call("aide-compare-run", "--reasons", "--state", "state", *names)
+    run = sandbox.call("aide-compare", "--reasons", "--state", "state", *names)
     said = b"what packages explain is not verified: the new database has another SHA-256 or stronger digest of /var/lib/dpkg/"
     good = sandbox.state().get("explained_dpkg") == "0" and said in run.errors
     sandbox.holds("without these records they are hints", good, run)
     os.rename(sandbox.path("away"), sandbox.path("night-new.db.packages"))
-    done = sandbox.call("aide-compare-accept", "--sha256", digest, "night-new.db", "night-old.db")
+    done = sandbox.call("aide-compare accept", "--sha256", digest, "night-new.db", "night-old.db")
     sandbox.expect(
         "they are those of the new baseline", done, 0, b"records of the database's time are kept as night-old.db.packages"
     )
@@ -454,7 +454,7 @@ def try_new_packages(sandbox):
         ("an archive", ("--archive", "forged-archive", "--keyring", "archive.gpg"), BESIDE_ARCHIVE),
         ("no archive", (), BY_RECORDS),
     ):
-        answer = sandbox.call("aide-compare-run", *words, *more, "night-old.db", "night-new.db")
+        answer = sandbox.call("aide-compare", *words, *more, "night-old.db", "night-new.db")
         text = sandbox.read("brief").decode()
         sandbox.holds("what people read first with " + label, all(line in text for line in lines), (text[:500], answer))
 

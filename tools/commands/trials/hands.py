@@ -7,7 +7,7 @@ import time
 from . import explained, mail
 from .sandbox import HERE, NOBODY
 
-TOOL, NAGIOS = "aide-compare-run", "check_aide_compare"
+TOOL, NAGIOS = "aide-compare", "check_aide_compare"
 COUNTED = ("added", "removed", "changed", "left_out_old", "left_out_new", *explained.COUNTS)
 SYSTEMD = os.path.join(HERE, "contrib", "systemd")
 
@@ -39,7 +39,7 @@ def counts_in(sandbox, state):
 
 def no_environment(sandbox, words, **more):
     """What the mail command does with these words, and with no environment but what is given."""
-    command = [sandbox.path("bin/aide-compare-mail")] + [sandbox.path("queue") if "/mail" in word else word for word in words]
+    command = sandbox.command("aide-compare", *[sandbox.path("queue") if "/mail" in word else word for word in words])
     child = os.posix_spawn(command[0], command, more)
     return os.waitstatus_to_exitcode(os.waitpid(child, 0)[1]), mail.sent(sandbox)
 
@@ -79,10 +79,12 @@ def try_defaults(sandbox):
     same line."""
     prepare(sandbox, "--reasons\n  --alarm=unexplained \n--to a@b.example\n--weekly Mon\n--warning 99\n--age 5d\n")
     with open(os.path.join(HERE, "contrib", "cron", "aide-compare.cron.daily"), encoding="ascii") as file:
-        cron = shlex.split(next(line for line in file if line.startswith("/usr/local/bin/aide-compare-mail")))
+        cron = shlex.split(next(line for line in file if line.startswith("/usr/local/bin/aide-compare mail")))[2:]
     jobs = {
         "a mail": ["--state", "of.state"],
-        "the unit": [word for word in started("aide-compare.service") if word not in ("--alarm-sent-is-success", "--queue")],
+        "the unit": [
+            word for word in started("aide-compare.service") if word not in ("mail", "--alarm-sent-is-success", "--queue")
+        ],
         "cron": cron[cron.index("--age") :],
     }
     jobs["the unit"] = [word for word in jobs["the unit"] if not word.endswith("/mail")]
@@ -129,10 +131,10 @@ def try_defaults_of_reasons(sandbox):
     """The command that explains lines takes the table of the defaults too."""
     prepare(sandbox, "--reasons\n--weekly Mon\n")
     report = sandbox.call(TOOL, "--no-defaults", "o.db", "n.db", "--", "-B", "report_level=changed_attributes").output
-    lines = sandbox.call("aide-compare-json", text=report).output
+    lines = sandbox.call("aide-compare json", text=report).output
     found = {}
     for words in ((), ("--no-defaults",), ("--no-defaults", "--severity", "table")):
-        answer = sandbox.call("aide-compare-reasons", *words, "--databases", "o.db", "n.db", text=lines)
+        answer = sandbox.call("aide-compare reasons", *words, "--databases", "o.db", "n.db", text=lines)
         sandbox.holds("the reasons with %r" % (words,), answer.status == 0, answer)
         found[words] = answer.output
     table, none, named = found.values()
@@ -215,7 +217,7 @@ def put_baseline(sandbox):
     sandbox.write("dpkg/status", "Package: one\nStatus: install ok installed\nVersion: 1\n\n")
     sandbox.write("dpkg/info/one.list", "/.\n")
     sandbox.write("his/o.db", explained.OLD, 0o600)
-    sandbox.call("aide-compare-accept", "--only-packages", "his/o.db")
+    sandbox.call("aide-compare accept", "--only-packages", "his/o.db")
     sandbox.write("mine/n.db", explained.NEW, 0o600)
     os.chmod(sandbox.path("mine"), 0o700)
     for name in ("his", "his/o.db", "his/o.db.packages"):
@@ -226,10 +228,10 @@ def note_users(sandbox, more=""):
     """The program in place of which a small one notes whose rights it has."""
     os.makedirs(sandbox.path("out"), exist_ok=True)
     os.chmod(sandbox.path("out"), 0o777)
-    if not os.path.exists(sandbox.path("bin/program")):
-        os.rename(sandbox.path("bin/aide-compare"), sandbox.path("bin/program"))
+    if not os.path.exists((sandbox.program + ".away")):
+        os.rename(sandbox.program, (sandbox.program + ".away"))
     text = 'case $1 in -E) echo "$(id -u) $$" >> %s/users;; esac\n%s\nexec %s "$@"'
-    sandbox.stub("aide-compare", text % (sandbox.path("out"), more, sandbox.path("bin/program")), "bin")
+    sandbox.stub("aide", text % (sandbox.path("out"), more, (sandbox.program + ".away")), "libexec/aide-compare")
 
 
 def users(sandbox):

@@ -1,9 +1,9 @@
-"""aide-compare-run: the lines with which it explains an error of aide-compare."""
+"""aide-compare: the lines with which it explains an error of aide-compare."""
 import gzip
 
 from .sandbox import END, HEAD, NEW
 
-TOOL = "aide-compare-run"
+TOOL = "aide-compare"
 
 
 def try_database_hints(sandbox):
@@ -41,7 +41,7 @@ def try_database_hints(sandbox):
                 shown,
                 b"line 4: /c",
                 b"damaged: make it anew",
-                b"aide-compare-sort",
+                b"aide-compare sort",
             ],
         ),
         ("no end", NEW[:-9], [b"no @@end_db\n", shown, b"ends too early"]),
@@ -66,7 +66,7 @@ def try_database_hints(sandbox):
             "lines of %s" % label,
             lines[0].startswith(b"aide: ")
             and lines[-1] == b""
-            and all(line.startswith(b"aide-compare-run: ") for line in lines[1:-1]),
+            and all(line.startswith(b"aide-compare: ") for line in lines[1:-1]),
             answer,
         )
 
@@ -83,7 +83,7 @@ def try_configuration_hints(sandbox):
             ],
         ),
         ("report_level=minmal", [b"aide: config:1: bad value\n", b"a level is minimal, summary"]),
-        ("report_format=json", [b"aide: config:1: left out of this profile\n", b"give the report to aide-compare-json"]),
+        ("report_format=json", [b"aide: config:1: left out of this profile\n", b"give the report to aide-compare json"]),
         ("report_ignore_changed_attrs=xyz", [b"line 1: report_ignore_changed_attrs=xyz\n"]),
         ("@@ifhost x", [b"aide: config:1: left out of this profile\n", b"leave AIDE's own configuration as it is"]),
         (

@@ -44,7 +44,7 @@ def try_many_hosts(sandbox):
     sizes = []
     for count in (30, 300):
         hosts.copies("first", ["h%d-%d" % (count, number) for number in range(count)])
-        words = hosts.words("report-hosts", "--json", sandbox.path("hosts"))
+        words = hosts.words("aide-compare hosts report", "--json", sandbox.path("hosts"))
         run = hosts.start(["sh", "-c", 'ulimit -n 40; exec "$@"', "sh", sys.executable, "-c", MEASURE] + words)
         output, errors = run.communicate()
         sizes.append(int(errors.split()[-1]))
@@ -59,7 +59,7 @@ def try_ends(sandbox):
     hosts = four_hosts(sandbox)
     for number in (signal.SIGTERM, signal.SIGINT, signal.SIGHUP):
         lock = subprocess.Popen(["flock", sandbox.path("store/hosts/www2/lock"), "sleep", "100"], start_new_session=True)
-        run = hosts.start(after(HEEDED, hosts.words("report-hosts", sandbox.path("hosts"))))
+        run = hosts.start(after(HEEDED, hosts.words("aide-compare hosts report", sandbox.path("hosts"))))
         wait_for(lambda: any(name.startswith(".aide-compare-sort-") for name in os.listdir(sandbox.room)))
         time.sleep(0.2)
         run.send_signal(number)
@@ -73,7 +73,7 @@ def try_ends(sandbox):
         sandbox.holds("signal %d" % number, got == (-number, []), got)
     status, output, errors = hosts.report(before=["sh", "-c", 'ulimit -f 0; exec "$@"', "sh"])
     sandbox.holds("no room", status == 18 and not output and errors and not sandbox.leftovers(), (status, output, errors))
-    run = hosts.start(hosts.words("report-hosts", sandbox.path("hosts")), preexec_fn=None)
+    run = hosts.start(hosts.words("aide-compare hosts report", sandbox.path("hosts")), preexec_fn=None)
     run.stdout.close()
     run.wait()
     sandbox.holds("nobody reads", run.returncode > 7 or run.returncode < 0, run.returncode)
@@ -99,7 +99,7 @@ def try_no_mailer(sandbox):
     four_hosts(sandbox)
     copy, script = sandbox.path("without/aide_compare"), "import sys; sys.path.insert(0, sys.argv.pop(1)); "
     script += "from aide_compare.base import ending; from aide_compare.commands import hosts_report\n"
-    script += "sys.exit(ending.command('report-hosts', hosts_report.main))"
+    script += "sys.exit(ending.command('aide-compare hosts report', hosts_report.main))"
     shutil.copytree(sandbox.path("lib/aide_compare"), copy)
     with open(copy + "/mail/sending.py") as file:
         text = file.read()

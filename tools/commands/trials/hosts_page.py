@@ -13,7 +13,7 @@ TAGS |= {"meta", "p", "small", "span", "style", "summary", "table", "td", "th", 
 # The command with a page that has room for less.
 SMALL = "import sys; sys.path.insert(0, sys.argv.pop(1)); from aide_compare.base import ending\n"
 SMALL += "from aide_compare.commands import hosts_report; from aide_compare.hosts import hosts_page\n"
-SMALL += "hosts_page.page.__defaults__ = (60000,); sys.exit(ending.command('report-hosts', hosts_report.main))"
+SMALL += "hosts_page.page.__defaults__ = (60000,); sys.exit(ending.command('aide-compare hosts report', hosts_report.main))"
 
 
 def try_hosts_page(sandbox):
@@ -72,7 +72,7 @@ def try_markup(sandbox):
     hosts = Hosts(sandbox)
     lines = [line(path, path) for path in HOSTILE + MARKUP]
     hosts.compared({"good1": (database(), database(*lines))})
-    page = hosts.start(hosts.words("report-hosts", "--html", sandbox.path("hosts"))).communicate()[0]
+    page = hosts.start(hosts.words("aide-compare hosts report", "--html", sandbox.path("hosts"))).communicate()[0]
     text = page.decode()
     found = set(re.findall("<([a-z0-9]+)", text.partition("</style>")[2])) - TAGS
     sandbox.holds("no tag of a name", not found and "onerror=alert(1)&gt;" in text, found)

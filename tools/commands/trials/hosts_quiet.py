@@ -1,4 +1,4 @@
-"""Quiet days of many hosts: what is left out and what is explained on all of them, and what report-hosts then says."""
+"""Quiet days of many hosts: what is left out and what is explained on all of them, and what aide-compare hosts report then says."""
 import io
 import json
 import os
@@ -56,7 +56,7 @@ def prepare(sandbox, old, new):
 
 
 def compare(fleet, *words):
-    return fleet.call("compare-hosts", "--jobs", "3", *words, fleet.sandbox.path("hosts"))
+    return fleet.call("aide-compare hosts compare", "--jobs", "3", *words, fleet.sandbox.path("hosts"))
 
 
 def try_idle(sandbox):
@@ -102,7 +102,7 @@ def try_reports(sandbox):
     fleet.put("h03", explained.NEW, explained.OLD)
     compare(fleet, "--reasons", "--severity", sandbox.path("table"))
     hosts = sandbox.path("hosts")
-    status, text, errors = fleet.call("report-hosts", hosts)
+    status, text, errors = fleet.call("aide-compare hosts report", hosts)
     sandbox.holds(
         "the first line", text.startswith("aide on 20 hosts: 20 differ (19 all explained), 0 not compared,"), text[:300]
     )
@@ -110,17 +110,17 @@ def try_reports(sandbox):
     parts += ["    low, not verified: grew", "Explained:\n  gone, as its rule allows (ARF): 1 different change\n"]
     places = [text.find(part) for part in parts]
     sandbox.holds("the order of a report", status == 7 and -1 not in places and places == sorted(places), (places, text))
-    objects = [json.loads(line) for line in fleet.call("report-hosts", "--json", hosts)[1].splitlines()]
+    objects = [json.loads(line) for line in fleet.call("aide-compare hosts report", "--json", hosts)[1].splitlines()]
     gone = [fields for fields in objects if fields.get("path") == "/etc/gone"]
     good = len(gone) == 1 and gone[0]["hosts"] == 20 and gone[0]["reason"]["verified"] and "host" not in gone[0]
     sandbox.holds("the object of an explained change", good, gone)
-    page = fleet.call("report-hosts", "--html", hosts)[1]
+    page = fleet.call("aide-compare hosts report", "--html", hosts)[1]
     sandbox.holds("the page", "high, unexplained" in page and "explained: gone, as its rule allows (ARF)" in page, page[-900:])
     sandbox.stub("sendmail", "cat > %s" % sandbox.path("mailed"))
     for new, mails in ((explained.GONE, False), (explained.NEW, True)):
         fleet.put("h03", new, explained.OLD)
         compare(fleet, "--reasons", "--severity", sandbox.path("table"))
-        fleet.call("report-hosts", "--to", "root", "--alarm", "unexplained", hosts)
+        fleet.call("aide-compare hosts report", "--to", "root", "--alarm", "unexplained", hosts)
         found = os.path.exists(sandbox.path("mailed"))
         sandbox.holds("a mail if something is unexplained, %s" % mails, found == mails, found)
         if found:
@@ -139,24 +139,24 @@ def try_records(sandbox):
     ):
         path = sandbox.path("records/h03")
         sandbox.write("records/h03", text) if text else os.remove(path)
-        done = fleet.call("compare-hosts", "--one", *words, "h03")
+        done = fleet.call("aide-compare hosts compare", "--one", *words, "h03")
         errors = sandbox.read("store/hosts/h03/errors").decode()
         sandbox.holds("%s: compared" % label, done[0] == 2, done)
         sandbox.holds("%s: what is told" % label, told in errors if told else not errors, errors)
     sent = records()
     sandbox.write("records/h03", sent)
-    fleet.call("compare-hosts", "--one", *words, "h03")
-    done = fleet.call("accept-host", "--sha256", sha256(explained.GONE), "h03")
+    fleet.call("aide-compare hosts compare", "--one", *words, "h03")
+    done = fleet.call("aide-compare hosts accept", "--sha256", sha256(explained.GONE), "h03")
     kept = sandbox.read("store/hosts/h03/aide.db.packages")
     sandbox.holds("the records of the baseline", done[0] == 0 and kept.startswith(sent) and len(kept) > len(sent), done)
-    done = fleet.call("compare-hosts", "--one", *words, "h03")
+    done = fleet.call("aide-compare hosts compare", "--one", *words, "h03")
     errors = sandbox.read("store/hosts/h03/errors").decode()
     sandbox.holds("the next night", done[0] == 0 and not errors, (done, errors))
     sandbox.write("store/hosts/h04/aide.db.new", b"x" * 500, 0o600)
     os.remove(sandbox.path("store/hosts/h04/aide.db"))
-    done = fleet.call("accept-host", "--first", "h04")
+    done = fleet.call("aide-compare hosts accept", "--first", "h04")
     sandbox.holds("no first baseline of other bytes", done[0] == 24 and "no sound database" in done[2], done)
     fleet.put("h05", explained.NEW, explained.OLD)
-    fleet.call("compare-hosts", "--one", "h05")
-    done = fleet.call("accept-host", "--sha256", sha256(explained.NEW), "--keep-open", "/etc/*", "h05")
+    fleet.call("aide-compare hosts compare", "--one", "h05")
+    done = fleet.call("aide-compare hosts accept", "--sha256", sha256(explained.NEW), "--keep-open", "/etc/*", "h05")
     sandbox.holds("a part of a host's database", done[0] == 0 and "added 0, removed 1, changed 1" in done[1], done)

@@ -54,7 +54,7 @@ class Hosts(Fleet):
         for host, (old, new) in texts.items():
             self.put(host, new, old)
         self.sandbox.write("hosts", "".join("%s\n" % host for host in texts))
-        return self.call("compare-hosts", *words, self.sandbox.path("hosts"))
+        return self.call("aide-compare hosts compare", *words, self.sandbox.path("hosts"))
 
     def copies(self, host, names):
         """More hosts with the report and the state of one."""
@@ -64,7 +64,7 @@ class Hosts(Fleet):
         self.sandbox.write("hosts", "".join("%s\n" % name for name in names))
 
     def report(self, *words, before=()):
-        return self.call("report-hosts", *words, self.sandbox.path("hosts"), before=before)
+        return self.call("aide-compare hosts report", *words, self.sandbox.path("hosts"), before=before)
 
     def objects(self, *words):
         """The objects of a report in JSON: the summary, the hosts by their names, and the changes."""
@@ -254,7 +254,7 @@ def try_hostile_names(sandbox):
     paths, wanted = [path_of(each) for each in changes], [decoded(path) for path in HOSTILE]
     sandbox.holds("the order of paths", paths == sorted(wanted, key=lambda path: path.split(b"/")), paths)
     sandbox.holds("all on two hosts", all(each["hosts"] == 2 for each in changes), changes)
-    output = hosts.start(hosts.words("report-hosts", sandbox.path("hosts"))).communicate()[0]
+    output = hosts.start(hosts.words("aide-compare hosts report", sandbox.path("hosts"))).communicate()[0]
     good = not re.search(rb"[\x00-\x09\x0b-\x1f\x7f]", output) and "\u202e".encode() not in output
     sandbox.holds("escaped", good, output[:900])
     sandbox.holds("UTF-8", output.decode() and max(map(len, output.split(b"\n"))) < 6000, max(map(len, output.split(b"\n"))))
@@ -286,7 +286,7 @@ def try_mail(sandbox):
     words = ["--only-path", "/n*", "--only-path", "/it's/**", "--age", "2d", "--to", "root", "--most-mail", "30k"]
     hosts.report(*words)
     command = sandbox.read("mail").decode().rstrip("\n").split("\n")[-1].strip()
-    good = shlex.split(command)[3:-1] == ["--only-path", "/n*", "--only-path", "/it's/**", "--age", "172800"]
+    good = shlex.split(command)[5:-1] == ["--only-path", "/n*", "--only-path", "/it's/**", "--age", "172800"]
     sandbox.holds("the command has the options that were given", good, command)
     hosts.compared({"good1": (database(), new), "good3": (database(), database(line(b"/zz")))})
     hosts.report("--to", "root", "--most-mail", "30k")

@@ -45,13 +45,15 @@ def share_of(name, workers):
 
 
 def start(fleet, worker, workers):
-    words = fleet.words("compare-hosts", "--jobs", "2", "--share", "%d/%d" % (worker, workers), fleet.sandbox.path("hosts"))
+    words = fleet.words(
+        "aide-compare hosts compare", "--jobs", "2", "--share", "%d/%d" % (worker, workers), fleet.sandbox.path("hosts")
+    )
     return fleet.start(words + ["--store", fleet.sandbox.path("s%d" % worker)])
 
 
 def reported(fleet, stores, *words):
-    """The status of report-hosts, its summary, the hosts by their names, and the changes."""
-    command = [fleet.sandbox.path("fleet/report-hosts"), "--json", *words, fleet.sandbox.path("hosts")]
+    """The status of aide-compare hosts report, its summary, the hosts by their names, and the changes."""
+    command = fleet.sandbox.command("aide-compare hosts report", "--json", *words, fleet.sandbox.path("hosts"))
     for store in stores:
         command += ["--store", fleet.sandbox.path(store)]
     run = fleet.start(command)
@@ -76,7 +78,7 @@ def try_first_night(sandbox, fleet, shares, workers):
         sandbox.holds(
             "worker %d keeps its own hosts" % worker, got == {name for name in shares if shares[name] == worker}, got
         )
-    fleet.call("compare-hosts", sandbox.path("hosts"))
+    fleet.call("aide-compare hosts compare", sandbox.path("hosts"))
     status, summary, hosts, changes = reported(fleet, stores_of(workers))
     alone = reported(fleet, ["store"])
     sandbox.holds(

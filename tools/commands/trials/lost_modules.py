@@ -6,7 +6,7 @@ import tempfile
 
 from tools.commands.trials.sandbox import HERE, TIME_LIMIT
 
-FOLDERS = ("bin", "fleet", "nagios")
+FOLDERS = ("bin", "nagios")
 
 
 def started(path):
@@ -38,6 +38,6 @@ def try_lost_modules(sandbox):
                     path = shutil.copy(os.path.join(HERE, "commands", folder, name), os.path.join(room, place, name))
                     try_one(sandbox, folder, name, path, why)
                     found += 1
-        sandbox.holds("a command is found", found > 20, found)
+        sandbox.holds("a command is found", found == 4, found)
     finally:
         shutil.rmtree(room, ignore_errors=True)

@@ -1,4 +1,4 @@
-"""aide-compare-mail: which mail goes out, whole and readable, within its bound, and what its status says."""
+"""aide-compare mail: which mail goes out, whole and readable, within its bound, and what its status says."""
 import email
 import os
 import pwd
@@ -10,7 +10,7 @@ import time
 
 from .sandbox import END, HEAD, HERE, NEW, NOBODY, OLD, Answer, sha256
 
-TOOL = "aide-compare-mail"
+TOOL = "aide-compare mail"
 SUBJECT = "aide on %s: " % "".join(letter for letter in os.uname().nodename if letter.isalnum() or letter in "._-")
 UNNAMED = 12345  # A user that the system has no name for.
 COUNTS = "differences (1 added, 1 removed, 2 changed)"
@@ -63,7 +63,7 @@ def take_mail(sandbox, before=""):
 def call(sandbox, *words, environment=None, limit=120):
     more = sandbox.environment(**(environment or {}))
     done = subprocess.run(
-        [sandbox.path("bin/" + TOOL)] + list(words),
+        sandbox.command(TOOL, *words),
         cwd=sandbox.root,
         env=more,
         stdin=subprocess.DEVNULL,
@@ -98,12 +98,12 @@ def subject(message):
 def try_texts(sandbox):
     prepare(sandbox)
     report = subprocess.run(
-        [sandbox.path("bin/aide-compare-run"), "old.db", "new.db"],
+        [sandbox.path("bin/aide-compare"), "old.db", "new.db"],
         cwd=sandbox.root,
         stdout=subprocess.PIPE,
         stderr=subprocess.DEVNULL,
     ).stdout
-    accept = "aide-compare-accept --sha256 %s %s %s\n" % (sha256(NEW), sandbox.path("new.db"), sandbox.path("old.db"))
+    accept = "aide-compare accept --sha256 %s %s %s\n" % (sha256(NEW), sandbox.path("new.db"), sandbox.path("old.db"))
     written = time.strftime("%Y-%m-%dT%H:%M:%SZ", time.gmtime(os.stat(sandbox.path("new.db")).st_mtime))
     for words, to in (([], "root"), (["--to", "a@b.example"], "a@b.example"), (["--to=x, y"], "x, y")):
         sandbox.expect("a mail to " + to, call(sandbox, "old.db", "new.db", *words), 7, b"", b"")
@@ -130,12 +130,10 @@ def try_texts(sandbox):
         (["--odd"], 15),
         (["old.db", "new.db", "--age", "x"], 15),
     ):  # What was typed wrong is seen at once, too.
-        told = [b"aide-compare-run: ", b"try: aide-compare-run --help"] if status == 15 else b""
+        told = [b"aide-compare: ", b"try: aide-compare compare --help"] if status == 15 else b""
         sandbox.expect("an error of %s" % words, call(sandbox, *words), status, b"", told)
         message = sent(sandbox)
-        good = subject(message) == SUBJECT + "no comparison (status %d)" % status and body(message).startswith(
-            b"aide-compare-run"
-        )
+        good = subject(message) == SUBJECT + "no comparison (status %d)" % status and body(message).startswith(b"aide-compare")
         sandbox.holds("a mail of an error of %s" % words, good, message)
     for words in (
         ["--to"],
@@ -187,7 +185,7 @@ def try_bounds(sandbox):
     sandbox.holds("the counts of a cut mail", b"Added entries:           60000" in text and "60000 added" in subject(message))
     sandbox.holds("the paths of a cut mail", text.count(b": /d0") == 1000, text.count(b": /d0"))
     sandbox.holds("what was cut", b"1000 paths are listed, 59000 are left out" in text, text[-500:])
-    command = sandbox.path("bin/aide-compare-run").encode() + b" empty.db large.db\n"
+    command = sandbox.path("bin/aide-compare").encode() + b" empty.db large.db\n"
     sandbox.holds("the command for the rest", command in text, text[-500:])
     sandbox.expect("a small bound", call(sandbox, "empty.db", "large.db", "--most-mail", "8k"), 1, b"", b"")
     size = os.stat(sandbox.path("sent")).st_size if os.path.exists(sandbox.path("sent")) else 0
@@ -207,7 +205,7 @@ def try_refusals(sandbox):
     sandbox.expect("a short mail", answer, 1, b"", [b"only a short mail was sent", b"too big"])
     message = sent(sandbox)
     good = subject(message) == SUBJECT + "differences (500 added)" and b"message file too big" in body(message)
-    sandbox.holds("what a short mail says", good and b"aide-compare-accept --sha256" in body(message), message)
+    sandbox.holds("what a short mail says", good and b"aide-compare accept --sha256" in body(message), message)
     sandbox.stub("sendmail", 'cat > /dev/null; echo "no route" >&2; exit 75')
     sandbox.expect(
         "a mailer that fails", call(sandbox, "old.db", "new.db"), 18, b"", [b"cannot send the mail", b"status 75", b"no route"]
@@ -260,7 +258,7 @@ def try_journal(sandbox):
     """Without any mail, a line at priority alert goes to the system log, or to systemd's journal."""
     prepare(sandbox)
     sandbox.stub("sendmail", "exit 75")
-    for name, wanted in (("log", b"<33>aide-compare-mail: no mail could be sent"), ("journal", b"PRIORITY=1\n")):
+    for name, wanted in (("log", b"<33>aide-compare mail: no mail could be sent"), ("journal", b"PRIORITY=1\n")):
         with socket.socket(socket.AF_UNIX, socket.SOCK_DGRAM) as log:
             log.bind(sandbox.path(name))
             log.settimeout(5)
@@ -323,7 +321,7 @@ def try_queue(sandbox):
     os.mkdir(sandbox.path("queue/0.2.mail"))
     os.mkfifo(sandbox.path("queue/0.3.mail"))
     answer = call(sandbox, "--send-queue", "queue")
-    sandbox.expect("what is no mail, before one that is", answer, 18, b"", b"aide-compare-mail: ")
+    sandbox.expect("what is no mail, before one that is", answer, 18, b"", b"aide-compare mail: ")
     sandbox.holds("the mail behind it", subject(sent(sandbox)) == SUBJECT + COUNTS, answer)
     sandbox.holds("only that is taken", sorted(os.listdir(sandbox.path("queue"))) == ["0.1.mail", "0.2.mail", "0.3.mail"])
     shutil.rmtree(sandbox.path("queue"))
@@ -368,8 +366,8 @@ def try_test_and_weekly(sandbox):
 
 def try_pages(sandbox):
     prepare(sandbox)
-    note = b"\naide-compare-mail: there is no page: "
-    sandbox.write("bin/aide-compare-html", '#!/bin/sh\ncat > /dev/null; printf "<p>%s</p>" "$*"\n', 0o755)
+    note = b"\naide-compare mail: there is no page: "
+    sandbox.put_in_place_of("page", 'cat > /dev/null; printf "<p>%s</p>" "$*"')
     sandbox.expect("a page", call(sandbox, "--html", "old.db", "new.db"), 7, b"", b"")
     message = sent(sandbox)
     parts = message.get_payload() if message is not None and message.is_multipart() else []
@@ -378,9 +376,10 @@ def try_pages(sandbox):
     sandbox.holds(
         "a plain page with the host", len(parts) == 2 and b"--plain --title File changes on " in body(parts[1]), parts
     )
-    sandbox.stub("aide-compare-html", 'echo "an odd report" >&2; exit 3', "bin")
+    sandbox.put_in_place_of("page", 'echo "an odd report" >&2; exit 3')
     sandbox.expect("a page that fails", call(sandbox, "--html", "old.db", "new.db"), 7, b"", b"")
     sandbox.holds("a mail without a page", body(sent(sandbox)).endswith(note + b"an odd report\n"))
+    sandbox.put_back()
 
 
 def try_units(sandbox):

@@ -1,4 +1,4 @@
-"""A folder of another user, what is root's beside it, and that user's process, for attacks on aide-compare-accept."""
+"""A folder of another user, what is root's beside it, and that user's process, for attacks on aide-compare accept."""
 import os
 import shutil
 import stat
@@ -7,7 +7,7 @@ import sys
 
 from .sandbox import AS_NOBODY, NEW, NOBODY, OLD, sha256
 
-TOOL = "aide-compare-accept"
+TOOL = "aide-compare accept"
 BASELINE = "theirs/base/aide.db"
 SECRET = b"what only root may read and write\n"
 # For each kind of attack two names in theirs/ that change places, and where the second one leads if it is a link.

@@ -13,7 +13,7 @@ mount --make-rprivate /
 mount -t tmpfs -o mode=755 none "$1"
 printf 'import os; open("%s", "a").write("x")' "$2" > "$1/evil.pth"
 shift 2
-for command do "$command" --help > /dev/null 2>&1 || :; done
+for command do for word in compare json page reasons mail accept status sort setup hosts; do "$command" "$word" --help > /dev/null 2>&1 || :; done; done
 /usr/bin/python3 -I -c ''
 """
 

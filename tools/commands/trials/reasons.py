@@ -1,4 +1,4 @@
-"""All trials of aide-compare-reasons, in groups that run side by side."""
+"""All trials of aide-compare reasons, in groups that run side by side."""
 from . import (
     forged,
     reasons_archive,

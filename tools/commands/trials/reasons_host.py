@@ -1,4 +1,4 @@
-"""A host in two nights, as the trials of aide-compare-reasons make it up: its files as AIDE sees them, and its packages."""
+"""A host in two nights, as the trials of aide-compare reasons make it up: its files as AIDE sees them, and its packages."""
 import base64
 import gzip
 import hashlib
@@ -16,7 +16,7 @@ LOG = GROWING | ANF | I
 ACL = b"user::rwx\ngroup::r-x\nother::r-x\n"
 MORE_ACL = b"user::rwx\nuser:1000:rwx\ngroup::r-x\nmask::rwx\nother::r-x\n"
 UNUSUAL = set(b"%:[]@~ ") | set(range(33)) | set(range(127, 256))
-NAME = "aide-compare-reasons"
+NAME = "aide-compare reasons"
 GRADES = ("archive", "databases", "dpkg", "rpm")
 # The counts of a report without changes, as the summary and the state have them.
 NO_COUNTS = dict.fromkeys(("explained", "not_verified", "unexplained", "high", "medium", "low"), 0)
@@ -164,7 +164,7 @@ def put_path(fields, path):
 
 
 def lines_of(old, new):
-    """The lines of aide-compare-json for two nights, at the level list_entries."""
+    """The lines of aide-compare json for two nights, at the level list_entries."""
     objects, kinds = [], {"added": 0, "removed": 0, "changed": 0}
     wholes = old.whole(), new.whole()
     for path in sorted(wholes[0].keys() | wholes[1].keys(), key=lambda path: path.split(b"/")):

@@ -1,4 +1,4 @@
-"""aide-compare-reasons and its lines: nothing else of them changes, what is no whole report is refused, and so are files that
+"""aide-compare reasons and its lines: nothing else of them changes, what is no whole report is refused, and so are files that
 others can write."""
 import gzip
 import io
@@ -54,8 +54,8 @@ def try_same(sandbox):
         for name in ("o.db", "n.db"):
             sandbox.write(name, random_database(numbers, paths))
         level = LEVELS[number % len(LEVELS)]
-        report = sandbox.call("aide-compare-run", "o.db", "n.db", "--", "-B", "report_level=" + level)
-        before = sandbox.call("aide-compare-json", text=report.output)
+        report = sandbox.call("aide-compare", "o.db", "n.db", "--", "-B", "report_level=" + level)
+        before = sandbox.call("aide-compare json", text=report.output)
         sandbox.write("rules", b"size,perm /a* any\nadded,removed,size /** text \xff\n")
         answer = sandbox.call(NAME, *GIVEN, *(("--rules", "rules") if number % 2 else ()), text=before.output)
         lines = answer.output.splitlines(True)
@@ -73,7 +73,7 @@ def try_same(sandbox):
     same = b"".join(map(without_ours, answer.output.splitlines(True))) == before.output.replace(b'"kind":"', b'"kind": "')
     sandbox.holds("lines with other blanks", same and answer.status == 0, answer)
     sandbox.write("same.db", OLD)
-    empty = sandbox.call("aide-compare-json", text=sandbox.call("aide-compare-run", "same.db", "same.db").output)
+    empty = sandbox.call("aide-compare json", text=sandbox.call("aide-compare", "same.db", "same.db").output)
     answer = sandbox.call(NAME, "--databases", "same.db", "same.db", text=empty.output)
     sandbox.expect("no difference", answer, 0, [b'"reasons":{"explained":0,"not_verified":0,"unexplained":0,"high":0,'])
 
@@ -94,7 +94,7 @@ def try_damage(sandbox):
     """What is no whole report of these databases is refused, and nothing is written."""
     sandbox.write("o.db", OLD)
     sandbox.write("n.db", NEW)
-    lines = sandbox.call("aide-compare-json", text=sandbox.call("aide-compare-run", "o.db", "n.db").output).output
+    lines = sandbox.call("aide-compare json", text=sandbox.call("aide-compare", "o.db", "n.db").output).output
     parts = lines.splitlines(True)
     sandbox.expect("a whole report", sandbox.call(NAME, *GIVEN, text=lines), 0, [b'"severity":"medium"'])
     cases = {

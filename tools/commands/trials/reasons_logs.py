@@ -220,5 +220,5 @@ def try_many_packed(sandbox):
         text = b"".join(line % (at, at) for at in range(1000))
         sandbox.write(side, b"@@begin_db\n@@db_spec name attr perm size uid gid mtime inode\n" + text + b"@@end_db\n")
     limit = "resource.setrlimit(resource.RLIMIT_CPU, (12, 12))"
-    answer = sandbox.call("aide-compare-run", "--reasons", "many-old", "many-new", before=limit)
+    answer = sandbox.call("aide-compare", "--reasons", "many-old", "many-new", before=limit)
     sandbox.expect("many packed files", answer, 3, None, b"2000 unexplained of 2000 changes")

@@ -83,8 +83,8 @@ def explained(sandbox, name, parts):
         extra |= more
         sandbox.write("%s.db" % side, "@@begin_db\n@@db_spec %s%s@@end_db\n" % (parts["columns"], lines))
         sandbox.write("%s.packages" % side, packed(records))
-    report = sandbox.call("aide-compare-run", "old.db", "new.db", "--", "-B", "report_level=changed_attributes")
-    lines = sandbox.call("aide-compare-json", text=report.output).output
+    report = sandbox.call("aide-compare", "old.db", "new.db", "--", "-B", "report_level=changed_attributes")
+    lines = sandbox.call("aide-compare json", text=report.output).output
     answer = sandbox.call(
         NAME, "--databases", "old.db", "new.db", "--packages", "old.packages", "--packages-now", "new.packages", text=lines
     )

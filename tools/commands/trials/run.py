@@ -1,4 +1,4 @@
-"""aide-compare-run: reports, configurations, arguments and the state file."""
+"""aide-compare: reports, configurations, arguments and the state file."""
 import gzip
 import os
 import re
@@ -24,7 +24,7 @@ KEYS = [
     "new_written",
     "error",
 ]
-TOOL = "aide-compare-run"
+TOOL = "aide-compare"
 DATE = r"\d{4}-\d\d-\d\dT\d\d:\d\d:\d\dZ"
 
 
@@ -48,7 +48,7 @@ def direct(sandbox, *words):
     """What the program itself answers over the plain databases."""
     text = "database_in=file:%s\ndatabase_new=file:%s" % (sandbox.path("old.db"), sandbox.path("new.db"))
     done = subprocess.run(
-        [sandbox.path("bin/aide-compare"), "-E", "-c", "/dev/null", "-A", "\n".join(words) + "\n" + text],
+        [sandbox.program, "-E", "-c", "/dev/null", "-A", "\n".join(words) + "\n" + text],
         stdin=subprocess.DEVNULL,
         stdout=subprocess.PIPE,
     )
@@ -91,11 +91,11 @@ def try_reports(sandbox):
             sandbox.call(TOOL, "old.db", "new.db", stdout=full),
             18,
             b"",
-            b"aide-compare-run: cannot write the report",
+            b"aide-compare: cannot write the report",
         )
     with open("/dev/full", "wb") as full:
         sandbox.expect("full errors", sandbox.call(TOOL, "old.db", "other.db", stderr=full), 24, b"")
-    sandbox.expect("--help", sandbox.call(TOOL, "--help"), 0, b"usage: aide-compare-run", b"")
+    sandbox.expect("--help", sandbox.call(TOOL, "--help"), 0, b"usage: aide-compare", b"")
 
 
 def try_names(sandbox):
@@ -116,15 +116,15 @@ def try_names(sandbox):
         sandbox.call(TOOL, "odd/../old.db", sandbox.path("bin/../../") + os.path.basename(sandbox.root) + "/new.db"),
         7,
         b"Old database: /proc/self/fd/3\n",
-        [b"aide-compare-run: old database: odd/../old.db, written "],
+        [b"aide-compare: old database: odd/../old.db, written "],
     )
     errors = sandbox.call(TOOL, "odd/old é", "new.db").errors
     sandbox.holds(
         "the true names",
         re.fullmatch(
             (
-                "aide-compare-run: old database: odd/old é, written %s, SHA-256 %s\n"
-                "aide-compare-run: new database: new.db, written %s, SHA-256 %s\n" % (DATE, sha256(OLD), DATE, sha256(NEW))
+                "aide-compare: old database: odd/old é, written %s, SHA-256 %s\n"
+                "aide-compare: new database: new.db, written %s, SHA-256 %s\n" % (DATE, sha256(OLD), DATE, sha256(NEW))
             ).encode(),
             errors,
         ),
@@ -229,9 +229,7 @@ def try_arguments(sandbox):
         ["-A", "x"],
         ["--", "x"],
     ):
-        sandbox.expect(
-            "the arguments %r" % words, sandbox.call(TOOL, "old.db", "new.db", *words), 15, b"", b"aide-compare-run: "
-        )
+        sandbox.expect("the arguments %r" % words, sandbox.call(TOOL, "old.db", "new.db", *words), 15, b"", b"aide-compare: ")
 
 
 def try_state(sandbox):
@@ -268,8 +266,8 @@ def try_state(sandbox):
     sandbox.write("bad.db", NEW.replace(b"@@end_db", b"\x01|x"))
     for words, status, error in (
         (("old.db", "bad.db"), "24", "aide: new database:6: "),
-        (("old.db", "missing|\n"), "18", "aide-compare-run: cannot open the new database missing|\\012"),
-        (("-c", "/dev/null"), "17", "aide-compare-run: /dev/null names no old database"),
+        (("old.db", "missing|\n"), "18", "aide-compare: cannot open the new database missing|\\012"),
+        (("-c", "/dev/null"), "17", "aide-compare: /dev/null names no old database"),
     ):
         sandbox.call(TOOL, "--state", "state", *words)
         state = sandbox.state()
@@ -326,10 +324,12 @@ def try_counts(sandbox):
 
 def try_runs(sandbox):
     """The program compares once. Only a report of the level minimal has no counts, so that a state needs a second run."""
-    program = sandbox.path("bin/aide-compare")
+    program = sandbox.program
     os.rename(program, program + ".away")
     sandbox.stub(
-        "aide-compare", '[ "$1" != -E ] || echo x >> "%s"; exec "%s.away" "$@"' % (sandbox.path("ran"), program), "bin"
+        "aide",
+        '[ "$1" != -E ] || echo x >> "%s"; exec "%s.away" "$@"' % (sandbox.path("ran"), program),
+        "libexec/aide-compare",
     )
     for words, runs in (
         (["--state", "state"], 1),

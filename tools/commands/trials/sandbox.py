@@ -31,7 +31,7 @@ HEAD = b"@@begin_db\n@@db_spec name attr perm size\n"
 END = b"@@end_db\n"
 OLD = HEAD + b"/b 36 40755 4096\n/c 36 100644 10\n/d 36 100644 1\n" + END
 NEW = HEAD + b"/a 36 100644 5\n/c 36 100600 7\n/d 36 100644 2\n" + END
-DIFFER = [b"aide-compare-run: old database: ", b"aide-compare-run: new database: "]
+DIFFER = [b"aide-compare: old database: ", b"aide-compare: new database: "]
 COUNTS = {"added": "1", "removed": "1", "changed": "2"}
 
 
@@ -60,7 +60,8 @@ class Sandbox:
         for name in ("bin", "stubs", "room", "empty"):
             os.mkdir(self.path(name))
         os.chmod(self.room, 0o1777)
-        shutil.copy(os.fsdecode(program), self.path("bin/aide-compare"))
+        os.makedirs(self.path("libexec/aide-compare"))
+        self.program = shutil.copy(os.fsdecode(program), self.path("libexec/aide-compare/aide"))
         for folder in ("bin", "nagios"):
             for name in os.listdir(os.path.join(HERE, "commands", folder)):
                 shutil.copy(os.path.join(HERE, "commands", folder, name), self.path("bin/" + name))
@@ -105,7 +106,19 @@ class Sandbox:
         return self.write(os.path.join(folder, name), "#!/bin/sh\n%s\n" % body, 0o755)
 
     def command(self, tool, *words):
-        return [self.path("bin/" + tool), *words]
+        """The words of a tool, such as aide-compare json, and those that follow."""
+        name, *subcommand = tool.split(" ")
+        return [self.path("bin/" + name), *subcommand, *words]
+
+    def put_in_place_of(self, subcommand, body):
+        """A small program in place of a subcommand. Its arguments are those of the subcommand. All others are as before."""
+        if not os.path.exists(self.path("bin/front")):
+            os.rename(self.path("bin/aide-compare"), self.path("bin/front"))
+        text = '[ "$1" = %s ] || exec "%s" "$@"\nshift\n%s' % (subcommand, self.path("bin/front"), body)
+        self.stub("aide-compare", text, "bin")
+
+    def put_back(self):
+        os.rename(self.path("bin/front"), self.path("bin/aide-compare"))
 
     def environment(self, **more):
         return {**os.environ, "TMPDIR": self.room, "PATH": self.path("stubs") + ":" + os.environ["PATH"], **more}

@@ -1,4 +1,4 @@
-"""aide-compare-setup: each step once, nothing by --dry-run and --check, and no database that another user has put there."""
+"""aide-compare setup: each step once, nothing by --dry-run and --check, and no database that another user has put there."""
 import os
 import pwd
 import shutil
@@ -6,13 +6,12 @@ import stat
 
 from .sandbox import NOBODY, OLD
 
-MODULE, TOOL = "lib/aide_compare/commands/setup.py", "aide-compare-setup"
+MODULE, TOOL = "lib/aide_compare/commands/setup.py", "aide-compare setup"
 DATABASES, DAILY = "root/var/lib/aide/", "root/var/lib/aide-compare/daily"
 STUBS = {
     "aideinit": 'cp "%s" "%s"',
     "systemctl": 'echo "$*" >> "%s"; [ "$1" != is-enabled ] || grep -q "^enable --now" "%s"',
-    "aide-compare-accept": ': > "$2.packages"; echo "accept $*" >> "%s"',
-    "aide-compare-mail": 'echo "mail $*" >> "%s"',
+    "aide-compare": '[ "$1" = mail ] || : > "$3.packages"; echo "$*" >> "%s"',
 }
 
 
@@ -53,7 +52,7 @@ def made(sandbox):
 
 def try_setup(sandbox):
     if os.geteuid() != 0:
-        print("skipped: aide-compare-setup is tried by root only")
+        print("skipped: aide-compare setup is tried by root only")
         return
     edit(sandbox)
     for trial in (try_steps, try_cron, try_hostile, try_failures):

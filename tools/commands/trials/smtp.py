@@ -183,7 +183,7 @@ def try_no_process(sandbox):
         said = b"nothing can be started to send it: Too many open files; the system log has a line"
         sandbox.holds("no process for " + way, said in done.stdout, done)
         sandbox.holds(
-            "the line of the log without " + way, line.startswith(b"<33>aide-compare-mail: no mail could be sent"), line
+            "the line of the log without " + way, line.startswith(b"<33>aide-compare mail: no mail could be sent"), line
         )
 
 

@@ -1,4 +1,4 @@
-"""aide-compare-sort: path order by a plain definition, and its bounds."""
+"""aide-compare sort: path order by a plain definition, and its bounds."""
 import gzip
 import os
 import random
@@ -10,7 +10,7 @@ from bisect import bisect_left
 
 from tools.commands.trials.sandbox import HERE
 
-COMMAND = os.path.join(HERE, "commands", "bin", "aide-compare-sort")
+COMMAND = [os.path.join(HERE, "commands", "bin", "aide-compare"), "sort"]
 BEGIN, END = b"# c\n@@begin_db\n@@db_spec attr name size\n", b"@@end_db\nrest\n\nmore"
 PIECES = [
     b"a",
@@ -116,20 +116,20 @@ def try_order(sandbox):
         lines = random_lines(pick, 400)
         wanted, moved = sorted_text(lines)
         text = text_of(lines)
-        done = call([COMMAND], gzip.compress(text[:9]) + gzip.compress(text[9:]) if number % 2 else text, sandbox.room)
+        done = call(COMMAND, gzip.compress(text[:9]) + gzip.compress(text[9:]) if number % 2 else text, sandbox.room)
         expect(sandbox, "order %d" % number, done, 0, wanted, [b"moved %d of " % moved])
     lines = [b"36 /%05d 1" % number for number in range(13257)]
     lines = lines[:100] + lines[101:9000] + [lines[100]] + lines[9000:]
     expect(
         sandbox,
         "one line moved",
-        call([COMMAND], text_of(lines), sandbox.room),
+        call(COMMAND, text_of(lines), sandbox.room),
         0,
         sorted_text(lines)[0],
         [b": moved 1 of 13,257 lines\n", b"straight from AIDE, it is damaged", b"make it anew"],
     )
     whole = sorted_text(lines)[0]
-    done = call([COMMAND], whole, sandbox.room)
+    done = call(COMMAND, whole, sandbox.room)
     expect(sandbox, "nothing moved", done, 0, whole, [b"moved 0 of 13,257 lines\n"])
     sandbox.holds("sort: no advice where nothing moved", b"damaged" not in done[2], done[2])
 
@@ -139,13 +139,13 @@ def try_refused(sandbox):
     expect(
         sandbox,
         "a path twice",
-        call([COMMAND], text_of(twice), sandbox.room),
+        call(COMMAND, text_of(twice), sandbox.room),
         24,
         text_of([twice[1], twice[0]] + twice[2:]),
-        [b"aide-compare-sort: stands twice: /b\\134\n"],
+        [b"aide-compare sort: stands twice: /b\\134\n"],
     )
     many = [b"1 /%04d 1" % (number // 2) for number in range(400)]
-    done = call([COMMAND], text_of(many), sandbox.room)
+    done = call(COMMAND, text_of(many), sandbox.room)
     expect(sandbox, "200 paths twice", done, 24, None, [b"/0099\n", b"more paths that stand twice: 100\n"])
     whole = text_of([b"1 /%x 1" % number for number in range(5000)])
     packed = gzip.compress(whole)
@@ -158,20 +158,20 @@ def try_refused(sandbox):
         ("no path", BEGIN + b"36\n" + END, [], 24, b"line 4: no path"),
         ("a long line", BEGIN + b"36 /" + b"x" * (1 << 20) + b"\n" + END, [], 24, b"line 4: more than 1048576 bytes"),
         ("too many bytes", whole, ["--most", "9k"], 18, b"more than 9216 bytes unpacked"),
-        ("no such option", whole, ["--other"], 15, b"try: aide-compare-sort --help"),
+        ("no such option", whole, ["--other"], 15, b"try: aide-compare sort --help"),
         ("no such file", whole, ["/nowhere"], 18, b"cannot open"),
         ("a folder", whole, ["/"], 18, b"cannot open"),
     ):
-        expect(sandbox, label, call([COMMAND] + words, text, sandbox.room), status, b"", [errors])
+        expect(sandbox, label, call(COMMAND + words, text, sandbox.room), status, b"", [errors])
     with open("/dev/full", "wb") as full:
         done = subprocess.run(
-            [COMMAND], input=whole, stdout=full, stderr=subprocess.PIPE, env={**os.environ, "TMPDIR": sandbox.room}
+            COMMAND, input=whole, stdout=full, stderr=subprocess.PIPE, env={**os.environ, "TMPDIR": sandbox.room}
         )
     expect(sandbox, "a full device", (done.returncode, b"", done.stderr), 18, b"", [b"cannot write: No space left"])
     sandbox.stub("sort", BUSYBOX[10:], "other")
-    done = call([sys.executable, "-I", COMMAND], whole, sandbox.room, {"PATH": sandbox.path("other")})
+    done = call([sys.executable, "-I", *COMMAND], whole, sandbox.room, {"PATH": sandbox.path("other")})
     expect(sandbox, "another sort", done, 18, b"", [b"is not that of GNU coreutils"])
-    done = call([sys.executable, "-I", COMMAND], whole, sandbox.room, {"PATH": sandbox.path("empty")})
+    done = call([sys.executable, "-I", *COMMAND], whole, sandbox.room, {"PATH": sandbox.path("empty")})
     expect(sandbox, "no sort", done, 18, b"", [b"there is no program sort"])
 
 
@@ -187,24 +187,24 @@ def write_large(path, count):
 def try_bounds(sandbox):
     path = sandbox.path("large.db")
     write_large(path, 600000)
-    done = call([sys.executable, "-c", MEASURE, COMMAND, path], b"", sandbox.room)
+    done = call([sys.executable, "-c", MEASURE, *COMMAND, path], b"", sandbox.room)
     memory = int(done[2].split(b"memory ")[-1])
     expect(sandbox, "120 MB", (done[0], b"", done[2]), 0, b"", [b" of 600,000 lines"])
     keys = [line.split()[1] for line in done[1].splitlines() if line.startswith(b"36 ")]
     sandbox.holds("sort: 120 MB in order", len(keys) == 600000 and keys == sorted(keys), len(keys))
     sandbox.holds("sort: memory", memory < 64000, memory)
     bomb = subprocess.run("head -c 300000000 /dev/zero | gzip -1", shell=True, stdout=subprocess.PIPE).stdout
-    done = call([sys.executable, "-c", MEASURE, COMMAND, "--most", "20M"], bomb, sandbox.room)
+    done = call([sys.executable, "-c", MEASURE, *COMMAND, "--most", "20M"], bomb, sandbox.room)
     expect(sandbox, "300 MB of zeros", (done[0], b"", done[2]), 18, b"", [b"more than 20971520 bytes unpacked"])
     sandbox.holds("sort: memory of zeros", int(done[2].split(b"memory ")[-1]) < 64000, done[2])
     for number, left in ((signal.SIGTERM, 0), (signal.SIGINT, 0), (signal.SIGHUP, 0), (signal.SIGKILL, 1)):
         try_signal(sandbox, path, number, left)
-    expect(sandbox, "after KILL", call([COMMAND], text_of([b"1 /a 1"]), sandbox.room), 0)
+    expect(sandbox, "after KILL", call(COMMAND, text_of([b"1 /a 1"]), sandbox.room), 0)
 
 
 def try_signal(sandbox, path, number, left):
     process = subprocess.Popen(
-        [COMMAND, path], stdout=subprocess.PIPE, stderr=subprocess.DEVNULL, env={**os.environ, "TMPDIR": sandbox.room}
+        [*COMMAND, path], stdout=subprocess.PIPE, stderr=subprocess.DEVNULL, env={**os.environ, "TMPDIR": sandbox.room}
     )
     folder, limit = [], time.monotonic() + 60
     while time.monotonic() < limit and not any(os.listdir(sandbox.path("room/" + name)) for name in folder):

@@ -70,7 +70,7 @@ def try_check(sandbox):
         check(sandbox, "an unprivileged user", 0, "no difference", before=AS_NOBODY)
         os.chmod(sandbox.path("state"), 0o600)
         check(sandbox, "no right", 3, "cannot open the state file", before=AS_NOBODY)
-    sandbox.call("aide-compare-run", "old.db", "new.db", "--state", "state")
+    sandbox.call("aide-compare", "old.db", "new.db", "--state", "state")
     check(sandbox, "a real state", 2, ": 1 added, 1 removed, 2 changed|added=1 removed=1 changed=2 age=")
 
 
@@ -120,7 +120,7 @@ def try_check_faults(sandbox):
 def try_metrics(sandbox):
     moment = int(time.time()) - 60
     write_state(sandbox, status=5, added=1, changed=4)
-    answer = sandbox.call("aide-compare-metrics", "--state", "state")
+    answer = sandbox.call("aide-compare status --format prometheus", "--state", "state")
     lines = answer.output.decode().splitlines()
     names = {}
     good = answer.status == 0 and len(lines) == 15 and answer.output.endswith(b"\n")
@@ -137,7 +137,7 @@ def try_metrics(sandbox):
     sandbox.holds("the metrics", good and {**names, **want} == names and abs(names["end_time_seconds"] - moment) < 5, answer)
     sandbox.expect(
         "metrics to a file",
-        sandbox.call("aide-compare-metrics", "--state=state", "aide.prom", before=UMASK % 0o77),
+        sandbox.call("aide-compare status --format prometheus", "--state=state", "aide.prom", before=UMASK % 0o77),
         0,
         b"",
         b"",
@@ -149,7 +149,7 @@ def try_metrics(sandbox):
         and not [name for name in os.listdir(sandbox.root) if name.startswith("aide.prom.")],
     )
     write_state(sandbox, status=18, added="", removed="", changed="")
-    sandbox.call("aide-compare-metrics", "--state", "state", "aide.prom")
+    sandbox.call("aide-compare status --format prometheus", "--state", "state", "aide.prom")
     sandbox.holds(
         "the metrics of no comparison",
         b"\naide_compare_status 18\n" in sandbox.read("aide.prom") and b"entries" not in sandbox.read("aide.prom"),
@@ -159,7 +159,7 @@ def try_metrics(sandbox):
     sandbox.write("state", "x")
     sandbox.expect(
         "metrics of a bad state",
-        sandbox.call("aide-compare-metrics", "--state", "state", "aide.prom"),
+        sandbox.call("aide-compare status --format prometheus", "--state", "state", "aide.prom"),
         18,
         b"",
         b"no state file",
@@ -168,22 +168,30 @@ def try_metrics(sandbox):
     write_state(sandbox)
     sandbox.expect(
         "metrics to nowhere",
-        sandbox.call("aide-compare-metrics", "--state", "state", "old.db/x.prom"),
+        sandbox.call("aide-compare status --format prometheus", "--state", "state", "old.db/x.prom"),
         18,
         b"",
         b"cannot write",
     )
     with open("/dev/full", "wb") as full:
-        sandbox.expect("metrics to a full device", sandbox.call("aide-compare-metrics", "--state", "state", stdout=full), 18)
+        sandbox.expect(
+            "metrics to a full device",
+            sandbox.call("aide-compare status --format prometheus", "--state", "state", stdout=full),
+            18,
+        )
     for words in (["--odd"], ["a", "b"], ["--state"]):
         sandbox.expect(
-            "metrics with %r" % words, sandbox.call("aide-compare-metrics", *words), 15, b"", b"aide-compare-metrics: "
+            "metrics with %r" % words,
+            sandbox.call("aide-compare status --format prometheus", *words),
+            15,
+            b"",
+            b"aide-compare status: ",
         )
 
 
 def log(sandbox, **state):
     write_state(sandbox, **state)
-    answer = sandbox.call("aide-compare-log", "--state", "state")
+    answer = sandbox.call("aide-compare status", "--state", "state")
     sandbox.holds(
         "one line for the log",
         answer.status == 0 and answer.output.count(b"\n") == 1 and answer.output.endswith(b"\n") and answer.errors == b"",
@@ -203,20 +211,22 @@ def try_log(sandbox):
         ({"status": 24, "error": "aide: x\x01y", **nothing}, "no comparison: status=24 error=aide: x\\001y\n"),
         ({"time": 1795000000 - 10**8}, "no comparison: the last one ended at 2023-09-18T01:20:00Z\n"),
         ({"time": 4000000000}, "no comparison: the last one ended at 2096-10-02T07:06:40Z\n"),
-        ({"time": "x"}, "no comparison: state cannot be read, or is no state file of aide-compare-run\n"),
+        ({"time": "x"}, "no comparison: state cannot be read, or is no state file of aide-compare\n"),
     ):
         line = log(sandbox, **state)
         sandbox.holds("the line for the log of %r" % state, line == want, line)
     write_state(sandbox, age=100)
     sandbox.expect(
         "an old line",
-        sandbox.call("aide-compare-log", "--state", "state", "--age", "50"),
+        sandbox.call("aide-compare status", "--state", "state", "--age", "50"),
         0,
         b"no comparison: the last one",
         b"",
     )
     for words in (["--odd"], ["--age", "x"], ["--state"]):
-        sandbox.expect("the log with %r" % words, sandbox.call("aide-compare-log", *words), 15, b"", b"aide-compare-log: ")
+        sandbox.expect(
+            "the log with %r" % words, sandbox.call("aide-compare status", *words), 15, b"", b"aide-compare status: "
+        )
 
 
 def try_rules(sandbox):
@@ -271,7 +281,10 @@ def try_links(sandbox):
     attacker = subprocess.Popen([sys.executable, "-c", LINKS % (NOBODY, NOBODY), folder, prey], stdout=subprocess.PIPE)
     try:
         attacker.stdout.readline()
-        statuses = [sandbox.call("aide-compare-metrics", "--state", "state", "exporter/aide.prom").status for _ in range(200)]
+        statuses = [
+            sandbox.call("aide-compare status --format prometheus", "--state", "state", "exporter/aide.prom").status
+            for _ in range(200)
+        ]
     finally:
         attacker.kill()
         attacker.communicate()
@@ -282,7 +295,7 @@ def try_links(sandbox):
         os.remove(folder + "/" + name)
     sandbox.expect(
         "metrics in a folder of another user",
-        sandbox.call("aide-compare-metrics", "--state", "state", "exporter/aide.prom"),
+        sandbox.call("aide-compare status --format prometheus", "--state", "state", "exporter/aide.prom"),
         0,
         b"",
         b"",

@@ -79,7 +79,7 @@ def try_hostile(sandbox):
 
 
 def try_program(sandbox):
-    try_viewers.try_program(sandbox.path("bin/aide-compare"), SEED, REPORTS // 4, sandbox.tally)
+    try_viewers.try_program(sandbox.program, SEED, REPORTS // 4, sandbox.tally)
 
 
 def try_table(sandbox):
@@ -95,8 +95,8 @@ def try_shapes(sandbox):
 
 
 def try_aide_form(sandbox):
-    aide_form.try_aide_form(sandbox.path("bin/aide-compare"), sandbox.tally)
+    aide_form.try_aide_form(sandbox.program, sandbox.tally)
 
 
 def try_occasion(sandbox):
-    occasion.try_occasion(sandbox.path("bin/aide-compare"), sandbox.tally)
+    occasion.try_occasion(sandbox.program, sandbox.tally)

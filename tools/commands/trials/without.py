@@ -6,7 +6,7 @@ import sys
 
 from .sandbox import END, HEAD, HERE, sha256
 
-TOOL = "aide-compare-run"
+TOOL = "aide-compare"
 LOGS = b"# Logs\n\n  /var/log/**  \n/etc/*.bak\n"
 OLD = HEAD + b"/etc/a 36 100644 1\n/var/log 36 40755 1\n/var/log/x%20y 36 100644 1\n/var/log/z 36 100644 1\n" + END
 NEW = HEAD + b"/etc/a 36 100644 2\n/etc/a.bak 36 100644 1\n/var/log 36 40755 1\n/var/log/x%20y 36 100644 2\n" + END
@@ -246,7 +246,7 @@ def try_damage(sandbox):
     # Lines that are no entries: none is left out, and none stops the comparison.
     for label, line in (("an empty line", b""), ("a blank line", b"   "), ("a comment", b"# no entry")):
         sandbox.write("lines.db", NEW.replace(END, line + b"\n" + END))
-        want = sandbox.call("aide-compare-run", "o.db", "lines.db")
+        want = sandbox.call("aide-compare", "o.db", "lines.db")
         answer = sandbox.call(TOOL, "--without-path", "/nowhere/**", "o.db", "lines.db")
         sandbox.holds(label, (answer.output, answer.status) == (want.output, want.status) and want.status < 8, answer)
     late = HEAD + b"/a 36 100644 1\n" + END + b"/var/log/late 36 100644 1\n"

@@ -1,0 +1,140 @@
+"""aide-compare itself: which subcommand an argument means, what goes to the program untouched, and the forms of a status."""
+import json
+import os
+import subprocess
+
+from .sandbox import DIFFER, NEW, OLD, sha256
+
+TOOL = "aide-compare"
+SUBCOMMANDS = "compare json page reasons mail accept status sort setup version".split()
+HOSTS = "fetch compare compare-one accept report".split()
+# A program in place of the proved one: it tells its arguments, and which signals it ignores.
+TELLS = 'printf "%s\\n" "$@"; grep SigIgn /proc/self/status; exit 5'
+SIGPIPE = 1 << 12
+
+
+def try_front(sandbox):
+    for trial in (try_words, try_help, try_misspelt, try_program, try_version, try_forms):
+        trial(sandbox)
+
+
+def try_words(sandbox):
+    """compare may be left out. A database with the name of a subcommand needs its folder."""
+    whole = sandbox.call(TOOL, "compare", "old.db", "new.db")
+    sandbox.expect("compare", whole, 7, b"AIDE found differences", DIFFER)
+    short = sandbox.call(TOOL, "old.db", "new.db")
+    sandbox.holds("without compare", (short.status, short.output) == (whole.status, whole.output), short)
+    for name in ("sort", "jsn", "new.db2"):
+        sandbox.write(name, NEW)
+    sandbox.expect("a path", sandbox.call(TOOL, "./sort", "new.db"), 0, b"NO differences", b"")
+    sandbox.expect("a subcommand before a file", sandbox.call(TOOL, "sort", "old.db"), 0, OLD)
+    sandbox.expect("a file like a subcommand", sandbox.call(TOOL, "jsn", "new.db"), 0, b"NO differences", b"")
+    os.remove(sandbox.path("jsn"))
+    sandbox.expect("a file that is missing", sandbox.call(TOOL, "stat.db", "new.db"), 18, b"", b"cannot open the old database")
+    sandbox.expect("an option first", sandbox.call(TOOL, "--state", "state", "old.db", "new.db"), 7, b"AIDE found", DIFFER)
+
+
+def try_help(sandbox):
+    """The help fits one screen, and has each subcommand."""
+    answer = sandbox.call(TOOL, "--help")
+    sandbox.expect("the help", answer, 0, [b"  %s " % word.encode() for word in SUBCOMMANDS + ["hosts"]], b"")
+    lines = answer.output.decode().splitlines()
+    sandbox.holds("one screen", len(lines) <= 24 and max(map(len, lines)) <= 80, lines)
+    for words in (["-h"], ["help"], ["help", "--help"]):
+        sandbox.expect("the help by %s" % words, sandbox.call(TOOL, *words), 0, answer.output, b"")
+    for word in SUBCOMMANDS + ["hosts " + word for word in HOSTS]:
+        given = sandbox.call(TOOL, *word.split(), "--help")
+        usage = b"usage: aide-compare " + (b"[compare] " if word == "compare" else word.encode() + b" ")
+        sandbox.expect("the help of " + word, given, 0, usage, b"")
+        sandbox.expect("help " + word, sandbox.call(TOOL, "help", *word.split()), 0, given.output, b"")
+    for words in (["hosts"], ["hosts", "-h"], ["help", "hosts"]):
+        wanted = [b" hosts %s " % word.encode() for word in HOSTS]
+        sandbox.expect("the help by %s" % words, sandbox.call(TOOL, *words), 0, wanted, b"")
+
+
+def try_misspelt(sandbox):
+    """What is no subcommand ends with 15 and the nearest one, and compares nothing."""
+    for words, near in (
+        (["jsno"], b"aide-compare json"),
+        (["stauts", "--age", "1h"], b"aide-compare status"),
+        (["hosts", "fecth", "www"], b"aide-compare hosts fetch"),
+        (["help", "acept"], b"aide-compare help accept"),
+        (["quite-another"], b"aide-compare --help"),
+        (["hosts", "--nonsense"], b"aide-compare hosts --help"),
+    ):
+        sandbox.expect("no subcommand: %s" % words, sandbox.call(TOOL, *words), 15, b"", b": " + near + b"\n")
+    answer = sandbox.call(TOOL, "a\033[31m")
+    sandbox.holds("an odd word is escaped", answer.status == 15 and b"\033" not in answer.errors, answer)
+
+
+def try_program(sandbox):
+    """AIDE's own options go to the program as they are, with its statuses and nothing of Python about it."""
+    lines = "database_in=file:%s\ndatabase_new=file:%s" % (sandbox.path("old.db"), sandbox.path("new.db"))
+    sandbox.expect("-E", sandbox.call(TOOL, "-E", "-c", "/dev/null", "-A", lines), 7, b"AIDE found differences", b"")
+    sandbox.expect("a fault of the program", sandbox.call(TOOL, "-D", "--nonsense"), 15, b"", b"aide: usage: ")
+    os.rename(sandbox.program, sandbox.program + ".away")
+    sandbox.stub("aide", TELLS, "libexec/aide-compare")
+    for words in (["-E"], ["-c", "a b", "-D"], ["--config=x", "--compare", "--", "json"], ["-A", "\xe9\n", "--config-check"]):
+        answer = sandbox.call(TOOL, *words)
+        told = "".join("%s\n" % word for word in words).encode()
+        good = answer.status == 5 and answer.output.startswith(told + b"SigIgn:") and not answer.errors
+        sandbox.holds("untouched: %r" % words, good, answer)
+        ignored = int(answer.output.rpartition(b":")[2], 16)
+        sandbox.holds("no signal is ignored", not ignored & SIGPIPE, ignored)
+    sandbox.expect("a subcommand has no such options", sandbox.call(TOOL, "sort", "-E"), 15, b"", b"aide-compare sort: ")
+    os.remove(sandbox.program)
+    sandbox.expect("no program", sandbox.call(TOOL, "-E"), 18, b"", b"cannot find " + sandbox.program.encode())
+    os.rename(sandbox.program + ".away", sandbox.program)
+
+
+def try_version(sandbox):
+    """The program that is run, and what its record says of it, if that is of this program."""
+    with open(sandbox.program, "rb") as file:
+        digest = sha256(file.read())
+    first = b"program: %s\nSHA-256: %s\n" % (sandbox.program.encode(), digest.encode())
+    for record, last in (
+        (None, b"kit: not known\na proved build: not known: there is no record of how it was built\n"),
+        ("sha256=%s\nkit=k 1\nproved=yes\n" % digest, b"kit: k 1\na proved build: yes\n"),
+        ("sha256=%s\nkit=\nproved=no\n" % digest, b"kit: not known\na proved build: no\n"),
+        (
+            "sha256=%s\nkit=k\nproved=yes\n" % sha256(b"x"),
+            b"a proved build: not known: it is not the program that was installed\n",
+        ),
+        ("sha256=%s\nkit=\033\nproved=\033[2J\n" % digest, b"kit: \\033\na proved build: \\033[2J\n"),
+        ("sha256=%s\n%s" % (digest, "proved=yes\n" * 9999), b"a proved build: y"),
+    ):
+        if record is not None:
+            sandbox.write("libexec/aide-compare/aide.build", record)
+        for words in (["version"], ["--version"]):
+            answer = sandbox.call(TOOL, *words)
+            sandbox.expect("the version: %.40r" % record, answer, 0, [b"aide-compare ", first, last], b"")
+    os.remove(sandbox.path("libexec/aide-compare/aide.build"))
+    sandbox.expect("an argument too many", sandbox.call(TOOL, "version", "x"), 15, b"", b"aide-compare version: ")
+
+
+def try_forms(sandbox):
+    """One state in each form. Nagios' is that of the check, whatever name it is called by."""
+    sandbox.call(TOOL, "--state", "state", "old.db", "new.db")
+    line = sandbox.call(TOOL, "status", "--state", "state")
+    sandbox.expect("a line", line, 0, b"differences: status=7 added=1 ", b"")
+    for words in (["--format", "line"], ["--format=line"], ["--format", "json", "--format=line"]):
+        sandbox.expect("a line by %s" % words, sandbox.call(TOOL, "status", *words, "--state", "state"), 0, line.output, b"")
+    found = json.loads(sandbox.call(TOOL, "status", "--format", "json", "--state", "state").output)
+    state = sandbox.state()
+    good = (found["status"], found["added"], found["error"], found["new_sha256"]) == (7, 1, "", sha256(NEW))
+    sandbox.holds("JSON has the values of the state", good and set(state) - {"format", "date"} == set(found), found)
+    answer = sandbox.call(TOOL, "status", "--format", "prometheus", "--state", "state")
+    sandbox.expect("metrics", answer, 0, b"\naide_compare_changed_entries 2\n", b"")
+    for words in (["--state", "state"], ["--state", "none"], ["--odd"], ["--state", "state", "--age", "x"]):
+        check = sandbox.call("check_aide_compare", *words)
+        sandbox.expect(
+            "nagios %s" % words, sandbox.call(TOOL, "status", *words, "--format", "nagios"), check.status, check.output, b""
+        )
+    for words in (["--format", "xml"], ["--format"], ["--format="], ["--format", "json", "x"]):
+        sandbox.expect("the form %s" % words, sandbox.call(TOOL, "status", *words), 15, b"", b"aide-compare")
+    sandbox.expect("no state", sandbox.call(TOOL, "status", "--format", "json", "--state", "none"), 18, b"", b"cannot open")
+    with open("/dev/full", "wb") as full:
+        done = subprocess.run(
+            sandbox.command(TOOL, "status", "--format=json", "--state", "state"), cwd=sandbox.root, stdout=full, stderr=-3
+        )
+    sandbox.holds("a full device", done.returncode == 18, done)
