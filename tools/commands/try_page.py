@@ -1,5 +1,5 @@
 #!/usr/bin/env python3
-"""Tries the page of aide-compare-html in a real browser, a headless Chromium. Run it by hand: the gate has no browser.
+"""Tries the page of aide-compare page in a real browser, a headless Chromium. Run it by hand: the gate has no browser.
 
 It tries the table of views (viewers/views.json), filters, orders, folders, the address, the keyboard, printing, pages
 without scripts, hostile names, and the time that a large page takes. It prints which browser it used. With --pictures it

@@ -27,6 +27,7 @@ from tools.commands.trials.explained import try_explained
 from tools.commands.trials.explained_readers import try_explained_readers
 from tools.commands.trials.fleet import try_fleet
 from tools.commands.trials.floods import try_floods
+from tools.commands.trials.front import try_front
 from tools.commands.trials.hands import try_hands
 from tools.commands.trials.hosts_ends import try_hosts_ends
 from tools.commands.trials.hosts_page import try_hosts_page
@@ -88,6 +89,7 @@ TRIALS = [
     try_reasons_lines,
     try_reasons_packages,
     try_reasons_archive,
+    try_front,
     try_without,
     try_without_random,
     try_explained,

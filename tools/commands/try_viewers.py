@@ -1,5 +1,5 @@
 #!/usr/bin/env python3
-"""Tries aide-compare-json and aide-compare-html: what they say of reports, and what they refuse.
+"""Tries aide-compare json and aide-compare page: what they say of reports, and what they refuse.
 
 The definitions compute from the two databases what the JSON of a report has to say. The seed is printed. The last line is
 'N passed, M failed'.
@@ -97,14 +97,14 @@ def try_program(program, seed, count, tally):
                 with open(os.path.join(folder, name), "wb") as file:
                     file.write(text)
             _, report, _ = run([program, b"-E", b"-c", os.path.join(folder, "conf").encode()])
-        status, output, errors = run([JSON, "--empty"], report)
+        status, output, errors = run([*JSON, "--empty"], report)
         databases, label = [database_of(text) for text in texts], "seed %d, session %d" % (seed, number)
         if status or errors:
             tally.add(label, ["status %d, %r" % (status, errors)])
             continue
         objects = [json.loads(line) for line in output.splitlines()]
         faults = [fault for fields in objects for fault in validator.faults(fields)]
-        status, page_text, errors = run([HTML] + ["--plain"] * (number % 2), output)
+        status, page_text, errors = run([*HTML] + ["--plain"] * (number % 2), output)
         faults += text_faults(objects)
         tally.add(label, faults + faults_of(objects, *databases, texts, settings))
         faults = ["status %d, %r" % (status, errors)] if status or errors else []
@@ -236,28 +236,28 @@ def try_commands(tally):
         file.write(report)
         file.flush()
         trials = [
-            ([JSON], report, 0, b""),
-            ([JSON, file.name], b"", 0, b""),
-            ([JSON, "-"], report, 0, b""),
-            ([JSON], b"", REFUSED, b"line 1: the report is empty"),
-            ([JSON, "--empty"], b"", 0, b""),
-            ([JSON], report[:-1], REFUSED, b"line %d: the report is cut" % report.count(b"\n")),
-            ([JSON], report[: report.index(b"\n") + 1], 0, b""),
-            ([JSON, "--least=summary"], report[: report.index(b"\n") + 1], REFUSED, b"line 1: "),
-            ([JSON, "--least=added_removed_entries"], report, REFUSED, b"line 1: "),
-            ([JSON, "--least=changed_attributes"], report, 0, b""),
-            ([JSON, "--least=all"], report, USAGE, b" --help"),
-            ([JSON, "--other"], report, USAGE, b" --help"),
-            ([JSON, "/nowhere"], report, DEVICE, b"cannot open /nowhere: "),
-            ([JSON, "/"], b"", DEVICE, b"cannot open"),
-            ([HTML], lines, 0, b""),
-            ([HTML, "--plain", "--title", "<b>&\u202e"], lines, 0, b""),
-            ([HTML], b"", REFUSED, b"line 0: "),
-            ([HTML], report, REFUSED, b"line 1: "),
-            ([HTML], lines[:-1], REFUSED, b"line "),
-            ([HTML, "--other"], lines, USAGE, b" --help"),
-            ([HTML], lines + b"\n", REFUSED, b"line "),
-            ([HTML, "/nowhere"], b"", DEVICE, b"cannot open"),
+            ([*JSON], report, 0, b""),
+            ([*JSON, file.name], b"", 0, b""),
+            ([*JSON, "-"], report, 0, b""),
+            ([*JSON], b"", REFUSED, b"line 1: the report is empty"),
+            ([*JSON, "--empty"], b"", 0, b""),
+            ([*JSON], report[:-1], REFUSED, b"line %d: the report is cut" % report.count(b"\n")),
+            ([*JSON], report[: report.index(b"\n") + 1], 0, b""),
+            ([*JSON, "--least=summary"], report[: report.index(b"\n") + 1], REFUSED, b"line 1: "),
+            ([*JSON, "--least=added_removed_entries"], report, REFUSED, b"line 1: "),
+            ([*JSON, "--least=changed_attributes"], report, 0, b""),
+            ([*JSON, "--least=all"], report, USAGE, b" --help"),
+            ([*JSON, "--other"], report, USAGE, b" --help"),
+            ([*JSON, "/nowhere"], report, DEVICE, b"cannot open /nowhere: "),
+            ([*JSON, "/"], b"", DEVICE, b"cannot open"),
+            ([*HTML], lines, 0, b""),
+            ([*HTML, "--plain", "--title", "<b>&\u202e"], lines, 0, b""),
+            ([*HTML], b"", REFUSED, b"line 0: "),
+            ([*HTML], report, REFUSED, b"line 1: "),
+            ([*HTML], lines[:-1], REFUSED, b"line "),
+            ([*HTML, "--other"], lines, USAGE, b" --help"),
+            ([*HTML], lines + b"\n", REFUSED, b"line "),
+            ([*HTML, "/nowhere"], b"", DEVICE, b"cannot open"),
         ]
         for words, text, wanted, beginning in trials:
             status, output, errors = run(words, text)
@@ -270,19 +270,19 @@ def try_commands(tally):
             ):
                 faults.append("%d bytes of output, and the errors %r" % (len(output), errors))
             tally.add("%s %r" % (os.path.basename(words[0]), words[1:]), faults)
-        for words, text in (([JSON], report), ([HTML], lines)):
+        for words, text in (([*JSON], report), ([*HTML], lines)):
             status, _, errors = run(words, text, stdout=full)
             good = status == DEVICE and b"No space left" in errors
             tally.add("full device", [] if good else ["%d, %r" % (status, errors)])
             status, output, _ = run(words + ["--help"])
-            tally.add("help", [] if status == 0 and b"usage: aide-compare-" in output else ["%d, %r" % (status, output)])
+            tally.add("help", [] if status == 0 and b"usage: aide-compare " in output else ["%d, %r" % (status, output)])
             for closed in (">&-", "<&-", ">&- 2>&-"):
-                status, output, errors = run(["sh", "-c", '"$0" ' + closed, words[0]], text)
+                status, output, errors = run(["sh", "-c", '"$0" "$1" ' + closed, *words], text)
                 tally.add(
                     "closed " + closed,
                     [] if status == DEVICE and not output and b"Traceback" not in errors else ["%d, %r" % (status, errors)],
                 )
-        _, output, _ = run([HTML, "--title", "<b>&\u202e"], lines)
+        _, output, _ = run([*HTML, "--title", "<b>&\u202e"], lines)
         tally.add("title", [] if b"<h1>&lt;b&gt;&amp;\\342\\200\\256</h1>" in output else ["it is another"])
 
 
@@ -294,19 +294,19 @@ def try_installed(tally):
             os.path.dirname(os.path.dirname(report_parts.__file__)), modules, ignore=shutil.ignore_patterns("__pycache__")
         )
         files = os.listdir(modules)
-        shutil.copytree(os.path.dirname(JSON), os.path.join(prefix, "bin"))
-        words = [os.path.join(prefix, "bin", os.path.basename(command)) for command in (JSON, HTML)]
+        shutil.copytree(os.path.dirname(JSON[0]), os.path.join(prefix, "bin"))
+        words = [[os.path.join(prefix, "bin", "aide-compare"), word] for word in ("json", "page")]
         report = rich_report({})
-        status, lines, errors = run(words[:1], report)
-        good = lines == run([JSON], report)[1] and not status and not errors
+        status, lines, errors = run(words[0], report)
+        good = lines == run([*JSON], report)[1] and not status and not errors
         tally.add("installed json", [] if good else ["%r" % errors])
-        status, text, errors = run(words[1:], lines)
-        good = text == run([HTML], lines)[1] and not status and not errors
+        status, text, errors = run(words[1], lines)
+        good = text == run([*HTML], lines)[1] and not status and not errors
         tally.add("installed html", [] if good else ["%r" % errors])
         tally.add("nothing is left", [] if os.listdir(modules) == files else ["%r" % os.listdir(modules)])
         shutil.rmtree(modules)
         for command in words:
-            status, output, errors = run([command], report)
+            status, output, errors = run(command, report)
             good = status == DEVICE and not output
             tally.add("without modules", [] if good else ["%d, %r" % (status, errors)])
 

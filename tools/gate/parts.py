@@ -21,13 +21,13 @@ def at_least(number, *words):
 
 
 FILES = [
-    exactly(210, "tools.source.check_edits"),
-    exactly(538, "tools.source.check_docs"),
-    exactly(90, "tools.source.check_layout"),
-    exactly(149, "tools.source.check_layers"),
-    exactly(568, "tools.source.check_tools"),
-    exactly(907, "tools.source.check_planted"),
-    exactly(1828, "tools.wrong_bodies.check"),
+    exactly(207, "tools.source.check_edits"),
+    exactly(530, "tools.source.check_docs"),
+    exactly(84, "tools.source.check_layout"),
+    exactly(152, "tools.source.check_layers"),
+    exactly(563, "tools.source.check_tools"),
+    exactly(919, "tools.source.check_planted"),
+    exactly(1792, "tools.wrong_bodies.check"),
 ]
 
 

@@ -81,6 +81,7 @@ PAGES = [
 ]
 COMMANDS = [
     Row("what the commands promise; attacks, small disks, signals", "commands/try_tools.py", Tool("try_tools"), GATE),
+    Row("aide-compare: subcommands, misspelt ones, what the program gets", "commands/try_tools.py", PART, GATE),
     Row("accept: killed before each call; swapped links", "commands/try_tools.py", "each call; 200 rounds", GATE),
     Row("what --without never leaves out, by kind of entry", "commands/try_tools.py", EACH, GATE),
     Row("random lines that leave out, over damaged databases", "commands/try_tools.py", "4,000 pairs", GATE),
@@ -97,7 +98,7 @@ COMMANDS = [
     Row("bugs planted in definitions and in a manual page", "program/plant.py", Bugs(("oracle", "pages")), HAND),
 ]
 MACHINES = [
-    Row("reasons on 17 pairs of nights, before records were measured", "aide-compare-reasons", "once", by_hand("2026-11-25")),
+    Row("reasons on 17 pairs of nights, before records were measured", "aide-compare reasons", "once", by_hand("2026-11-25")),
     Row("nights of a booted Debian 12: idle, rotation, upgrade, intruder", "the units as shipped", "4", by_hand("2026-11-25")),
     Row("mails by Postfix 3.7, Exim 4.96 and dma; 12,289 changes", "the units as shipped", "once", by_hand("2026-11-25")),
     Row(
@@ -106,7 +107,7 @@ MACHINES = [
         "once each",
         by_hand("2026-11-26"),
     ),
-    Row("rpm 4.18: `rpmbuild`, `rpm --root`; no system of rpm", "aide-compare-run --reasons", "once", by_hand("2026-11-25")),
+    Row("rpm 4.18: `rpmbuild`, `rpm --root`; no system of rpm", "aide-compare --reasons", "once", by_hand("2026-11-25")),
     Row("the rule file for AIDE, by `aide --path-check`", "AIDE 0.18.3", EACH, by_hand("2026-11-25")),
     Row("records kept by a drop-in of dailyaidecheck.service", "the units as shipped", "each night", by_hand("2026-11-26")),
 ]

@@ -21,7 +21,7 @@ from tools.oracle.configuration import LEVELS, OLDER_OPTIONS, OPTIONS, WITHOUT_E
 from tools.oracle.session import CONFIGURATION_WORDS, DATABASE_WORDS
 
 HERE = os.path.dirname(os.path.dirname(os.path.dirname(os.path.abspath(__file__))))
-PAGE = os.path.join(HERE, "man", "aide-compare.1")
+PAGE = os.path.join(HERE, "man", "aide-compare-program.8")
 CONF_PAGE = os.path.join(HERE, "man", "aide-compare.conf.5")
 SLOTS = "YlZbpugamcinHAXSEC"
 # Pages of other programs that the pages name.

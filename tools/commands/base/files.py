@@ -5,6 +5,7 @@ import os
 import stat
 import time
 import zlib
+from unittest import mock
 
 from tools.commands.base.calls import expect, expect_fault, outcome
 
@@ -291,8 +292,8 @@ def _try_small_members(tally, path):
 
 
 def try_programs(tally, folder):
-    def stub(body):
-        path = os.path.join(folder, "stub", "aide-compare")
+    def stub(body, name="aide"):
+        path = os.path.join(folder, "stub", name)
         os.makedirs(os.path.dirname(path), exist_ok=True)
         with open(path, "w") as file:
             file.write("#!/bin/sh\n" + body + "\n")
@@ -301,7 +302,12 @@ def try_programs(tally, folder):
 
     path = stub("echo why >&2; exit 1")
     expect_fault(tally, "a program that does not start", outcome(program.accepts, path), 18, "does not run here: why")
-    expect(tally, "the program beside", outcome(program.find_program, folder + "/stub"), path)
+    for library in ("lib/aide-compare/python", "lib"):
+        with mock.patch.object(program, "__file__", os.path.join(folder, "stub", library, "aide_compare/base/program.py")):
+            expect_fault(tally, "no program for " + library, outcome(program.find_program), 18, "cannot find " + folder)
+            place = stub("exit 0", "libexec/aide-compare/aide")
+            expect(tally, "the program for " + library, outcome(program.find_program), place)
+        os.remove(place)
     output, old, new = files.nameless(folder), files.nameless(folder), files.nameless(folder)
     os.write(old, b"old\n"), os.write(new, b"new\n")
     path = stub('cat /proc/self/fd/3 /proc/self/fd/4; echo "$LC_ALL $1"; exit 5')

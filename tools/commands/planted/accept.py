@@ -1,4 +1,4 @@
-"""Bugs of aide-compare-accept."""
+"""Bugs of aide-compare accept."""
 from .plant import seen_by
 
 ACCEPT, ACCEPTING, BASELINE, FOLDERS, RIGHTS, OPEN, SOUND, UNEXPLAINED = (
@@ -87,7 +87,7 @@ PLANTED = (
     + seen_by("accept_partly.try_unsound", (SOUND, "if ended.status > 7:", "if False:"))
     + seen_by(
         "accept_partly.try_refused",
-        (ACCEPTING, "refuse_unsound(wish.beside, offered.copy, old)", "refuse_unsound(wish.beside, offered.copy)"),
+        (ACCEPTING, "refuse_unsound(offered.copy, old)", "refuse_unsound(offered.copy)"),
         (ACCEPTING, "unused = patterns.unused()", "unused = []"),
         (OPEN, "        sides[NEW].refuse_other_columns(sides[OLD])\n", ""),
     )

@@ -1,4 +1,4 @@
-"""Bugs of reasons in aide-compare-run and in all that reads its result."""
+"""Bugs of reasons in aide-compare and in all that reads its result."""
 from .plant import seen_by
 
 EXPLAINING, BRIEF, WORDS, COUNTS, STATE, RUN, RECORDS, CHECK, MAIL, MESSAGE, WEEKLY, COMPARISON, OUTPUTS, LISTING = (
@@ -28,7 +28,7 @@ PLANTED = (
     )
     + seen_by(
         "others_modules.try_others_modules",
-        ("commands/bin/aide-compare-json", "#!/usr/bin/python3 -IS\n", "#!/usr/bin/python3 -I\n"),
+        ("commands/bin/aide-compare", "#!/usr/bin/python3 -IS\n", "#!/usr/bin/python3 -I\n"),
     )
     + seen_by(
         RUNS % "try_no_reasons",
@@ -130,9 +130,9 @@ PLANTED = (
         READERS % "try_false_counts",
         (
             MESSAGE,
-            '    r"^aide-compare-run: [a-z0-9 ,]+: unexplained=(\\d{1,18}) not_verified=(\\d{1,18}) explained=(\\d{1,18}) "\n'
+            '    r"^aide-compare: [a-z0-9 ,]+: unexplained=(\\d{1,18}) not_verified=(\\d{1,18}) explained=(\\d{1,18}) "\n'
             '    r"high=(\\d{1,18}) medium=(\\d{1,18}) low=(\\d{1,18})(?: explained_[a-z]+=\\d{1,18})*\\n",\n',
-            '    r"aide-compare-run: [a-z0-9 ,]+: unexplained=(\\d{1,18}) not_verified=(\\d{1,18}) explained=(\\d{1,18}) "\n'
+            '    r"aide-compare: [a-z0-9 ,]+: unexplained=(\\d{1,18}) not_verified=(\\d{1,18}) explained=(\\d{1,18}) "\n'
             '    r"high=(\\d{1,18}) medium=(\\d{1,18}) low=(\\d{1,18})",\n',
         ),
     )

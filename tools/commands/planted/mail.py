@@ -1,4 +1,4 @@
-"""Bugs of aide-compare-mail."""
+"""Bugs of aide-compare mail."""
 from .plant import seen_by
 
 MAIL, MESSAGE, SENDING, SMTP, CHILD, QUEUE, WEEKLY = (
@@ -41,8 +41,8 @@ PLANTED = (
         (MESSAGE, '(result.databases["new"][2], shlex', '(result.databases["old"][2], shlex'),
         (
             MAIL,
-            "message_of(given, folder, comparison, result))\n    return 0 if given.alarm_sent_is_success else result.status",
-            "message_of(given, folder, comparison, result))\n    return result.status",
+            "message_of(given, comparison, result))\n    return 0 if given.alarm_sent_is_success else result.status",
+            "message_of(given, comparison, result))\n    return result.status",
         ),
         (MAIL, "    if result.status == Status.USAGE:", "    if False:"),
     )

@@ -1,4 +1,4 @@
-"""Bugs of aide-compare-reasons: each takes away one check of the evidence, so that something forged is believed."""
+"""Bugs of aide-compare reasons: each takes away one check of the evidence, so that something forged is believed."""
 from .plant import seen_by
 
 LIB = "commands/lib/aide_compare/reasons/"

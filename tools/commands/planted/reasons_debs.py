@@ -1,4 +1,4 @@
-"""Bugs of aide-compare-reasons: how packages and what they are packed in are read, and what then is no evidence."""
+"""Bugs of aide-compare reasons: how packages and what they are packed in are read, and what then is no evidence."""
 from .plant import seen_by
 from .reasons import ARCHIVE, DEB, INDEXES, PACKAGES, PACKED
 

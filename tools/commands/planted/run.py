@@ -1,4 +1,4 @@
-"""Bugs of aide-compare-run: the configuration, the program that it runs, the answer, and what it says."""
+"""Bugs of aide-compare: the configuration, the program that it runs, the answer, and what it says."""
 from .plant import seen_by
 
 CONFIGURATION, HINTS, PROGRAM, COMPARISON, RUN, FILES, FOLDERS, UNPACK, TIMES = (
@@ -139,7 +139,7 @@ PLANTED = (
         ),
     )
     + seen_by("attacks.try_few_descriptors", (PROGRAM, "FIRST_FREE = 10", "FIRST_FREE = 100"))
-    + seen_by("attacks.try_little_memory", ("commands/bin/aide-compare-run", "status = 18\n", "status = 1\n"))
+    + seen_by("attacks.try_little_memory", ("commands/bin/aide-compare", "status = 18\n", "status = 1\n"))
     + seen_by(
         "attacks.try_no_process",
         (
@@ -219,7 +219,7 @@ PLANTED = (
     )
     + seen_by(
         "lost_modules.try_lost_modules",
-        ("commands/bin/aide-compare-log", "except BaseException as error:", "except ImportError as error:"),
+        ("commands/bin/aide-compare", "except BaseException as error:", "except ImportError as error:"),
     )
     + seen_by("run.try_state", (COMPARISON, 'zip(("old", "new"), digests_of(', 'zip(("new", "old"), digests_of('))
     + seen_by("without.try_left_out", (COMPARISON, "        if not self.request.without:\n", "        if True:\n"))

@@ -1,4 +1,4 @@
-"""Bugs for aide-compare-sort."""
+"""Bugs for aide-compare sort."""
 from .plant import seen_by
 
 LIB = "commands/lib/aide_compare/"

@@ -1,4 +1,4 @@
-"""Bugs for aide-compare-json and aide-compare-html."""
+"""Bugs for aide-compare json and aide-compare page."""
 from .plant import seen_by
 
 LIB = "commands/lib/aide_compare/"
@@ -201,7 +201,7 @@ PLANTED = (
             "doubtful = False",
         ),
     )
-    + seen_by("viewers.try_installed", ("commands/bin/aide-compare-json", "    sys.dont_write_bytecode = True\n", ""))
+    + seen_by("viewers.try_installed", ("commands/bin/aide-compare", "    sys.dont_write_bytecode = True\n", ""))
     + seen_by(
         "viewers.try_blank_ends",
         (

@@ -2,6 +2,6 @@
 import os
 import sys
 
-COMMANDS = os.path.join(os.path.dirname(os.path.abspath(__file__)), "..", "..", "..", "commands")
-JSON, HTML = (os.path.abspath(os.path.join(COMMANDS, "bin", name)) for name in ("aide-compare-json", "aide-compare-html"))
-sys.path.append(os.path.abspath(os.path.join(COMMANDS, "lib")))
+COMMANDS = os.path.abspath(os.path.join(os.path.dirname(os.path.abspath(__file__)), "..", "..", "..", "commands"))
+JSON, HTML = ((os.path.join(COMMANDS, "bin", "aide-compare"), word) for word in ("json", "page"))
+sys.path.append(os.path.join(COMMANDS, "lib"))

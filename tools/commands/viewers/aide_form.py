@@ -29,7 +29,7 @@ def report(program, pair, level="added_removed_entries", more=""):
 
 def aide_object(text, *words):
     done = subprocess.run(
-        [JSON, "--format", "aide", "--old", "old.db", "--new", "new.db"] + list(words),
+        [*JSON, "--format", "aide", "--old", "old.db", "--new", "new.db"] + list(words),
         input=text,
         stdout=subprocess.PIPE,
         stderr=subprocess.PIPE,

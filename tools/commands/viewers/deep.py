@@ -44,7 +44,7 @@ def many(count):
 
 
 def lines_of(report):
-    return subprocess.run([JSON], input=report, stdout=subprocess.PIPE, check=True).stdout
+    return subprocess.run([*JSON], input=report, stdout=subprocess.PIPE, check=True).stdout
 
 
 def pages_over(report_over_size):
@@ -138,7 +138,7 @@ def try_sizes(tally):
         ("1,000 nested folders", lines_of(nested(1000)), False),
         ("2,200 long entries", long_lines(2200, 9000), True),
     ):
-        for words in ([HTML], [HTML, "--plain"]):
+        for words in ([*HTML], [*HTML, "--plain"]):
             done = subprocess.run(words, input=lines, stdout=subprocess.PIPE, stderr=subprocess.PIPE)
             good = not done.returncode and 1000 < len(done.stdout) <= MOST_BYTES
             tally.add(
@@ -174,11 +174,11 @@ def try_times(tally):
 
     tally.add("a note is text", [] if "<b>" not in cell("1", "<b>", "<b>") + cell("<b>", "1") else ["it is markup"])
     lines = [
-        json.loads(line) for line in subprocess.run([JSON], input=rich_report({}), stdout=subprocess.PIPE).stdout.splitlines()
+        json.loads(line) for line in subprocess.run([*JSON], input=rich_report({}), stdout=subprocess.PIPE).stdout.splitlines()
     ]
     entry = next(fields for fields in lines if "Mtime" in fields.get("attributes", ()))
     for value in ("</noscript><meta http-equiv=refresh>", "2026-11-25T12:00:00Z<b>", "soon", 7, "٢٠٢٦-11-25T12:00:00Z"):
         entry["attributes"]["Mtime"]["new_time"] = value
         text = b"".join(json.dumps(fields).encode() + b"\n" for fields in lines)
-        done = subprocess.run([HTML, "--plain"], input=text, stdout=subprocess.PIPE, stderr=subprocess.PIPE)
+        done = subprocess.run([*HTML, "--plain"], input=text, stdout=subprocess.PIPE, stderr=subprocess.PIPE)
         tally.add("a time %r" % value, [] if done.returncode == 65 and not done.stdout else ["status %d" % done.returncode])

@@ -97,11 +97,11 @@ def try_large(program, count, tally):
             file.write("report_level=added_removed_entries\n")
         for label, words, source, target in (
             ("aide", [program, "-E", "-c", path_in("conf")], "conf", "report"),
-            ("aide-compare-json --no-text", [JSON, "--no-text"], "report", "lines"),
-            ("aide-compare-json --full", [JSON, "--full"], "report", "lines"),
-            ("aide-compare-json", [JSON], "report", "lines"),
-            ("aide-compare-html", [HTML], "lines", "page"),
-            ("aide-compare-html --plain", [HTML, "--plain"], "lines", "plain"),
+            ("aide-compare json --no-text", [*JSON, "--no-text"], "report", "lines"),
+            ("aide-compare json --full", [*JSON, "--full"], "report", "lines"),
+            ("aide-compare json", [*JSON], "report", "lines"),
+            ("aide-compare page", [*HTML], "lines", "page"),
+            ("aide-compare page --plain", [*HTML, "--plain"], "lines", "plain"),
         ):
             status, clock, seconds, megabytes = measured(words, path_in(source), path_in(target))
             size = os.path.getsize(path_in(target)) / 1e6

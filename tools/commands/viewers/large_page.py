@@ -81,7 +81,7 @@ def write_lines(path, count):
 
 def made(source, target, *words):
     """Status, seconds of the processor and megabytes that a page takes, and how many bytes it has."""
-    status, _, seconds, megabytes = measured([HTML, *words], source, target)
+    status, _, seconds, megabytes = measured([*HTML, *words], source, target)
     return status, seconds, megabytes, os.path.getsize(target)
 
 

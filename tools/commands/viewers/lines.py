@@ -24,7 +24,7 @@ def run(words, text=b"", **streams):
 
 
 def objects_of(text, least=None, takes_empty=False):
-    """The objects of a report, as aide-compare-json writes them."""
+    """The objects of a report, as aide-compare json writes them."""
     *rest, summary = read_report(Lines(io.BytesIO(text)))
     judge(summary, least, takes_empty)
     return [{**summary, "lines": 1 + len(rest)}] + rest

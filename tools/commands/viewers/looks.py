@@ -60,7 +60,7 @@ def try_views(tally):
 
 
 def with_reasons(objects, pick):
-    """The objects with severities and reasons, as aide-compare-reasons adds them, some of them with hostile names."""
+    """The objects with severities and reasons, as aide-compare reasons adds them, some of them with hostile names."""
     texts = [escaped(name, 100) for name in pick.sample(NAMES, 5)] + ["openssl 3.0.15-1~deb12u1", "grew, content not verified"]
     counts = dict.fromkeys(("explained", "not_verified", "unexplained", "high", "medium", "low"), 0)
     for fields in objects:
@@ -206,12 +206,12 @@ def try_only(tally):
         ("kind=added,removed", [fields for fields in entries if fields["kind"] != "changed"]),
         ("severity=high&path=ETC", [fields for fields in entries if fields["severity"] == "high" and "etc" in fields["path"]]),
     ):
-        status, output, errors = run([HTML, "--plain", "--only", words], lines)
+        status, output, errors = run([*HTML, "--plain", "--only", words], lines)
         names = [name for _, name in LISTED.findall(output.decode())]
         good = not status and sorted(names) == sorted(fields["path"] for fields in wanted)
         tally.add("only " + words, [] if good else ["status %d, %r, %r" % (status, names, errors)])
         said = "These lists have the %d entr" % len(wanted)
         tally.add("only %s is said" % words, [] if said in output.decode() else ["it is not"])
-    status, output, errors = run([HTML, "--only", "severity=grave"], lines)
+    status, output, errors = run([*HTML, "--only", "severity=grave"], lines)
     good = status == 15 and not output and b"severity=grave" in errors
     tally.add("a filter that is none", [] if good else ["%d %r" % (status, errors)])

@@ -2,22 +2,22 @@
 import json
 import os
 import re
+import shutil
 import socket
 import subprocess
 import tempfile
 
-from . import JSON
+from . import COMMANDS, JSON
 from .aide_form import PAIRS, report
 from .schema import Validator, schema_of_lines
 
-RUN = os.path.join(os.path.dirname(JSON), "aide-compare-run")
 DATE = re.compile("[0-9]{4}-[0-9]{2}-[0-9]{2}T[0-9]{2}:[0-9]{2}:[0-9]{2}Z")
 REFUSED, USAGE, DEVICE = 65, 15, 18
 OCCASION = ["host", "@timestamp", "status", "old_time", "new_time", "old_digest", "new_digest"]
 
 
 def lines(text, *words):
-    done = subprocess.run([JSON] + list(words), input=text, stdout=subprocess.PIPE, stderr=subprocess.PIPE)
+    done = subprocess.run([*JSON] + list(words), input=text, stdout=subprocess.PIPE, stderr=subprocess.PIPE)
     return done.returncode, [json.loads(line) for line in done.stdout.splitlines()], done.stderr
 
 
@@ -26,18 +26,16 @@ def state_of(text):
 
 
 class Kept:
-    """A report of aide-compare-run, and its state file."""
+    """A report of aide-compare, and its state file."""
 
     def __init__(self, program, folder):
         self.path, (self.old, self.new) = os.path.join(folder, "state"), PAIRS["values"]
-        os.symlink(os.fsdecode(program), os.path.join(folder, "aide-compare"))
-        search = folder + os.pathsep + os.environ["PATH"]
-        done = subprocess.run(
-            [RUN, "--state", self.path, self.old, self.new],
-            stdout=subprocess.PIPE,
-            stderr=subprocess.PIPE,
-            env={**os.environ, "PATH": search},
-        )
+        for name in ("bin", "lib"):
+            shutil.copytree(os.path.join(COMMANDS, name), os.path.join(folder, "prefix", name))
+        os.makedirs(os.path.join(folder, "prefix/libexec/aide-compare"))
+        os.symlink(os.fsdecode(program), os.path.join(folder, "prefix/libexec/aide-compare/aide"))
+        words = [os.path.join(folder, "prefix/bin/aide-compare"), "--state", self.path, self.old, self.new]
+        done = subprocess.run(words, stdout=subprocess.PIPE, stderr=subprocess.PIPE)
         self.report = done.stdout
         with open(self.path) as file:
             self.text = file.read()

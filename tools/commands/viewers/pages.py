@@ -1,4 +1,4 @@
-"""Reads a page of aide-compare-html as a browser would, and finds what is wrong with it."""
+"""Reads a page of aide-compare page as a browser would, and finds what is wrong with it."""
 import base64
 import hashlib
 import json

@@ -71,7 +71,7 @@ def demo_report():
 
 
 def reason_of(path):
-    """A reason such as aide-compare-reasons gives."""
+    """A reason such as aide-compare reasons gives."""
     folder = path[1:].rpartition("/")[0]
     if folder == "var/lib/dpkg/info":
         return {"class": "package_made", "text": "made by packages, content not verified", "verified": False, "grade": "dpkg"}
@@ -124,8 +124,8 @@ def hostile_lines():
 
 
 def lines_of(report):
-    return subprocess.run([JSON], input=report, stdout=subprocess.PIPE, check=True).stdout
+    return subprocess.run([*JSON], input=report, stdout=subprocess.PIPE, check=True).stdout
 
 
 def page_of(lines, *words):
-    return subprocess.run([HTML, *words], input=lines, stdout=subprocess.PIPE, check=True).stdout
+    return subprocess.run([*HTML, *words], input=lines, stdout=subprocess.PIPE, check=True).stdout

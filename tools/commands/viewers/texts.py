@@ -1,4 +1,4 @@
-"""The texts for people in the lines of aide-compare-json: computed in another way, and a table of what real tools printed."""
+"""The texts for people in the lines of aide-compare json: computed in another way, and a table of what real tools printed."""
 import contextlib
 import os
 import random

@@ -7,14 +7,14 @@ import io
 import sys
 import tracemalloc
 
-from tools.commands.viewers import HTML  # It puts the modules of the commands in reach.
+from tools.commands.viewers import COMMANDS  # It puts the modules of the commands in reach.
 
 from aide_compare.lines.report_lines import Lines
 from aide_compare.lines.report_parts import read_report
 from aide_compare.show.page import page
 from aide_compare.show.page_lists import FolderLists
 
-OURS = HTML.rsplit("/", 2)[0] + "/lib/aide_compare/"
+OURS = COMMANDS + "/lib/aide_compare/"
 MOST_GROWTH = 1.3
 
 

@@ -56,18 +56,18 @@ def try_code(trial):
         return
     source, prefix = trial.copy("coded"), trial.path("code")
     modules = os.path.join(source, "commands/lib/aide_compare")
-    os.rename(os.path.join(modules, "mail/weekly.py"), trial.path("weekly.py"))
+    os.rename(os.path.join(modules, "mail/queue.py"), trial.path("queue.py"))
     # Its text is edited when it is installed.
     trial.write("coded/commands/lib/aide_compare/show/former.py", "TABLE = '/usr/local/share/aide-compare/severity.conf'\n")
     install(trial, "a first time", source, prefix)
     for change in ("nothing", "two modules"):
         if change == "two modules":
             os.remove(os.path.join(modules, "show/former.py"))
-            os.rename(trial.path("weekly.py"), os.path.join(modules, "mail/weekly.py"))
+            os.rename(trial.path("queue.py"), os.path.join(modules, "mail/queue.py"))
         install(trial, "again, with %s changed" % change, source, prefix)
     tree_of = os.path.join(source, "examples/small_tree")
     words = [tree_of + "/old.db", tree_of + "/new.db"]
-    done = trial.run([PYTHON, "-ISv", os.path.join(prefix, "bin/aide-compare-run"), *words])
+    done = trial.run([PYTHON, "-ISv", os.path.join(prefix, "bin/aide-compare"), *words])
     loaded = re.findall(r"^# code object from '?(\S*?)'?$", done[2], re.M)
     own = [path for path in loaded if "/aide_compare/" in path]
     trial.holds("the tools start from byte code", len(own) > 10 and all(path.endswith(".pyc") for path in own), own)

@@ -1,4 +1,4 @@
-"""Completions: every command has them in every shell, with the options that its help names, and the shells read them."""
+"""Completions: every subcommand has its options in every shell, those that its help names, and the shells read them."""
 import os
 import re
 import shutil
@@ -6,11 +6,12 @@ import shutil
 from tools.oracle.configuration import BOOL_OPTIONS, LEVELS, SET_OPTIONS
 from tools.packaging.installing.trial import HERE, texts, tree
 
-BASH = "share/bash-completion/completions/"
+BASH = "share/bash-completion/completions/aide-compare"
 ZSH = "share/zsh/site-functions/_aide-compare"
-FLEET = "lib/aide-compare/fleet/"
-FISH = "share/fish/vendor_completions.d/"
+FISH = "share/fish/vendor_completions.d/aide-compare.fish"
 REPORT_OPTIONS = ["report_level"] + BOOL_OPTIONS + SET_OPTIONS
+SUBCOMMANDS = ["compare", "json", "page", "reasons", "mail", "accept", "status", "sort", "setup", "version"]
+HOSTS = ["hosts " + word for word in ("fetch", "compare", "compare-one", "accept", "report")]
 
 # bash-completion reads the file inside of a function of its own.
 ASK_BASH = r"""
@@ -42,46 +43,36 @@ print -r -- "$answer"
 """
 
 
-def commands(trial):
-    found = tree(trial.path("first/usr/local"))
-    return sorted(path for path in found if re.match(r"(bin|lib/nagios/plugins|lib/aide-compare/fleet)/.", path))
-
-
-def zsh_file(path):
-    """The file with the completions of zsh for a command. Those for many hosts have one of their own."""
-    return ZSH + "-fleet" if path.startswith(FLEET) else ZSH
-
-
-def is_comparison(name):
-    """Whether a command takes arguments for the program after --."""
-    return name in ("aide-compare-run", "aide-compare-mail")
-
-
-def options(trial, path):
-    """The options that a command's help has; the program has no help, its page has them. aide-compare-mail takes those of
-    aide-compare-run too."""
-    if path == "bin/aide-compare":
-        with open(os.path.join(HERE, "man", "aide-compare.1")) as file:
-            found = re.findall(r"^\.It Fl (\w)(?: Ar \w+)? , Fl -([\w-]+)", file.read(), re.M)
-        return ["-" + short for short, _ in found] + ["--" + long for _, long in found]
-    text = help_of(trial, path)[0]
+def options(trial, words):
+    """The options that the help of a subcommand has; aide-compare mail takes those of a comparison too."""
+    text = help_of(trial, words)[0]
     found = {"--help"} | named_in(text)
     for line in re.findall(r"^usage: .*(?:\n {4,}.*)*", text, re.M):
         found |= set(re.findall(r"[\[(| ](--?[A-Za-z][\w-]*)", line))
-    if "ARGUMENTS of aide-compare-run" in text:
-        found |= set(options(trial, "bin/aide-compare-run"))
+    if words == "mail":
+        found |= set(options(trial, "compare"))
+    if words == "status":
+        for form in ("nagios", "prometheus"):
+            found |= named_in(help_of(trial, "status --format " + form)[0])
     return sorted(found - {"-h"})
+
+
+def options_of_program():
+    """The program has no help; its page has its options."""
+    with open(os.path.join(HERE, "man", "aide-compare-program.8")) as file:
+        found = re.findall(r"^\.It Fl (\w)(?: Ar \w+)? , Fl -([\w-]+)", file.read(), re.M)
+    return ["-" + short for short, _ in found] + ["--" + long for _, long in found]
 
 
 def options_after(trial):
     """The options after --, which are for the program. Before it the commands refuse them."""
-    return sorted(named_in(help_of(trial, "bin/aide-compare-run")[1]))
+    return sorted(named_in(help_of(trial, "compare")[1]))
 
 
-def help_of(trial, path):
-    """A command's help, in two parts: its own options, and those after --."""
-    text = trial.run([trial.path("first/usr/local", path), "--help"])[1]
-    own, _, after = text.partition("\nafter --, for aide-compare:\n")
+def help_of(trial, words):
+    """The help of a subcommand, in two parts: its own options, and those after --."""
+    text = trial.run([trial.path("first/usr/local/bin/aide-compare"), *words.split(), "--help"])[1]
+    own, _, after = text.partition("\nafter --, for the program:\n")
     return own, after
 
 
@@ -94,30 +85,26 @@ def named_in(text):
 
 
 def try_files(trial):
-    """Each command has its file for bash and fish, and its name in that of zsh."""
+    """Each subcommand has its options in the files of zsh and fish, and the first line for zsh names the commands."""
     found = texts(tree(trial.path("first/usr/local")))
-    for path in commands(trial):
-        name, zsh = os.path.basename(path), found[zsh_file(path)]
-        named = zsh.split("\n")[0].split()
-        trial.holds("the first line for zsh", named[0] == "#compdef", named)
-        trial.holds("a completion of bash for " + name, BASH + name in found)
-        trial.holds("a completion of fish for " + name, FISH + name + ".fish" in found)
-        trial.holds("a completion of zsh for " + name, name in named)
-        wanted = options(trial, path) + (options_after(trial) if is_comparison(name) else [])
-        trial.holds("options of " + name, len(wanted) > 0, wanted)
-        fish = found.get(FISH + name + ".fish", "")
+    zsh, fish = found[ZSH], found[FISH]
+    named = zsh.split("\n")[0].split()
+    trial.holds("the first line for zsh", named == ["#compdef", "aide-compare", "check_aide_compare"], named)
+    for words in SUBCOMMANDS + HOSTS:
+        wanted = options(trial, words)
+        case = re.search(r"^    '%s'\)\n(.*?);;$" % words, zsh, re.M | re.S)
+        trial.holds("zsh knows " + words, case)
         for option in wanted:
-            form = r"-l %s(?![\w-])" % option[2:] if option.startswith("--") else r"-s %s\b" % option[1:]
-            form += r"|-a '(?:[^']* )?%s[ ']" % option
-            trial.holds("%s %s in fish" % (name, option), re.search(form, fish))
-            # A star says that an option may be given again.
-            trial.holds("%s %s in zsh" % (name, option), re.search(r"[{,'(*)]%s(?![\w-])" % option, zsh))
+            form = "-l %s " % option[2:] if option.startswith("--") else "-s %s " % option[1:]
+            line = "complete -c aide-compare -n '__fish_aide_compare_is %s' %s" % (words, form)
+            trial.holds("%s %s in fish" % (words, option), line in fish)
+            trial.holds("%s %s in zsh" % (words, option), case and re.search(r"'\*%s[=+[]" % option, case.group(1)))
 
 
-def ask_bash(trial, name, *words):
-    path = trial.path("first/usr/local", BASH + name)
-    status, output, errors = trial.run(["bash", "--norc", "-c", ASK_BASH, "bash", path, name, *words], cwd=trial.source)
-    trial.holds("bash completes " + " ".join([name, *words]), (status, errors) == (0, ""), (status, errors))
+def ask_bash(trial, *words):
+    path = trial.path("first/usr/local", BASH)
+    status, output, errors = trial.run(["bash", "--norc", "-c", ASK_BASH, "bash", path, *words], cwd=trial.source)
+    trial.holds("bash completes " + " ".join(words), (status, errors) == (0, ""), (status, errors))
     return output.split()
 
 
@@ -125,38 +112,41 @@ def try_bash(trial):
     if not shutil.which("bash"):
         trial.skip("completions of bash: it is not installed")
         return
-    for path in commands(trial):
-        name = os.path.basename(path)
-        wanted = options(trial, path)
-        given = ask_bash(trial, name, "-")
+    for words in SUBCOMMANDS + HOSTS:
+        wanted, given = options(trial, words), ask_bash(trial, "aide-compare", *words.split(), "-")
         for option in wanted:
-            trial.holds("bash offers %s %s" % (name, option), option in given, given)
+            trial.holds("bash offers %s %s" % (words, option), option in given, given)
         for option in given:
-            trial.holds("%s has the option %s that bash offers" % (name, option), option in wanted + ["--"], wanted)
-        if is_comparison(name):
-            given = ask_bash(trial, name, "--state", "x", "--", "-")
-            trial.holds("bash offers what %s takes after --" % name, sorted(given) == options_after(trial) != [], given)
+            trial.holds("%s has the option %s that bash offers" % (words, option), option in wanted + ["--"], wanted)
+        if words in ("compare", "mail"):
+            given = ask_bash(trial, "aide-compare", words, "--state", "x", "--", "-")
+            trial.holds("bash offers what %s takes after --" % words, sorted(given) == options_after(trial) != [], given)
+    wanted, given = sorted(options_of_program()), sorted(ask_bash(trial, "aide-compare", "-E", "-"))
+    trial.holds("bash offers the options of the program", given == wanted, (given, wanted))
+    given = ask_bash(trial, "aide-compare", "s")
+    trial.holds("bash offers subcommands", {"status", "sort", "setup"} <= set(given), given)
     for words, wanted in (
         (["aide-compare", "-E", "-A", "report_"], [name + "=" for name in REPORT_OPTIONS]),
         (["aide-compare", "-E", "-A", "report_level", "="], LEVELS),
         (["aide-compare", "-E", "-A", "report_level", "=", "su"], ["summary"]),
         (["aide-compare", "-E", "-A", "report_l"], ["report_level="]),
         (["aide-compare", "-E", "--after", "=", "report_l"], ["report_level="]),
-        (["aide-compare", "-B", "report_quiet", "=", "y"], ["yes"]),
-        (["aide-compare", "-E", ""], []),
+        (["aide-compare", "-D", "-B", "report_quiet", "=", "y"], ["yes"]),
+        (["aide-compare", "hosts", ""], [words[6:] for words in HOSTS]),
+        (["aide-compare", "json", "--format", ""], ["aide", "lines"]),
         (["aide-compare", "-c", "VERS"], ["VERSION"]),
         (["aide-compare", "--config", "=", "VERS"], ["VERSION"]),
-        (["aide-compare-run", "--without", "VERS"], ["VERSION"]),
-        (["aide-compare-run", "--without-path", "VERS"], []),
-        (["aide-compare-mail", "--queue", "pack"], ["packaging"]),
-        (["aide-compare-mail", "--queue", "VERS"], []),
-        (["aide-compare-mail", "--", "-A", "report_l"], ["report_level="]),
-        (["aide-compare-sort", "VERS"], ["VERSION"]),
-        (["report-hosts", "--order", ""], ["common", "path", "rare"]),
-        (["report-hosts", "--store", "pack"], ["packaging"]),
-        (["compare-hosts", "VERS"], ["VERSION"]),
+        (["aide-compare", "--without", "VERS"], ["VERSION"]),
+        (["aide-compare", "--without-path", "VERS"], []),
+        (["aide-compare", "mail", "--queue", "pack"], ["packaging"]),
+        (["aide-compare", "mail", "--queue", "VERS"], []),
+        (["aide-compare", "mail", "--", "-A", "report_l"], ["report_level="]),
+        (["aide-compare", "sort", "VERS"], ["VERSION"]),
+        (["aide-compare", "hosts", "report", "--order", ""], ["common", "path", "rare"]),
+        (["aide-compare", "hosts", "report", "--store", "pack"], ["packaging"]),
+        (["aide-compare", "hosts", "compare", "VERS"], ["VERSION"]),
     ):
-        given = ask_bash(trial, words[0], *words[1:])
+        given = ask_bash(trial, *words)
         trial.holds("bash completes " + " ".join(words), sorted(given) == sorted(wanted), given)
 
 
@@ -171,13 +161,13 @@ def try_zsh(trial):
     for line, wanted in (
         ("aide-compare --config-c", "aide-compare --config-check"),
         ("aide-compare -E -A report_level=su", "report_level=summary"),
-        ("aide-compare-run --without-", "aide-compare-run --without-path"),
-        ("aide-compare-run --without=VERS", "--without=VERSION"),
-        ("aide-compare-mail --most-r", "aide-compare-mail --most-report"),
-        ("aide-compare-mail -- --aft", "aide-compare-mail -- --after="),
-        ("aide-compare-sort --h", "aide-compare-sort --help"),
-        ("aide-compare-sort VERS", "aide-compare-sort VERSION"),
-        ("report-hosts --order=ra", "report-hosts --order=rare"),
+        ("aide-compare --without-", "aide-compare --without-path"),
+        ("aide-compare --without=VERS", "--without=VERSION"),
+        ("aide-compare mail --most-r", "aide-compare mail --most-report"),
+        ("aide-compare mail -- --aft", "aide-compare mail -- --after="),
+        ("aide-compare sort --h", "aide-compare sort --help"),
+        ("aide-compare sort VERS", "aide-compare sort VERSION"),
+        ("aide-compare hosts report --order=ra", "aide-compare hosts report --order=rare"),
     ):
         done = trial.run(["zsh", "-f", "-c", ASK_ZSH, "zsh", folder, line], cwd=trial.source, timeout=60)
         trial.holds("zsh completes " + line, done[0] == 0 and wanted in done[1].replace("\r", ""), done)
@@ -193,22 +183,24 @@ def try_fish(trial):
         os.environ,
         HOME=home,
         XDG_DATA_DIRS=trial.path("first/usr/local/share"),
-        PATH=":".join([trial.path("first/usr/local", "bin"), trial.path("first/usr/local", FLEET), os.environ["PATH"]]),
+        PATH=":".join([trial.path("first/usr/local", "bin"), os.environ["PATH"]]),
     )
     for line, wanted in (
         ("aide-compare --config-c", ["--config-check"]),
-        ("aide-compare -A report_level=su", ["report_level=summary"]),
-        ("aide-compare-sort --h", ["--help"]),
-        ("aide-compare-sort VERS", ["VERSION"]),
-        ("aide-compare-run --without-", ["--without-path"]),
-        ("aide-compare-mail --most-r", ["--most-report"]),
-        ("aide-compare-mail -- --aft", ["--after"]),
-        ("report-hosts --order ra", ["rare"]),
-        ("aide-compare ", []),
+        ("aide-compare -E -A report_level=su", ["report_level=summary"]),
+        ("aide-compare sort --h", ["--help"]),
+        ("aide-compare sort VERS", ["VERSION"]),
+        ("aide-compare --without-", ["--without-path"]),
+        ("aide-compare mail --most-r", ["--most-report"]),
+        ("aide-compare mail -- --aft", ["--after"]),
+        ("aide-compare hosts report --order ra", ["rare"]),
+        ("aide-compare hosts fe", ["fetch"]),
     ):
         done = trial.run(["fish", "-c", "complete -C '%s'" % line], cwd=trial.source, env=surroundings, timeout=60)
         given = [one.split("\t")[0] for one in done[1].splitlines()]
         trial.holds("fish completes " + line, done[0] == 0 and given == wanted, done)
-    done = trial.run(["fish", "-c", "complete -C 'aide-compare -A report_'"], cwd=trial.source, env=surroundings, timeout=60)
+    done = trial.run(
+        ["fish", "-c", "complete -C 'aide-compare -E -A report_'"], cwd=trial.source, env=surroundings, timeout=60
+    )
     named = {one.split("=")[0] for one in done[1].splitlines()}
     trial.holds("fish names the options of the report", named == set(REPORT_OPTIONS), named)

@@ -32,15 +32,15 @@ def try_texts(trial, folder):
     mode = os.stat(os.path.join(folder, RULES)).st_mode & 0o777
     trial.holds("the mode of the rules for AIDE", mode == 0o644, oct(mode))
     readme = found.get(documents + "README.Debian", "")
-    commands = re.findall(r"^    (aide-compare-run .*(?:\n {8}.*)*)", readme, re.M)
+    commands = re.findall(r"^    (aide-compare /.*(?:\n {8}.*)*)", readme, re.M)
     trial.holds("a first answer in README.Debian", len(commands) == 1, commands)
     for command in commands:
-        here = command.replace("/usr/", folder + "/usr/").replace("aide-compare-run", folder + "/usr/bin/aide-compare-run")
+        here = command.replace("/usr/", folder + "/usr/").replace("aide-compare", folder + "/usr/bin/aide-compare", 1)
         done = trial.run(["sh", "-c", here])
         said = re.findall(r"ends with status (\d+)", readme)
         trial.holds("the first answer", [str(done[0])] == said and done[1].startswith("AIDE found differences"), done)
     for name in re.findall(r"/(?:usr|etc)/[\w./-]*\w", readme):
-        # What the administrator or aide-compare-setup makes for this machine is in no package.
+        # What the administrator or aide-compare setup makes for this machine is in no package.
         if not name.startswith(("/etc/systemd/system/", "/etc/aide-compare/defaults")):
             trial.holds("what README.Debian names: " + name, os.path.exists(folder + name))
 

@@ -173,7 +173,11 @@ def try_debian(trial, path, time):
     for name, text in texts(found).items():
         # A table of severities names the administrator's own libraries, wherever the commands are.
         named = re.findall(r"/usr/local/(?:bin/a|lib/|share/)[\w./-]*", text)
-        named = [path for path in named if not (name.endswith("/severity.conf") and path == "/usr/local/lib/")]
+        named = [
+            path
+            for path in named
+            if not (name.endswith("/severity.conf") and path in ("/usr/local/lib/", "/usr/local/share/ca-certificates/"))
+        ]
         trial.holds("no /usr/local in " + name, not named, named)
         trial.holds("the interpreter of " + name, not text.startswith("#!/usr/bin/env python3") or "/examples/" in name)
     documents = "usr/share/doc/aide-compare/"
@@ -185,7 +189,7 @@ def try_debian(trial, path, time):
     ]
     lost = [(name, link) for name, link in links if documents + link not in kept]
     trial.holds("the documents of the package link to what it has", len(links) > 5 and not lost, lost)
-    page = gzip.decompress(kept["usr/share/man/man1/aide-compare.1.gz"]).decode()
+    page = gzip.decompress(kept["usr/share/man/man8/aide-compare-program.8.gz"]).decode()
     trial.holds("a page of the package", ".Os aide-compare " + trial.version in page and "/usr/local" not in page)
     log = gzip.decompress(kept["usr/share/doc/aide-compare/changelog.Debian.gz"]).decode()
     trial.holds("changelog.Debian.gz", log.startswith("aide-compare (%s-1) " % trial.version), log)

@@ -10,12 +10,12 @@ MANIFEST = "lib/aide-compare/installed"
 # What has to be there whatever the repository's folders hold.
 KNOWN = [
     "bin/aide-compare",
-    "bin/aide-compare-sort",
+    "libexec/aide-compare/aide",
     "lib/systemd/system/aide-compare.service",
     "lib/systemd/system/aide-compare.timer",
     "lib/systemd/system/aide-compare-mail.service",
     "lib/systemd/system/aide-compare-failed.service",
-    "share/man/man1/aide-compare.1",
+    "share/man/man8/aide-compare-program.8",
     "share/man/man1/aide-compare-sort.1",
     "share/man/man5/aide-compare.conf.5",
     "share/bash-completion/completions/aide-compare",
@@ -37,15 +37,18 @@ FOLDERS = {
     "commands/bin": "bin",
     "commands/share": "share/aide-compare",
     "commands/nagios": "lib/nagios/plugins",
-    "commands/fleet": "lib/aide-compare/fleet",
     "contrib/systemd": "lib/systemd/system",
-    "contrib/completions/bash": "share/bash-completion/completions",
-    "contrib/completions/zsh": "share/zsh/site-functions",
-    "contrib/completions/fish": "share/fish/vendor_completions.d",
     "docs": DOCUMENTS,
     "examples/small_tree": DOCUMENTS + "/examples/small_tree",
 }
 
+# What packaging/install makes.
+MADE = {
+    "libexec/aide-compare/aide.build": 0o644,
+    "share/bash-completion/completions/aide-compare": 0o644,
+    "share/zsh/site-functions/_aide-compare": 0o644,
+    "share/fish/vendor_completions.d/aide-compare.fish": 0o644,
+}
 FOR_USERS = ("DIFFERENCES.md", "HOSTS.md", "MONITORING.md", "PROVED.md", "RECIPES.md")
 
 
@@ -67,7 +70,7 @@ def target_of(path):
 
 def wanted_modes(source):
     """The permissions of each file that is to be installed, by its path below the prefix."""
-    wanted = {"bin/aide-compare": 0o755, MANIFEST: 0o644}
+    wanted = {"libexec/aide-compare/aide": 0o755, MANIFEST: 0o644, **MADE}
     for path, (mode, _) in files(tree(source)).items():
         mode = 0o755 if mode & 0o100 else 0o644
         target = target_of(path)
@@ -93,7 +96,7 @@ def try_targets(trial):
         if data is None:
             trial.holds("the mode of the folder " + path, mode == 0o755, show(mode))
     with open(trial.program, "rb") as file:
-        trial.holds("the program is installed as it is", found[prefix + "bin/aide-compare"][1] == file.read())
+        trial.holds("the program is installed as it is", found[prefix + "libexec/aide-compare/aide"][1] == file.read())
     for target, mode in sorted(wanted.items()):
         if mode == 0o755 and target.startswith("bin/"):
             trial.holds("the name of the command " + target, target[4:].startswith("aide-compare"))
@@ -130,7 +133,7 @@ def try_again(trial):
     trial.install("--destdir", folder, "--program", trial.program, source=source)
     trial.holds("a further file of contrib is installed", os.path.exists(target))
     before = tree(folder)
-    running = open(os.path.join(folder, "usr/local/bin/aide-compare"), "rb")
+    running = open(os.path.join(folder, "usr/local/libexec/aide-compare/aide"), "rb")
     done = trial.install("--destdir", folder, "--program", trial.program, source=source)
     trial.holds("a second run changes nothing", done[0] == 0 and tree(folder) == before, done)
     with running:
@@ -211,7 +214,7 @@ def try_refusals(trial):
         done = trial.install("--destdir", shut, env=trial.plain(), **rights())
         trial.holds("the same before the program is built", done[0] == 1 and "cannot write below" in done[2], done)
     blocked = trial.path("blocked")
-    os.makedirs(os.path.join(blocked, "usr/local/bin/aide-compare-sort"))
+    os.makedirs(os.path.join(blocked, "usr/local/bin/aide-compare"))
     before = tree(blocked)
     done = trial.install("--destdir", blocked, "--program", trial.program)
     trial.holds("a folder in the way", done[0] == 1 and "is in the way" in done[2] and tree(blocked) == before, done)
@@ -262,7 +265,7 @@ def try_build(trial):
             os.utime(built, (1, 1))
         done = trial.install(*words, source=source, env=surroundings)
         with open(calls) as file:
-            lines = file.read().splitlines()
+            lines = [line for line in file.read().splitlines() if " run " in line]
         trial.holds(name, done[0] == 0 and len(lines) == wanted, (done, lines))
         trial.holds(
             "it says how long it takes: " + name,
@@ -270,7 +273,7 @@ def try_build(trial):
             done,
         )
     trial.holds("how rt is called", lines[-1] == os.path.dirname(os.path.dirname(code)) + " run -- -D -c /dev/null", lines)
-    with open(trial.path("built/usr/local/bin/aide-compare"), "rb") as one, open(trial.program, "rb") as two:
+    with open(trial.path("built/usr/local/libexec/aide-compare/aide"), "rb") as one, open(trial.program, "rb") as two:
         trial.holds("what was built is installed", one.read() == two.read())
     os.remove(built)
     script = os.path.join(source, "packaging", "make_package")

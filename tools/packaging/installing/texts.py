@@ -1,9 +1,11 @@
 """What is installed works, and its pages, documents, units and files for cron name what is installed."""
+import hashlib
 import os
 import pwd
 import re
 import shutil
 
+from tools.packaging.installing.completions import HOSTS, SUBCOMMANDS
 from tools.packaging.installing.targets import DOCUMENTS
 from tools.packaging.installing.trial import HERE, texts, tree
 
@@ -20,22 +22,33 @@ def try_programs(trial):
     words = ["-E", "-c", os.path.join(HERE, "examples", "aide.conf"), "-B", "@@define DIR %s/examples" % HERE]
     done = trial.run([os.path.join(folder, "aide-compare"), *words])
     trial.holds("the installed program", done[0] == 7 and done[1].startswith("AIDE found differences"), done)
-    for name in sorted(os.listdir(folder)):
-        if name != "aide-compare":
-            done = trial.run([os.path.join(folder, name), "--help"])
-            good = done[0] == 0 and done[2] == "" and "usage: " + name in done[1]
-            trial.holds(name + " --help", good, done)
+    command = os.path.join(folder, "aide-compare")
+    trial.holds("one command", os.listdir(folder) == ["aide-compare"], os.listdir(folder))
+    for words in SUBCOMMANDS + HOSTS:
+        done = trial.run([command, *words.split(), "--help"])
+        good = done[0] == 0 and done[2] == "" and "usage: aide-compare" in done[1]
+        trial.holds(words + " --help", good, done)
+    try_version_of(trial, command)
     database = trial.write("mixed.db", "@@begin_db\n@@db_spec name attr\n/b 0\n/a-b 0\n/a/b 0\n@@end_db\n")
-    done = trial.run([os.path.join(folder, "aide-compare-sort"), database])
+    done = trial.run([command, "sort", database])
     wanted = "@@begin_db\n@@db_spec name attr\n/a/b 0\n/a-b 0\n/b 0\n@@end_db\n"
-    trial.holds("aide-compare-sort", done[:2] == (0, wanted) and "moved" in done[2], done)
-    done = trial.run(["sh", "-c", 'gzip -c "$1" | "$2"', "sh", database, os.path.join(folder, "aide-compare-sort")])
-    trial.holds("aide-compare-sort of gzip", done[:2] == (0, wanted), done)
+    trial.holds("aide-compare sort", done[:2] == (0, wanted) and "moved" in done[2], done)
+    done = trial.run(["sh", "-c", 'gzip -c "$1" | "$2" sort', "sh", database, command])
+    trial.holds("aide-compare sort of gzip", done[:2] == (0, wanted), done)
     trial.write("twice.db", "@@begin_db\n@@db_spec name attr\n/a\\ 0\n/a\\ 0\n@@end_db\n")
-    done = trial.run([os.path.join(folder, "aide-compare-sort"), trial.path("twice.db")])
+    done = trial.run([command, "sort", trial.path("twice.db")])
     trial.holds(
-        "a path that stands twice", done[0] == 24 and done[2].endswith("aide-compare-sort: stands twice: /a\\134\n"), done
+        "a path that stands twice", done[0] == 24 and done[2].endswith("aide-compare sort: stands twice: /a\\134\n"), done
     )
+
+
+def try_version_of(trial, command):
+    """The version says which program is run. It is not known to be proved: it was named by --program."""
+    with open(trial.program, "rb") as file:
+        digest = hashlib.sha256(file.read()).hexdigest()
+    done = trial.run([command, "--version"])
+    good = done[0] == 0 and done[1].startswith("aide-compare %s\n" % trial.version) and "\nSHA-256: %s\n" % digest in done[1]
+    trial.holds("the version", good and done[1].endswith("a proved build: not known: it was named by --program\n"), done)
 
 
 def try_pages(trial):
@@ -99,7 +112,7 @@ def try_units(trial):
         "ExecStart",
         start
         == [
-            "/usr/local/bin/aide-compare-mail --alarm-sent-is-success --queue /var/lib/aide-compare/daily/mail --age 50h "
+            "/usr/local/bin/aide-compare mail --alarm-sent-is-success --queue /var/lib/aide-compare/daily/mail --age 50h "
             "--state /var/lib/aide-compare/daily/state --reasons"
         ],
         start,
@@ -115,7 +128,7 @@ def try_units(trial):
     copy = trial.write("units/aide-compare.service", service.replace(start[0], "/bin/true"))
     for name in ("aide-compare.timer", "aide-compare-mail.service", "aide-compare-failed.service"):
         with open(os.path.join(folder, name)) as file:
-            trial.write("units/" + name, file.read().replace("/usr/local/bin/aide-compare-mail", "/bin/true"))
+            trial.write("units/" + name, file.read().replace("/usr/local/bin/aide-compare", "/bin/true"))
     done = trial.run(["systemd-analyze", "security", "--offline=true", "--threshold=10", copy])
     trial.holds("the service is exposed by 1.0 at most", done[0] == 0, done[1][-80:])
     done = trial.run(
@@ -137,18 +150,18 @@ def try_cron(trial):
         text = file.read().replace("/var/lib/", trial.path("lib/"))
     with open(daily, "w") as file:
         file.write(text)
-    tool = os.path.join(folder, "bin", "aide-compare-mail")
+    tool = os.path.join(folder, "bin", "aide-compare")
     called = trial.path("called")
     for status in (0, 5, 18, None):
         if status is None:
             os.remove(tool)
         else:
-            trial.write("jobs/bin/aide-compare-mail", '#!/bin/sh\necho "$0 $*" >> "%s"\nexit %d\n' % (called, status), 0o755)
+            trial.write("jobs/bin/aide-compare", '#!/bin/sh\necho "$0 $*" >> "%s"\nexit %d\n' % (called, status), 0o755)
         done = trial.run([daily])
         trial.holds("cron.daily, the tool's status %s" % status, done == (status or 0, "", ""), done)
     with open(called) as file:
         lines = file.read().splitlines()
-    wanted = "%s --user %s --alarm-sent-is-success --age 50h --state %s --reasons" % (
+    wanted = "%s mail --user %s --alarm-sent-is-success --age 50h --state %s --reasons" % (
         tool,
         pwd.getpwuid(os.geteuid()).pw_name,
         trial.path("lib/aide-compare/daily/state"),
@@ -183,8 +196,12 @@ def try_unproved(trial):
     program = shutil.copy(trial.program, trial.path("aide-unproved"))
     done = trial.install("--destdir", trial.path("unproved"), "--program", program)
     trial.holds("an unproved program is installed", done[0] == 0, done)
-    done = trial.run([trial.path("unproved/usr/local/bin/aide-compare-run"), "--version"])
-    trial.holds("the version says so", done[:2] == (0, "aide-compare-run %s, unproved\n" % trial.version), done)
+    done = trial.run([trial.path("unproved/usr/local/bin/aide-compare"), "--version"])
+    trial.holds(
+        "the version says so",
+        done[0] == 0 and done[1].startswith("aide-compare %s, unproved\n" % trial.version) and done[1].endswith(": no\n"),
+        done,
+    )
     script = os.path.join(trial.source, "packaging", "make_package")
     done = trial.run(["sh", script, "--output", trial.path("packed"), "--program", program])
     trial.holds("it is not packed", done[0] == 1 and "is not proved" in done[2], done)

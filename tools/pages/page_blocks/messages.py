@@ -6,14 +6,14 @@ import re
 from .pages import HERE, manual_pages, plain, read
 
 # Their messages are made to happen by tools/pages/try_manual.py.
-TRIED = ["man/aide-compare.1", "man/aide-compare.conf.5"]
+TRIED = ["man/aide-compare-program.8", "man/aide-compare.conf.5", "man/aide-compare.1"]
 # What stands for any text in a message.
 ANY = re.compile(r"\b[A-Z]+\b|\b\d+\b|\.\.\.")
 
 
 def messages(page):
     """The messages that are entries of a list, such as those under DIAGNOSTICS, and the word that begins each line."""
-    found = re.findall(r'^\.It Li "(.*)"$|^\.Ql (aide-compare-.*:.*) \.$', read(page), re.M)
+    found = re.findall(r'^\.It Li "(.*)"$|^\.Ql (aide-compare.*:.*) \.$', read(page), re.M)
     return [plain(entry or word) for entry, word in found]
 
 
@@ -23,13 +23,21 @@ PROSE = re.compile(r'''^\s*""".*?"""$|<<'TEXT'\n.*?^TEXT$|^\s*#.*?$''', re.M | r
 JOINT = re.compile(r"""(['"])\s*\n\s*[bf]?\1""")
 
 
-def source(page):
-    """The text of the tool that a page is about, and of its modules."""
+def commands_of(page):
+    """The words of each command that a page is about."""
+    front, check = (os.path.join(HERE, "commands", name) for name in ("bin/aide-compare", "nagios/check_aide_compare"))
     name = os.path.basename(page).rpartition(".")[0]
-    files = [glob.glob(os.path.join(HERE, "commands", folder, name)) for folder in ("bin", "nagios", "fleet")]
-    if any("aide_compare" in read(os.path.relpath(path, HERE)) for some in files for path in some):
-        files.append(glob.glob(os.path.join(HERE, "commands/lib/aide_compare/*/*.py")))
-    return "".join(JOINT.sub("", PROSE.sub("", read(os.path.relpath(path, HERE)))) for some in files for path in some)
+    if name == "check_aide_compare":
+        return [[check]]
+    if name == "aide-compare-hosts":
+        return [[front, "hosts", word] for word in ("fetch", "compare", "compare-one", "accept")]
+    return [[front, *name.split("-", 3)[2:]]]
+
+
+def source(page):
+    """The text of the modules, if there is a command that a page is about."""
+    files = glob.glob(os.path.join(HERE, "commands/lib/aide_compare/*/*.py")) if commands_of(page) else []
+    return "".join(JOINT.sub("", PROSE.sub("", read(os.path.relpath(path, HERE)))) for path in files)
 
 
 def try_messages(holds):

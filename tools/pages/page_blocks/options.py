@@ -1,27 +1,18 @@
 """The options that the commands list in their `--help` are those of their manual pages."""
-import glob
-import os
 import re
 import subprocess
 
-from .messages import TRIED
-from .pages import HERE, manual_pages, read
+from .messages import TRIED, commands_of
+from .pages import manual_pages, read
 
 # Both begin a line of `--help` with an option: one of the command, and after some names a short one.
 LISTED = re.compile(r"^ {1,8}(?:-\w(?: \w+)?, )?(--[a-z][a-z0-9-]*)", re.M)
 NAMED = re.compile(r"\bFl (-[a-z][a-z0-9-]*)")
 
 
-def commands_of(page):
-    """The commands that a page is about, by the names in its first section."""
-    names = re.search(r"^\.Sh NAME\n((?:\.Nm .*\n)+)", read(page), re.M).group(1)
-    for name in re.findall(r"\.Nm (\S+)", names):
-        yield from glob.glob(os.path.join(HERE, "commands", "*", name))
-
-
 def listed_by(command):
     """The options that a command lists."""
-    done = subprocess.run([command, "--help"], stdin=subprocess.DEVNULL, stdout=subprocess.PIPE, stderr=subprocess.STDOUT)
+    done = subprocess.run([*command, "--help"], stdin=subprocess.DEVNULL, stdout=subprocess.PIPE, stderr=subprocess.STDOUT)
     return set(LISTED.findall(done.stdout.decode("utf-8", "replace")))
 
 
@@ -33,6 +24,6 @@ def try_options(holds):
         listed = set()
         for command in commands_of(page):
             mine = listed_by(command)
-            holds("%s: --help of %s lists options" % (page, os.path.basename(command)), len(mine) > 1, mine)
+            holds("%s: --help of %s lists options" % (page, command[1:]), len(mine) > 1, mine)
             listed |= mine
         holds("%s: the page has the options of --help" % page, listed <= named, sorted(listed - named))

@@ -6,9 +6,7 @@ import re
 HERE = os.path.dirname(os.path.dirname(os.path.dirname(os.path.dirname(os.path.abspath(__file__)))))
 MARKDOWN = ["README.md", "examples/README.md"]
 # A span of code is a command if it begins with one of these and has an argument.
-COMMANDS = re.compile(
-    r"(aide-compare[\w-]*|check_aide_compare|(compare|fetch|accept)-hosts?|dpkg|man|(?:tools|packaging)/\w+|sh|rt) "
-)
+COMMANDS = re.compile(r"(aide-compare|check_aide_compare|dpkg|man|(?:tools|packaging)/\w+|sh|rt) ")
 INDENT = "    "
 ESCAPES = [("\\&", ""), ("\\e", "\\"), ("\\-", "-"), ("\\(aq", "'"), ("\\(dq", '"')]
 

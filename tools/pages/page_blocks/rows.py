@@ -5,9 +5,9 @@ import re
 from . import expectations
 from .pages import HERE
 
-README, EXAMPLES, RUN, MAIN = "README.md", "examples/README.md", "man/aide-compare-run.1", "man/aide-compare.1"
-CONF, HOSTS = "man/aide-compare.conf.5", "man/compare-hosts.1"
-JSON, REPORT = "man/aide-compare-json.1", "man/report-hosts.1"
+README, EXAMPLES, RUN, MAIN = "README.md", "examples/README.md", "man/aide-compare-compare.1", "man/aide-compare-program.8"
+FRONT, CONF, HOSTS = "man/aide-compare.1", "man/aide-compare.conf.5", "man/aide-compare-hosts.1"
+JSON, REPORT = "man/aide-compare-json.1", "man/aide-compare-hosts-report.1"
 
 
 class Row:
@@ -103,6 +103,21 @@ LEVELS = [
     "added_removed_entries",
 ]
 ROWS = [
+    Commands(FRONT, "What differs between two databases, plain or compressed by gzip:", [7], expectations.has_summary),
+    Commands(FRONT, "The same, with what packages, logs and rules explain, and as a page:", [7, 0], expectations.is_page),
+    Elsewhere(
+        FRONT,
+        "A comparison each day on this machine, with a mail:",
+        "it sets up the whole machine",
+        "tools/commands/trials/setup.py",
+    ),
+    Commands(
+        FRONT,
+        "The result of the last comparison:",
+        [0],
+        expectations.prints("differences: "),
+        prepare=expectations.compare,
+    ),
     Commands(
         "man/aide-compare-accept.1",
         "Accept by the digest in a report or in a mail:",
@@ -124,7 +139,7 @@ ROWS = [
         expectations.prints("packages: dpkg's records of now are kept as "),
         prepare=expectations.put_examples,
     ),
-    Commands("man/aide-compare-html.1", "A page of the differences between two databases:", [0], expectations.has_page),
+    Commands("man/aide-compare-page.1", "A page of the differences between two databases:", [0], expectations.has_page),
     Commands(
         "man/aide-compare-reasons.1",
         "The changes that nothing explains, on the host itself:",
@@ -133,7 +148,7 @@ ROWS = [
         prepare=expectations.put_records,
         needs="jq",
     ),
-    Commands("man/aide-compare-html.1", "Lists for mail, of what was added or removed:", [0], expectations.has_lists),
+    Commands("man/aide-compare-page.1", "Lists for mail, of what was added or removed:", [0], expectations.has_lists),
     Commands(JSON, "The paths of all entries that were added:", [0], expectations.prints("/a\n"), needs="jq"),
     Commands(JSON, "Where, when and what, for an event that has to stand alone:", [0], expectations.has_events, needs="jq"),
     Commands(
@@ -145,7 +160,9 @@ ROWS = [
         given="/tmp/lines.json",
         needs="jq",
     ),
-    Commands("man/aide-compare-log.1", "EXAMPLES", [0], expectations.is_logged, prepare=expectations.compare),
+    Commands(
+        "man/aide-compare-status.1", "A line for the system log:", [0], expectations.is_logged, prepare=expectations.compare
+    ),
     Commands(
         "man/aide-compare-mail.1",
         "Compare the databases that AIDE's configuration names. ...",
@@ -164,10 +181,10 @@ ROWS = [
         [7],
         expectations.is_mailed("root", False),
     ),
-    Commands("man/aide-compare-metrics.1", "Write the metrics after each comparison:", [7, 0], expectations.has_metrics),
-    Shown("man/aide-compare-metrics.1", "Rules for alarms, in a file of rules for Prometheus. ...", expectations.try_alarms),
+    Commands("man/aide-compare-status.1", "Write the metrics after each comparison:", [7, 0], expectations.has_metrics),
+    Shown("man/aide-compare-status.1", "Rules for alarms, in a file of rules for Prometheus. ...", expectations.try_alarms),
     Shown(
-        "man/aide-compare-metrics.1", "A rule that is silent if every change is explained. ...", expectations.try_quiet_alarm
+        "man/aide-compare-status.1", "A rule that is silent if every change is explained. ...", expectations.try_quiet_alarm
     ),
     Commands(RUN, "Compare two files:", [7], expectations.has_summary),
     Commands(
@@ -215,7 +232,7 @@ ROWS = [
     Commands(
         MAIN, "Do not do this. A pipe cannot be read twice, ...", [18], expectations.is_refused("changed while it was read")
     ),
-    Shown(CONF, "The configuration of aide-compare 1 ...", expectations.is_configuration([])),
+    Shown(CONF, "The configuration of aide-compare-program 8 ...", expectations.is_configuration([])),
     Shown(CONF, "A database is plain text, ...", expectations.is_database),
     Shown(CONF, "Report only changes of owners, modes and contents, ...", expectations.try_owners_and_modes),
     Shown(CONF, "One file for all hosts. ...", expectations.is_configuration(["--before=@@define HOST www"])),
@@ -269,15 +286,15 @@ ROWS = [
     FirstAnswer(README, "AIDE, the Advanced Intrusion Detection Environment, ...", [7], expectations.is_first_answer),
     Shown(README, "`rt` builds the program first, ...", expectations.is_shortened_report),
     Commands(README, "With the installed commands, ...", [7], expectations.begins("AIDE found differences between ")),
-    Shown(README, "On a Debian with `aide-compare-setup`, ...", expectations.is_first_mail),
-    Commands(
-        README, "aide-compare-run OLD NEW | aide-compare-json | aide-compare-html > page.html", [0], expectations.has_page
-    ),
+    Shown(README, "On a Debian with `aide-compare setup`, ...", expectations.is_first_mail),
+    Commands(README, "aide-compare --help", [0], expectations.prints("usage: aide-compare ")),
+    Commands(README, "aide-compare --version", [0], expectations.prints("aide-compare ")),
+    Commands(README, "aide-compare OLD NEW | aide-compare json | aide-compare page > page.html", [0], expectations.has_page),
     Commands(
         README,
-        "man aide-compare-run",
+        "man aide-compare",
         [0],
-        expectations.prints("AIDE-COMPARE-RUN(1)"),
+        expectations.prints("AIDE-COMPARE(1)"),
         prepare=expectations.set_pages,
         needs="man",
     ),
@@ -320,6 +337,7 @@ ROWS = [
         "tools/commands/trials/setup.py",
         expectations.is_package,
     ),
+    Elsewhere(README, "aide-compare setup", "it sets up the whole machine", "tools/commands/trials/setup.py"),
     Elsewhere(
         README,
         "No package is published. ...",

@@ -2,8 +2,7 @@
 import os
 import re
 
-from .hosts import HOSTS, NEW, OLD, STORE, lines_of, put_host, put_stub
-from .trial import FLEET
+from .hosts import HOSTS, NEW, OLD, STORE, lines_of, put_host, put_stub, tool
 
 EXAMPLES = "/usr/local/share/doc/aide-compare/examples/fleet"
 WANTED = {"same": "0", "other": "7", "forged": "24", "cut": "24", "one-more": "0", "down": "18"}
@@ -31,7 +30,7 @@ def try_slurm(trial):
     got = {host: line[0] for host, line in found.items()}
     trial.holds("Slurm: three jobs", got == WANTED and statuses == [18, 24, 24], (statuses, got))
     words = [word for store in stores for word in ("--store", trial.path(store))]
-    output = trial.run([trial.path(FLEET + "/report-hosts"), *words, trial.path(HOSTS)])[1]
+    output = trial.run([*tool(trial, "aide-compare hosts report"), *words, trial.path(HOSTS)])[1]
     trial.holds("Slurm: the report of three stores", "on 6 hosts: 1 differ, 3 not compared, 2 without" in output, output[:300])
 
 
@@ -67,7 +66,7 @@ def try_kubernetes(trial):
 
 
 def try_keys(trial):
-    """The forced command sends what fetch-host asks for: the new database, not the baseline."""
+    """The forced command sends what aide-compare hosts fetch asks for: the new database, not the baseline."""
     keys = trial.read(EXAMPLES + "/authorized_keys")
     line = [line for line in keys.splitlines() if not line.startswith("#")]
     wanted = trial.below('command="cat /var/lib/aide/aide.db.new"')

@@ -7,7 +7,7 @@ import time
 
 from .hosts import HOSTS, STORE, digest_in, lines_of, put_stub
 from .said import introduction
-from .trial import FLEET, NOBODY
+from .trial import NOBODY
 from .watched import PASSED_OVER, STORED, Watched
 
 STATE = STORE + "/daily/state"
@@ -224,7 +224,7 @@ def play(trial, page, watched):
 
 def digest_in_mail(trial, page, mail):
     """The digest in the command of a mail, which is the command of the recipe."""
-    found = re.search(r"^    aide-compare-accept --sha256 ([0-9a-f]{64}) .*$", mail, re.M)
+    found = re.search(r"^    aide-compare accept --sha256 ([0-9a-f]{64}) .*$", mail, re.M)
     digest = found.group(1) if found else "0" * 64
     command = trial.below(page.text("accept")).replace("DIGEST", digest)
     trial.holds("the mail has the command that accepts", found and found.group(0).strip() == command.strip(), mail[:1500])
@@ -251,7 +251,7 @@ def accept(trial, page, counts, yesterday, today):
     trial.holds("the first 16 digits of today's mail are enough", done[0] == 0 and same, done)
     trial.holds("accepting prints the counts", ": added %d, removed %d, changed %d\n" % counts in done[1], done)
     trial.holds("the former baseline is kept", open(baseline + ".previous", "rb").read() == before)
-    done = trial.shell("accept-host --sha256 %s www" % ("0" * 64))
+    done = trial.shell("aide-compare hosts accept --sha256 %s www" % ("0" * 64))
     trial.holds("a wrong digest is refused for a host", done[0] == 24, done)
     os.environ["DIGEST"] = digest_in(trial.read(STORE + "/states/www"))
     done = page.run("accept host")
@@ -316,4 +316,3 @@ def check_privacy(trial):
     trial.holds("nothing is left in temporary folders", not left, left)
     done = trial.run(["cat", trial.path(STATE)], rights=NOBODY)
     trial.holds("everyone may read the state", done[0] == 0 and done[1].startswith("format=2\n"), done)
-    trial.holds("the scripts for many hosts are installed", os.access(trial.path(FLEET + "/compare-hosts"), os.X_OK))

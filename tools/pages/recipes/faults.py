@@ -120,7 +120,7 @@ def has_private_file(trial, process):
 def try_killed(trial):
     """A run that is killed while it reads a pipe: the state before it stays, and nothing is left in the temporary folder."""
     put(trial, OLD, OLD)
-    words = ["aide-compare-run", "--state", trial.path(STATE)]
+    words = ["aide-compare", "--state", trial.path(STATE)]
     trial.holds("a whole run", trial.run(words)[0] == 0)
     before = trial.read(STATE)
     for number in (signal.SIGTERM, signal.SIGINT, signal.SIGHUP, signal.SIGKILL):
@@ -139,7 +139,7 @@ def try_accept_killed(trial):
     texts = [gzip.compress(large(number).encode()) for number in (1, 2)]
     put(trial, *texts)
     write_state(trial, "the state before accepting")
-    words = ["aide-compare-accept", "--sha256", digest_of(trial.path(NEWEST)), trial.path(NEWEST), trial.path(BASELINE)]
+    words = ["aide-compare", "accept", "--sha256", digest_of(trial.path(NEWEST)), trial.path(NEWEST), trial.path(BASELINE)]
     seen = set()
     for number in range(12):
         put(trial, *texts)
@@ -155,7 +155,7 @@ def try_accept_killed(trial):
 
 def try_twice(trial):
     put(trial, large(1), large(2))
-    words = ["aide-compare-run", "--state", trial.path(STATE)]
+    words = ["aide-compare", "--state", trial.path(STATE)]
     runs = [trial.start(words) for _ in range(4)]
     answers = {(run.communicate()[0], run.returncode) for run in runs}
     trial.holds("four runs at once: one answer", len(answers) == 1 and answers.pop()[1] == 4)
@@ -169,11 +169,11 @@ def try_names(trial):
         trial.write("%s/%s" % (folder, name), text)
     old, new = (trial.path("%s/%s" % (folder, name)) for name in ("old $(x) 'é'.db", "-new ü.db"))
     state = trial.path(folder + "/a state")
-    done = trial.run(["aide-compare-run", "--state", state, old, new])
+    done = trial.run(["aide-compare", "--state", state, old, new])
     good = done[0] == 7 and ": /a é\n" in done[1] and done[2] == introduction(trial, old, new)
     trial.holds("names with blanks and é", good, done)
-    trial.holds("they are accepted too", trial.run(["aide-compare-accept", "--sha256", digest_of(new), new, old])[0] == 0)
-    trial.holds("and then quiet", trial.run(["aide-compare-run", old, new])[0] == 0)
+    trial.holds("they are accepted too", trial.run(["aide-compare", "accept", "--sha256", digest_of(new), new, old])[0] == 0)
+    trial.holds("and then quiet", trial.run(["aide-compare", old, new])[0] == 0)
 
 
 def try_faults(trial, page, with_packages):

@@ -5,7 +5,7 @@ import re
 import signal
 import time
 
-from .trial import FLEET, NOBODY, wait_until
+from .trial import NOBODY, wait_until
 
 HEAD = "@@begin_db\n@@db_spec name attr perm size\n"
 OLD = HEAD + "/b 36 40755 4096\n/c 36 100644 10\n@@end_db\n"
@@ -63,7 +63,9 @@ def put_host(trial, name, text, baseline=OLD):
 
 
 def tool(trial, name):
-    return trial.path("%s/%s" % (FLEET, name))
+    """The words of a command."""
+    command, *words = name.split(" ")
+    return [trial.path("/usr/local/bin/" + command), *words]
 
 
 def put_hosts(trial):
@@ -78,7 +80,7 @@ def put_hosts(trial):
 
 
 def lines_of(output):
-    """The lines of compare-hosts by host, and its summary."""
+    """The lines of aide-compare hosts compare by host, and its summary."""
     *lines, summary = output.split("\n")[:-1] or [""]
     return {line.split(" ", 2)[0]: tuple(line.split(" ", 2)[1:]) for line in lines}, summary
 
@@ -99,7 +101,7 @@ def check_lines(trial, name, done):
 
 
 def try_lines(trial):
-    words = [tool(trial, "compare-hosts"), "--most", "50000", "--most-unpacked", "100000"]
+    words = [*tool(trial, "aide-compare hosts compare"), "--most", "50000", "--most-unpacked", "100000"]
     check_lines(trial, "all hosts", trial.run(words + ["--jobs", "4", trial.path(HOSTS)]))
     parts = [trial.run(words + ["--share", "%d/3" % part, trial.path(HOSTS)]) for part in (1, 2, 3)]
     lines = [lines_of(done[1])[0] for done in parts]
@@ -123,14 +125,14 @@ def asked(trial, page, name, words):
     """Runs a block of the page, or the same words as long as the page has none."""
     if ("try", name) in page.blocks:
         return page.run(name)
-    return trial.run([tool(trial, words[0])] + words[1:] + [trial.path(HOSTS)])
+    return trial.run(tool(trial, words[0]) + words[1:] + [trial.path(HOSTS)])
 
 
 def try_report(trial, page):
     """What differs on all hosts at once: each change once, and one mail."""
-    done = asked(trial, page, "report hosts", ["report-hosts"])
+    done = asked(trial, page, "report hosts", ["aide-compare", "hosts", "report"])
     first = "aide on %d hosts: 2 differ, %d not compared, 2 without differences\n" % (len(WANTED), len(WANTED) - 4)
-    trial.holds("report-hosts: how many", done[0] == 24 and done[1].startswith(first), done)
+    trial.holds("aide-compare hosts report: how many", done[0] == 24 and done[1].startswith(first), done)
     parts = [
         "added on 2 of %d hosts: File /a é\n    on other, user@other.example-1\n    Size 5, Perm 0644" % len(WANTED),
         "changed on 2 of %d hosts: File /c\n" % len(WANTED),
@@ -139,9 +141,9 @@ def try_report(trial, page):
         "\n  a b: the name of a host",
     ]
     for part in parts:
-        trial.holds("report-hosts: %r" % part, part in done[1], done[1])
+        trial.holds("aide-compare hosts report: %r" % part, part in done[1], done[1])
     trial.stub("sendmail", 'cat > "%s/mail"' % trial.path("/tmp"))
-    done = asked(trial, page, "mail hosts", ["report-hosts", "--to", "root"])
+    done = asked(trial, page, "mail hosts", ["aide-compare", "hosts", "report", "--to", "root"])
     got = trial.read("/tmp/mail")
     good = done[0] == 24 and "\nSubject: aide on %d hosts: 2 differ, %d not compared\n" % (len(WANTED), len(WANTED) - 4) in got
     trial.holds("one mail for all hosts", good and parts[0] in got, (done, got[:500]))
@@ -150,7 +152,7 @@ def try_report(trial, page):
 def try_check(trial):
     """A host that differed is UNKNOWN as soon as it cannot be fetched, and critical again when it can."""
     put_host(trial, "turns", NEW)
-    words = [tool(trial, "compare-hosts"), "--one", "turns"]
+    words = [*tool(trial, "aide-compare hosts compare"), "--one", "turns"]
     check = [trial.path("/usr/local/lib/nagios/plugins/check_aide_compare"), "--state", trial.path(STORE + "/states/turns")]
     trial.holds("a host that differs is critical", trial.run(words)[0] == 7 and trial.run(check)[0] == 2, trial.run(check))
     os.rename(trial.path("/remote/turns"), trial.path("/remote/away"))
@@ -165,13 +167,13 @@ def try_check(trial):
 def try_slow(trial):
     put_host(trial, "slow", OLD)
     trial.write("/tmp/slow", "slow\n")
-    done = trial.run([tool(trial, "compare-hosts"), "--time", "1", trial.path("/tmp/slow")])
+    done = trial.run([*tool(trial, "aide-compare hosts compare"), "--time", "1", trial.path("/tmp/slow")])
     trial.holds("a host that is too slow", done[0] == 18 and "had not sent all of it after 1 seconds" in done[1], done)
 
 
 def try_quiet(trial):
     trial.write("/tmp/quiet", "same\n")
-    words = [tool(trial, "compare-hosts"), "--quiet", "--jobs", "2"]
+    words = [*tool(trial, "aide-compare hosts compare"), "--quiet", "--jobs", "2"]
     done = trial.run(words + [trial.path("/tmp/quiet")])
     trial.holds("--quiet says nothing if there is nothing", done == (0, "", ""), done)
     trial.write("/tmp/quiet", "same\nother\n")
@@ -191,30 +193,33 @@ def digest_in(state):
 
 def try_first(trial):
     """A first baseline, then one that came after the report was read, a wrong digest, and the right one."""
-    accept, fetch, compare = (tool(trial, name) for name in ("accept-host", "fetch-host", "compare-host"))
+    accept, fetch, compare = (
+        tool(trial, name)
+        for name in ("aide-compare hosts accept", "aide-compare hosts fetch", "aide-compare hosts compare-one")
+    )
     put_host(trial, "new-one", OLD, None)
-    trial.holds("a first database is fetched", trial.run([fetch, "new-one"])[0] == 0)
-    done = trial.run([accept, "--first", "new-one"])
+    trial.holds("a first database is fetched", trial.run([*fetch, "new-one"])[0] == 0)
+    done = trial.run([*accept, "--first", "new-one"])
     trial.holds("a first database is accepted", done[0] == 0 and "SHA-256 " in done[1], done)
-    done = trial.run([accept, "--first", "new-one"])
+    done = trial.run([*accept, "--first", "new-one"])
     trial.holds("--first is refused when there is a baseline", done[0] == 24 and "already" in done[2], done)
-    trial.holds("the first database is the baseline", trial.run([compare, "new-one"])[0] == 0)
+    trial.holds("the first database is the baseline", trial.run([*compare, "new-one"])[0] == 0)
     put_host(trial, "new-one", NEW, None)
-    trial.holds("then it differs", [trial.run([each, "new-one"])[0] for each in (fetch, compare)] == [0, 7])
+    trial.holds("then it differs", [trial.run([*each, "new-one"])[0] for each in (fetch, compare)] == [0, 7])
     read = digest_in(trial.read(STORE + "/states/new-one"))
     put_host(trial, "new-one", LATER, None)
-    trial.holds("a later database is fetched", trial.run([fetch, "new-one"])[0] == 0)
-    trial.holds("nothing is accepted without a digest", trial.run([accept, "new-one"])[0] == 15)
-    done = trial.run([accept, "--sha256", read, "new-one"])
+    trial.holds("a later database is fetched", trial.run([*fetch, "new-one"])[0] == 0)
+    trial.holds("nothing is accepted without a digest", trial.run([*accept, "new-one"])[0] == 15)
+    done = trial.run([*accept, "--sha256", read, "new-one"])
     trial.holds("a database that came after the report is refused", done[0] == 24 and done[2], done)
-    done = trial.run([accept, "--sha256", "0" * 64, "new-one"])
+    done = trial.run([*accept, "--sha256", "0" * 64, "new-one"])
     trial.holds("a wrong digest is refused", done[0] == 24 and read not in done[1], done)
     trial.holds("a refused database is not the baseline", trial.read(STORE + "/hosts/new-one/aide.db") == OLD)
-    trial.holds("the later one is compared", trial.run([compare, "new-one"])[0] == 7)
+    trial.holds("the later one is compared", trial.run([*compare, "new-one"])[0] == 7)
     read = digest_in(trial.read(STORE + "/states/new-one"))
-    done = trial.run([accept, "--sha256", read, "new-one"])
+    done = trial.run([*accept, "--sha256", read, "new-one"])
     trial.holds("the database that was compared is accepted", done[0] == 0, done)
-    trial.holds("then there are no differences", trial.run([compare, "new-one"])[0] == 0)
+    trial.holds("then there are no differences", trial.run([*compare, "new-one"])[0] == 0)
     trial.holds("the former baseline is kept", trial.read(STORE + "/hosts/new-one/aide.db.previous") == OLD)
 
 
@@ -222,7 +227,7 @@ def try_stale(trial):
     """A host whose AIDE does not run any more sends the same bytes for ever."""
     put_host(trial, "stale", OLD)
     kept = trial.path(STORE + "/hosts/stale/aide.db.new")
-    words = [tool(trial, "fetch-host"), "stale"], [tool(trial, "compare-host"), "stale"]
+    words = [*tool(trial, "aide-compare hosts fetch"), "stale"], [*tool(trial, "aide-compare hosts compare-one"), "stale"]
     trial.holds("a fresh database", [trial.run(each)[0] for each in words] == [0, 0])
     os.utime(kept, (time.time() - 51 * 3600,) * 2)
     got = [trial.run(each) for each in words]
@@ -241,7 +246,7 @@ def try_killed(trial):
     trial.stub("ssh", wait % (trial.root, began, began))
     for number in (signal.SIGTERM, signal.SIGKILL):
         before = trial.read(STORE + "/hosts/same/aide.db.new")
-        process = trial.start([tool(trial, "fetch-host"), "same"])
+        process = trial.start([*tool(trial, "aide-compare hosts fetch"), "same"])
         trial.holds("a fetch has begun", wait_until(lambda: os.path.exists(began)))
         process.send_signal(number)
         process.wait()
@@ -250,7 +255,7 @@ def try_killed(trial):
         trial.holds("a killed fetch, signal %d" % number, process.returncode != 0, process.returncode)
         trial.holds("a killed fetch leaves the former database", trial.read(STORE + "/hosts/same/aide.db.new") == before)
     put_stub(trial)
-    done = trial.run([tool(trial, "fetch-host"), "same"])
+    done = trial.run([*tool(trial, "aide-compare hosts fetch"), "same"])
     left = [name for name in os.listdir(folder) if name.startswith("part.")]
     trial.holds("the fetch after a killed one clears up", done[0] == 0 and not left, (done, left))
 
@@ -258,7 +263,7 @@ def try_killed(trial):
 def try_twice(trial):
     """Two runs over the same hosts at once: each has its lines, and the databases are whole."""
     trial.write("/tmp/twice", "same\nother\nzipped\n")
-    words = [tool(trial, "compare-hosts"), "--jobs", "3", trial.path("/tmp/twice")]
+    words = [*tool(trial, "aide-compare hosts compare"), "--jobs", "3", trial.path("/tmp/twice")]
     runs = [trial.start(words) for _ in range(3)]
     for run in runs:
         output = run.communicate()[0].decode()
@@ -276,7 +281,7 @@ def try_place(trial):
     store = trial.path("/tmp/the store é")
     trial.write("/tmp/one", "other\n")
     trial.write("/tmp/the store é/hosts/other/aide.db", OLD, 0o600)
-    done = trial.run([tool(trial, "compare-hosts"), "--store", store, trial.path("/tmp/one")])
+    done = trial.run([*tool(trial, "aide-compare hosts compare"), "--store", store, trial.path("/tmp/one")])
     trial.holds("a store with a blank and an é", done[0] == 7 and "added 1, removed 1, changed 1" in done[1], done)
     trial.write("/remote/other/aide.db.new", NEW + "x" * 3000000)
 
@@ -286,7 +291,7 @@ def try_place(trial):
         signal.signal(signal.SIGXFSZ, signal.SIG_IGN)
         resource.setrlimit(resource.RLIMIT_FSIZE, (1000000, 1000000))
 
-    done = trial.run([tool(trial, "fetch-host"), "--store", store, "other"], limits=full)
+    done = trial.run([*tool(trial, "aide-compare hosts fetch"), "--store", store, "other"], limits=full)
     trial.holds("no room for what a host sends", done[0] == 18 and "not written" in done[2], done)
     trial.holds("the former database is still there", trial.read("/tmp/the store é/hosts/other/aide.db.new") == NEW)
     left = [name for name in os.listdir(store + "/hosts/other") if name.startswith("part.")]
@@ -296,31 +301,39 @@ def try_place(trial):
 def try_options(trial):
     """A configuration, and arguments for aide-compare."""
     put_host(trial, "other", NEW)
-    trial.holds("a host for options", trial.run([tool(trial, "fetch-host"), "other"])[0] == 0)
+    trial.holds("a host for options", trial.run([*tool(trial, "aide-compare hosts fetch"), "other"])[0] == 0)
     conf = trial.write("/tmp/one line.conf", "report_level=minimal\n")
-    compare = tool(trial, "compare-host")
+    compare = tool(trial, "aide-compare hosts compare-one")
     for words in (["other", "--", "-A", "report_level=minimal"], ["--conf", conf, "other"], ["--conf", conf, "other", "--"]):
-        done = trial.run([compare] + words)
+        done = trial.run(compare + words)
         trial.holds(
-            "compare-host with options", done[0] == 7 and done[1].count("\n") == 1 and "to accept it" in done[2], (words, done)
+            "aide-compare hosts compare-one with options",
+            done[0] == 7 and done[1].count("\n") == 1 and "to accept it" in done[2],
+            (words, done),
         )
-    done = trial.run([compare, "other", "same"])
-    trial.holds("compare-host with two hosts", done[0] == 15 and done[2], done)
+    done = trial.run([*compare, "other", "same"])
+    trial.holds("aide-compare hosts compare-one with two hosts", done[0] == 15 and done[2], done)
 
 
 def try_words(trial):
     """Arguments that are wrong end with 15 and a line, and --help says what there is."""
-    for name in ("fetch-host", "compare-host", "accept-host", "compare-hosts", "report-hosts"):
-        done = trial.run([tool(trial, name), "--help"])
+    for name in (
+        "aide-compare hosts fetch",
+        "aide-compare hosts compare-one",
+        "aide-compare hosts accept",
+        "aide-compare hosts compare",
+        "aide-compare hosts report",
+    ):
+        done = trial.run([*tool(trial, name), "--help"])
         trial.holds(name + " --help", done[0] == 0 and done[1].startswith("usage: " + name) and not done[2], done)
         for words in ([], ["--nope", "x"], ["--store"], ["a", "b"]):
-            done = trial.run([tool(trial, name)] + words)
+            done = trial.run(tool(trial, name) + words)
             trial.holds(
                 name + " with wrong words", done[0] == 15 and done[2].startswith(name + ": ") and not done[1], (words, done)
             )
     for words in (["--jobs", "0"], ["--jobs", "x"], ["--share", "3/2"], ["--share", "2"], ["--same-for", "31d"]):
-        done = trial.run([tool(trial, "compare-hosts")] + words + [trial.path("/tmp/one")])
-        trial.holds("compare-hosts with wrong numbers", done[0] == 15, (words, done))
+        done = trial.run(tool(trial, "aide-compare hosts compare") + words + [trial.path("/tmp/one")])
+        trial.holds("aide-compare hosts compare with wrong numbers", done[0] == 15, (words, done))
 
 
 def try_hosts(trial, page, with_packages):

@@ -7,7 +7,6 @@ set -u
 umask 022
 cd /
 here=$1 program=$2 folder=$3
-fleet=/usr/local/lib/aide-compare/fleet
 state=/var/lib/aide-compare/daily/state
 mails=/var/tmp/mails
 
@@ -179,18 +178,18 @@ try_ssh() {
     /usr/sbin/sshd -D -p 2222 -o ListenAddress=127.0.0.1 -o PermitRootLogin=forced-commands-only -o UsePAM=no \
         > "$folder/sshd" 2>&1 &
     printf 'Host www\n  HostName 127.0.0.1\n  Port 2222\nHost down\n  HostName 127.0.0.1\n  Port 2223\n' > /root/.ssh/config
-    check 'an unknown host key is refused' ends_with 18 "$fleet/fetch-host" www
+    check 'an unknown host key is refused' ends_with 18 aide-compare hosts fetch www
     wait_for 20 ssh-keyscan -p 2222 127.0.0.1
     ssh-keyscan -p 2222 127.0.0.1 > /root/.ssh/known_hosts 2> /dev/null
-    check 'fetch-host by ssh' ends_with 0 "$fleet/fetch-host" www
+    check 'aide-compare hosts fetch by ssh' ends_with 0 aide-compare hosts fetch www
     check 'it has fetched aide.db.new' cmp /var/lib/aide/aide.db.new /var/lib/aide-compare/hosts/www/aide.db.new
     ssh -n -o BatchMode=yes www 'id; cat /etc/shadow' > "$folder/forced" 2> /dev/null
     check 'the key reads nothing else' cmp /var/lib/aide/aide.db.new "$folder/forced"
     cp /var/lib/aide/aide.db /var/lib/aide-compare/hosts/www/aide.db
     mkdir -p /etc/aide-compare /var/log/aide-compare
     printf 'www\ndown\n' > /etc/aide-compare/hosts
-    check 'compare-hosts by ssh' ends_with 18 "$fleet/compare-hosts" /etc/aide-compare/hosts
-    "$fleet/compare-hosts" --quiet /etc/aide-compare/hosts > "$folder/lines"
+    check 'aide-compare hosts compare by ssh' ends_with 18 aide-compare hosts compare /etc/aide-compare/hosts
+    aide-compare hosts compare --quiet /etc/aide-compare/hosts > "$folder/lines"
     check 'the line of a host' grep -qx 'www 7 added 1, removed 1, changed 1' "$folder/lines"
     check 'the line of a host that is down' grep -q '^down 18 down: .*Connection refused' "$folder/lines"
 }
@@ -271,10 +270,10 @@ try_full_disk() {
     mkdir -p "$folder/small"
     mount -t tmpfs -o size=64k none "$folder/small"
     head -c 200000 /dev/urandom > "$folder/large.db"
-    TMPDIR=$folder/small check 'a full disk' ends_with 18 aide-compare-run "$folder/large.db" "$folder/large.db"
+    TMPDIR=$folder/small check 'a full disk' ends_with 18 aide-compare "$folder/large.db" "$folder/large.db"
     cp /var/lib/aide-compare/hosts/www/aide.db.new "$folder/small/aide.db"
     head -c 60000 /dev/urandom > "$folder/small/fill" 2> /dev/null
-    check 'a full disk: nothing is accepted' ends_with 18 aide-compare-accept --sha256 \
+    check 'a full disk: nothing is accepted' ends_with 18 aide-compare accept --sha256 \
         "$(sha256sum < "$folder/large.db" | cut -c 1-64)" "$folder/large.db" "$folder/small/aide.db"
     check 'a full disk: the baseline stays' cmp /var/lib/aide-compare/hosts/www/aide.db.new "$folder/small/aide.db"
 }

@@ -150,7 +150,7 @@ def try_owner(trial, page):
     put(trial, INTRUDER)
     folder, owners = os.path.dirname(STATE), {}
     shutil.rmtree(trial.path(folder))
-    trial.holds("cron: a first comparison of root's", trial.run(["aide-compare-run", "--state", trial.path(STATE)])[0] == 7)
+    trial.holds("cron: a first comparison of root's", trial.run(["aide-compare", "--state", trial.path(STATE)])[0] == 7)
     for path in ("/var/lib/aide", BASELINE, NEWEST):
         owners[path] = os.stat(trial.path(path))
         os.chown(trial.path(path), NOBODY, NOBODY)

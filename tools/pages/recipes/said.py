@@ -19,7 +19,7 @@ def introduction(trial, old, new):
     for side, name in (("old", old), ("new", new)):
         path = os.path.join(trial.path("/tmp"), name)
         written = time.strftime("%Y-%m-%dT%H:%M:%SZ", time.gmtime(int(os.stat(path).st_mtime)))
-        lines.append("aide-compare-run: %s database: %s, written %s, SHA-256 %s\n" % (side, name, written, digest_of(path)))
+        lines.append("aide-compare: %s database: %s, written %s, SHA-256 %s\n" % (side, name, written, digest_of(path)))
     return "".join(lines)
 
 
@@ -30,6 +30,6 @@ def left_out(olds, news):
     for side, counts in (("old", olds), ("new", news)):
         total = sum(count for count, _ in counts)
         entries = "1 entry" if total == 1 else "%d entries" % total
-        lines.append("aide-compare-run: left out of the %s database: %s\n" % (side, entries))
-        lines += ["aide-compare-run:   %d by %s\n" % each for each in counts]
+        lines.append("aide-compare: left out of the %s database: %s\n" % (side, entries))
+        lines += ["aide-compare:   %d by %s\n" % each for each in counts]
     return "".join(lines)

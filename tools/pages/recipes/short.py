@@ -52,19 +52,8 @@ def entries(report):
 def try_install(trial, page):
     text = page.text("install")
     trial.holds("install: the command that was run", text == "packaging/install\n", text)
-    for name in (
-        "aide-compare",
-        "aide-compare-run",
-        "aide-compare-accept",
-        "aide-compare-mail",
-        "aide-compare-metrics",
-        "aide-compare-log",
-        "aide-compare-sort",
-        "aide-compare-json",
-        "aide-compare-html",
-    ):
-        path = trial.path("/usr/local/bin/" + name)
-        trial.holds("installed: " + name, os.access(path, os.X_OK))
+    for name in ("bin/aide-compare", "libexec/aide-compare/aide", "lib/nagios/plugins/check_aide_compare"):
+        trial.holds("installed: " + name, os.access(trial.path("/usr/local/" + name), os.X_OK))
     done = trial.run(["aide-compare", "-D", "-c", "/dev/null"])
     trial.holds("the installed program", done == (0, "", ""), done)
 
@@ -124,7 +113,7 @@ def try_debian(trial):
     spec = "@@begin_db\n@@db_spec name attr e2fsattrs\n/a %d %%s\n@@end_db\n" % (1 << 36)
     put_pair(trial, spec % "1", spec % "17")
     for option, status in (("report_ignore_e2fsattrs=VNIE", 4), ("report_ignore_changed_attrs=e2fsattrs", 0)):
-        done = trial.run(["aide-compare-run", "old.db.gz", "new.db.gz", "--", "-A", option])
+        done = trial.run(["aide-compare", "old.db.gz", "new.db.gz", "--", "-A", option])
         trial.holds(option, done[0] == status, done)
 
 
@@ -156,11 +145,11 @@ def try_order(trial, page):
     wanted = HEAD + "".join(line % name for name in names) + "@@end_db\n"
     mixed = HEAD + "".join(line % names[k] for k in (3, 0, 5, 2, 4, 1)) + "@@end_db\n"
     trial.write("/tmp/mixed.db", mixed)
-    done = trial.run(["aide-compare-run", "mixed.db", "mixed.db"])
+    done = trial.run(["aide-compare", "mixed.db", "mixed.db"])
     trial.holds("a mixed database is refused", done[0] == 24 and "entry out of path order" in done[2], done)
     done = page.run("order")
     trial.holds("order", done[0] == 0 and trial.read("/tmp/sorted.db") == wanted, done)
-    trial.holds("a sorted database", trial.run(["aide-compare-run", "sorted.db", "sorted.db"])[0] == 0)
+    trial.holds("a sorted database", trial.run(["aide-compare", "sorted.db", "sorted.db"])[0] == 0)
     trial.write("/tmp/mixed.db", mixed.replace("/a-b", "/%61"))
     done = page.run("order")
     trial.holds("order: a path twice", done[0] == 24 and "stands twice: /a\n" in done[2], done)

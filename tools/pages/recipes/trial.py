@@ -33,7 +33,6 @@ FOLDERS = [
     "/var/tmp",
 ]
 NAMED = re.compile(r"(?<![\w/])(%s)(?![\w.-])" % "|".join(FOLDERS))
-FLEET = "/usr/local/lib/aide-compare/fleet"
 NOBODY = 65534
 SECONDS = 600
 
@@ -92,7 +91,7 @@ class Trial(Tally):
         self.write("/stubs/" + name, "#!/bin/sh\n%s\n" % body, 0o755)
 
     def environment(self):
-        places = ["/stubs", "/usr/local/sbin", "/usr/local/bin", FLEET]
+        places = ["/stubs", "/usr/local/sbin", "/usr/local/bin"]
         path = ":".join([self.root + place for place in places] + [os.environ["PATH"]])
         return dict(os.environ, PATH=path, TMPDIR=self.root + "/var/tmp", HOME=self.root + "/tmp")
 

@@ -22,7 +22,7 @@ Watched = p+ftype+u+g+sha256
 """
 # What is said of these lines on standard error.
 PASSED_OVER = (
-    "aide-compare-run: /etc/aide/aide.conf: 3 lines that include other files are passed over, the first: "
+    "aide-compare: /etc/aide/aide.conf: 3 lines that include other files are passed over, the first: "
     "@@x_include_setenv UPAC_settingsd /etc/aide/aide.settings.d\n"
 )
 

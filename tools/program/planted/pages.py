@@ -1,7 +1,7 @@
 """Bugs of the manual pages: what they say of the program is no longer so."""
 from tools.commands.planted.plant import seen_by
 
-PAGE = "man/aide-compare.1"
+PAGE = "man/aide-compare-program.8"
 # No trial makes the last fault happen, for it takes a file of 2^40 bytes: only the names of the page are compared.
 PLANTED = seen_by(
     "try_manual",

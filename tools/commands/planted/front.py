@@ -1,0 +1,36 @@
+"""Bugs in the front: what a word means, what the program gets, which program it is, and the forms of a status."""
+from .plant import seen_by
+
+LIB = "commands/lib/aide_compare/"
+FRONT, VERSION, STATUS = (LIB + "commands/%s.py" % name for name in ("front", "version", "status"))
+PROGRAM = 'find_installed("libexec/aide-compare/aide")'
+
+PLANTED = (
+    seen_by(
+        "front.try_program",
+        (FRONT, "signal.signal(number, signal.SIG_DFL)", "pass"),
+        (FRONT, 'if word.startswith("-") and JOBS & set(arguments):', "if JOBS & set(arguments):"),
+        (FRONT, "[program] + arguments)", "[program] + [word for word in arguments if word != '--'])"),
+    )
+    + seen_by("front.try_words", (FRONT, " or os.path.lexists(word)", ""))
+    + seen_by(
+        "front.try_misspelt",
+        (FRONT, "len(arguments) == 1 or bool(", "bool("),
+        (FRONT, "near = difflib.get_close_matches(word, names, 1)", "near = sorted(names)"),
+    )
+    + seen_by("front.try_help", (FRONT, "HOSTS[word], arguments[1:]", "HOSTS[next(iter(HOSTS))], arguments[1:]"))
+    + seen_by(
+        "front.try_version",
+        (VERSION, 'record.get("sha256") != digest', "not digest"),
+        (VERSION, "shown(proved, 200)", "proved"),
+    )
+    + seen_by(
+        "front.try_forms",
+        (STATUS, "found = value if equals or not rest", "found = value if equals"),
+        (STATUS, '"nagios": "check"', '"nagios": "log"'),
+    )
+    + seen_by(
+        "faults.try_programs",
+        (LIB + "base/program.py", "return " + PROGRAM, 'return __import__("shutil").which("aide") or ' + PROGRAM),
+    )
+)
