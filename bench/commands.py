@@ -74,7 +74,7 @@ def rows_of(bench, entries):
     lines_after = "database_in=file:%s\ndatabase_new=file:%s\n%s" % (old, new, LEVEL[1])
     run = ["aide-compare", old, new, "--", *LEVEL]
     with_state = ["aide-compare", "--state", bench.path("state"), *run[1:]]
-    without = [*with_state[:3], "--without", os.path.join(HERE, "contrib", "aide", "debian.without"), *run[1:]]
+    without = [*with_state[:3], "--exclude-from", os.path.join(HERE, "contrib", "aide", "debian.without"), *run[1:]]
     nightly = [*without[:5], "--reasons", "--lines", bench.path("kept"), "--brief", bench.path("brief"), *run[1:]]
     bench.rows(
         entries,
@@ -82,7 +82,7 @@ def rows_of(bench, entries):
         ("`aide-compare`, the program alone", ["aide-compare", "-E", "-c", "/dev/null", "-A", lines_after], None, None),
         ("`aide-compare OLD NEW`", run, None, report),
         ("`aide-compare --state FILE OLD NEW`", with_state, None, None),
-        ("the same with `--without debian.without`", without, None, None),
+        ("the same with `--exclude-from debian.without`", without, None, None),
         ("the nightly call of the unit, with `--reasons --lines --brief` too", nightly, None, None),
         ("`aide-compare json`, of this report", ["aide-compare", "json", report], None, lines),
         ("`aide-compare page`, of these lines", ["aide-compare", "page", lines], None, bench.path("page")),

@@ -16,10 +16,10 @@ LINE = re.compile(r"(--[a-z-]+)(?:(?:=|[ \t]+)(.*))?", re.S)
 NONE, ONE, PERHAPS = range(3)
 ALARM = {"--alarm": ONE}
 RUN = dict.fromkeys(
-    "--config --most --most-report --age --without --without-path --archive --keyring --rules --severity".split(), ONE
+    "--config --max-size --max-report --max-age --exclude-from --exclude --archive --keyring --rules --severity".split(), ONE
 )
 RUN["--reasons"] = NONE
-MAIL = {**dict.fromkeys("--to --most-mail --smtp --mail-time".split(), ONE), "--html": NONE, "--weekly": PERHAPS, **ALARM}
+MAIL = {**dict.fromkeys("--to --max-mail --smtp --mail-time".split(), ONE), "--html": NONE, "--weekly": PERHAPS, **ALARM}
 CHECK = {**dict.fromkeys(("--warning", "--critical"), ONE), **ALARM}
 ALL = {**RUN, **MAIL, **CHECK}
 OFF = "--no-defaults"

@@ -100,7 +100,7 @@ def _parser():
         help="print the time and the counts of the comparison from this file (%s); it decides nothing" % STATE,
     )
     add(
-        "--most",
+        "--max-size",
         metavar="BYTES",
         type=size,
         default=MOST_BYTES,
@@ -183,10 +183,10 @@ def _print(lines):
 def main(arguments):
     given = _given(arguments)
     if given.only_packages:
-        _print([keep_records_only(given.files[0], given.most)])
+        _print([keep_records_only(given.files[0], given.max_size)])
         return Status.OK
     state, unknown, (new, path) = None, "", given.files
-    wish = Wish(given.sha256, given.most, not given.no_packages, _patterns_of(given), given.reasons)
+    wish = Wish(given.sha256, given.max_size, not given.no_packages, _patterns_of(given), given.reasons)
     try:
         state = read_state(given.state or STATE)
     except Fault as fault:

@@ -126,7 +126,7 @@ def _with_open_part(wish, offered, baseline):
     patterns, unexplained = Patterns(wish.patterns), Listed(())
     if wish.reasons is not None:
         user = ["--user", user_of(baseline.owner)] if baseline.owner is not None else []
-        options = user + ["--most", str(wish.most)] + wish.reasons
+        options = user + ["--max-size", str(wish.most)] + wish.reasons
         unexplained = Listed(unexplained_keys(options, baseline.path, (old, offered.copy)))
     merged, counts = keep_open(old, offered.copy, lambda key: any([patterns(key), unexplained(key)]))
     unused = patterns.unused()

@@ -72,10 +72,10 @@ def judged(given):
         return UNKNOWN, "the last comparison is in the future: " + date_of(state.time), ""
     numbers = (numbers_of(state, reading.counts("U")) if state.status <= 7 else "") + "age=%ds" % age
     text = text_of(state, reading.counts("?"))
-    if age > given.age:
+    if age > given.max_age:
         return (
             UNKNOWN,
-            "the last comparison is older than %s: %s: %s" % (age_in_words(given.age), date_of(state.time), text),
+            "the last comparison is older than %s: %s: %s" % (age_in_words(given.max_age), date_of(state.time), text),
             numbers,
         )
     if state.status == 0:

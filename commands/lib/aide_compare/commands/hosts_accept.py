@@ -96,7 +96,7 @@ def main(arguments):
     )
     add_place(parser)
     parser.add_argument(
-        "--most-unpacked",
+        "--max-unpacked",
         type=size,
         default=MOST_BASELINE,
         metavar="SIZE",
@@ -131,4 +131,4 @@ def main(arguments):
     if not place.has("aide.db.new"):
         raise place.fault("nothing was fetched yet; see aide-compare hosts fetch --help")
     place.lock(time.monotonic() + given.time)
-    return accept_first(place, given.most_unpacked) if given.first else accept(place, given)
+    return accept_first(place, given.max_unpacked) if given.first else accept(place, given)

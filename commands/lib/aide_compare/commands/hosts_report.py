@@ -28,7 +28,7 @@ LEAST_MAIL = 16 << 10
 
 def number(text):
     if not (text.isascii() and text.isdigit() and 1 <= int(text[:9]) <= MOST_NAMES):
-        raise Fault(Status.USAGE, "--most-hosts needs a number from 1 to %d" % MOST_NAMES)
+        raise Fault(Status.USAGE, "--max-hosts needs a number from 1 to %d" % MOST_NAMES)
     return int(text)
 
 
@@ -46,8 +46,8 @@ def words_of(given):
         words += ["--store", os.path.abspath(store)]
     for each in given.only_path:
         words += ["--only-path", os.fsdecode(each.text)]
-    if given.age != AGE:
-        words += ["--age", str(given.age)]
+    if given.max_age != AGE:
+        words += ["--max-age", str(given.max_age)]
     return words + [os.path.abspath(given.file)]
 
 
@@ -90,7 +90,7 @@ class HostsReport:
         self.body, count = open(nameless(), "w+b", buffering=BLOCK), 0
         with ExternalSort() as sorter:
             hosts = read_hosts(names, given, sorter)
-            for line in ordered(same_changes(sorter.lines(), names, given.most_hosts), given.order):
+            for line in ordered(same_changes(sorter.lines(), names, given.max_hosts), given.order):
                 self.body.write(line)
                 count += 1
         self.body.flush()
@@ -152,7 +152,7 @@ class HostsReport:
             raise
         if not (self.is_alarm if given.alarm == "unexplained" else self.worst):
             return
-        lines, left_out = fitting(self.summary, self.hosts, self.changes(), self.summary["order"], given.most_mail * 3 // 4)
+        lines, left_out = fitting(self.summary, self.hosts, self.changes(), self.summary["order"], given.max_mail * 3 // 4)
         if left_out:
             lines += [
                 "This mail is cut: %d more changes are left out. This command prints all:" % left_out,
@@ -194,9 +194,9 @@ def options():
         metavar="PATTERN",
         help="only changes of these paths, as in /usr/local/**",
     )
-    parser.add_argument("--most-hosts", type=number, default=20, metavar="N", help="how many hosts of a change are named (20)")
+    parser.add_argument("--max-hosts", type=number, default=20, metavar="N", help="how many hosts of a change are named (20)")
     parser.add_argument(
-        "--age",
+        "--max-age",
         type=duration,
         default=AGE,
         metavar="TIME",
@@ -212,7 +212,7 @@ def options():
     parser.add_argument(
         "--alarm", choices=ALARMS, default=ALARMS[0], help="with --to: unexplained: no mail if all changes are explained"
     )
-    parser.add_argument("--most-mail", type=size, default=1 << 20, metavar="SIZE", help="cut a mail that would be larger (1M)")
+    parser.add_argument("--max-mail", type=size, default=1 << 20, metavar="SIZE", help="cut a mail that would be larger (1M)")
     parser.add_argument("--smtp", type=server, metavar="HOST[:PORT]", help="send by SMTP to this server, not by sendmail")
     parser.add_argument("--mail-time", type=duration, default=60, metavar="TIME", help="how long sending may take (60s)")
     parser.add_argument("file", metavar="HOSTS-FILE")
@@ -222,8 +222,8 @@ def options():
 def main(arguments):
     given = options().parse(arguments)
     given.order = given.order or ("path" if given.json else "rare")
-    if given.most_mail < LEAST_MAIL:
-        raise Fault(Status.USAGE, "--most-mail needs at least %d bytes" % LEAST_MAIL)
+    if given.max_mail < LEAST_MAIL:
+        raise Fault(Status.USAGE, "--max-mail needs at least %d bytes" % LEAST_MAIL)
     names = hosts_of(given.file, (1, 1))
     given.store = given.store or [STORE]
     if len(given.store) == 1:

@@ -34,4 +34,4 @@ def main(arguments):
         "Status: 0 written; 15 bad arguments; 18 the line cannot be written.",
     )
     given = options.parse(arguments)
-    return write_line(guarded(line_of(given.state, given.age))[:MOST])
+    return write_line(guarded(line_of(given.state, given.max_age))[:MOST])

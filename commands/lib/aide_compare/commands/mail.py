@@ -26,11 +26,11 @@ RUN_VALUES = (
     "-c",
     "--config",
     "--state",
-    "--most",
-    "--most-report",
-    "--age",
-    "--without",
-    "--without-path",
+    "--max-size",
+    "--max-report",
+    "--max-age",
+    "--exclude-from",
+    "--exclude",
     "--lines",
     "--brief",
     "--packages",
@@ -42,7 +42,7 @@ RUN_VALUES = (
 )
 OWN_VALUES = (
     "--to",
-    "--most-mail",
+    "--max-mail",
     "--smtp",
     "--queue",
     "--send-queue",
@@ -78,7 +78,7 @@ def parser():
     add = made.add_argument
     add("--to", metavar="ADDRESS", type=address, default="root", help="where the mail goes (root)")
     add("--html", action="store_true", help="send the report as a text and as a page")
-    add("--most-mail", metavar="SIZE", type=size, default=1 << 20, help="cut a mail that would be larger (1M)")
+    add("--max-mail", metavar="SIZE", type=size, default=1 << 20, help="cut a mail that would be larger (1M)")
     add(
         "--alarm",
         choices=ALARMS,
@@ -217,14 +217,14 @@ def page_of(lines, most):
         why = os.pread(errors, 2000, 0).strip().split(b"\n")[-1]
         return None, why.decode("utf-8", "replace") or "aide-compare page failed"
     made = os.pread(page, most + 1, 0)
-    return (None, "it would be larger than --most-mail") if len(made) > most // 2 else (made, None)
+    return (None, "it would be larger than --max-mail") if len(made) > most // 2 else (made, None)
 
 
 def message_of(given, comparison, result):
     command = shlex.join([comparison.path] + without_value("--state", comparison.words))
-    text, page = text_of(result, given.most_mail, command), None
+    text, page = text_of(result, given.max_mail, command), None
     if comparison.lines is not None and result.differs:
-        page, why = page_of(comparison.lines, given.most_mail)
+        page, why = page_of(comparison.lines, given.max_mail)
         text += clean(("\n%s: there is no page: %s\n" % (NAME, why)).encode()) if page is None else b""
     if given.fault:
         text += clean(("\n%s: %s\n" % (NAME, given.fault)).encode("utf-8", "surrogateescape"))

@@ -13,7 +13,7 @@ from aide_compare.reasons.lines import Lines
 NAME = "aide-compare reasons"
 MOST_DATABASE = 4 << 30
 # The defaults of the administrator that are options of this command too.
-OPTIONS = "--most --archive --keyring --rules --severity".split()
+OPTIONS = "--max-size --archive --keyring --rules --severity".split()
 
 
 def _write(source, target, databases, given):
@@ -33,12 +33,16 @@ def main(arguments):
     )
     parser.add_argument("--databases", nargs=2, metavar=("OLD", "NEW"), required=True, help="the databases that were compared")
     parser.add_argument(
-        "--most", type=size, default=MOST_DATABASE, metavar="BYTES", help="refuse a database that has more bytes unpacked (4G)"
+        "--max-size",
+        type=size,
+        default=MOST_DATABASE,
+        metavar="BYTES",
+        help="refuse a database that has more bytes unpacked (4G)",
     )
     add_evidence_options(parser)
     add_off(parser)
     given = parser.parse(defaults_for(OPTIONS, arguments) + arguments)
-    copies = [copy_database(side, path, given.most) for side, path in zip(("old", "new"), given.databases)]
+    copies = [copy_database(side, path, given.max_size) for side, path in zip(("old", "new"), given.databases)]
     for copy in copies:
         os.lseek(copy.fd, 0, os.SEEK_SET)
     return run_over(given.file, lambda source, target: _write(source, target, copies, given))

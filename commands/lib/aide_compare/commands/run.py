@@ -45,24 +45,24 @@ def add_options(parser):
         help="the configuration (/dev/null with OLD NEW, otherwise AIDE's, /etc/aide/aide.conf or /etc/aide.conf)",
     )
     add("--state", metavar="FILE", type=some_text, help="write the status, the time, the counts and both SHA-256 to FILE")
-    add("--most", metavar="BYTES", type=size, default=MOST, help="refuse a database that has more bytes unpacked")
-    add("--most-report", metavar="BYTES", type=size, default=MOST_REPORT, help="refuse a longer report (1G)")
+    add("--max-size", metavar="BYTES", type=size, default=MOST, help="refuse a database that has more bytes unpacked")
+    add("--max-report", metavar="BYTES", type=size, default=MOST_REPORT, help="refuse a longer report (1G)")
     add(
-        "--age",
+        "--max-age",
         metavar="TIME",
         type=duration,
         default=0,
         help="refuse a new database that is older, as 50h, or from the future (0, the default: no limit)",
     )
     add(
-        "--without",
+        "--exclude-from",
         metavar="FILE",
         action="append",
         default=[],
         type=some_text,
         help="leave out the entries whose paths the lines of FILE name, as debian.without; it says how many",
     )
-    add("--without-path", metavar="PATTERN", action="append", default=[], type=some_text, help="the same for one line")
+    add("--exclude", metavar="PATTERN", action="append", default=[], type=some_text, help="the same for one line")
     add("--reasons", action="store_true", help="say which changes packages, logs and rules explain, and which nothing does")
     add("--lines", metavar="FILE", type=some_text, help="write the report to FILE as aide-compare json does, with the reasons")
     add("--brief", metavar="FILE", type=some_text, help="with --reasons: write to FILE what people should read first")
@@ -100,10 +100,10 @@ def check_reasons(given):
 
 
 def rules_of(given):
-    """What --without and --without-path leave out, or None. Without --without it is what the administrator's file names."""
-    usual = None if given.without or given.no_defaults else place_of("without")
-    files = [usual] if usual else given.without
-    return Rules(read_rules(files, given.without_path)) if files or given.without_path else None
+    """What --exclude-from and --exclude leave out, or None. Without --exclude-from it is what the administrator's file names."""
+    usual = None if given.exclude_from or given.no_defaults else place_of("without")
+    files = [usual] if usual else given.exclude_from
+    return Rules(read_rules(files, given.exclude)) if files or given.exclude else None
 
 
 def request_of(given, words, handing):
@@ -124,9 +124,9 @@ def request_of(given, words, handing):
         given.config,
         before,
         after,
-        given.most,
-        given.age,
-        given.most_report,
+        given.max_size,
+        given.max_age,
+        given.max_report,
         counts=given.state is not None or given.reasons,
         without=rules_of(given),
         handing=handing,

@@ -32,7 +32,7 @@ MOST_EXAMPLE, INIT_SECONDS, SECONDS = 1 << 20, 6 * 3600, 600
 TEXT = """\
 # Options of aide-compare, aide-compare mail and check_aide_compare, one a line. See aide-compare-setup(8).
 --reasons
---age 50h
+--max-age 50h
 --weekly Mon
 """
 ONLY_UNEXPLAINED = "# Without this line all changes are mailed, what nothing explains first.\n--alarm unexplained\n"

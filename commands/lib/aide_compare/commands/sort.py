@@ -199,11 +199,11 @@ def main(arguments):
         help="the database, plain or compressed with gzip; standard input if it is left out",
     )
     parser.add_argument(
-        "--most",
+        "--max-size",
         type=size,
         default=MOST_BYTES,
         metavar="SIZE",
         help="refuse a database that has more bytes unpacked (default 64G)",
     )
     given = parser.parse(arguments)
-    return stoppable(lambda: sort_database("/dev/stdin" if given.file == "-" else given.file, given.most))
+    return stoppable(lambda: sort_database("/dev/stdin" if given.file == "-" else given.file, given.max_size))

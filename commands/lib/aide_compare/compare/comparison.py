@@ -145,7 +145,7 @@ class Comparison:
         size = os.fstat(outcome.report).st_size
         if outcome.status == Status.DEVICE and size >= self.request.most_report:
             raise Fault(
-                Status.DEVICE, "the report has more than %d bytes; --most-report allows more" % self.request.most_report
+                Status.DEVICE, "the report has more than %d bytes; --max-report allows more" % self.request.most_report
             )
         if outcome.status > 7:
             return
@@ -232,11 +232,11 @@ def check_age(opened, most):
     if not most:
         return
     if opened.written is None:
-        raise Fault(Status.DEVICE, "%s is not a regular file, so --age does not know its age" % opened.words)
+        raise Fault(Status.DEVICE, "%s is not a regular file, so --max-age does not know its age" % opened.words)
     age = int(time.time() - opened.written)
     if age < -CLOCKS_DIFFER:
         raise Fault(Status.DEVICE, "%s was written %s in the future: is a clock wrong?" % (opened.words, age_in_words(-age)))
     if age > most:
         raise Fault(
-            Status.DEVICE, "%s is %s old, more than --age allows: does AIDE still run?" % (opened.words, age_in_words(age))
+            Status.DEVICE, "%s is %s old, more than --max-age allows: does AIDE still run?" % (opened.words, age_in_words(age))
         )

@@ -4,7 +4,7 @@ from aide_compare.compare.state import State
 
 
 def left_out_of(outcome):
-    """How many entries were left out, by side; nothing without --without."""
+    """How many entries were left out, by side; nothing without --exclude-from."""
     return {side: left_out.total for side, left_out in outcome.left_out.items()}
 
 

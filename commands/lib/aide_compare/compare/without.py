@@ -49,10 +49,10 @@ def _rule(text, place):
 
 
 def read_rules(files, patterns):
-    """The rules of --without FILE and of --without-path PATTERN, in the order of the command line. Empty lines of a file and
+    """The rules of --exclude-from FILE and of --exclude PATTERN, in the order of the command line. Empty lines of a file and
     those that begin with # are passed over; blanks at the ends of a line do not count."""
-    rules = [_rule(*line) for path in files for line in lines_of(path, "the file of --without")]
-    rules += [_rule(os.fsencode(text), "--without-path") for text in patterns]
+    rules = [_rule(*line) for path in files for line in lines_of(path, "the file of --exclude-from")]
+    rules += [_rule(os.fsencode(text), "--exclude") for text in patterns]
     if len(rules) > MOST_LINES:
         raise Fault(Status.USAGE, "more than %d lines leave entries out" % MOST_LINES)
     return rules

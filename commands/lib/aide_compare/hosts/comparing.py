@@ -107,9 +107,9 @@ def end_with_parent():
 
 
 def copied(place, given):
-    """Private copies of both databases. Without --most-unpacked, the new one may have four times the bytes of the old."""
+    """Private copies of both databases. Without --max-unpacked, the new one may have four times the bytes of the old."""
     old = copy_database("old", place.file("aide.db"), MOST_BASELINE)
-    most = given.most_unpacked or max(4 * old.size, LEAST_BOUND)
+    most = given.max_unpacked or max(4 * old.size, LEAST_BOUND)
     return old, copy_database("new", place.file("aide.db.new"), most)
 
 
@@ -139,7 +139,7 @@ def compared(place, given, arguments, part, jobs):
     configuration = open_regular(given.conf, "the configuration ") if given.conf else None
     copies = copied(place, given)
     databases, left_out = without(copies, explaining.rules_of(given))
-    most = min(given.most_report, place.room(jobs))
+    most = min(given.max_report, place.room(jobs))
     outcome = run(place, program, words_of(given, arguments), databases, configuration, part, most)
     outcome.left_out = left_out
     if 0 < outcome.status <= 7 and not outcome.counts:
@@ -270,14 +270,14 @@ def compare_or_say(place, given, arguments, jobs, deadline):
 def add_options(parser):
     parser.add_argument("--conf", metavar="FILE", help="a configuration for aide-compare (none)")
     parser.add_argument(
-        "--most-unpacked",
+        "--max-unpacked",
         type=size,
         default=0,
         metavar="SIZE",
         help="the most bytes of the unpacked database (4 times the baseline, at least 64M)",
     )
     parser.add_argument(
-        "--most-report",
+        "--max-report",
         type=size,
         default=MOST_REPORT,
         metavar="SIZE",

@@ -24,8 +24,8 @@ VALUES = ("archive", "keyring", "rules", "severity")
 def add_options(parser):
     """What is left out of the comparison of every host, and whether its changes are explained. The files are the collector's."""
     add = parser.add_argument
-    add("--without", metavar="FILE", action="append", default=[], type=some_text, help="leave out the paths of FILE")
-    add("--without-path", metavar="PATTERN", action="append", default=[], type=some_text, help="the same for one line")
+    add("--exclude-from", metavar="FILE", action="append", default=[], type=some_text, help="leave out the paths of FILE")
+    add("--exclude", metavar="PATTERN", action="append", default=[], type=some_text, help="the same for one line")
     add("--reasons", action="store_true", help="say which changes packages, logs and rules explain; see aide-compare")
     for name in VALUES[:2]:
         add("--" + name, metavar="FILE", action="append", default=[], type=some_text, help="with --reasons: as there")
@@ -38,13 +38,13 @@ def rules_of(given):
     unused = [name for name in VALUES if getattr(given, name) and not given.reasons]
     if unused:
         raise Fault(Status.USAGE, "--%s needs --reasons" % unused[0])
-    return Rules(read_rules(given.without, given.without_path)) if given.without or given.without_path else None
+    return Rules(read_rules(given.exclude_from, given.exclude)) if given.exclude_from or given.exclude else None
 
 
 def _words(place, given):
     """The options of aide-compare, and a line if no package can explain anything."""
     words, note = [], ""
-    for name in ("without", "without_path") + VALUES:
+    for name in ("exclude_from", "exclude") + VALUES:
         value = getattr(given, name) or []
         for each in [value] if isinstance(value, str) else value:
             words += ["--" + name.replace("_", "-"), each]

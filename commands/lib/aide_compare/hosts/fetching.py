@@ -139,7 +139,7 @@ def receive(place, command, name, given, deadline, jobs):
     """What a host sends becomes a file. The same bytes again leave the file's time, which tells how old it is."""
     part = Part(place.fd)
     try:
-        transfer = Transfer(place, part, min(given.most, place.room(jobs)), deadline, given.time)
+        transfer = Transfer(place, part, min(given.max_size, place.room(jobs)), deadline, given.time)
         status = transfer.run(SSH + [place.host, command])
         if status == 127 and not transfer.errors:
             raise place.fault("there is no program ssh")
@@ -178,7 +178,7 @@ def remote_path(text):
 
 
 def add_options(parser):
-    parser.add_argument("--most", type=size, default=MOST, metavar="SIZE", help="the most bytes that a host may send (1G)")
+    parser.add_argument("--max-size", type=size, default=MOST, metavar="SIZE", help="the most bytes that a host may send (1G)")
     parser.add_argument("--path", type=remote_path, default=PATH, metavar="PATH", help="the file on HOST (%s)" % PATH)
 
 

@@ -130,7 +130,7 @@ def read_host(name, store, given, take):
             return Host(name, Status.DEVICE, "was never compared")
         place = Place(store, name)
         place.lock(time.monotonic() + given.time, fcntl.LOCK_SH)
-        host = state_of(place, name, given.age)
+        host = state_of(place, name, given.max_age)
     except Fault as fault:
         host = Host(name, fault.status, fault.text)
     except OSError as error:

@@ -10,7 +10,7 @@ from aide_compare.lines.report_values import STRENGTH
 
 MOST_VALUE, MOST_REASONS = 200, 100
 WHY = {
-    CUT: ("its report was cut (--most-report of aide-compare hosts compare)", ", not all with values"),
+    CUT: ("its report was cut (--max-report of aide-compare hosts compare)", ", not all with values"),
     NO_LIST: ("its report has no list of them", ""),
     UNREADABLE: ("its report cannot be read", ""),
 }

@@ -5,9 +5,9 @@ import re
 from aide_compare.lines.report_lines import LINE_LIMIT, RULE
 
 # The last line of a report that was cut. No line of a report itself begins so.
-CUT_WORDS = "aide-compare hosts compare-one: cut here: the report has %d bytes, and --most-report allows %d\n"
+CUT_WORDS = "aide-compare hosts compare-one: cut here: the report has %d bytes, and --max-report allows %d\n"
 CUT_LINE = re.compile(
-    rb"\naide-compare hosts compare-one: cut here: the report has ([0-9]{1,19}) bytes, and --most-report allows [0-9]+\n\Z"
+    rb"\naide-compare hosts compare-one: cut here: the report has ([0-9]{1,19}) bytes, and --max-report allows [0-9]+\n\Z"
 )
 KINDS = (b"added", b"removed", b"changed")
 TITLES = {kind.capitalize() + b" entries:": kind for kind in KINDS}

@@ -99,7 +99,7 @@ def left_out(value):
     if not all(type(count) is int for count in counts) or not any(counts):
         return ""
     where = " and ".join("%s of the %s database" % (entries(count), side) for count, side in zip(counts, ("old", "new")))
-    return "The comparison left out %s, by the rules of --without." % (where if len(counts) == 2 else entries(counts[0]))
+    return "The comparison left out %s, by the rules of --exclude-from." % (where if len(counts) == 2 else entries(counts[0]))
 
 
 def remarks(report, more):

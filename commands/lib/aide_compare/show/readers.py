@@ -16,7 +16,7 @@ AHEAD = 300
 
 
 def parser(name, description, age="", epilog=None):
-    """The options that the readers have in common; `age` is what --age means for one of them."""
+    """The options that the readers have in common; `age` is what --max-age means for one of them."""
     given = Parser(name, description, epilog=epilog)
     given.add_argument(
         "--state", type=some_text, default=STATE, metavar="FILE", help="what aide-compare has written (%s)" % STATE
@@ -24,7 +24,7 @@ def parser(name, description, age="", epilog=None):
     if name.startswith("aide-compare status"):
         given.add_argument("--format", choices=FORMATS, help="the form, and the options that it has (line)")
     if age:
-        given.add_argument("--age", type=duration, default=AGE, metavar="TIME", help=age + " (26h)")
+        given.add_argument("--max-age", type=duration, default=AGE, metavar="TIME", help=age + " (26h)")
     return given
 
 
