@@ -83,7 +83,7 @@ COMMANDS = [
     Row("what the commands promise; attacks, small disks, signals", "commands/try_tools.py", Tool("try_tools"), GATE),
     Row("aide-compare: subcommands, misspelt ones, what the program gets", "commands/try_tools.py", PART, GATE),
     Row("accept: killed before each call; swapped links", "commands/try_tools.py", "each call; 200 rounds", GATE),
-    Row("what --without never leaves out, by kind of entry", "commands/try_tools.py", EACH, GATE),
+    Row("what --exclude-from never leaves out, by kind of entry", "commands/try_tools.py", EACH, GATE),
     Row("random lines that leave out, over damaged databases", "commands/try_tools.py", "4,000 pairs", GATE),
     Row("100,000 hostile paths, a flooded mail, and root's changes", "commands/try_tools.py", PART, GATE),
     Row("reasons: packages, logs, archives; what may be forged", "commands/try_tools.py", PART, GATE),

@@ -91,12 +91,20 @@ def try_times(tally, _):
 def try_options(tally, _):
     parser = options.Parser("name", "What it does.")
     parser.add_argument("operands", nargs="*")
-    parser.add_argument("--most", type=options.size)
-    parser.add_argument("--age", type=options.duration)
+    parser.add_argument("--max-size", type=options.size)
+    parser.add_argument("--max-age", type=options.duration)
     parser.add_argument("--text", type=options.some_text)
-    given = parser.parse(["a", "--most", "2k", "b", "--age=2h"])
-    expect(tally, "options between operands", (given.operands, given.most, given.age), (["a", "b"], 2048, 7200))
-    for words in (["--mos", "1"], ["--odd"], ["--most", "1x"], ["--most", ""], ["--age", "31d"], ["--text="], ["--most"]):
+    given = parser.parse(["a", "--max-size", "2k", "b", "--max-age=2h"])
+    expect(tally, "options between operands", (given.operands, given.max_size, given.max_age), (["a", "b"], 2048, 7200))
+    for words in (
+        ["--max-siz", "1"],
+        ["--odd"],
+        ["--max-size", "1x"],
+        ["--max-size", ""],
+        ["--max-age", "31d"],
+        ["--text="],
+        ["--max-size"],
+    ):
         expect_fault(tally, "the words %r" % words, outcome(parser.parse, words), 15)
     with open(os.path.join(TOP, "VERSION")) as file:
         expect(tally, "VERSION", VERSION, file.read().strip())

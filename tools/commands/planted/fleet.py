@@ -11,7 +11,7 @@ PLANTED = (
             "if self.part.size > 4 * self.most:",
         ),
     )
-    + seen_by("fleet.try_small_store", (LIB + "hosts/fetching.py", "min(given.most, place.room(jobs))", "given.most"))
+    + seen_by("fleet.try_small_store", (LIB + "hosts/fetching.py", "min(given.max_size, place.room(jobs))", "given.max_size"))
     + seen_by(
         "fleet.try_told",
         (LIB + "hosts/fetching.py", 'rb"[\\r\\n]+"', 'rb"\\n"'),

@@ -25,9 +25,9 @@ PLANTED = (
     )
     + seen_by(
         "hands.try_defaults",
-        (RUN, "given.without or given.no_defaults", "True"),
-        (RUN, "given.without or given.no_defaults", "given.no_defaults"),
-        (RUN, "given.without or given.no_defaults", "given.without"),
+        (RUN, "given.exclude_from or given.no_defaults", "True"),
+        (RUN, "given.exclude_from or given.no_defaults", "given.no_defaults"),
+        (RUN, "given.exclude_from or given.no_defaults", "given.exclude_from"),
         (RUN, "defaults_for(RUN, arguments[:cut]) + ", ""),
         (CHECK, "defaults_for(CHECK, arguments) + ", ""),
         (MAIL, "parsed(added + own, others + words)", "parsed(added + own, words)"),

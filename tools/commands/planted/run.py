@@ -122,7 +122,7 @@ PLANTED = (
         "age.try_pipes",
         (
             COMPARISON,
-            '        raise Fault(Status.DEVICE, "%s is not a regular file, so --age does not know its age" % opened.words)\n',
+            '        raise Fault(Status.DEVICE, "%s is not a regular file, so --max-age does not know its age" % opened.words)\n',
             "        return\n",
         ),
     )

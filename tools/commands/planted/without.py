@@ -1,4 +1,4 @@
-"""Bugs of --without: which entries are left out, what is said of them, and who may write the lines."""
+"""Bugs of --exclude-from: which entries are left out, what is said of them, and who may write the lines."""
 from .plant import seen_by
 
 WITHOUT, PATTERNS, TRUSTED = (

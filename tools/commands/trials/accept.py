@@ -91,8 +91,8 @@ def try_refusals(sandbox):
         ("", [], 15),
         (whole + "0", [], 15),
         ("A" * 42 + "B=", [], 15),
-        (whole, ["--most", "20"], 18),
-        (whole, ["--most", "x"], 15),
+        (whole, ["--max-size", "20"], 18),
+        (whole, ["--max-size", "x"], 15),
         (whole, ["--keep", "kept"], 15),
     ):
         answer = accept(sandbox, digest, *words)

@@ -1,4 +1,4 @@
-"""aide-compare --age: a new database that AIDE wrote too long ago is refused, and all that reads the state says so."""
+"""aide-compare --max-age: a new database that AIDE wrote too long ago is refused, and all that reads the state says so."""
 import gzip
 import os
 import re
@@ -9,7 +9,7 @@ from .run import KEYS
 
 TOOL = "aide-compare"
 HOUR = 3600
-REFUSAL = "aide-compare: the new database %s is %s old, more than --age allows: does AIDE still run?\n"
+REFUSAL = "aide-compare: the new database %s is %s old, more than --max-age allows: does AIDE still run?\n"
 
 
 def try_age(sandbox):
@@ -44,19 +44,24 @@ def try_old_files(sandbox):
     write_aged(sandbox, "late.db", NEW, 3 * HOUR + 60)
     write_aged(sandbox, "late.db.gz", gzip.compress(NEW), 3 * HOUR + 60)
     write_aged(sandbox, "years.db", OLD, 2 * 365 * 24 * HOUR + 60)
-    for words in (["--age", "7200"], ["--age=7200"], ["--age", str(3 * HOUR)], ["--age", "1", "--", "-A", "report_quiet=yes"]):
+    for words in (
+        ["--max-age", "7200"],
+        ["--max-age=7200"],
+        ["--max-age", str(3 * HOUR)],
+        ["--max-age", "1", "--", "-A", "report_quiet=yes"],
+    ):
         answer = sandbox.call(TOOL, "--state", "state", "old.db", "late.db", *words)
         refused(sandbox, "an old database with %r" % words, answer)
     refused(
         sandbox,
         "an old database in gzip",
-        sandbox.call(TOOL, "--state", "state", "--age", "7200", "old.db", "late.db.gz"),
+        sandbox.call(TOOL, "--state", "state", "--max-age", "7200", "old.db", "late.db.gz"),
         "late.db.gz",
     )
     refused(
         sandbox,
         "years without a difference",
-        sandbox.call(TOOL, "--state", "state", "--age", "180000", "old.db", "years.db"),
+        sandbox.call(TOOL, "--state", "state", "--max-age", "180000", "old.db", "years.db"),
         "years.db",
         "730 days",
     )
@@ -64,16 +69,16 @@ def try_old_files(sandbox):
     refused(
         sandbox,
         "an old database of a configuration",
-        sandbox.call(TOOL, "--state", "state", "--age", "7200", "-c", "conf"),
+        sandbox.call(TOOL, "--state", "state", "--max-age", "7200", "-c", "conf"),
         sandbox.path("late.db"),
     )
     write_aged(sandbox, "minute.db", NEW, 100)
-    answer = sandbox.call(TOOL, "--age", "60", "old.db", "minute.db")
+    answer = sandbox.call(TOOL, "--max-age", "60", "old.db", "minute.db")
     line = re.escape(REFUSAL) % ("minute\\.db", r"1\d\d seconds")
     sandbox.holds("an age of seconds", answer.status == 18 and re.fullmatch(line, answer.errors.decode()), answer)
     sandbox.expect(
-        "a missing database with --age",
-        sandbox.call(TOOL, "--age", "60", "old.db", "missing"),
+        "a missing database with --max-age",
+        sandbox.call(TOOL, "--max-age", "60", "old.db", "missing"),
         18,
         b"",
         b"cannot open the new",
@@ -87,15 +92,15 @@ def try_accepted(sandbox):
     write_aged(sandbox, "fresh.db", NEW, 50)
     write_aged(sandbox, "soon.db", NEW, -500)
     write_aged(sandbox, "later.db", NEW, -90 * HOUR)
-    answer = sandbox.call(TOOL, "--age", "2h", "years.old", "later.db")
+    answer = sandbox.call(TOOL, "--max-age", "2h", "years.old", "later.db")
     sandbox.expect("a time in the future", answer, 18, b"", b"later.db was written 3 days in the future: is a clock wrong?")
     for label, words in (
         ("no limit", ["years.old", "late.db"]),
-        ("--age 0", ["--age", "0", "years.old", "late.db"]),
-        ("an age below the limit", ["--age", str(3 * HOUR + 600), "years.old", "late.db"]),
-        ("a fresh database", ["--age", "7200", "years.old", "fresh.db"]),
-        ("a clock that is a little behind", ["--age", "2h", "years.old", "soon.db"]),
-        ("the greatest limit", ["--age", "30d", "years.old", "late.db"]),
+        ("--max-age 0", ["--max-age", "0", "years.old", "late.db"]),
+        ("an age below the limit", ["--max-age", str(3 * HOUR + 600), "years.old", "late.db"]),
+        ("a fresh database", ["--max-age", "7200", "years.old", "fresh.db"]),
+        ("a clock that is a little behind", ["--max-age", "2h", "years.old", "soon.db"]),
+        ("the greatest limit", ["--max-age", "30d", "years.old", "late.db"]),
     ):
         answer = sandbox.call(TOOL, "--state", "state", *words)
         sandbox.expect(label, answer, 7, b"Changed entries:         2", DIFFER)
@@ -111,28 +116,34 @@ def try_links(sandbox):
     for target, name in (("late.db", "fresh link"), ("fresh.db", "late link")):
         os.symlink(target, sandbox.path(name))
     os.utime(sandbox.path("late link"), (time.time() - 3 * HOUR,) * 2, follow_symlinks=False)
-    answer = sandbox.call(TOOL, "--state", "state", "--age", "7200", "old.db", "fresh link")
+    answer = sandbox.call(TOOL, "--state", "state", "--max-age", "7200", "old.db", "fresh link")
     refused(sandbox, "a link to an old file", answer, "fresh link")
     sandbox.expect(
-        "an old link to a fresh file", sandbox.call(TOOL, "--age", "7200", "old.db", "late link"), 7, b"Changed", DIFFER
+        "an old link to a fresh file", sandbox.call(TOOL, "--max-age", "7200", "old.db", "late link"), 7, b"Changed", DIFFER
     )
 
 
 def try_pipes(sandbox):
     """A pipe has no age: with a limit it is refused, and nobody waits for a writer. A redirected file has one."""
     for name, more in (("/dev/stdin", {"text": NEW}),):
-        answer = sandbox.call(TOOL, "--state", "state", "--age", "7200", "old.db", name, **more)
-        line = "aide-compare: the new database %s is not a regular file, so --age does not know its age" % name
-        sandbox.expect("a pipe with --age, " + name, answer, 18, b"", line.encode())
-        sandbox.holds("the state of a pipe with --age, " + name, sandbox.state()["error"] == line, sandbox.state())
+        answer = sandbox.call(TOOL, "--state", "state", "--max-age", "7200", "old.db", name, **more)
+        line = "aide-compare: the new database %s is not a regular file, so --max-age does not know its age" % name
+        sandbox.expect("a pipe with --max-age, " + name, answer, 18, b"", line.encode())
+        sandbox.holds("the state of a pipe with --max-age, " + name, sandbox.state()["error"] == line, sandbox.state())
     sandbox.expect(
-        "a pipe with --age 0", sandbox.call(TOOL, "--age", "0", "old.db", "/dev/stdin", text=NEW), 7, b"Changed", DIFFER
+        "a pipe with --max-age 0",
+        sandbox.call(TOOL, "--max-age", "0", "old.db", "/dev/stdin", text=NEW),
+        7,
+        b"Changed",
+        DIFFER,
     )
-    sandbox.expect("an old pipe", sandbox.call(TOOL, "--age", "7200", "/dev/stdin", "new.db", text=OLD), 7, b"Changed", DIFFER)
+    sandbox.expect(
+        "an old pipe", sandbox.call(TOOL, "--max-age", "7200", "/dev/stdin", "new.db", text=OLD), 7, b"Changed", DIFFER
+    )
     write_aged(sandbox, "late.db", NEW, 3 * HOUR + 60)
     for name, status in (("late.db", 18), ("new.db", 7)):
         with open(sandbox.path(name), "rb") as file:
-            answer = sandbox.call(TOOL, "--age", "7200", "old.db", "/dev/stdin", stdin=file)
+            answer = sandbox.call(TOOL, "--max-age", "7200", "old.db", "/dev/stdin", stdin=file)
         sandbox.expect(
             "a redirected file, " + name, answer, status, None, b"/dev/stdin is 3 hours old" if status == 18 else DIFFER
         )
@@ -141,25 +152,25 @@ def try_pipes(sandbox):
 def try_values(sandbox):
     sandbox.write("state", b"as before\n")
     for words in (
-        ["--age"],
-        ["--age", ""],
-        ["--age="],
-        ["--age", "x"],
-        ["--age=-1"],
-        ["--age", "1w"],
-        ["--age", "1.5"],
-        ["--age", "31d"],
-        ["--age", "9" * 9],
+        ["--max-age"],
+        ["--max-age", ""],
+        ["--max-age="],
+        ["--max-age", "x"],
+        ["--max-age=-1"],
+        ["--max-age", "1w"],
+        ["--max-age", "1.5"],
+        ["--max-age", "31d"],
+        ["--max-age", "9" * 9],
     ):
         answer = sandbox.call(TOOL, "--state", "state", "old.db", "new.db", *words)
-        sandbox.expect("the arguments %r" % words, answer, 15, b"", b"--age")
+        sandbox.expect("the arguments %r" % words, answer, 15, b"", b"--max-age")
         sandbox.holds("the state with %r" % words, sandbox.read("state") == b"as before\n")
 
 
 def try_readers(sandbox):
     """The check, the metrics and the line for the log take the refusal from the state."""
     write_aged(sandbox, "late.db", OLD, 3 * HOUR + 60)
-    sandbox.call(TOOL, "--state", "state", "--age", "7200", "old.db", "late.db")
+    sandbox.call(TOOL, "--state", "state", "--max-age", "7200", "old.db", "late.db")
     reason = (REFUSAL % ("late.db", "3 hours")).encode().strip()
     sandbox.expect(
         "the check of an old database",

@@ -250,14 +250,14 @@ def try_user(sandbox):
 
 def try_bounds(sandbox):
     for most, status in (("100", 18), ("10k", 7)):
-        answer = sandbox.call(TOOL, "--most-report", most, "old.db", "new.db", "--state", "state")
-        sandbox.holds("--most-report " + most, answer.status == status and sandbox.state()["status"] == str(status), answer)
+        answer = sandbox.call(TOOL, "--max-report", most, "old.db", "new.db", "--state", "state")
+        sandbox.holds("--max-report " + most, answer.status == status and sandbox.state()["status"] == str(status), answer)
     sandbox.expect(
         "a report that is too long",
-        sandbox.call(TOOL, "--most-report=100", "old.db", "new.db"),
+        sandbox.call(TOOL, "--max-report=100", "old.db", "new.db"),
         18,
         b"",
-        b"the report has more than 100 bytes; --most-report allows more",
+        b"the report has more than 100 bytes; --max-report allows more",
     )
     sandbox.expect("the version", sandbox.call(TOOL, "--version"), 0, b"aide-compare ", b"")
     reading, writing = os.pipe()

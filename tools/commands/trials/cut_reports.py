@@ -67,7 +67,7 @@ def try_cut_stream(sandbox):
     hosts = Hosts(sandbox)
     old, new = database(line(b"/a")), database(*(line(b"/n%04d" % number, b"%d" % number) for number in range(200)))
     texts = {"long": (old, new), "short": (old, database(line(b"/a", b"2"))), "damaged": (old, new)}
-    hosts.compared(texts, "--most-report", "20k")
+    hosts.compared(texts, "--max-report", "20k")
     sandbox.write("conf", "report_level=summary\n")
     hosts.put("listless", new, old)
     hosts.call("aide-compare hosts compare", "--conf", sandbox.path("conf"), "--one", "listless")
@@ -82,7 +82,7 @@ def try_cut_stream(sandbox):
     sandbox.holds("and the first of its values", 5 < valued < 200, valued)
     status, output, _ = hosts.report()
     parts = (
-        "long: its report was cut (--most-report of aide-compare hosts compare); 201 of 201 changes are listed below, not all with ",
+        "long: its report was cut (--max-report of aide-compare hosts compare); 201 of 201 changes are listed below, not all with ",
         "listless: its report has no list of them; 0 of 201 changes are listed below",
     )
     sandbox.holds("the text says so", status == 4 and all(part in output for part in parts), output[:800])

@@ -173,7 +173,7 @@ def try_lines(sandbox):
     sandbox.holds(
         "they are those of aide-compare json", read(sandbox, "lines") == json_lines and b"unexplained" not in answer.errors
     )
-    answer = sandbox.call(TOOL, "--state", "state", "--lines", "lines", "--without-path", "/etc/*", "o.db", "n.db")
+    answer = sandbox.call(TOOL, "--state", "state", "--lines", "lines", "--exclude", "/etc/*", "o.db", "n.db")
     json_lines = sandbox.call("aide-compare json", "--full", "--state", "state", text=answer.output).output
     sandbox.holds("they are so if entries are left out", json_lines and read(sandbox, "lines") == json_lines, json_lines)
     summary = json.loads(read(sandbox, "lines").split(b"\n")[0] or b"{}")

@@ -121,7 +121,7 @@ def try_cut(sandbox):
     sandbox.write("many.db", explained.HEAD + lines + b"@@end_db\n")
     sandbox.write("none.db", explained.HEAD + b"@@end_db\n")
     for size in ("1M", "20k", "4k"):
-        status, subject, text = call(sandbox, *REASONS, "--most-mail", size, "none.db", "many.db")
+        status, subject, text = call(sandbox, *REASONS, "--max-mail", size, "none.db", "many.db")
         good = subject == mail.SUBJECT + "3000 unexplained of 3000 changes" and text.startswith(
             subject[len(mail.SUBJECT) :] + "\n\n"
         )
@@ -141,7 +141,7 @@ def try_pages(sandbox):
     """The page of a mail is made of lines with reasons and with what was left out."""
     prepare(sandbox)
     sandbox.put_in_place_of("page", 'printf "<pre>"; cat')
-    answer = mail.call(sandbox, "--html", *REASONS, "--without-path", "/etc/plain", "o.db", "n.db")
+    answer = mail.call(sandbox, "--html", *REASONS, "--exclude", "/etc/plain", "o.db", "n.db")
     message = mail.sent(sandbox)
     page = message.get_payload()[1].get_payload(decode=True) if message is not None and message.is_multipart() else b""
     good = b'"left_out":{"old":1,"new":1}' in page and b'"reasons":{"explained":1' in page and b'"reason":{' in page

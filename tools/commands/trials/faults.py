@@ -20,20 +20,24 @@ def try_faults(sandbox):
 def try_limits(sandbox):
     for new in ("new.db", "new.db.gz"):
         most = max(len(OLD), len(NEW))
-        sandbox.expect("--most of the size of " + new, sandbox.call(TOOL, "--most", str(most), "old.db", new), 7, None, DIFFER)
         sandbox.expect(
-            "--most below the size of " + new,
-            sandbox.call(TOOL, "--most", str(len(NEW) - 1), "new.db", new),
+            "--max-size of the size of " + new, sandbox.call(TOOL, "--max-size", str(most), "old.db", new), 7, None, DIFFER
+        )
+        sandbox.expect(
+            "--max-size below the size of " + new,
+            sandbox.call(TOOL, "--max-size", str(len(NEW) - 1), "new.db", new),
             18,
             b"",
             [b"the old database new.db has more than %d bytes unpacked" % (len(NEW) - 1)],
         )
-    sandbox.expect("--most in one word", sandbox.call(TOOL, "--most=1", "old.db", "new.db"), 18, b"", b"more than 1 bytes")
+    sandbox.expect(
+        "--max-size in one word", sandbox.call(TOOL, "--max-size=1", "old.db", "new.db"), 18, b"", b"more than 1 bytes"
+    )
     writer = subprocess.Popen(["yes", "/a"], stdout=subprocess.PIPE, stderr=subprocess.DEVNULL)
     sandbox.expect(
         "an endless stream",
         sandbox.call(
-            TOOL, "--most", "1000000", "old.db", "/dev/stdin", stdin=writer.stdout, before=SMALL_FILES % (1500000, 1500000)
+            TOOL, "--max-size", "1000000", "old.db", "/dev/stdin", stdin=writer.stdout, before=SMALL_FILES % (1500000, 1500000)
         ),
         18,
         b"",
@@ -42,7 +46,7 @@ def try_limits(sandbox):
     writer.stdout.close()
     sandbox.holds("an endless stream is ended", writer.wait() != 0)
     sandbox.write("bomb.gz", gzip.compress(b"\0" * 50000000))
-    answer = sandbox.call(TOOL, "--most", "1000000", "bomb.gz", "new.db", before=SMALL_FILES % (1500000, 1500000))
+    answer = sandbox.call(TOOL, "--max-size", "1000000", "bomb.gz", "new.db", before=SMALL_FILES % (1500000, 1500000))
     sandbox.expect("an endless archive", answer, 18, b"", b"more than 1000000 bytes")
 
 

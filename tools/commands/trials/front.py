@@ -56,7 +56,7 @@ def try_misspelt(sandbox):
     """What is no subcommand ends with 15 and the nearest one, and compares nothing."""
     for words, near in (
         (["jsno"], b"aide-compare json"),
-        (["stauts", "--age", "1h"], b"aide-compare status"),
+        (["stauts", "--max-age", "1h"], b"aide-compare status"),
         (["hosts", "fecth", "www"], b"aide-compare hosts fetch"),
         (["help", "acept"], b"aide-compare help accept"),
         (["quite-another"], b"aide-compare --help"),
@@ -125,7 +125,7 @@ def try_forms(sandbox):
     sandbox.holds("JSON has the values of the state", good and set(state) - {"format", "date"} == set(found), found)
     answer = sandbox.call(TOOL, "status", "--format", "prometheus", "--state", "state")
     sandbox.expect("metrics", answer, 0, b"\naide_compare_changed_entries 2\n", b"")
-    for words in (["--state", "state"], ["--state", "none"], ["--odd"], ["--state", "state", "--age", "x"]):
+    for words in (["--state", "state"], ["--state", "none"], ["--odd"], ["--state", "state", "--max-age", "x"]):
         check = sandbox.call("check_aide_compare", *words)
         sandbox.expect(
             "nagios %s" % words, sandbox.call(TOOL, "status", *words, "--format", "nagios"), check.status, check.output, b""

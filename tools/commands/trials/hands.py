@@ -77,7 +77,7 @@ def prepare(sandbox, lines):
 def try_defaults(sandbox):
     """A run by hand, a mail, the unit, cron and the command that a mail prints have the same counts. The check judges by the
     same line."""
-    prepare(sandbox, "--reasons\n  --alarm=unexplained \n--to a@b.example\n--weekly Mon\n--warning 99\n--age 5d\n")
+    prepare(sandbox, "--reasons\n  --alarm=unexplained \n--to a@b.example\n--weekly Mon\n--warning 99\n--max-age 5d\n")
     with open(os.path.join(HERE, "contrib", "cron", "aide-compare.cron.daily"), encoding="ascii") as file:
         cron = shlex.split(next(line for line in file if line.startswith("/usr/local/bin/aide-compare mail")))[2:]
     jobs = {
@@ -85,7 +85,7 @@ def try_defaults(sandbox):
         "the unit": [
             word for word in started("aide-compare.service") if word not in ("mail", "--alarm-sent-is-success", "--queue")
         ],
-        "cron": cron[cron.index("--age") :],
+        "cron": cron[cron.index("--max-age") :],
     }
     jobs["the unit"] = [word for word in jobs["the unit"] if not word.endswith("/mail")]
     answer = sandbox.call(TOOL, "--state", "hand.state", "o.db", "n.db")
@@ -122,7 +122,7 @@ def try_defaults(sandbox):
     answer = sandbox.call(TOOL, "--no-defaults", "o.db", "n.db")
     sandbox.holds("a run without", b"left out" not in answer.errors and b"unexplained" not in answer.errors, answer)
     sandbox.write("own", "/srv/*\n")
-    answer = sandbox.call(TOOL, "--without", "own", "o.db", "n.db")
+    answer = sandbox.call(TOOL, "--exclude-from", "own", "o.db", "n.db")
     good = b"by /srv/* (own, line 1)" in answer.errors and b"/etc/*" not in answer.errors
     sandbox.holds("another file in place of the usual one", good, answer)
 
@@ -147,7 +147,7 @@ def long_lines():
 
 
 def try_faulty_defaults(sandbox):
-    """Defaults that others can write are refused as the file of --without is, and no alarm is lost for it."""
+    """Defaults that others can write are refused as the file of --exclude-from is, and no alarm is lost for it."""
     cases = [("everybody writes the file", 0o666, None, 0o755), ("a group writes the file", 0o664, None, 0o755)]
     if os.geteuid() == 0:
         cases += [("another user's file", 0o644, NOBODY, 0o755), ("everybody writes the folder", 0o644, None, 0o777)]
@@ -159,7 +159,7 @@ def try_faulty_defaults(sandbox):
             os.chmod(sandbox.path("etc/" + name), mode)
             if owner is not None:
                 os.chown(sandbox.path("etc/" + name), owner, owner)
-            said = b"other users can write the " + (b"defaults" if name == "defaults" else b"file of --without")
+            said = b"other users can write the " + (b"defaults" if name == "defaults" else b"file of --exclude-from")
             sandbox.expect("%s, %s" % (label, name), sandbox.call(TOOL, "o.db", "n.db"), 18, b"", said)
             answer = mail.call(sandbox, "o.db", "n.db")
             message = mail.sent(sandbox)
@@ -186,7 +186,7 @@ def try_bad_lines(sandbox):
         "o.db",
         "--",
         "--reasons yes",
-        "--age",
+        "--max-age",
         "--odd",
         "--to",
     ):

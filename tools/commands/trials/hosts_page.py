@@ -31,7 +31,7 @@ def try_values(sandbox):
     hosts = four_hosts(sandbox)
     with open(sandbox.path("hosts"), "a") as file:
         file.write("never\n")
-    status, page, errors = hosts.report("--html", "--most-hosts", "2")
+    status, page, errors = hosts.report("--html", "--max-hosts", "2")
     sandbox.holds("the page", status == 18 and not errors and page.startswith("<!doctype html>"), (status, errors))
     title = "aide on 6 hosts: 4 differ, 1 not compared"
     sandbox.holds("its heading", page.count(title) == 2 and "5 different changes, those on the fewest" in page, page[-3000:])

@@ -66,12 +66,12 @@ def try_idle(sandbox):
     sandbox.holds(
         "an idle night", done[0] == 4 and done[1].endswith("20 hosts: 0 without differences, 20 with, 0 not compared\n"), done
     )
-    done = compare(fleet, "--quiet", "--without", sandbox.path("without"))
+    done = compare(fleet, "--quiet", "--exclude-from", sandbox.path("without"))
     sandbox.holds("an idle night with what is left out", done == (0, "", ""), done)
     sandbox.holds("how many entries were left out", "left_out_new=1\n" in fleet.state("h07"), fleet.state("h07"))
     digest = sha256(idle(9))
     sandbox.holds("the digest is of the whole database", "new_sha256=%s\n" % digest in fleet.state("h07"), fleet.state("h07"))
-    for words, status in ((["--without", "none"], 18), (["--without-path", "x"], 15), (["--archive", "x"], 15)):
+    for words, status in ((["--exclude-from", "none"], 18), (["--exclude", "x"], 15), (["--archive", "x"], 15)):
         done = compare(fleet, *words)
         sandbox.holds("the options %r" % words, done[0] == status and not done[1], done)
 

@@ -149,10 +149,10 @@ def try_orders(sandbox):
         sandbox.holds("the order " + order, [each["hosts"] for each in changes] == wanted, changes)
         paths = [each["path"] for each in changes if each["hosts"] == 4]
         sandbox.holds("paths within the order " + order, paths == ["/d", "/etc/p", "/gone"], paths)
-    changes = hosts.objects("--most-hosts", "2", "--only-path", "/usr/**")[2]
+    changes = hosts.objects("--max-hosts", "2", "--only-path", "/usr/**")[2]
     got = sorted((each["path"], each["hosts"], each["names"]) for each in changes)
     sandbox.holds("two names", got == [("/usr/.x", 1, ["www4"]), ("/usr/.x", 3, ["www1", "www2"])], got)
-    status, output, errors = hosts.report("--most-hosts", "2")
+    status, output, errors = hosts.report("--max-hosts", "2")
     good = output.startswith("aide on 5 hosts: 4 differ, 0 not compared, 1 without differences\n") and status == 7
     sandbox.holds("the text", good and not errors, (status, output, errors))
     parts = (
@@ -165,12 +165,12 @@ def try_orders(sandbox):
     for part in parts:
         sandbox.holds("the text has %r" % part, part in output, output)
     for words in (
-        ["--most-hosts", "0"],
+        ["--max-hosts", "0"],
         ["--order", "x"],
         ["--only-path", "x"],
-        ["--age", "31d"],
+        ["--max-age", "31d"],
         ["--json", "--to", "root"],
-        ["--most-mail", "1k"],
+        ["--max-mail", "1k"],
         ["--smtp", "mail.example:0"],
         ["--to", "-x"],
         ["x"],
@@ -213,7 +213,7 @@ def try_not_compared(sandbox):
         sandbox.holds("the host " + name, good and "\n  %s: " % name in output and want in output, (found[name], output))
     sandbox.holds("only those of today", all(set(each["names"]) <= {"good1", "linked"} for each in changes), changes)
     sandbox.holds("nothing is made for a host", not os.path.exists(sandbox.path("store/hosts/never")))
-    found = hosts.objects("--age", "0", "--time", "1s")[1]
+    found = hosts.objects("--max-age", "0", "--time", "1s")[1]
     sandbox.holds("any age", found["stale"]["status"] == 7, found["stale"])
     if os.getuid() == 0:
         os.chown(sandbox.path("store/hosts/good1"), 65534, 65534)
@@ -273,7 +273,7 @@ def try_mail(sandbox):
     sandbox.holds("no mail", good, (status, errors))
     new = database(*(line(b"/n%04d" % number, b"%d" % number) for number in range(500)))
     hosts.compared({"calm": (OLD, OLD), "good1": (database(), new), "good2": (database(), new), "unknown": (OLD, OLD)})
-    status, output, errors = hosts.report("--to", "root", "--most-mail", "30k")
+    status, output, errors = hosts.report("--to", "root", "--max-mail", "30k")
     mail = sandbox.read("mail")
     good = b"\nSubject: aide on 4 hosts: 2 differ, 1 not compared\n" in mail and mail.startswith(b"To: root\n")
     sandbox.holds("its subject", good and status == 18 and not output + errors, (status, output, errors, mail[:300]))
@@ -283,13 +283,13 @@ def try_mail(sandbox):
     command = mail.decode().rstrip("\n").split("\n")[-1].strip()
     done = subprocess.run(["sh", "-c", command], stdout=subprocess.PIPE, env=sandbox.environment())
     sandbox.holds("the command that prints all", done.stdout.count(b"\nadded on 2 of 4 hosts: File /n") == 500, command)
-    words = ["--only-path", "/n*", "--only-path", "/it's/**", "--age", "2d", "--to", "root", "--most-mail", "30k"]
+    words = ["--only-path", "/n*", "--only-path", "/it's/**", "--max-age", "2d", "--to", "root", "--max-mail", "30k"]
     hosts.report(*words)
     command = sandbox.read("mail").decode().rstrip("\n").split("\n")[-1].strip()
-    good = shlex.split(command)[5:-1] == ["--only-path", "/n*", "--only-path", "/it's/**", "--age", "172800"]
+    good = shlex.split(command)[5:-1] == ["--only-path", "/n*", "--only-path", "/it's/**", "--max-age", "172800"]
     sandbox.holds("the command has the options that were given", good, command)
     hosts.compared({"good1": (database(), new), "good3": (database(), database(line(b"/zz")))})
-    hosts.report("--to", "root", "--most-mail", "30k")
+    hosts.report("--to", "root", "--max-mail", "30k")
     good = b"\nadded on 1 of 2 hosts: File /zz\n    on good3\n" in sandbox.read("mail")
     sandbox.holds("a host that crowds out no other", good, sandbox.read("mail")[-400:])
     sandbox.write("answer", "75")

@@ -103,7 +103,7 @@ def try_killed(sandbox, fleet, shares, workers):
     wait_for(lambda: all(is_new(sandbox, name) for name in done))
     runs[KILLED].kill()
     runs[KILLED].communicate()
-    status, summary, hosts, _ = reported(fleet, stores_of(workers), "--age", "12h")
+    status, summary, hosts, _ = reported(fleet, stores_of(workers), "--max-age", "12h")
     told = {name for name, host in hosts.items() if host["status"] > 7}
     sandbox.holds("who was not compared is told", status == 18 and told == set(hanging), (status, sorted(told)))
     words = {re.sub("[0-9]+", "N", hosts[name].get("error", "")) for name in hanging}
@@ -127,11 +127,11 @@ def try_missing(sandbox, fleet, shares, workers):
     """A store that is not there, and stores in another order."""
     stores = stores_of(workers)
     os.rename(sandbox.path(stores[-1]), sandbox.path("away"))
-    status, summary, hosts, _ = reported(fleet, stores, "--age", "0")
+    status, summary, hosts, _ = reported(fleet, stores, "--max-age", "0")
     told = {name for name, host in hosts.items() if "its share is missing: there is no folder " in host.get("error", "")}
     want = {name for name in shares if shares[name] == workers}
     sandbox.holds("a missing store", status == 18 and told == want, (status, summary))
     os.rename(sandbox.path("away"), sandbox.path(stores[-1]))
-    status, summary, hosts, _ = reported(fleet, stores[1:] + stores[:1], "--age", "0")
+    status, summary, hosts, _ = reported(fleet, stores[1:] + stores[:1], "--max-age", "0")
     errors = {host.get("error") for host in hosts.values()}
     sandbox.holds("stores in another order", status == 18 and errors == {"was never compared"}, (status, summary, errors))

@@ -128,7 +128,7 @@ def try_texts(sandbox):
         (["old.db", "missing"], 18),
         (["old.db", "/dev/null"], 18),
         (["--odd"], 15),
-        (["old.db", "new.db", "--age", "x"], 15),
+        (["old.db", "new.db", "--max-age", "x"], 15),
     ):  # What was typed wrong is seen at once, too.
         told = [b"aide-compare: ", b"try: aide-compare compare --help"] if status == 15 else b""
         sandbox.expect("an error of %s" % words, call(sandbox, *words), status, b"", told)
@@ -141,7 +141,7 @@ def try_texts(sandbox):
         ["--to", "a\nBcc: b"],
         ["--to", "-x"],
         ["--to", "é"],
-        ["--most-mail", "x"],
+        ["--max-mail", "x"],
         ["--weekly", "--", "x"],
         ["--weekly=Foo"],
     ):
@@ -187,7 +187,7 @@ def try_bounds(sandbox):
     sandbox.holds("what was cut", b"1000 paths are listed, 59000 are left out" in text, text[-500:])
     command = sandbox.path("bin/aide-compare").encode() + b" empty.db large.db\n"
     sandbox.holds("the command for the rest", command in text, text[-500:])
-    sandbox.expect("a small bound", call(sandbox, "empty.db", "large.db", "--most-mail", "8k"), 1, b"", b"")
+    sandbox.expect("a small bound", call(sandbox, "empty.db", "large.db", "--max-mail", "8k"), 1, b"", b"")
     size = os.stat(sandbox.path("sent")).st_size if os.path.exists(sandbox.path("sent")) else 0
     sandbox.holds("the size by a small bound", 1000 < size <= 8192, size)
     sent(sandbox)

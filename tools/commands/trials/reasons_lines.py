@@ -136,7 +136,7 @@ def try_damage(sandbox):
         ("no databases", (), 15),
         ("one database", ("--databases", "o.db"), 15),
         ("a missing database", ("--databases", "o.db", "none"), 18),
-        ("too large", GIVEN + ("--most", "20"), 18),
+        ("too large", GIVEN + ("--max-size", "20"), 18),
     ):
         sandbox.expect(label, sandbox.call(NAME, *words, text=lines), status, b"")
     sandbox.write("n.db.gz", gzip.compress(NEW))

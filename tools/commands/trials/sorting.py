@@ -157,7 +157,7 @@ def try_refused(sandbox):
         ("no names", b"@@begin_db\n/a 1\n" + END, [], 24, b"line 2: an entry before @@db_spec"),
         ("no path", BEGIN + b"36\n" + END, [], 24, b"line 4: no path"),
         ("a long line", BEGIN + b"36 /" + b"x" * (1 << 20) + b"\n" + END, [], 24, b"line 4: more than 1048576 bytes"),
-        ("too many bytes", whole, ["--most", "9k"], 18, b"more than 9216 bytes unpacked"),
+        ("too many bytes", whole, ["--max-size", "9k"], 18, b"more than 9216 bytes unpacked"),
         ("no such option", whole, ["--other"], 15, b"try: aide-compare sort --help"),
         ("no such file", whole, ["/nowhere"], 18, b"cannot open"),
         ("a folder", whole, ["/"], 18, b"cannot open"),
@@ -194,7 +194,7 @@ def try_bounds(sandbox):
     sandbox.holds("sort: 120 MB in order", len(keys) == 600000 and keys == sorted(keys), len(keys))
     sandbox.holds("sort: memory", memory < 64000, memory)
     bomb = subprocess.run("head -c 300000000 /dev/zero | gzip -1", shell=True, stdout=subprocess.PIPE).stdout
-    done = call([sys.executable, "-c", MEASURE, *COMMAND, "--most", "20M"], bomb, sandbox.room)
+    done = call([sys.executable, "-c", MEASURE, *COMMAND, "--max-size", "20M"], bomb, sandbox.room)
     expect(sandbox, "300 MB of zeros", (done[0], b"", done[2]), 18, b"", [b"more than 20971520 bytes unpacked"])
     sandbox.holds("sort: memory of zeros", int(done[2].split(b"memory ")[-1]) < 64000, done[2])
     for number, left in ((signal.SIGTERM, 0), (signal.SIGINT, 0), (signal.SIGHUP, 0), (signal.SIGKILL, 1)):

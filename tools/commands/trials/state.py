@@ -82,8 +82,8 @@ def try_check_faults(sandbox):
     check(sandbox, "a state without counts", 2, "added=U removed=U changed=U")
     write_state(sandbox, age=93700)
     check(sandbox, "an old state", 3, "older than 26 hours", "age=937")
-    check(sandbox, "an old state that may be", 0, "no difference", words=["--age", "27h"])
-    check(sandbox, "an old state that may not be", 3, "older than 10 seconds", words=["--age=10"])
+    check(sandbox, "an old state that may be", 0, "no difference", words=["--max-age", "27h"])
+    check(sandbox, "an old state that may not be", 3, "older than 10 seconds", words=["--max-age=10"])
     write_state(sandbox, age=-4000)
     check(sandbox, "a state from the future", 3, "in the future")
     good = write_state(sandbox)
@@ -113,7 +113,7 @@ def try_check_faults(sandbox):
     os.mkfifo(good)
     check(sandbox, "a FIFO", 3, "it is a FIFO")
     os.remove(good)
-    for words in (["--age"], ["--age", "x"], ["--age", "31d"], ["--odd|\n"], ["--state"], ["--state", ""]):
+    for words in (["--max-age"], ["--max-age", "x"], ["--max-age", "31d"], ["--odd|\n"], ["--state"], ["--state", ""]):
         check(sandbox, "the arguments %r" % words, 3, words=words)
 
 
@@ -218,12 +218,12 @@ def try_log(sandbox):
     write_state(sandbox, age=100)
     sandbox.expect(
         "an old line",
-        sandbox.call("aide-compare status", "--state", "state", "--age", "50"),
+        sandbox.call("aide-compare status", "--state", "state", "--max-age", "50"),
         0,
         b"no comparison: the last one",
         b"",
     )
-    for words in (["--odd"], ["--age", "x"], ["--state"]):
+    for words in (["--odd"], ["--max-age", "x"], ["--state"]):
         sandbox.expect(
             "the log with %r" % words, sandbox.call("aide-compare status", *words), 15, b"", b"aide-compare status: "
         )

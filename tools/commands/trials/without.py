@@ -1,4 +1,4 @@
-"""Entries that are left out by --without: which paths a pattern means, what is said, and who may write the file."""
+"""Entries that are left out by --exclude-from: which paths a pattern means, what is said, and who may write the file."""
 import os
 import random
 import subprocess
@@ -206,7 +206,7 @@ def try_hostile(sandbox):
 def try_left_out(sandbox):
     write_databases(sandbox)
     sandbox.write("logs", LOGS)
-    answer = sandbox.call(TOOL, "--state", "state", "--without", "logs", "o.db", "n.db")
+    answer = sandbox.call(TOOL, "--state", "state", "--exclude-from", "logs", "o.db", "n.db")
     sandbox.expect(
         "logs are left out",
         answer,
@@ -222,11 +222,11 @@ def try_left_out(sandbox):
     state = sandbox.state()
     want = {"left_out_old": "2", "left_out_new": "2", "changed": "1", "old_sha256": sha256(OLD), "new_sha256": sha256(NEW)}
     sandbox.holds("the state has both, and the digests of the whole databases", want.items() <= state.items(), state)
-    answer = sandbox.call(TOOL, "--without-path", "/var/log/x y", "--without-path=/etc/**", "o.db", "n.db")
-    sandbox.expect("by single lines", answer, 2, [b"Removed entries:         1"], [b"1 by /var/log/x y (--without-path)"])
-    answer = sandbox.call(TOOL, "--without-path", "/etc/a", "o.db", "n.db")
+    answer = sandbox.call(TOOL, "--exclude", "/var/log/x y", "--exclude=/etc/**", "o.db", "n.db")
+    sandbox.expect("by single lines", answer, 2, [b"Removed entries:         1"], [b"1 by /var/log/x y (--exclude)"])
+    answer = sandbox.call(TOOL, "--exclude", "/etc/a", "o.db", "n.db")
     sandbox.expect("one entry", answer, 7, None, [b"left out of the old database: 1 entry\n"])
-    answer = sandbox.call(TOOL, "--without-path", "/nothing", "o.db", "n.db")
+    answer = sandbox.call(TOOL, "--exclude", "/nothing", "o.db", "n.db")
     sandbox.expect("nothing is left out", answer, 7, None, [b"left out of the new database: 0 entries"])
     sandbox.holds("without the option nothing is said", b"left out" not in sandbox.call(TOOL, "o.db", "n.db").errors)
 
@@ -241,17 +241,17 @@ def try_damage(sandbox):
         ("the end is missing", b"\n".join(lines[:-2]) + b"\n", b": no @@end_db"),
     ):
         sandbox.write("damaged.db", text)
-        answer = sandbox.call(TOOL, "--without-path", "/var/log/**", "o.db", "damaged.db")
+        answer = sandbox.call(TOOL, "--exclude", "/var/log/**", "o.db", "damaged.db")
         sandbox.expect(label, answer, 24, b"", [b"new database" + (b"" if b"end" in said else said)])
     # Lines that are no entries: none is left out, and none stops the comparison.
     for label, line in (("an empty line", b""), ("a blank line", b"   "), ("a comment", b"# no entry")):
         sandbox.write("lines.db", NEW.replace(END, line + b"\n" + END))
         want = sandbox.call("aide-compare", "o.db", "lines.db")
-        answer = sandbox.call(TOOL, "--without-path", "/nowhere/**", "o.db", "lines.db")
+        answer = sandbox.call(TOOL, "--exclude", "/nowhere/**", "o.db", "lines.db")
         sandbox.holds(label, (answer.output, answer.status) == (want.output, want.status) and want.status < 8, answer)
     late = HEAD + b"/a 36 100644 1\n" + END + b"/var/log/late 36 100644 1\n"
     sandbox.write("late.db", late)
-    answer = sandbox.call(TOOL, "--without-path", "/var/log/**", "late.db", "late.db")
+    answer = sandbox.call(TOOL, "--exclude", "/var/log/**", "late.db", "late.db")
     sandbox.expect("after the end nothing is an entry", answer, 0, None, [b"left out of the old database: 0 entries"])
 
 
@@ -260,9 +260,9 @@ def try_names(sandbox):
     head = b"@@begin_db\n@@db_spec attr name size perm\n"
     sandbox.write("o2.db", head + b"36 /a%2Fb 1 100644\n36 /c%ZZ 1 100644\n" + END)
     sandbox.write("n2.db", head + b"36 /a%2Fb 2 100644\n36 /c%ZZ 2 100644\n" + END)
-    answer = sandbox.call(TOOL, "--without-path", "/a/*", "--without-path", "/c%ZZ\x1b", "o2.db", "n2.db")
-    sandbox.expect("decoded names", answer, 4, [b"Changed entries:         1"], [b"1 by /a/* (--without-path)"])
-    answer = sandbox.call(TOOL, "--without-path", "/[c]%ZZ", "--without-path", "x\x1b[0m", "o2.db", "n2.db")
+    answer = sandbox.call(TOOL, "--exclude", "/a/*", "--exclude", "/c%ZZ\x1b", "o2.db", "n2.db")
+    sandbox.expect("decoded names", answer, 4, [b"Changed entries:         1"], [b"1 by /a/* (--exclude)"])
+    answer = sandbox.call(TOOL, "--exclude", "/[c]%ZZ", "--exclude", "x\x1b[0m", "o2.db", "n2.db")
     sandbox.expect("an escape is not obeyed", answer, 15, b"", [b"x\\033[0m"])
 
 
@@ -273,7 +273,7 @@ def try_rights(sandbox):
     lines = [b"/a/%02d %d %s 1 %s\n" % (number, *row[1:4]) for number, row in enumerate(RIGHTS)]
     sandbox.write("rights.db", head + b"".join(lines) + END)
     sandbox.write("marked", b"programs( a reason ) /a/**\n")
-    for column, line in ((4, ["--without-path", "/a/**"]), (5, ["--without", "marked"])):
+    for column, line in ((4, ["--exclude", "/a/**"]), (5, ["--exclude-from", "marked"])):
         answer = sandbox.call(TOOL, *line, "empty.db", "rights.db")
         for number, row in enumerate(RIGHTS):
             stays = b": /a/%02d\n" % number in answer.output
@@ -283,7 +283,7 @@ def try_rights(sandbox):
         sandbox.holds("how many stay under %s" % line[1], said in answer.errors, answer)
     sandbox.holds("the reason of a line", b"by /a/** (marked, line 1; programs too: a reason)" in answer.errors, answer)
     sandbox.write("no-modes.db", b"@@begin_db\n@@db_spec name size\n/a/x 1\n" + END)
-    answer = sandbox.call(TOOL, "--without-path", "/a/**", "empty.db", "no-modes.db")
+    answer = sandbox.call(TOOL, "--exclude", "/a/**", "empty.db", "no-modes.db")
     sandbox.holds("a database without modes", b": /a/x\n" in answer.output, answer)
 
 
@@ -293,39 +293,39 @@ def try_marks(sandbox):
     sandbox.write("empty.db", HEAD + END)
     for text, status in ((b"/a/*\nprograms(why) /a/x", 0), (b"programs(why)  /a/x\n/a/*", 0), (b"programs(why) /b\n/a/*", 1)):
         sandbox.write("marks", text)
-        answer = sandbox.call(TOOL, "--without", "marks", "empty.db", "program.db")
+        answer = sandbox.call(TOOL, "--exclude-from", "marks", "empty.db", "program.db")
         sandbox.expect("the lines %r" % text, answer, status)
     for text in (b"programs() /a/x", b"programs( ) /a/x", b"programs /a/x", b"programs(why)/a/x", b"devices(why) /a/x"):
         sandbox.write("marks", text)
-        sandbox.expect("the line %r" % text, sandbox.call(TOOL, "--without", "marks", "empty.db", "program.db"), 15, b"")
+        sandbox.expect("the line %r" % text, sandbox.call(TOOL, "--exclude-from", "marks", "empty.db", "program.db"), 15, b"")
 
 
 def try_refused(sandbox):
     write_databases(sandbox)
     cases = [
-        ("missing", ["--without", "none"], 18),
-        ("a folder", ["--without", "bin"], 18),
-        ("no file", ["--without", ""], 15),
-        ("no pattern", ["--without-path", "var"], 15),
+        ("missing", ["--exclude-from", "none"], 18),
+        ("a folder", ["--exclude-from", "bin"], 18),
+        ("no file", ["--exclude-from", ""], 15),
+        ("no pattern", ["--exclude", "var"], 15),
     ]
     for label, words, status in cases:
         sandbox.expect(label, sandbox.call(TOOL, *words, "o.db", "n.db"), status, b"")
     sandbox.write("bad", b"/a\n/b**\n")
-    sandbox.expect("a bad line", sandbox.call(TOOL, "--without", "bad", "o.db", "n.db"), 15, b"", [b"bad, line 2: "])
+    sandbox.expect("a bad line", sandbox.call(TOOL, "--exclude-from", "bad", "o.db", "n.db"), 15, b"", [b"bad, line 2: "])
     for label, mode in (("a group", 0o664), ("everybody", 0o646)):
         sandbox.write("open", LOGS)
         os.chmod(sandbox.path("open"), mode)
-        answer = sandbox.call(TOOL, "--without", "open", "o.db", "n.db")
+        answer = sandbox.call(TOOL, "--exclude-from", "open", "o.db", "n.db")
         sandbox.expect("a file that %s can write" % label, answer, 18, b"", [b"other users can write"])
     if os.getuid() == 0:
         sandbox.write("theirs", LOGS)
         os.chown(sandbox.path("theirs"), 65534, 65534)
-        answer = sandbox.call(TOOL, "--without", "theirs", "o.db", "n.db")
+        answer = sandbox.call(TOOL, "--exclude-from", "theirs", "o.db", "n.db")
         sandbox.expect("a file of another user", answer, 18, b"", [b"other users can write"])
         os.mkdir(sandbox.path("open-folder"))
         os.chmod(sandbox.path("open-folder"), 0o777)
         sandbox.write("open-folder/logs", LOGS)
-        answer = sandbox.call(TOOL, "--without", "open-folder/logs", "o.db", "n.db")
+        answer = sandbox.call(TOOL, "--exclude-from", "open-folder/logs", "o.db", "n.db")
         sandbox.expect("a folder that others can write", answer, 18, b"", [b"other users can write"])
 
 
@@ -358,7 +358,7 @@ def try_shipped(sandbox):
     entries = b"".join(path + b" 36 100644 1\n" for path in sorted(hidden + seen, key=lambda path: path.split(b"/")))
     sandbox.write("empty.db", HEAD + END)
     sandbox.write("full.db", HEAD + entries + END)
-    answer = sandbox.call(TOOL, "--without", "debian.without", "empty.db", "full.db")
+    answer = sandbox.call(TOOL, "--exclude-from", "debian.without", "empty.db", "full.db")
     sandbox.expect(
         "the shipped file",
         answer,

@@ -175,7 +175,7 @@ def try_heading(tally):
         "<span>of 2026-11-24 05:20:00 UTC</span>",
         "<dt>&lt;i&gt;</dt><dd>a\\342\\200\\256b</dd>",
         '<p class="remark">The comparison left out 1 entry of the old database and 2,300 entries of the new '
-        "database, by the rules of --without.</p>",
+        "database, by the rules of --exclude-from.</p>",
     ):
         tally.add("the heading has " + part, [] if part in text.partition("</header>")[0] else ["it has not"])
     plain = page_of(objects, True)

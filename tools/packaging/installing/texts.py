@@ -112,7 +112,7 @@ def try_units(trial):
         "ExecStart",
         start
         == [
-            "/usr/local/bin/aide-compare mail --alarm-sent-is-success --queue /var/lib/aide-compare/daily/mail --age 50h "
+            "/usr/local/bin/aide-compare mail --alarm-sent-is-success --queue /var/lib/aide-compare/daily/mail --max-age 50h "
             "--state /var/lib/aide-compare/daily/state --reasons"
         ],
         start,
@@ -161,7 +161,7 @@ def try_cron(trial):
         trial.holds("cron.daily, the tool's status %s" % status, done == (status or 0, "", ""), done)
     with open(called) as file:
         lines = file.read().splitlines()
-    wanted = "%s mail --user %s --alarm-sent-is-success --age 50h --state %s --reasons" % (
+    wanted = "%s mail --user %s --alarm-sent-is-success --max-age 50h --state %s --reasons" % (
         tool,
         pwd.getpwuid(os.geteuid()).pw_name,
         trial.path("lib/aide-compare/daily/state"),

@@ -206,7 +206,7 @@ ROWS = [
         RUN,
         "Leave out one folder with all that lies below:",
         [4],
-        expectations.leaves_out("/srv/mail", 3, "--without-path"),
+        expectations.leaves_out("/srv/mail", 3, "--exclude"),
         prepare=expectations.put_logs,
     ),
     Commands(

@@ -277,7 +277,7 @@ def go_without_aide(trial, page):
         if age is None:
             Day(trial, page, name, None).ask_all()
         else:
-            ask_about_age(trial, page, name, "aide.db.new is %s old, more than --age allows" % age)
+            ask_about_age(trial, page, name, "aide.db.new is %s old, more than --max-age allows" % age)
     page.prints("age", page.run("age")[2])
 
 

@@ -136,7 +136,7 @@ try_days() {
     touch -d '3 days ago' /var/lib/aide/aide.db.new
     : > "$mails"
     check 'AIDE stops: cron has run' cron_has_run
-    check 'AIDE stops: a mail says so' grep -q 'aide.db.new is 3 days old, more than --age allows' "$mails"
+    check 'AIDE stops: a mail says so' grep -q 'aide.db.new is 3 days old, more than --max-age allows' "$mails"
     check 'AIDE stops: the check is UNKNOWN' ends_with 3 as_nobody /usr/local/lib/nagios/plugins/check_aide_compare
     check "AIDE runs again: Debian's nightly run" nightly
     check 'AIDE runs again: cron has run' cron_has_run

@@ -125,7 +125,7 @@ def try_without(trial, page):
     )
     trial.holds("with the paths", page.run("pair")[0] == 5)
     done = page.run("without")
-    patterns = ["/var/%s/** (--without-path)" % name for name in ("log", "cache")]
+    patterns = ["/var/%s/** (--exclude)" % name for name in ("log", "cache")]
     said = left_out([(1, patterns[0])], [(1, patterns[1]), (1, patterns[0])])
     trial.holds("without", done[0] == 0 and "NO differences" in done[1] and done[2] == said, (done, said))
     page.prints("without", done[2])
