@@ -8,7 +8,9 @@ LISTING, BRIEF, MESSAGE, EXPLAINER, SAME, ENTRIES = (
 PLANTED = (
     seen_by(
         "floods.try_order",
-        (LISTING, "(folders.is_only_that(change), change.old_at is None)", "folders.is_only_that(change)"),
+        (LISTING, "key=lambda change: change.old_at is None", "key=lambda change: 0"),
+        (LISTING, "before[place] >= FIRST_FEW", "False"),
+        (LISTING, "FIRST_FEW = 5", "FIRST_FEW = 30"),
         (LISTING, "for group in range(len(ROOMS)):", "for group in (0, 2, 1):"),
         (LISTING, "return 0 if owner in (None, ROOT) else 1 if owner < FIRST_USER else 2", "return 0"),
         (
@@ -33,7 +35,8 @@ PLANTED = (
     )
     + seen_by(
         "floods.try_folders",
-        (LISTING, "(folders.is_only_that(change), change.old_at is None)", "change.old_at is None"),
+        (LISTING, "keys[change] = place[0],", "keys[change] = False,"),
+        (LISTING, "place = folders.is_only_that(change), change.folder()", "place = False, change.folder()"),
         (LISTING, "if not (stat.S_ISDIR(change.old_mode) and stat.S_ISDIR(change.new_mode)):", "if change.is_replaced:"),
         (LISTING, "return has_other_names(old, new, differences(old, new))", "return True"),
         (

@@ -78,6 +78,7 @@ PLANTED = (
     + seen_by(
         "reasons_severity.try_shipped",
         (SEVERITIES, "high    any     /usr/local/lib/*.so.*\n", ""),
+        (SEVERITIES, "high    any     /usr/lib/*-linux-gnu*/*.so.*\n", ""),
         (SEVERITIES, "high    any     /etc/ssl/certs/**\n", ""),
         (SEVERITIES, "high    any             /etc/alternatives/*\n", ""),
     )

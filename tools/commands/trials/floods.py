@@ -78,7 +78,8 @@ def brief_of(sandbox, *databases):
 
 
 def try_order(sandbox):
-    """The order of the lines: root's before a service's before others', changed and removed before added; and the shares."""
+    """The order of the lines: root's before a service's before others', the first few of each folder, changed and removed before
+    added; and the shares."""
     hostile = [entry(b"/home/anna/.ssh/%03d" % number, owner=1000) for number in range(250)]
     hostile += [entry(b"/home/bob/%03d/.ssh/x" % number, owner=1001) for number in range(90)]
     hostile += [entry(b"/opt/root/.ssh/%02d" % number) for number in range(30)]
@@ -92,10 +93,13 @@ def try_order(sandbox):
         "removed  /usr/bin/sudo",
         "changed  /usr/sbin/sshd",
     ]
-    roots += ["added    /etc/cron.d/evil"] + ["added    /opt/root/.ssh/%02d" % number for number in range(30)]
-    roots += ["added    /srv/.ssh/%02d" % number for number in range(20)] + ["added    /usr/local/sbin/.x"]
-    others = ["added    /srv/www/.ssh/x"] + ["added    /home/anna/.ssh/%03d" % number for number in range(20)]
-    others += ["added    /home/bob/%03d/.ssh/x" % number for number in range(50)] + ["added    /home/anna/.ssh"]
+    roots += ["added    /etc/cron.d/evil"] + ["added    /opt/root/.ssh/%02d" % number for number in range(5)]
+    roots += ["added    /srv/.ssh/%02d" % number for number in range(5)] + ["added    /usr/local/sbin/.x"]
+    roots += ["added    /opt/root/.ssh/%02d" % number for number in range(5, 30)]
+    roots += ["added    /srv/.ssh/%02d" % number for number in range(5, 20)]
+    others = ["added    /srv/www/.ssh/x"] + ["added    /home/anna/.ssh/%03d" % number for number in range(5)]
+    others += ["added    /home/bob/%03d/.ssh/x" % number for number in range(50)]
+    others += ["added    /home/anna/.ssh/%03d" % number for number in range(5, 20)] + ["added    /home/anna/.ssh"]
     sandbox.holds("root's changes come first", names[: len(roots)] == roots, names[:80])
     sandbox.holds("what is not listed of a folder whose owner is not known", "added    /srv/.ssh" in names, names[50:80])
     rest = names[len(roots) + 1 :]

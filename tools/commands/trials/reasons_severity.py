@@ -88,14 +88,18 @@ def try_tables(sandbox):
 
 
 def try_shipped(sandbox):
-    """Levels of the shipped table for libraries that are found before those of the system, for certificates and alternatives,
-    and for the neighbours of them."""
+    """Levels of the shipped table for libraries, certificates and alternatives, and for the neighbours of them."""
     host = Host()
     levels = {
         b"/usr/local/lib/libm.so.6": "high",
         b"/usr/local/lib/libm.so": "high",
         b"/usr/local/lib/x86_64-linux-gnu/libm.so.6": "high",
         b"/usr/local/lib/libm.a": "medium",
+        b"/usr/lib/aarch64-linux-gnu/libm.so": "high",
+        b"/usr/lib/x86_64-linux-gnu/libm.so.6": "high",
+        b"/usr/lib/x86_64-linux-gnu/perl/libm.so": "medium",
+        b"/usr/lib64/libm.so": "high",
+        b"/usr/lib64/libm.so.6": "high",
         b"/usr/local/lib/python3.11/libm.so": "medium",
         b"/etc/ssl/certs/ca-certificates.crt": "high",
         b"/etc/ssl/certs/18856ac4.0": "high",

@@ -1,9 +1,10 @@
 """Which changes people read first, and in which order, so that nobody but root can push root's changes out of sight.
 
-By severity; then root's changes, those of system users, and those of all others; then what was removed or changed, and what was
-added; then by path. All of root's with severity high are listed. Of all else each folder and each owner has a share of the
-room, and what is left is counted, a line for each folder. A folder in which only names came and went comes last in its group; if
-such a name is listed by then, it is only counted, in a line at the end.
+By severity; then root's changes, those of system users, and those of all others; then the first few of each folder, so that
+no folder stands before all others; then what was removed or changed, and what was added; then by path. All of root's with
+severity high are listed. Of all else each folder and each owner has a share of the room, and what is left is counted, a line
+for each folder. A folder in which only names came and went comes last in its group; if such a name is listed by then, it is
+only counted, in a line at the end.
 """
 import stat
 from collections import Counter
@@ -17,6 +18,8 @@ from aide_compare.reasons.parents import has_other_names
 # Lines of one severity for root's changes, for those of system users, and for those of all others.
 ROOMS = (200, 100, 100)
 FOLDER_SHARE, OWNER_SHARE, MOST_FOLDERS = 20, 50, 10
+# Of each folder so many come before what all folders have more.
+FIRST_FEW = 5
 MOST_ROOTS = 2000
 MOST_PATHS = (1000, 300, 300)
 FIRST_USER = 1000  # The first number of a user who is no service, as in login.defs(5).
@@ -100,8 +103,7 @@ class Listing:
             shares = Shares(severity)
             for group in range(len(ROOMS)):
                 found = [change for change in changes if group_of_owner(change.owner) == group]
-                found.sort(key=lambda change: (folders.is_only_that(change), change.old_at is None))
-                for line in group_lines(found, shares, folders):
+                for line in group_lines(in_order(found, folders), shares, folders):
                     yield "  %-6s  %s" % (severity, line)
         if folders.count:
             yield "  %s of what is listed changed too" % counted(folders.count, "folder")
@@ -125,6 +127,16 @@ class Folders:
         is_named = change.path in self.named and self.is_only_that(change)
         self.count += is_named
         return is_named
+
+
+def in_order(changes, folders):
+    """The changes of one severity and one group of owners, which come by path, in the order in which people read them."""
+    before, keys = Counter(), {}
+    for change in sorted(changes, key=lambda change: change.old_at is None):
+        place = folders.is_only_that(change), change.folder()
+        keys[change] = place[0], before[place] >= FIRST_FEW
+        before[place] += 1
+    return sorted(keys, key=keys.get)
 
 
 def group_lines(changes, shares, folders):
