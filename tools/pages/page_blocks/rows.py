@@ -204,7 +204,7 @@ ROWS = [
     ),
     Commands(
         RUN,
-        "Leave out one folder with all that lies below:",
+        "Leave out one directory with all that lies below:",
         [4],
         expectations.leaves_out("/srv/mail", 3, "--exclude"),
         prepare=expectations.put_logs,
@@ -271,7 +271,7 @@ ROWS = [
     ),
     Commands(
         REPORT,
-        "What is new or changed below one folder, with all hosts that have it:",
+        "What is new or changed below one directory, with all hosts that have it:",
         [7],
         expectations.prints("aide on 1 hosts: 1 differ"),
         prepare=expectations.compare_host,
