@@ -85,7 +85,10 @@ PLANTED = (
     + seen_by(
         "forged.try_keys",
         (PACKAGES, "self.known.are_versions_sure() and not self.doubted_keys", "self.known.are_versions_sure()"),
-        (LIB + "indexes.py", "if vouched.digests.get(path) and not vouched.has", "if not vouched.has"),
+        (LIB + "indexes.py", "if any(night.digests.get(path) for night in nights):", "if True:"),
+        (LIB + "indexes.py", "if any(night.digests.get(path) for", "if all(night.digests.get(path) for"),
+        (PACKAGES, "index.doubt(explainer.old, explainer.new)", "index.doubt(explainer.new)"),
+        (PACKAGES, "index.doubt(explainer.old, explainer.new)", "index.doubt(explainer.old)"),
     )
     + seen_by(
         "forged.try_between",

@@ -208,6 +208,15 @@ HOST += (
         {KEPT: BY_DPKG},
     ),
 )
+
+
+def writable(host):
+    """A file that others can write, and could before."""
+    host.old.file(LIB + b"open", ONE, mode=0o100666, inode=1)
+    host.new.file(LIB + b"open", EVIL, mode=0o100666, inode=2).package("kept", "2", {LIB + b"open": EVIL})
+
+
+HOST += (("still possible: the same, of a file that others could write before", writable, {LIB + b"open": BY_DPKG}),)
 HOST += tuple(("keys", upgraded(path), {path: "-"}) for path in KEYS)
 HOST += tuple(("a foreign package", came(path), {path: "-"}) for path in STRANGE)
 
@@ -286,6 +295,11 @@ def fresh(host):
     host.new.packages["fresh"] = host.new.packages.pop("foreign")[:6] + ("fresh",)
 
 
+def twin(host):
+    """A package that is signed, and has a file at the path of another package."""
+    host.new.package("twin", "1", {KEPT: EVIL})
+
+
 TRUE_PERMITS = {BIN + b"tool": BY_ARCHIVE, KEPT: "-"}
 ARCHIVE = (
     ("nothing", lambda host: None, {TOOL: BY_ARCHIVE, NEW: BY_ARCHIVE, CONF: BY_ARCHIVE, KEPT: "-", LIB + b"dropped": HINT}),
@@ -314,6 +328,7 @@ ARCHIVE = (
     ("a signed package that came new", fresh, {LIB + b"fresh": BY_ARCHIVE, b"/etc/cron.d/fresh": "-"}),
     ("still possible: an older version that is signed", older(ONE), {KEPT: BY_ARCHIVE}),
     ("another content than that of the older version", older(EVIL), {KEPT: "-"}),
+    ("still possible: another signed package with its path", twin, {KEPT: BY_ARCHIVE}),
     ("a hint in the lists of before", before(tool_list=listed(BIN + b"alien")), {BIN + b"alien": HINT}),
 )
 
@@ -331,6 +346,7 @@ def write_archive(sandbox, **more):
         ("tool", "2"): tar(files, {"usr/lib/link": "new"}, folders={"usr/lib/folder": 0o755}),
         ("kept", "1+u"): tar({"usr/bin/permit": EVIL, "usr/bin/kept": ONE}),
         ("kept", "1"): tar({"usr/bin/permit": EVIL, "usr/bin/kept": ONE}),
+        ("twin", "1"): tar({"usr/bin/kept": EVIL}),
         ("fresh", "1"): tar({"etc/cron.d/fresh": TWO, "usr/lib/fresh": TWO}),
     }
     signed(sandbox, packages, **more)
@@ -365,18 +381,23 @@ def try_archive(sandbox):
 
 
 def try_keys(sandbox):
-    """The keys of the archive are those that AIDE measured, if it measured them."""
+    """The keys of the archive are those that AIDE measured in both nights, if it measured them."""
     sandbox.stub("gpgv", SIGNS)
     ring = os.fsencode(sandbox.write("archive.gpg", b"any"))
     write_archive(sandbox)
-    for label, measured, want in (
-        ("as measured", b"any", BY_ARCHIVE),
-        ("changed since", b"other", ARCHIVE_HINT),
-        ("not measured", None, BY_ARCHIVE),
+    for label, old, new, want in (
+        ("as measured", b"any", b"any", BY_ARCHIVE),
+        ("changed since", b"other", b"other", ARCHIVE_HINT),
+        ("changed since AIDE ran", b"any", b"other", ARCHIVE_HINT),
+        ("changed before AIDE ran", b"other", b"any", ARCHIVE_HINT),
+        ("which came before AIDE ran", None, b"any", ARCHIVE_HINT),
+        ("which were away when AIDE ran", b"any", None, ARCHIVE_HINT),
+        ("not measured", None, None, BY_ARCHIVE),
     ):
         host = host_of()
-        if measured:
-            host.both(lambda night: night.file(ring, measured))
+        for night, measured in ((host.old, old), (host.new, new)):
+            if measured:
+                night.file(ring, measured)
         host.expect(sandbox, {("the keys, " + label, TOOL): want}, "--archive", "forged-archive", "--keyring", "archive.gpg")
 
 

@@ -109,12 +109,17 @@ class Index:
         self.folders, self.paths = folders, [os.path.realpath(path) for path in keyrings or [KEYRING]]
         self.keyrings = [open_trusted(path, "the keyring") for path in keyrings or [KEYRING]]
 
-    def doubt(self, database):
-        """Why a keyring is not what a database says of it; "" if it is, or if the database has no digest of it."""
-        vouched = Vouched(database.fd, database.side, [os.fsencode(path) for path in self.paths])
-        for path, descriptor in zip(map(os.fsencode, self.paths), self.keyrings):
-            if vouched.digests.get(path) and not vouched.has(path, os.pread(descriptor, MOST_KEYRING, 0)):
-                return vouched.why_not(path)
+    def doubt(self, *databases):
+        """Why a keyring is not what the databases say of it; "" if it is, or if none has a digest of it. If one has, all
+        have to: whoever was root before AIDE ran can put his own keys there, and the new database has these."""
+        paths = [os.fsencode(path) for path in self.paths]
+        nights = [Vouched(database.fd, database.side, paths) for database in databases]
+        for path, descriptor in zip(paths, self.keyrings):
+            if any(night.digests.get(path) for night in nights):
+                text = os.pread(descriptor, MOST_KEYRING, 0)
+                doubts = [night.why_not(path) for night in nights if not night.has(path, text)]
+                if doubts:
+                    return doubts[-1]
         return ""
 
     def find(self, keys):

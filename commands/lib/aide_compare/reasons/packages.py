@@ -38,7 +38,7 @@ class Packages:
         if self.archive and after:
             columns = COMPUTED & set().union({"sha256"}, *explainer.new.tables)
             self.archive.gather(after, Asked(self.known.paths, self.known.usr, columns))
-            self.doubted_keys = self.archive.index.doubt(explainer.new)
+            self.doubted_keys = self.archive.index.doubt(explainer.old, explainer.new)
         self.made = made.Made(self.known)
 
     def came(self):
@@ -51,7 +51,7 @@ class Packages:
         return self.doubted_keys or self.known.doubt() if self.known.changed else ""
 
     def _is_archive_sure(self):
-        """Whether the databases vouch for the versions of packages, and the new one for the keys of the archive."""
+        """Whether the databases vouch for the versions of packages, and for the keys of the archive."""
         return self.known.are_versions_sure() and not self.doubted_keys
 
     def explain(self, change, old, new, differ):
