@@ -175,6 +175,8 @@ def set_up(trial, page):
     trial.write("/usr/local/sbin/aideinit", '#!/bin/sh\nmv "%s.made" "%s"\n' % ((trial.path(BASELINE),) * 2), 0o755)
     trial.write("/usr/local/sbin/systemctl", "#!/bin/sh\nexit 0\n", 0o755)
     trial.stub("apt", "exit 0")
+    # The package brings this file.
+    trial.write("/etc/aide-compare/without", "")
     status, output, errors = page.run("first")
     output = output.replace("a folder of root's", "a folder of _aide's")
     trial.holds("the first recipe", status == 0 and not errors, (status, output, errors))
