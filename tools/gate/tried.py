@@ -76,6 +76,7 @@ PAGES = [
     ),
     Row("QUIETREPORTS of Debian's job: read, and no night was mailed", "pages/try_recipes.py", "never at night", GATE),
     Row("Ansible 2.14, two runs on one machine", "pages/try_recipes.py --with-packages", "once", by_hand("2026-11-25")),
+    Row("GNU parallel 20221122: 30 hosts by sshd, a worker cut off", "HOSTS.md as written", "2 nights", by_hand("2026-11-26")),
     Row("Kubernetes: the file as YAML, its command for ten parts", "pages/try_recipes.py", "never as a job", GATE),
     Row("Icinga, NRPE, Prometheus, rsyslog, logcheck", "", "never by these programs", ""),
 ]
