@@ -22,7 +22,7 @@ def at_least(number, *words):
 
 FILES = [
     exactly(210, "tools.source.check_edits"),
-    exactly(538, "tools.source.check_docs"),
+    exactly(540, "tools.source.check_docs"),
     exactly(90, "tools.source.check_layout"),
     exactly(152, "tools.source.check_layers"),
     exactly(563, "tools.source.check_tools"),
