@@ -75,6 +75,7 @@ PLANTED = (
     + seen_by(
         "mail.try_units",
         ("contrib/systemd/aide-compare-mail.service", "KillMode=process\n", "KillMode=process\nNoNewPrivileges=yes\n"),
+        ("contrib/systemd/dailyaidecheck.service.d/aide-compare.conf", "aide.db.new\n", "aide.db\n"),
     )
     + seen_by("smtp.try_no_process", (SENDING, "    why = _refusal(way, message)\n", "    why = way.send(message)\n"))
     + seen_by("smtp.try_killed", (CHILD, "        signal.setitimer(signal.ITIMER_REAL, seconds + 5)\n", ""))

@@ -13,6 +13,7 @@ from .sandbox import END, HEAD, HERE, NEW, NOBODY, OLD, Answer, sha256
 TOOL = "aide-compare mail"
 SUBJECT = "aide on %s: " % "".join(letter for letter in os.uname().nodename if letter.isalnum() or letter in "._-")
 UNNAMED = 12345  # A user that the system has no name for.
+CHECK = "dailyaidecheck.service.d/aide-compare.conf"
 COUNTS = "differences (1 added, 1 removed, 2 changed)"
 
 
@@ -385,7 +386,8 @@ def try_pages(sandbox):
 def try_units(sandbox):
     """What must not come back: set-ID programs fail below filters, and 1 to 7 of the interpreter are no success."""
     folder = os.path.join(HERE, "contrib", "systemd")
-    text = {name: open(os.path.join(folder, name)).read() for name in os.listdir(folder)}
+    names = [name for name in os.listdir(folder) if not name.endswith(".d")] + [CHECK]
+    text = {name: open(os.path.join(folder, name)).read() for name in names}
     plain = [line for line in text["aide-compare-mail.service"].splitlines() if not line.startswith("#")]
     for word in (
         "NoNewPrivileges",
@@ -415,4 +417,6 @@ def try_units(sandbox):
         "OnFailure=aide-compare-failed.service",
     ):
         sandbox.holds("the daily unit: " + line, line in daily)
+    keeps = "\nExecStopPost=-/usr/local/bin/aide-compare accept --only-packages /var/lib/aide/aide.db.new\n"
+    sandbox.holds("the packages' records are kept when AIDE has ended", keeps in text[CHECK])
     sandbox.holds("no status of differences is a success", not any(line.startswith("SuccessExitStatus") for line in daily))

@@ -57,7 +57,7 @@ def try_stop(trial, folder):
     with open(os.path.join(folder, "DEBIAN", "prerm")) as file:
         script = file.read().replace("/run/systemd/system", machine).replace("/usr/lib/aide-compare", machine)
     shipped = sorted(os.listdir(os.path.join(folder, "usr/lib/systemd/system")))
-    trial.holds("the units of the package", shipped == UNITS, shipped)
+    trial.holds("the units of the package", shipped == [*UNITS, "dailyaidecheck.service.d"], shipped)
     for words in (["upgrade", "2"], ["remove"]):
         if os.path.exists(log):
             os.remove(log)

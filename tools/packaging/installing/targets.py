@@ -15,6 +15,7 @@ KNOWN = [
     "lib/systemd/system/aide-compare.timer",
     "lib/systemd/system/aide-compare-mail.service",
     "lib/systemd/system/aide-compare-failed.service",
+    "lib/systemd/system/dailyaidecheck.service.d/aide-compare.conf",
     "share/man/man8/aide-compare-program.8",
     "share/man/man1/aide-compare-sort.1",
     "share/man/man5/aide-compare.conf.5",
@@ -37,7 +38,6 @@ FOLDERS = {
     "commands/bin": "bin",
     "commands/share": "share/aide-compare",
     "commands/nagios": "lib/nagios/plugins",
-    "contrib/systemd": "lib/systemd/system",
     "docs": DOCUMENTS,
     "examples/small_tree": DOCUMENTS + "/examples/small_tree",
 }
@@ -63,6 +63,8 @@ def target_of(path):
         return FOLDERS[folder] + "/" + name
     if folder == "man":
         return "share/man/man%s/%s" % (name[-1], name)
+    if path.startswith("contrib/systemd/"):
+        return "lib/systemd/system/" + path[len("contrib/systemd/") :]
     if path.startswith("contrib/"):
         return DOCUMENTS + "/examples/" + path[len("contrib/") :]
     return None if "/" in path else DOCUMENTS + "/" + name
