@@ -13,9 +13,20 @@ DEFAULTS, HANDING, RUN, MAIL, CHECK, COMPARISON, REASONS = (
         "commands/reasons",
     )
 )
+SETUP = "commands/lib/aide_compare/commands/setup.py"
 UNIT = "contrib/systemd/aide-compare-failed.service"
 PLANTED = (
     seen_by(
+        "setup.try_setup",
+        (
+            SETUP,
+            'is_safe():\n                raise Fault(Status.DEVICE, "other users can write in %s" % DATABASES)\n            os.re',
+            "fd:\n                pass\n            os.re",
+        ),
+        (SETUP, "os.path.isdir(DPKG) or os.path.isdir(RPM)", "os.path.isdir(DPKG)"),
+        (SETUP, "        if self.is_debian:\n            run", "        if True:\n            run"),
+    )
+    + seen_by(
         "hands.try_failed_unit",
         (UNIT, " --unit-failed aide-compare.service", ""),
         (MAIL, '    return (given.unit_failed, "") if given.unit_failed else None\n', "    return None\n"),

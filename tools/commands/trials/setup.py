@@ -55,7 +55,7 @@ def try_setup(sandbox):
         print("skipped: aide-compare setup is tried by root only")
         return
     edit(sandbox)
-    for trial in (try_steps, try_cron, try_hostile, try_failures):
+    for trial in (try_steps, try_cron, try_other_system, try_hostile, try_failures):
         for name in ("root", "calls"):
             shutil.rmtree(sandbox.path(name), ignore_errors=True)
         prepare(sandbox, trial is not try_cron)
@@ -95,6 +95,28 @@ def try_cron(sandbox):
     mode = os.stat(sandbox.path("root/etc/cron.daily/aide-compare")).st_mode
     sandbox.holds("a job that cron runs", stat.S_IMODE(mode) == 0o755, oct(mode))
     sandbox.holds("all changes are mailed", b"--alarm" not in sandbox.read("root/etc/aide-compare/defaults"))
+
+
+def try_other_system(sandbox):
+    """A system of rpm: AIDE is root's, has another configuration, and no command that makes the baseline."""
+    databases = sandbox.path(DATABASES)
+    shutil.rmtree(sandbox.path("root/etc"))
+    shutil.rmtree(sandbox.path("root/var"))
+    for name in ("etc/aide.conf", "var/lib/rpm/rpmdb.sqlite", "var/lib/aide/keep"):
+        sandbox.write("root/" + name, "")
+    sandbox.edit(MODULE, "pwd.getpwnam(AIDES_USER)", 'pwd.getpwnam("no user " + AIDES_USER)')
+    sandbox.stub("aide", '[ "$*" = --init ] && gzip -c "%s" > "%saide.db.new.gz"' % (sandbox.path("old.db"), databases))
+    os.chmod(databases, 0o777)
+    sandbox.expect("setup where others can write", sandbox.call(TOOL), 18, None, b"other users can write in")
+    os.chmod(databases, 0o700)
+    sandbox.expect("setup on a system of rpm", sandbox.call(TOOL, "--no-mail"), 0, [b"    aide --init\n", b"aide.db.gz"], b"")
+    found, calls = made(sandbox)
+    there = {name for name in found if name.startswith(("var/lib/aide/", "etc/aide-compare/"))}
+    wanted = {"var/lib/aide/" + name for name in ("keep", "aide.db.gz", "aide.db.gz.packages")}
+    sandbox.holds("the baseline of a system of rpm", there == wanted | {"etc/aide-compare/defaults"}, there)
+    sandbox.holds("all of it is root's", not any(found.values()), found)
+    sandbox.expect("nothing is missing there", sandbox.call(TOOL, "--check"), 0, b"nothing is missing", b"")
+    sandbox.edit(MODULE, 'pwd.getpwnam("no user " + AIDES_USER)', "pwd.getpwnam(AIDES_USER)")
 
 
 def try_hostile(sandbox):

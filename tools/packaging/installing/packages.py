@@ -8,7 +8,7 @@ import shutil
 import subprocess
 import tarfile
 
-from tools.packaging.installing import debian
+from tools.packaging.installing import debian, rpm
 from tools.packaging.installing.trial import files, rights, texts, tree
 
 FIXED = 1767225600
@@ -34,8 +34,9 @@ def try_packages(trial):
     trial.holds("make_package", done[0] == 0 and done[2] == "", done)
     tarball = "aide-compare-%s-x86_64-linux.tar.gz" % trial.version
     package = "aide-compare_%s-1_amd64.deb" % trial.version
-    has_dpkg = shutil.which("dpkg-deb") is not None
-    wanted = {tarball, "SHA256SUMS"} | ({package} if has_dpkg else set())
+    has_dpkg, has_rpm = (shutil.which(name) is not None for name in ("dpkg-deb", "rpmbuild"))
+    of_rpm = "aide-compare-%s-1.x86_64.rpm" % trial.version
+    wanted = {tarball, "SHA256SUMS"} | ({package} if has_dpkg else set()) | ({of_rpm} if has_rpm else set())
     trial.holds("the packages", set(first) == wanted, sorted(first))
     if tarball not in first or "SHA256SUMS" not in first:
         return
@@ -80,6 +81,10 @@ def try_packages(trial):
         debian.try_life(trial, trial.path("packages", package))
     else:
         trial.skip("the Debian package: dpkg-deb is not installed")
+    if has_rpm and os.geteuid() == 0:
+        rpm.try_life(trial, trial.path("packages", of_rpm))
+    else:
+        trial.skip("the package for rpm: rpmbuild is not installed, or this is not root")
     done, least = make(trial, "least", env=dict(more, PATH=trial.plain_path))
     good = done[0] == 0 and set(least) == {tarball, "SHA256SUMS"} and "no Debian package" in done[1]
     trial.holds("without dpkg-deb", good and least[tarball] == first[tarball], (done, sorted(least)))

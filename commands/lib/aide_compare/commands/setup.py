@@ -16,7 +16,10 @@ NAME = "aide-compare setup"
 HERE = os.path.dirname(os.path.realpath(__file__))
 ROOT = ""
 CONFIGURATIONS = ("/etc/aide/aide.conf", "/etc/aide.conf")
-DATABASES, BASELINE, NEW = ROOT + "/var/lib/aide", "aide.db", "aide.db.new"
+DATABASES = ROOT + "/var/lib/aide"
+# The databases on Debian, where AIDE has a command that makes the first one, and on systems of rpm.
+DEBIANS, OTHERS = ("aide.db", "aide.db.new"), ("aide.db.gz", "aide.db.new.gz")
+DPKG, RPM = ROOT + "/var/lib/dpkg/info", ROOT + "/var/lib/rpm"
 OWN, DAILY = ROOT + "/var/lib/aide-compare", "daily"
 DEFAULTS, WITHOUT, CRON = (
     ROOT + "/etc/aide-compare/defaults",
@@ -106,6 +109,8 @@ class Machine:
         except KeyError:
             self.user = pwd.getpwuid(0)
         self.has_systemd = os.path.isdir(SYSTEMD) and not given.cron
+        self.is_debian = exists(ROOT + CONFIGURATIONS[0])
+        self.baseline, self.new = DEBIANS if self.is_debian else OTHERS
 
     def defaults(self):
         to = "--to %s\n" % self.given.to if self.given.to else ""
@@ -117,6 +122,17 @@ class Machine:
             return os.lstat(os.path.join(DATABASES, name)).st_uid == self.user.pw_uid
         except FileNotFoundError:
             return True
+
+    def make_baseline(self):
+        """Lets AIDE write the first database. What it writes elsewhere than on Debian gets the baseline's name."""
+        if self.is_debian:
+            run(["aideinit", "-y"], INIT_SECONDS)
+            return
+        run(["aide", "--init"], INIT_SECONDS)
+        with open_folder(DATABASES) as folder:
+            if not folder.is_safe():
+                raise Fault(Status.DEVICE, "other users can write in %s" % DATABASES)
+            os.rename(self.new, self.baseline, src_dir_fd=folder.fd, dst_dir_fd=folder.fd)
 
     def give(self, name):
         """Gives a database that root has made to the user. Others can write in the folder, so nothing goes by its name: it is
@@ -165,22 +181,21 @@ class Machine:
             put(CRON, shipped("cron/aide-compare.cron.daily"), 0o755)
 
     def steps(self):
-        base = os.path.join(DATABASES, BASELINE)
+        base = os.path.join(DATABASES, self.baseline)
         job = "the timer aide-compare.timer" if self.has_systemd else CRON
-        yield Step(
-            "paths that change every day: " + WITHOUT,
-            lambda: exists(WITHOUT),
-            lambda: put(WITHOUT, shipped("aide/debian.without")),
-        )
+        if self.is_debian:
+            yield Step(
+                "paths that change every day: " + WITHOUT,
+                lambda: exists(WITHOUT),
+                lambda: put(WITHOUT, shipped("aide/debian.without")),
+            )
         yield Step("options of each day: " + DEFAULTS, lambda: exists(DEFAULTS), lambda: put(DEFAULTS, self.defaults()))
         yield Step("a folder of %s's: %s/%s" % (self.user.pw_name, OWN, DAILY), self.has_folder, self.make_folder)
-        yield Step(
-            "the baseline %s, which takes minutes" % base, lambda: exists(base), lambda: run(["aideinit", "-y"], INIT_SECONDS)
-        )
-        for name in (BASELINE, NEW):
+        yield Step("the baseline %s, which takes minutes" % base, lambda: exists(base), self.make_baseline)
+        for name in (self.baseline, self.new):
             what = "%s is %s's" % (os.path.join(DATABASES, name), self.user.pw_name)
             yield Step(what, lambda name=name: self.owns(name), lambda name=name: self.give(name))
-        if os.path.isdir(ROOT + "/var/lib/dpkg/info"):
+        if os.path.isdir(DPKG) or os.path.isdir(RPM):
             records = ["aide-compare", "accept", "--only-packages", base]
             yield Step("records of the packages: %s.packages" % base, lambda: exists(base + ".packages"), lambda: run(records))
         yield Step(job, self.has_job, self.make_job)
