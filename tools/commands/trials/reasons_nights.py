@@ -1,13 +1,14 @@
 """Real nights of a Debian 12, cut to some 40 to 100 entries each: the nights of an intruder among ordinary changes.
 
-The texts in tools/commands/nights have lines of AIDE's databases and of dpkg's records as they were. What is wanted of each
-entry stands at their end: its reason and its severity, as they were judged by hand.
+The texts in tools/commands/nights have lines of AIDE's databases and of dpkg's records as they were, those that are so in both
+nights once. A paragraph of dpkg's status and each other record is one line, with tabs for its ends of line. Before an entry
+that differs stands what is wanted of it: its reason and its severity, as they were judged by hand.
 """
 import json
 import os
 from urllib.parse import unquote_to_bytes
 
-from .reasons_host import DPKG, NAME, Entry, in_short, packed
+from .reasons_host import COLUMNS, DPKG, NAME, Entry, in_short, packed
 from .sandbox import HERE
 
 FOLDER = os.path.join(HERE, "tools", "commands", "nights")
@@ -48,40 +49,56 @@ MADE_ONLY = ("__pycache__", "/boot/initrd.img")
 
 
 def read_night(name):
-    """The parts of a night's text, by their titles."""
-    parts, title = {}, None
+    """The lines of a night's text, by the title above them."""
+    parts = {}
     with open(os.path.join(FOLDER, name + ".txt"), encoding="utf-8") as file:
-        for line in file:
+        for line in file.read().splitlines():
             if line.startswith("@@ "):
-                title = line[3:-1]
-                parts[title] = []
+                lines = parts[line[3:]] = []
             else:
-                parts[title].append(line)
-    return {title: "".join(lines) for title, lines in parts.items()}
+                lines.append(line)
+    return parts
 
 
-def vouching(columns, lines, records):
+def side_of(parts, side):
+    """The lines of the database on one side, and dpkg's records there, by name."""
+    entries, packages, records = (
+        parts["%s of both" % kind] + parts.get("%s of %s" % (kind, side), []) for kind in ("entries", "packages", "records")
+    )
+    texts = dict(line.split("\t", 1) for line in records)
+    texts["status"] = "\t\t".join(sorted(packages))
+    written = {name: (text.replace("\t", "\n") + "\n").encode() for name, text in texts.items()}
+    return [line.rpartition("\t")[2] for line in entries], written
+
+
+def wanted_of(parts):
+    """What is wanted of each entry, by its path."""
+    judged = (line.split("\t") for kind in ("old", "new") for line in parts["entries of " + kind] if "\t" in line)
+    return {unquote_to_bytes(line.split(" ")[0]).decode(): wanted for wanted, line in judged}
+
+
+def vouching(lines, records):
     """The lines of a database with those of dpkg's records, as cut as they are here, and the paths that it has only so."""
-    entries = {unquote_to_bytes(line.split(" ")[0]): line for line in lines.splitlines(True)}
+    entries = {unquote_to_bytes(line.split(" ")[0]): line for line in lines}
     made = {DPKG + name.encode(): text for name, text in records.items()}
     extra = made.keys() - entries.keys()
     for path, text in made.items():
         values = Entry(path, 0o100644, text).values
         if path in entries:
-            now = dict(zip(columns.split(), entries[path].split()))
+            now = dict(zip(COLUMNS, entries[path].split(" ")))
             values = {**now, **{column: values[column] for column in ("size", "md5", "sha256")}}
-        entries[path] = " ".join(str(values[column]) for column in columns.split()) + "\n"
-    return "".join(entries[path] for path in sorted(entries, key=lambda path: path.split(b"/"))), extra
+        entries[path] = " ".join(str(values[column]) for column in COLUMNS)
+    return "".join(entries[path] + "\n" for path in sorted(entries, key=lambda path: path.split(b"/"))), extra
 
 
 def explained(sandbox, name, parts):
     """The objects of a night, by way of the program and all commands, and the paths that only these trials have."""
     extra = set()
     for side in ("old", "new"):
-        records = {title[4:]: text.encode() for title, text in parts.items() if title.startswith(side + " ")}
-        lines, more = vouching(parts["columns"], parts[side], records)
+        lines, records = side_of(parts, side)
+        text, more = vouching(lines, records)
         extra |= more
-        sandbox.write("%s.db" % side, "@@begin_db\n@@db_spec %s%s@@end_db\n" % (parts["columns"], lines))
+        sandbox.write("%s.db" % side, "@@begin_db\n@@db_spec %s\n%s@@end_db\n" % (" ".join(COLUMNS), text))
         sandbox.write("%s.packages" % side, packed(records))
     report = sandbox.call("aide-compare", "old.db", "new.db", "--", "-B", "report_level=changed_attributes")
     lines = sandbox.call("aide-compare json", text=report.output).output
@@ -103,7 +120,7 @@ def try_nights(sandbox):
             for fields in objects
             if fields["record"] == "entry" and fields["path"].encode() not in extra
         }
-        wanted = dict(reversed(line.split("\t")) for line in parts["wanted"].splitlines())
+        wanted = wanted_of(parts)
         for path in sorted(found.keys() | wanted.keys()):
             # A machine with this very version of Python has the same file, and compiles it again.
             if path.endswith(".pyc") and found.get(path, "").replace("!", "") == wanted.get(path):
