@@ -2,7 +2,7 @@
 
 aide_objects/ has what `aide --compare` with report_format=json and the level added_removed_entries printed, of the databases
 of examples/small_tree and of a pair with access control lists, extended attributes, flags and capabilities. What depends on
-the time of the run, and different_attributes, is taken out of it, and the folder of the databases.
+the time of the run, and different_attributes, is taken out of it, and the folder of the databases. Each entry is one line.
 """
 import json
 import os
