@@ -20,7 +20,7 @@ from tools.lib.arguments import parser_of
 from tools.commands import planted
 from tools.commands.trials.sandbox import HERE, Sandbox
 from tools.lib import signals
-from tools.lib.apart import apart
+from tools.lib.apart import apart, has_own_mounts
 from tools.lib.tally import Tally, program_of
 
 FAILED = re.compile("[0-9]+ passed, [1-9][0-9]* failed")
@@ -48,6 +48,7 @@ def run_trial(folder, trial, program):
 def one_trial(trial, program):
     """Runs a trial. If it breaks off, that is a failure, as in try_tools.py."""
     tally = Tally()
+    has_own_mounts()
     sandbox = Sandbox(program, tally)
     module, function = trial.rsplit(".", 1)
     try:

@@ -11,7 +11,7 @@ import tempfile
 import traceback
 
 from tools.lib.arguments import parser_of
-from tools.lib import signals
+from tools.lib import apart, signals
 from tools.commands.trials.accept import try_accept
 from tools.commands.trials.accept_attacks import try_accept_attacks
 from tools.commands.trials.accept_kills import try_accept_kills
@@ -133,6 +133,7 @@ def main():
     parser.add_argument("program", help="the built program")
     wanted = parser.parse_args()
     signals.heed()
+    apart.has_own_mounts()
     program, tally = program_of(wanted.program), Tally()
     for trial in BASE:
         if wanted.only in (None, trial.__name__):

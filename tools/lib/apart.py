@@ -1,4 +1,6 @@
-"""Commands that cannot change the machine: for bugs that are planted, whose trials attack what should guard it."""
+"""Commands that cannot change the machine: for bugs that are planted, whose trials attack what should guard it. And mounts
+that nobody else sees."""
+import ctypes
 import functools
 import os
 import subprocess
@@ -27,3 +29,14 @@ def prefix():
 def apart(words):
     """The words of a command that runs so."""
     return prefix() + list(words)
+
+
+@functools.lru_cache(maxsize=None)
+def has_own_mounts():
+    """Gives this process mounts that it shares with its children alone, and says whether it has them. (Python 3.9 has no
+    os.unshare.) Only the thread that asks first gets them, and those that it starts."""
+    if os.geteuid() != 0:
+        return False
+    library = ctypes.CDLL(None)
+    new_mounts, recursive_private = 0x20000, 0x44000
+    return library.unshare(new_mounts) == 0 and library.mount(None, b"/", None, recursive_private, None) == 0

@@ -6,7 +6,6 @@ import hashlib
 import os
 import shutil
 import stat
-import subprocess
 import time
 
 from .accepting import BASE, OLDER, accept, contents, fresh, marked, records_of, small_dpkg
@@ -166,10 +165,9 @@ def try_full_disk(sandbox):
     small_dpkg(sandbox)
     shutil.rmtree(sandbox.path("base"), ignore_errors=True)
     os.mkdir(sandbox.path("base"))
-    words = ["mount", "-t", "tmpfs", "-o", "size=64k,mode=755", "none", sandbox.path("base")]
-    if os.getuid() != 0 or subprocess.call(words, stderr=subprocess.DEVNULL) != 0:
-        return print("skipped: a baseline on a full disk (no small disk can be mounted)")
-    try:
+    with sandbox.mounted("base", "-t", "tmpfs", "-o", "size=64k,mode=755", "none") as is_small:
+        if not is_small:
+            return print("skipped: a baseline on a full disk (no small disk can be mounted)")
         sandbox.write("base/aide.db", OLD, 0o600)
         sandbox.write("base/aide.db.packages", marked(OLD), 0o600)
         large = HEAD + b"".join(b"/x%05d 36 100644 1\n" % number for number in range(9000)) + END
@@ -179,9 +177,7 @@ def try_full_disk(sandbox):
         found = sorted(os.listdir(sandbox.path("base")))
         sandbox.holds("both files stay", found == ["aide.db", "aide.db.packages"], found)
         sandbox.holds("as they were", sandbox.read("base/aide.db") == OLD and records_of(sandbox) == sha256(OLD))
-    finally:
-        subprocess.call(["umount", sandbox.path("base")])
-        shutil.rmtree(sandbox.path("dpkg"))
+    shutil.rmtree(sandbox.path("dpkg"))
     fresh(sandbox)
 
 

@@ -4,7 +4,6 @@ import os
 import random
 import re
 import shutil
-import subprocess
 
 from . import explained
 from .accepting import BASE, OLDER, accept, contents, fresh, records_of, small_dpkg
@@ -49,18 +48,15 @@ def try_late_failure(sandbox):
     small_dpkg(sandbox)
     fresh(sandbox)
     sandbox.write("source", OLD)
-    words = ["mount", "--bind", sandbox.path("source"), sandbox.path("base/aide.db")]
-    if os.getuid() != 0 or subprocess.call(words, stderr=subprocess.DEVNULL) != 0:
-        return print("skipped: an exchange that fails late (nothing can be mounted)")
-    try:
+    with sandbox.mounted("base/aide.db", "--bind", sandbox.path("source")) as is_there:
+        if not is_there:
+            return print("skipped: an exchange that fails late (nothing can be mounted)")
         before = sorted(os.listdir(sandbox.path("base")))
         done = accept(sandbox, sha256(NEW))
         sandbox.expect("a baseline that is a mount point", done, 18, b"", b"cannot write the baseline base/aide.db: Device")
         found = contents(sandbox)[:2], records_of(sandbox), sorted(os.listdir(sandbox.path("base")))
         sandbox.holds("its copy and its records stay", found == ((OLD, OLDER), sha256(OLD), before), found)
-    finally:
-        subprocess.call(["umount", sandbox.path("base/aide.db")])
-        shutil.rmtree(sandbox.path("dpkg"))
+    shutil.rmtree(sandbox.path("dpkg"))
     fresh(sandbox)
 
 

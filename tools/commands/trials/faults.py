@@ -1,4 +1,5 @@
 """aide-compare when something goes wrong: limits, damage, a full disk, no right, signals, and what others can read."""
+import contextlib
 import gzip
 import os
 import shutil
@@ -139,36 +140,22 @@ def try_rooms(sandbox):
 def try_full_disk(sandbox):
     small = sandbox.path("small")
     os.makedirs(small, exist_ok=True)
-    if (
-        os.getuid() != 0
-        or subprocess.call(["mount", "-t", "tmpfs", "-o", "size=32k", "none", small], stderr=subprocess.DEVNULL) != 0
-    ):
-        return print("skipped: a full disk (no small disk can be mounted)")
-    try:
+    with sandbox.mounted("small", "-t", "tmpfs", "-o", "size=32k", "none") as is_small:
+        if not is_small:
+            return print("skipped: a full disk (no small disk can be mounted)")
         for new in ("large.db", "large.db.gz"):
             answer = sandbox.call(TOOL, "old.db", new, "--state", "state", environment={"TMPDIR": small})
-            sandbox.expect(
-                "a full disk, " + new,
-                answer,
-                18,
-                b"",
-                [b"the new database " + new.encode() + b" to " + small.encode() + b": No space left on device"],
-            )
+            told = b"the new database " + new.encode() + b" to " + small.encode() + b": No space left on device"
+            sandbox.expect("a full disk, " + new, answer, 18, b"", [told])
             sandbox.holds("nothing is left on a full disk", not os.listdir(small))
             sandbox.holds("the state of a full disk", "No space left" in sandbox.state()["error"])
         before = sandbox.read("state")
         shutil.copy(sandbox.path("state"), small)
-        with open(os.path.join(small, "filler"), "wb") as filler:
-            try:
-                filler.write(b"x" * 65536)
-                filler.flush()
-            except OSError:
-                pass
+        with contextlib.suppress(OSError), open(os.path.join(small, "filler"), "wb") as filler:
+            filler.write(b"x" * 65536)
         answer = sandbox.call(TOOL, "old.db", "new.db", "--state", "small/state")
         sandbox.holds("a full disk of the state", answer.status == 18 and sandbox.read("small/state") == before, answer)
         sandbox.holds("nothing is left beside the state", sorted(os.listdir(small)) == ["filler", "state"], os.listdir(small))
-    finally:
-        subprocess.call(["umount", small])
 
 
 def try_programs(sandbox):

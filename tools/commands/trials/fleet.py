@@ -123,36 +123,18 @@ def try_hostile(sandbox):
     )
 
 
-SMALL = """most=1G
-mount -t tmpfs -o size=40m,mode=755 tmpfs "$0" 2>/dev/null || most=3M
-for host in endless %s; do mkdir -p "$0/hosts/$host"; cp "$1/hosts/$host/aide.db" "$0/hosts/$host"; done
-shift; exec "$@" --max-size "$most" --store "$0" """ % " ".join(
-    PAIR
-)
-
-
 def try_small_store(sandbox):
     """A store of 40 MB and no option: the host that sends without end gets a share of the room, and the others theirs. Where
     nothing can be mounted, --max-size is what limits it; the share is tried in try_endless."""
-    fleet = Fleet(sandbox)
-    os.mkdir(sandbox.path("small"))
-    fleet.put("endless", OLD)
-    sandbox.write("hosts", "".join("%s\n" % host for host in ("endless",) + PAIR))
-    words = ["unshare", "-m"] if os.getuid() == 0 else []
-    words += [
-        "sh",
-        "-c",
-        SMALL,
-        sandbox.path("small"),
-        sandbox.path("store"),
-        *sandbox.command("aide-compare hosts compare"),
-        "--time",
-        "60s",
-        sandbox.path("hosts"),
-    ]
-    output = fleet.start(words).communicate(timeout=200)[0].decode()
-    good = all("%s 7 added 1, removed 1, changed 2\n" % host in output for host in PAIR)
-    sandbox.holds("a store of 40 MB", good and "endless 18 endless: sent more than" in output, output)
+    os.makedirs(sandbox.path("store"), exist_ok=True)
+    with sandbox.mounted("store", "-t", "tmpfs", "-o", "size=40m,mode=755", "none") as is_small:
+        fleet = Fleet(sandbox)
+        fleet.put("endless", OLD)
+        sandbox.write("hosts", "".join("%s\n" % host for host in ("endless",) + PAIR))
+        words = ["--max-size", "1G" if is_small else "3M", "--time", "60s", sandbox.path("hosts")]
+        output = fleet.call("aide-compare hosts compare", *words)[1]
+        good = all("%s 7 added 1, removed 1, changed 2\n" % host in output for host in PAIR)
+        sandbox.holds("a store of 40 MB", good and "endless 18 endless: sent more than" in output, output)
 
 
 def try_endless(sandbox):

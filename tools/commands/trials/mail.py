@@ -277,17 +277,13 @@ def try_journal(sandbox):
 def try_room(sandbox):
     """A TMPDIR of each size: a mail goes out, or the status says that none did; never a difference without a mail."""
     prepare(sandbox)
-    if os.geteuid() != 0:
-        return print("skipped: a small TMPDIR (only root can mount one)")
     folder = sandbox.path("small")
     os.mkdir(folder)
     sandbox.write("half.db", HEAD + b"".join(b"/f%05d 36 100644 1\n" % number for number in range(4000)) + END)
     for size in range(16, 1000, 96):
-        if subprocess.run(
-            ["mount", "-t", "tmpfs", "-o", "size=%dk" % size, "none", folder], stderr=subprocess.PIPE
-        ).returncode:
-            return print("skipped: a small TMPDIR (nothing can be mounted here)")
-        try:
+        with sandbox.mounted("small", "-t", "tmpfs", "-o", "size=%dk" % size, "none") as is_small:
+            if not is_small:
+                return print("skipped: a small TMPDIR (nothing can be mounted here)")
             answer, message = call(sandbox, "empty.db", "half.db", environment={"TMPDIR": folder}), sent(sandbox)
             good = message is not None and (
                 answer.status == 1
@@ -296,8 +292,6 @@ def try_room(sandbox):
                 and "no comparison (status 18)" in subject(message)
             )
             sandbox.holds("a mail with %d kB" % size, good and not os.listdir(folder), (answer, message))
-        finally:
-            subprocess.run(["umount", folder])
 
 
 def try_queue(sandbox):

@@ -1,4 +1,5 @@
 """A folder of its own in which the commands are tried, and the databases of the trials."""
+import contextlib
 import gzip
 import hashlib
 import os
@@ -6,6 +7,8 @@ import shutil
 import subprocess
 import sys
 import tempfile
+
+from tools.lib.apart import has_own_mounts
 
 HERE = os.path.dirname(os.path.dirname(os.path.dirname(os.path.dirname(os.path.abspath(__file__)))))
 # Only for a tool that hangs: on a machine with much other work a run may take minutes.
@@ -100,6 +103,18 @@ class Sandbox:
     def point_defaults(self):
         """The administrator's folder is one of the trial, and never that of this machine."""
         self.edit("lib/aide_compare/base/defaults.py", 'FOLDER = "/etc/aide-compare"', "FOLDER = %r" % self.path("etc"))
+
+    @contextlib.contextmanager
+    def mounted(self, name, *words):
+        """What `mount` puts on a file or folder with these words, for a while. Yields whether it is there: it is mounted only
+        where nobody else sees it."""
+        path = self.path(name)
+        is_there = has_own_mounts() and subprocess.call(["mount", *words, path], stderr=subprocess.DEVNULL) == 0
+        try:
+            yield is_there
+        finally:
+            if is_there:
+                subprocess.call(["umount", path])
 
     def stub(self, name, body, folder="stubs"):
         """A command of the trials, found before that of the machine."""
