@@ -138,8 +138,16 @@ PLANTED = (
             COPIED_ONCE,
         ),
     )
-    + seen_by("attacks.try_few_descriptors", (PROGRAM, "FIRST_FREE = 10", "FIRST_FREE = 100"))
-    + seen_by("attacks.try_little_memory", ("commands/bin/aide-compare", "status = 18\n", "status = 1\n"))
+    + seen_by(
+        "attacks.try_few_descriptors",
+        (PROGRAM, "FIRST_FREE = 10", "FIRST_FREE = 100"),
+        (FILES, 'Status.DEVICE, "cannot make a private file', 'Status.DATABASE, "cannot make a private file'),
+    )
+    + seen_by(
+        "attacks.try_little_memory",
+        ("commands/bin/aide-compare", "status = 18\n", "status = 1\n"),
+        ("commands/lib/aide_compare/base/ending.py", "MEMORY = 22", "MEMORY = 24"),
+    )
     + seen_by(
         "attacks.try_no_process",
         (
