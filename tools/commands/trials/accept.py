@@ -6,7 +6,8 @@ import hashlib
 import os
 import shutil
 import stat
-import time
+
+from tools.lib.waiting import until, waits
 
 from .accepting import BASE, OLDER, accept, contents, fresh, marked, records_of, small_dpkg
 from .sandbox import AS_NOBODY, END, HEAD, NEW, NOBODY, OLD, UMASK, sha256
@@ -187,7 +188,8 @@ def try_at_once(sandbox):
     folder = os.open(sandbox.path("base"), os.O_RDONLY)
     fcntl.flock(folder, fcntl.LOCK_EX)
     run = sandbox.start(TOOL, *words)
-    time.sleep(1)
+    # It asks for the lock again and again, and sleeps meanwhile.
+    until(lambda: run.poll() is not None or waits(run.pid, "nanosleep", lambda names: sandbox.path("base") in names))
     sandbox.holds("a locked folder is waited for", run.poll() is None and contents(sandbox)[0] == OLD, run.poll())
     os.close(folder)
     run.communicate()

@@ -7,7 +7,8 @@ from .accepting import accept, accept_at, contents, fresh, library
 from .others_folder import BASELINE, SECRET, Swapping, call, harm, put, roots
 from .sandbox import NEW, NOBODY, OLD, sha256
 
-ROUNDS = 200
+# So many rounds count, in which the other user was at work; and so many there are at most.
+ROUNDS, MOST_ROUNDS = 200, 1000
 MOST_CALLS = 250
 FOR_THE_CALL, FOR_GOOD = 2, 3
 
@@ -79,12 +80,12 @@ def in_a_loop(sandbox, kind):
     one, other, target = put(sandbox, kind)
     before, begun, statuses, harmed, busy = roots(sandbox), time.time(), [], [], 0
     with Swapping(sandbox, one, other, target) as swapping:
-        while len(statuses) < ROUNDS and not harmed:
+        while busy < ROUNDS and len(statuses) < MOST_ROUNDS and not harmed:
             database = NEW.replace(b" 5\n", b" %d\n" % (1000 + len(statuses)))
             sandbox.write("new", database, 0o600)
             count = swapping.count()
             done = call(sandbox, database)
-            busy += swapping.count() > count
+            busy += swapping.count() > count + 1
             statuses.append(done.status)
             found = harm(sandbox, before)
             if found or done.status not in (0, 18):
@@ -92,7 +93,7 @@ def in_a_loop(sandbox, kind):
         count, user = swapping.count(), swapping.user()
     name = "the %s swapped by another user" % kind
     sandbox.holds("%s, %d rounds" % (name, ROUNDS), not harmed, harmed)
-    told = "%d swaps by the user %s, some in %d of %d rounds, done %d, refused %d, %.0f seconds" % (
+    told = "%d swaps by the user %s, two or more in %d of %d rounds, done %d, refused %d, %.0f seconds" % (
         count,
         user,
         busy,
@@ -102,8 +103,7 @@ def in_a_loop(sandbox, kind):
         time.time() - begun,
     )
     print("%s: %s" % (name, told), flush=True)
-    is_busy = count > 20 * len(statuses) and busy > 0.9 * len(statuses)
-    sandbox.holds(name + ", again and again", user == NOBODY and is_busy, told)
+    sandbox.holds(name + ", again and again", user == NOBODY and busy == ROUNDS or harmed, told)
     sandbox.holds(name + ", and some are refused", harmed or 18 in statuses, told)
 
 

@@ -7,6 +7,8 @@ import signal
 import subprocess
 import time
 
+from tools.lib.waiting import until, waits
+
 from .sandbox import AS_NOBODY, DIFFER, NEW, OLD, SMALL_FILES, UMASK
 
 TOOL = "aide-compare"
@@ -220,16 +222,6 @@ def try_closed_errors(sandbox):
         )
 
 
-def until(condition):
-    """Waits until something is so; whether it came so."""
-    limit = time.time() + 60
-    while not condition():
-        if time.time() > limit:
-            return False
-        time.sleep(0.01)
-    return True
-
-
 def running(word):
     """The processes that have the word in their command line."""
     found = []
@@ -297,13 +289,8 @@ def try_signals(sandbox):
 
 
 def waits_for_input(process):
-    """Whether the command has opened its private file and reads what comes."""
-    try:
-        names = [os.readlink("/proc/%d/fd/%s" % (process.pid, name)) for name in os.listdir("/proc/%d/fd" % process.pid)]
-        with open("/proc/%d/wchan" % process.pid) as file:
-            return sum("(deleted)" in name for name in names) == 2 and "pipe" in file.read()
-    except OSError:
-        return False
+    """Whether the command has opened its private files and reads what comes."""
+    return waits(process.pid, "pipe", lambda names: sum("(deleted)" in name for name in names) == 2)
 
 
 def try_secrecy(sandbox):

@@ -7,6 +7,8 @@ import subprocess
 import sys
 import time
 
+from tools.lib.waiting import is_alive, until
+
 from .sandbox import END, NEW, OLD
 
 ROOM = 40 << 20
@@ -179,29 +181,14 @@ def try_ended(sandbox):
             if os.path.exists(pid):
                 os.remove(pid)
             run = fleet.start(fleet.words(command, last))
-            wait_for(lambda: os.path.exists(pid) and sandbox.read("ssh.pid").strip())
+            until(lambda: os.path.exists(pid) and sandbox.read("ssh.pid").strip())
             begun = time.time()
             run.send_signal(number)
             run.communicate(timeout=60)
             ssh = int(sandbox.read("ssh.pid"))
-            gone = wait_for(lambda: not is_alive(ssh))
+            gone = until(lambda: not is_alive(ssh))
             good = run.returncode == -number and time.time() - begun < 30 and gone
             sandbox.holds("%s ended by signal %d" % (command, number), good, (run.returncode, gone, time.time() - begun))
-
-
-def wait_for(condition):
-    deadline = time.time() + 30
-    while time.time() < deadline and not condition():
-        time.sleep(0.02)
-    return condition()
-
-
-def is_alive(pid):
-    try:
-        with open("/proc/%d/stat" % pid) as file:
-            return file.read().rsplit(")", 1)[1].split()[0] != "Z"
-    except FileNotFoundError:
-        return False
 
 
 def try_told(sandbox):

@@ -2,7 +2,8 @@
 import os
 import shlex
 import signal
-import time
+
+from tools.lib.waiting import is_alive, until
 
 from . import explained, mail
 from .sandbox import HERE, NOBODY
@@ -290,21 +291,9 @@ def try_lost_child(sandbox):
     note_users(sandbox, "case $1 in -E) exec sleep 60;; esac")
     os.remove(sandbox.path("out/users"))
     process = sandbox.start(TOOL, *words)
-    limit = time.monotonic() + 30
-    while not os.path.exists(sandbox.path("out/users")) and time.monotonic() < limit:
-        time.sleep(0.02)
-    time.sleep(0.1)
+    noted = sandbox.path("out/users")
+    until(lambda: os.path.exists(noted) and os.path.getsize(noted))
     program = int(users(sandbox)[0][1])
     process.send_signal(signal.SIGTERM)
     process.communicate(timeout=20)
-    while os.path.exists("/proc/%d/exe" % program) and time.monotonic() < limit:
-        time.sleep(0.02)
-    sandbox.holds("no process is left", not os.path.exists("/proc/%d/exe" % program) or state_of(program) == "Z", program)
-
-
-def state_of(number):
-    try:
-        with open("/proc/%d/stat" % number, encoding="ascii", errors="replace") as file:
-            return file.read().rpartition(")")[2].split()[0]
-    except OSError:
-        return "Z"
+    sandbox.holds("no process is left", until(lambda: not is_alive(program)), program)

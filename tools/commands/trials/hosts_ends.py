@@ -8,7 +8,8 @@ import subprocess
 import sys
 import time
 
-from .fleet import wait_for
+from tools.lib.waiting import until
+
 from .hosts_report import Hosts, database, four_hosts, line
 from .sandbox import after
 from .sorting import MEASURE
@@ -60,7 +61,7 @@ def try_ends(sandbox):
     for number in (signal.SIGTERM, signal.SIGINT, signal.SIGHUP):
         lock = subprocess.Popen(["flock", sandbox.path("store/hosts/www2/lock"), "sleep", "100"], start_new_session=True)
         run = hosts.start(after(HEEDED, hosts.words("aide-compare hosts report", sandbox.path("hosts"))))
-        wait_for(lambda: any(name.startswith(".aide-compare-sort-") for name in os.listdir(sandbox.room)))
+        until(lambda: any(name.startswith(".aide-compare-sort-") for name in os.listdir(sandbox.room)))
         time.sleep(0.2)
         run.send_signal(number)
         try:

@@ -10,7 +10,9 @@ import signal
 import subprocess
 import time
 
-from .fleet import Fleet, wait_for
+from tools.lib.waiting import until
+
+from .fleet import Fleet
 from .sandbox import END, NEW, OLD
 
 SPEC = b"@@begin_db\n@@db_spec name perm uid gid size mtime inode lcount attr sha256\n"
@@ -193,7 +195,7 @@ def try_not_compared(sandbox):
     sandbox.write("hosts", "good1\nunknown\nstale\nahead\nodd\nbusy\nnever\na..b\nlinked\n")
     lock = subprocess.Popen(["flock", sandbox.path("store/hosts/busy/lock"), "sleep", "100"], start_new_session=True)
     try:
-        wait_for(lambda: subprocess.run(["flock", "-n", sandbox.path("store/hosts/busy/lock"), "true"]).returncode == 1)
+        until(lambda: subprocess.run(["flock", "-n", sandbox.path("store/hosts/busy/lock"), "true"]).returncode == 1)
         summary, found, changes = hosts.objects("--time", "1s")
         status, output, _ = hosts.report("--time", "1s")
     finally:

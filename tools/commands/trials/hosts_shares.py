@@ -5,7 +5,9 @@ import os
 import re
 import time
 
-from .fleet import Fleet, wait_for
+from tools.lib.waiting import until
+
+from .fleet import Fleet
 from .sandbox import NEW, OLD
 
 # In ssh's place: it notes who was asked for, and hangs for the hosts that have a file of their own in `hang`.
@@ -100,7 +102,7 @@ def try_killed(sandbox, fleet, shares, workers):
     for worker in set(runs) - {KILLED}:
         runs[worker].communicate(timeout=600)
     done = mine[: len(mine) // 2]
-    wait_for(lambda: all(is_new(sandbox, name) for name in done))
+    until(lambda: all(is_new(sandbox, name) for name in done))
     runs[KILLED].kill()
     runs[KILLED].communicate()
     status, summary, hosts, _ = reported(fleet, stores_of(workers), "--max-age", "12h")

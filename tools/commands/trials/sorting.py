@@ -206,10 +206,8 @@ def try_signal(sandbox, path, number, left):
     process = subprocess.Popen(
         [*COMMAND, path], stdout=subprocess.PIPE, stderr=subprocess.DEVNULL, env={**os.environ, "TMPDIR": sandbox.room}
     )
-    folder, limit = [], time.monotonic() + 60
-    while time.monotonic() < limit and not any(os.listdir(sandbox.path("room/" + name)) for name in folder):
-        time.sleep(0.01)
-        folder = os.listdir(sandbox.room)
+    until(lambda: any(os.listdir(sandbox.path("room/" + name)) for name in os.listdir(sandbox.room)))
+    folder = os.listdir(sandbox.room)
     process.send_signal(number)
     process.stdout.close()
     status = process.wait(60)

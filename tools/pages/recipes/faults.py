@@ -11,7 +11,9 @@ import time
 from .days import BASELINE, NEWEST, STATE, accept_by, crons_command, put_stubs, taken
 from .hosts import HEAD, NEW, OLD
 from .said import digest_of, introduction
-from .trial import NOBODY, wait_until
+from tools.lib.waiting import until
+
+from .trial import NOBODY
 
 
 def put(trial, old, new):
@@ -125,7 +127,7 @@ def try_killed(trial):
     before = trial.read(STATE)
     for number in (signal.SIGTERM, signal.SIGINT, signal.SIGHUP, signal.SIGKILL):
         process = trial.start(words + ["/dev/stdin", trial.path(NEWEST)], stdin=subprocess.PIPE)
-        trial.holds("the run has begun", wait_until(lambda: has_private_file(trial, process)))
+        trial.holds("the run has begun", until(lambda: has_private_file(trial, process)))
         process.send_signal(number)
         process.communicate()
         trial.holds("killed by %d: the status" % number, process.returncode == -number, process.returncode)

@@ -5,7 +5,9 @@ import re
 import signal
 import time
 
-from .trial import NOBODY, wait_until
+from tools.lib.waiting import until
+
+from .trial import NOBODY
 
 HEAD = "@@begin_db\n@@db_spec name attr perm size\n"
 OLD = HEAD + "/b 36 40755 4096\n/c 36 100644 10\n@@end_db\n"
@@ -247,7 +249,7 @@ def try_killed(trial):
     for number in (signal.SIGTERM, signal.SIGKILL):
         before = trial.read(STORE + "/hosts/same/aide.db.new")
         process = trial.start([*tool(trial, "aide-compare hosts fetch"), "same"])
-        trial.holds("a fetch has begun", wait_until(lambda: os.path.exists(began)))
+        trial.holds("a fetch has begun", until(lambda: os.path.exists(began)))
         process.send_signal(number)
         process.wait()
         os.remove(began)

@@ -5,7 +5,6 @@ import shutil
 import subprocess
 import sys
 import tempfile
-import time
 
 from tools.lib.tally import Tally
 
@@ -35,14 +34,6 @@ FOLDERS = [
 NAMED = re.compile(r"(?<![\w/])(%s)(?![\w.-])" % "|".join(FOLDERS))
 NOBODY = 65534
 SECONDS = 600
-
-
-def wait_until(condition):
-    """Waits for something that a process of a trial does; False if it is not done after a minute."""
-    deadline = time.time() + 60
-    while time.time() < deadline and not condition():
-        time.sleep(0.02)
-    return condition()
 
 
 class Trial(Tally):

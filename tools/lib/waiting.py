@@ -1,0 +1,33 @@
+"""Waiting for what another process does."""
+import os
+import time
+
+
+def until(condition, seconds=60):
+    """Asks again and again until something is so, and says whether it came so in that time."""
+    limit = time.monotonic() + seconds
+    while not condition():
+        if time.monotonic() > limit:
+            return False
+        time.sleep(0.01)
+    return True
+
+
+def is_alive(number):
+    """Whether a process is there that has not ended."""
+    try:
+        with open("/proc/%d/stat" % number, encoding="ascii", errors="replace") as file:
+            return file.read().rpartition(")")[2].split()[0] != "Z"
+    except OSError:
+        return False
+
+
+def waits(number, where, has_open):
+    """Whether a process waits in a function of the kernel with this text in its name, and the names of what it has open meet a
+    condition."""
+    try:
+        names = [os.readlink("/proc/%d/fd/%s" % (number, name)) for name in os.listdir("/proc/%d/fd" % number)]
+        with open("/proc/%d/wchan" % number, encoding="ascii") as file:
+            return where in file.read() and has_open(names)
+    except OSError:
+        return False
