@@ -111,7 +111,7 @@ MACHINES = [
     Row("rpm 4.18: `rpmbuild`, `rpm --root`; no system of rpm", "aide-compare --reasons", "once", by_hand("2026-11-25")),
     Row("the package for rpm, built twice, installed, removed", "packaging/try_install.py", "13", by_hand("2026-11-26")),
     Row("the rule file for AIDE, by `aide --path-check`", "AIDE 0.18.3", EACH, by_hand("2026-11-25")),
-    Row("records kept by a drop-in of dailyaidecheck.service", "the units as shipped", "each night", by_hand("2026-11-26")),
+    Row("records kept by the drop-in of dailyaidecheck.service", "the units as shipped", "each night", by_hand("2026-11-26")),
 ]
 PARTS = [
     ("Memory that runs out", MEMORY),
