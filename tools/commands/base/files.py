@@ -300,8 +300,6 @@ def try_programs(tally, folder):
         os.chmod(path, 0o755)
         return path
 
-    path = stub("echo why >&2; exit 1")
-    expect_fault(tally, "a program that does not start", outcome(program.accepts, path), 18, "does not run here: why")
     for library in ("lib/aide-compare/python", "lib"):
         with mock.patch.object(program, "__file__", os.path.join(folder, "stub", library, "aide_compare/base/program.py")):
             expect_fault(tally, "no program for " + library, outcome(program.find_program), 18, "cannot find " + folder)
@@ -310,18 +308,19 @@ def try_programs(tally, folder):
         os.remove(place)
     output, old, new = files.nameless(folder), files.nameless(folder), files.nameless(folder)
     os.write(old, b"old\n"), os.write(new, b"new\n")
-    path = stub('cat /proc/self/fd/3 /proc/self/fd/4; echo "$LC_ALL $1"; exit 5')
+    path = stub('cat /proc/self/fd/3 /proc/self/fd/4; echo "$LC_ALL $1"; echo why >&2; exit 5')
     for databases in ((old, new), (new, old)):
         os.ftruncate(output, 0)
         os.lseek(output, 0, os.SEEK_SET)
-        ended = program.run_program(path, ["a b"], databases, output, output)
+        ended = program.run_program(path, ["a b"], {1: output, 3: databases[0], 4: databases[1]})
         want = b"old\nnew\nC a b\n" if databases[0] == old else b"new\nold\nC a b\n"
-        expect(
-            tally, "the descriptors of the program", (ended.status, ended.signal, os.pread(output, 100, 0)), (5, None, want)
-        )
-    for body, status, number in (("kill -9 $$", None, 9), ("exit 99", 99, None)):
-        ended = program.run_program(stub(body), [], (old, new), output, output)
-        expect(tally, "the end by " + body, (ended.status, ended.signal), (status, number))
-        expect_fault(tally, "the refusal of " + body, outcome(ended.refuse_unknown, path), 18)
+        found = ended.status, ended.errors, os.pread(output, 100, 0)
+        expect(tally, "the descriptors of the program", found, (5, b"why\n", want))
+    kept = []
+    ended = program.run_program(path, ["a b"], {3: old, 4: new}, 6, kept.append)
+    expect(tally, "a report that is cut", (b"".join(kept), ended.size), (b"old\nne", 14))
+    for body, why in (("kill -9 $$", "was ended by signal 9"), ("exit 99", "could not be run: status 99")):
+        found = outcome(program.run_program, stub(body), [], {1: output, 3: old, 4: new})
+        expect_fault(tally, "the end by " + body, found, 18, why)
     for descriptor in (output, old, new):
         os.close(descriptor)

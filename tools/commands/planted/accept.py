@@ -1,7 +1,7 @@
 """Bugs of aide-compare accept."""
 from .plant import seen_by
 
-ACCEPT, ACCEPTING, BASELINE, FOLDERS, RIGHTS, OPEN, SOUND, UNEXPLAINED = (
+ACCEPT, ACCEPTING, BASELINE, FOLDERS, RIGHTS, OPEN, SOUND = (
     "commands/lib/aide_compare/%s.py" % name
     for name in (
         "commands/accept",
@@ -11,7 +11,6 @@ ACCEPT, ACCEPTING, BASELINE, FOLDERS, RIGHTS, OPEN, SOUND, UNEXPLAINED = (
         "base/rights",
         "compare/kept_open",
         "compare/sound",
-        "compare/unexplained",
     )
 )
 REPLACE = "        done.belongs = baseline.replace(source)\n"
@@ -84,7 +83,7 @@ PLANTED = (
         (ACCEPTING, "    baseline.settle()\n", ""),
     )
     + seen_by("accept_partly.try_late_failure", (BASELINE, EXCHANGE, COPY_FIRST))
-    + seen_by("accept_partly.try_unsound", (SOUND, "if ended.status > 7:", "if False:"))
+    + seen_by("accept_partly.try_unsound", (SOUND, "if found.status > 7:", "if False:"))
     + seen_by(
         "accept_partly.try_refused",
         (ACCEPTING, "refuse_unsound(offered.copy, old)", "refuse_unsound(offered.copy)"),
@@ -98,8 +97,8 @@ PLANTED = (
     )
     + seen_by(
         "accept_partly.try_explained_only",
-        (UNEXPLAINED, 'not fields.get("reason", {}).get("verified")', '"reason" not in fields'),
-        (ACCEPTING, '["--user", user_of(baseline.owner)] if baseline.owner is not None else []', "[]"),
+        (ACCEPTING, "not (change.reason and change.reason.verified)", "not change.reason"),
+        (ACCEPTING, "        become(baseline.owner)\n", ""),
     )
     + seen_by(
         "accept.try_owner",

@@ -33,11 +33,11 @@ PLANTED = (
     + seen_by(
         RUNS % "try_no_reasons",
         (EXPLAINING, "    except Exception as error:", "    except ZeroDivisionError as error:"),
-        (EXPLAINING, "        wanted.write_nothing()\n        return None\n", "        return None\n"),
+        (EXPLAINING, "            self.write_nothing()\n            return None\n", "            return None\n"),
     )
     + seen_by(
         RUNS % "try_records",
-        (EXPLAINING, '                why = misfit(path, outcome.copies["old"].sha256)', '                why = ""'),
+        (EXPLAINING, '                why = misfit(path, comparison.copies["old"].sha256)', '                why = ""'),
         (RECORDS, "            file.write(mark_of(digest, accepted))\n", ""),
         (RECORDS, "            return digest_in(descriptor) == self.digest", "            return False"),
     )
@@ -46,25 +46,28 @@ PLANTED = (
         (EXPLAINING, '{"left_out": left_out} if left_out else {}', "{}"),
         (EXPLAINING, "map(members_of, self.changes)", "map(members_of, self.changes[::-1])"),
     )
-    + seen_by(RUNS % "try_levels", (EXPLAINING, "(wants_lines and comparison.has_list())", "True"))
+    + seen_by(
+        RUNS % "try_levels",
+        (COMPARISON, "has_list = not self.is_cut and lists_entries(", "has_list = bool("),
+    )
     + seen_by(
         RUNS % "try_outputs",
-        (RUN, "        wanted.write_nothing()\n        raise fault", "        raise fault"),
+        (RUN, "            self.wanted.write_nothing()\n        teller", "            pass\n        teller"),
         (OUTPUTS, "flags != os.O_RDONLY and ", ""),
     )
-    + seen_by(RUNS % "try_misuse", (RUN, "        if getattr(given, name) and not given.reasons:", "        if False:"))
+    + seen_by(RUNS % "try_misuse", (RUN, "            if getattr(given, name) and not given.reasons:", "            if False:"))
     + seen_by(
         RUNS % "try_places",
         (
-            "commands/lib/aide_compare/compare/outcome_state.py",
-            "for key, count in (reasons._asdict() if reasons else {}).items()",
+            COMPARISON,
+            "for key, count in (self.reasons._asdict() if self.reasons else {}).items()",
             "for key, count in ()",
         ),
         (BRIEF, "        if change.reason is None:", '        if change.reason is None and change.severity != "high":'),
         (WORDS, "words_of_both(old, new) if old and new else", "words_of_both(old, old) if old and new else"),
         (OUTPUTS, "PRIVATE = 0o600", "PRIVATE = 0o644"),
     )
-    + seen_by("run.try_counts", (COMPARISON, "        if self.texts.config != self.given.config:", "        if False:"))
+    + seen_by("run.try_counts", (COMPARISON, "self.texts.config == self.given.config or", "True or"))
     + seen_by(
         RUNS % "try_many",
         (LISTING, "FOLDER_SHARE, OWNER_SHARE, MOST_FOLDERS = 20", "FOLDER_SHARE, OWNER_SHARE, MOST_FOLDERS = 2000"),
@@ -103,8 +106,8 @@ PLANTED = (
         READERS % "try_alarm",
         (
             MESSAGE,
-            "self.reasons.total > 0 and not self.reasons.unanswered",
-            "self.reasons.total > 0 and not self.reasons.unexplained",
+            "state.reasons.total > 0 and not state.reasons.unanswered",
+            "state.reasons.total > 0 and not state.reasons.unexplained",
         ),
     )
     + seen_by(READERS % "try_mails", (MESSAGE, "first = beginning(result.brief, most // 2)", 'first = b""'))
@@ -126,14 +129,4 @@ PLANTED = (
         ),
     )
     + seen_by(READERS % "try_pages", (EXPLAINING, '{"reasons": reasons} if reasons else {}', "{}"))
-    + seen_by(
-        READERS % "try_false_counts",
-        (
-            MESSAGE,
-            '    r"^aide-compare: [a-z0-9 ,]+: unexplained=(\\d{1,18}) not_verified=(\\d{1,18}) explained=(\\d{1,18}) "\n'
-            '    r"high=(\\d{1,18}) medium=(\\d{1,18}) low=(\\d{1,18})(?: explained_[a-z]+=\\d{1,18})*\\n",\n',
-            '    r"aide-compare: [a-z0-9 ,]+: unexplained=(\\d{1,18}) not_verified=(\\d{1,18}) explained=(\\d{1,18}) "\n'
-            '    r"high=(\\d{1,18}) medium=(\\d{1,18}) low=(\\d{1,18})",\n',
-        ),
-    )
 )

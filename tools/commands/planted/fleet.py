@@ -23,14 +23,14 @@ PLANTED = (
             "        if not found:\n            return self.host, 0, ''\n        if ended != 0:\n",
         ),
     )
-    + seen_by("fleet.try_ended", (LIB + "hosts/fetching.py", "        prctl(PR_SET_PDEATHSIG, signal.SIGKILL)\n", ""))
+    + seen_by("fleet.try_ended", (LIB + "base/child.py", "    ctypes.CDLL(None).prctl(PR_SET_PDEATHSIG, signal.SIGKILL)\n", ""))
     + seen_by("fleet.try_slow", (LIB + "hosts/fetching.py", "max(seconds_left(self.deadline), 0)", "60"))
     + seen_by(
         "fleet.try_hostile",
         (
-            LIB + "hosts/comparing.py",
-            "            part.write(block[: max(most - part.size, 0)])\n",
-            "            part.write(block)\n",
+            LIB + "base/program.py",
+            "        self.keep(block[: max(self.most - self.size, 0)])\n",
+            "        self.keep(block)\n",
         ),
         (LIB + "hosts/comparing.py", "max(4 * old.size, LEAST_BOUND)", "1 << 32"),
     )
@@ -57,8 +57,8 @@ PLANTED = (
         # The file of the metrics is opened by its name, as a command that trusts the folder would do it.
         (
             LIB + "commands/metrics.py",
-            "        target.begin()\n        target.commit(data)\n",
-            '        with open(given.output, "wb") as file:\n            file.write(data)\n',
+            '    replace(given.output, data, what="the metrics")\n',
+            '    with open(given.output, "wb") as file:\n        file.write(data)\n',
         ),
     )
     + seen_by(

@@ -41,10 +41,10 @@ PLANTED = (
         (RUN, "given.exclude_from or given.no_defaults", "given.exclude_from"),
         (RUN, "defaults_for(RUN, arguments[:cut]) + ", ""),
         (CHECK, "defaults_for(CHECK, arguments) + ", ""),
-        (MAIL, "parsed(added + own, others + words)", "parsed(added + own, words)"),
-        (MAIL, "parsed(added + own, others + words)", "parsed(own, others + words)"),
-        (MAIL, '        if not value_of("--state", words):', "        if False:"),
-        (MAIL, 'without_value("--state", comparison.words)', "comparison.words"),
+        (MAIL, "parsed(added + own, others + words), refusal", "parsed(added + own, words), refusal"),
+        (MAIL, "parsed(added + own, others + words), refusal", "parsed(own, others + words), refusal"),
+        (MAIL, '    if not any(word.partition("=")[0] == "--state" for word in parted(words)[0]):', "    if False:"),
+        (MAIL, "without_state(given.words)", "given.words"),
         (DEFAULTS, " if name in options]", "]"),
         (DEFAULTS, '{OFF, "--help"', '{"--help"'),
     )
@@ -53,14 +53,14 @@ PLANTED = (
         "hands.try_faulty_defaults",
         (DEFAULTS, 'lines_of(path, "the defaults")] if path', "[]] if path"),
         (DEFAULTS, "        os.lstat(path)\n", "        os.stat(path)\n"),
-        (MAIL, "        given = parsed(own, words)\n        say", "        raise\n        say"),
+        (MAIL, "        given, why = parsed(own, others + words), fault\n", "        raise\n"),
     )
     + seen_by(
         "hands.try_bad_lines",
         (DEFAULTS, "if name not in ALL:", "if not name:"),
         (DEFAULTS, "ALL[name] != PERHAPS and ", "ALL[name] == PERHAPS and "),
-        (MAIL, "        given.fault = fault.text\n", ""),
-        (MAIL, "        say(fault.text)\n", ""),
+        (MAIL, "given.fault, given.refusal = why.text, ", "given.refusal = "),
+        (MAIL, "        say(why.text)\n", ""),
     )
     + seen_by(
         "hands.try_owner",
@@ -69,11 +69,11 @@ PLANTED = (
         (HANDING, "            output.is_childs = True\n", "            pass\n"),
         (RUN, "os.geteuid() == 0 and not given.user", "os.geteuid() == 0"),
         (RUN, "            output.put()\n", "            pass\n"),
-        (RUN, "        wanted.write_nothing()\n    for", "        pass\n    for"),
+        (RUN, "            self.wanted.write_nothing()\n        teller", "            pass\n        teller"),
     )
     + seen_by(
         "hands.try_lost_child",
-        (HANDING, "        ctypes.CDLL(None).prctl(PR_SET_PDEATHSIG, signal.SIGKILL)\n", ""),
+        (HANDING, "        if not end_with(parent):\n", "        if False:\n"),
         (HANDING, "        if status not in KNOWN:\n", "        if False:\n"),
     )
 )

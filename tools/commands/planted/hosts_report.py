@@ -31,8 +31,8 @@ PLANTED = (
         (LIB + "hosts/host_changes.py", "self.own |= own", "pass"),
         (
             LIB + "hosts/comparing.py",
-            "before, after, others, rest = [LEVEL], [], [], list(arguments)",
-            "before, after, others, rest = [], [], [], list(arguments)",
+            "filter(None, (LEVEL, before))",
+            "filter(None, (before,))",
         ),
     )
     + seen_by(
@@ -134,7 +134,7 @@ PLANTED = (
             "standing = 1 if reason is None else 0",
         ),
     )
-    + seen_by("hosts_quiet.try_idle", (LIB + "hosts/comparing.py", "    if rules is None:\n", "    if True:\n"))
+    + seen_by("hosts_quiet.try_idle", (LIB + "hosts/comparing.py", "            rules=explaining.rules_of(given),\n", ""))
     + seen_by(
         "hosts_quiet.try_records",
         (LIB + "hosts/fetching.py", "    place.remove(RECORDS)", "    pass"),

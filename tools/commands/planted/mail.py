@@ -1,9 +1,9 @@
 """Bugs of aide-compare mail."""
 from .plant import seen_by
 
-MAIL, MESSAGE, SENDING, SMTP, CHILD, QUEUE, WEEKLY = (
+MAIL, MESSAGE, SENDING, SMTP, CHILD, QUEUE, WEEKLY, HINTS, COMPARISON, FILES = (
     "commands/lib/aide_compare/%s.py" % name
-    for name in ("commands/mail", "mail/message", "mail/sending", "mail/smtp", "base/child", "mail/queue", "mail/weekly")
+    for name in ("commands/mail", "mail/message", "mail/sending", "mail/smtp", "base/child", "mail/queue", "mail/weekly", "compare/hints", "compare/comparison", "base/files")
 )
 PLANTED = (
     seen_by(
@@ -22,8 +22,8 @@ PLANTED = (
     )
     + seen_by(
         "mail.try_hint",
-        (MAIL, 'b"cannot open the (old|new) database', 'b"cannot open the (old) database'),
-        (MAIL, "    except KeyError:\n        user", "    except IndexError:\n        user"),
+        (HINTS, '"cannot open the (old|new) database', '"cannot open the (old) database'),
+        (HINTS, "    except KeyError:\n        user", "    except IndexError:\n        user"),
     )
     + seen_by(
         "mail.try_bounds",
@@ -38,13 +38,13 @@ PLANTED = (
     )
     + seen_by(
         "mail.try_texts",
-        (MESSAGE, '(result.databases["new"][2], shlex', '(result.databases["old"][2], shlex'),
+        (MESSAGE, "% (state.new_sha256, *names)", "% (state.old_sha256, *names)"),
         (
             MAIL,
-            "message_of(given, comparison, result))\n    return 0 if given.alarm_sent_is_success else result.status",
-            "message_of(given, comparison, result))\n    return result.status",
+            "    return 0 if given.alarm_sent_is_success else state.status\n",
+            "    return state.status\n",
         ),
-        (MAIL, "    if result.status == Status.USAGE:", "    if False:"),
+        (MAIL, "        if comparison.status == Status.USAGE:", "        if False:"),
     )
     + seen_by(
         "mail.try_refusals",
@@ -67,10 +67,20 @@ PLANTED = (
             '        (LOG + ".x", "<%d>%s" % (AUTH_ALERT, line)),\n',
         ),
     )
-    + seen_by("mail.try_pages", (MAIL, '"--plain", ', ""))
+    + seen_by(
+        "mail.try_weight",
+        (COMPARISON, "            self._copy()\n", "            self._is_right(self.texts, b'')\n            self._copy()\n"),
+        (FILES, "        if self.file.tell() > HELD:\n", "        if True:\n"),
+    )
+    + seen_by(
+        "mail.try_pages",
+        (MAIL, "host(), is_plain=True)", "host(), is_plain=False)"),
+        (MAIL, "    except Exception as error:\n        return None, why_of(error)\n", "    except Fault as error:\n        return None, why_of(error)\n"),
+        (MAIL, "            if room < 0:\n", "            if False:\n"),
+    )
     + seen_by(
         "mail.try_room",
-        (MESSAGE, "        return 1 <= self.status <= 7 and self.size > 0\n", "        return self.size > 0\n"),
+        (MESSAGE, "if 1 <= state.status <= 7 else 0", "if report is not None else 0"),
     )
     + seen_by(
         "mail.try_units",

@@ -31,10 +31,11 @@ IN_ITS_PLACE = """    def _was_put(self, fill):
             os.close(part)
 """
 # Databases that have the same name in two folders are taken for one.
-COPIED_ONCE = """        copies = {}
-        for database in opened:
-            name = os.path.basename(database.path)
-            copy = copies[name] = copies.get(name) or copy_opened(database, self.request.most)
+COPIED_ONCE = """            copies = {}
+            for database in opened:
+                name = os.path.basename(database.path)
+                copies[name] = copies.get(name) or copy_opened(database, self.request.max_size)
+                self.copies[database.side] = copies[name]
 """
 PLANTED = (
     seen_by(
@@ -65,12 +66,12 @@ PLANTED = (
         "faults.try_programs",
         (
             PROGRAM,
-            '            raise Fault(Status.DEVICE, "%s was ended by signal %d" % (shown(program), self.signal))\n',
-            "            self.status = Status.OK\n",
+            '        raise Fault(Status.DEVICE, "%s was ended by signal %d" % (shown(program), os.WTERMSIG(ended)))\n',
+            "        return Status.OK\n",
         ),
-        (COMPARISON, "status_of(outcome.counts) != outcome.status", "False"),
-        (COMPARISON, "(head.startswith(DIFFER) if outcome.status else head.startswith(SAME) or not head)", "True"),
-        (RUN, 'shown_lines(outcome.errors).encode("utf-8", "backslashreplace")', "outcome.errors"),
+        (COMPARISON, "status_of(self.counts) != self.status", "False"),
+        (COMPARISON, "(head.startswith(DIFFER) if self.status else head.startswith(SAME) or not head)", "True"),
+        (RUN, 'shown_lines(comparison.errors).encode("utf-8", "backslashreplace")', "comparison.errors"),
     )
     + seen_by(
         "attacks.try_bounds",
@@ -81,19 +82,19 @@ PLANTED = (
         ),
         (
             RUN,
-            '            raise Fault(Status.DEVICE, "cannot write the report: %s" % reason(error))\n',
-            "            pass\n",
+            '                raise Fault(Status.DEVICE, "cannot write the report: %s" % reason(error))\n',
+            "                pass\n",
         ),
     )
-    + seen_by("faults.try_signals", (PROGRAM, "    ctypes.CDLL(None).prctl(PR_SET_PDEATHSIG, signal.SIGKILL)\n", ""))
+    + seen_by("faults.try_signals", (PROGRAM, "    if not end_with(parent):\n", "    if False:\n"))
     + seen_by("age.try_accepted", (COMPARISON, "    if age < -CLOCKS_DIFFER:\n", "    if False:\n"))
-    + seen_by("age.try_old_files", (COMPARISON, "        check_age(opened[1], self.request.most_age)\n", ""))
+    + seen_by("age.try_old_files", (COMPARISON, "            check_age(opened[1], self.request.max_age)\n", ""))
     + seen_by(
         "run.try_runs",
         (
             COMPARISON,
-            "        if outcome.counts is None and self.request.counts:\n",
-            "        if outcome.counts is None:\n",
+            "        if self.counts is None and request.counts:\n",
+            "        if self.counts is None:\n",
         ),
     )
     + seen_by("attacks.try_user", (RUN, "    if given.user:\n", "    if False:\n"))
@@ -101,11 +102,11 @@ PLANTED = (
         "faults.try_damage",
         (
             RUN,
-            "        if state:\n            state.commit(state_of(outcome, fault.status",
-            "        if False:\n            state.commit(state_of(outcome, fault.status",
+            "        if state:\n            self.state.commit(state.text())\n",
+            "        if state and not comparison.fault:\n            self.state.commit(state.text())\n",
         ),
     )
-    + seen_by("run.try_names", (RUN, "    if 1 <= outcome.status <= 7:\n", "    if False:\n"))
+    + seen_by("run.try_names", (RUN, "        if comparison.differs:\n", "        if False:\n"))
     + seen_by(
         "attacks.try_devices",
         (
@@ -134,7 +135,7 @@ PLANTED = (
         "attacks.try_names_that_clash",
         (
             COMPARISON,
-            "        for database in opened:\n            copy = copy_opened(database, self.request.most)\n",
+            "            for database in opened:\n                self.copies[database.side] = copy_opened(database, self.request.max_size)\n",
             COPIED_ONCE,
         ),
     )
@@ -177,7 +178,7 @@ PLANTED = (
         (FILES, "others = set() if self.folder.is_safe() else self.folder.others", "others = set()"),
     )
     + seen_by("faults.try_limits", (UNPACK, "if self.size > self.most:", "if self.size >= self.most:"))
-    + seen_by("faults.try_files", (FILES, "            self._work(self._try)\n", ""))
+    + seen_by("faults.try_files", (FILES, "        self._commit(self._try)\n", ""))
     + seen_by(
         "faults.try_rooms",
         (
@@ -195,8 +196,8 @@ PLANTED = (
         "faults.try_closed_errors",
         (
             RUN,
-            "    except OSError:\n        pass\n    for hint in outcome.hints:\n",
-            "    except BlockingIOError:\n        pass\n    for hint in outcome.hints:\n",
+            "        except OSError:\n            pass\n        for hint in comparison.hints:\n",
+            "        except BlockingIOError:\n            pass\n        for hint in comparison.hints:\n",
         ),
     )
     + seen_by(
@@ -211,11 +212,11 @@ PLANTED = (
         "run.try_reports",
         (
             RUN,
-            "        write_all(2, shown_lines(outcome.errors)",
-            "        outcome.status > 7 and write_all(2, shown_lines(outcome.errors)",
+            "            write_all(2, shown_lines(comparison.errors)",
+            "            comparison.status > 7 and write_all(2, shown_lines(comparison.errors)",
         ),
     )
-    + seen_by("run.try_arguments", (RUN, 'word[3:] if word[2] == "=" else word[2:]', "word[2:]"))
+    + seen_by("run.try_arguments", (CONFIGURATION, 'word[3:] if word[2] == "=" else word[2:]', "word[2:]"))
     + seen_by(
         "run.try_state",
         (FILES, "            os.fchmod(part, self.mode)\n", ""),
@@ -229,13 +230,13 @@ PLANTED = (
         "lost_modules.try_lost_modules",
         ("commands/bin/aide-compare", "except BaseException as error:", "except ImportError as error:"),
     )
-    + seen_by("run.try_state", (COMPARISON, 'zip(("old", "new"), digests_of(', 'zip(("new", "old"), digests_of('))
-    + seen_by("without.try_left_out", (COMPARISON, "        if not self.request.without:\n", "        if True:\n"))
+    + seen_by("run.try_state", (COMPARISON, "zip(SIDES, digests_of(", "zip(SIDES[::-1], digests_of("))
+    + seen_by("without.try_left_out", (COMPARISON, "        if not request.rules and not self.is_cut:\n", "        if not self.is_cut:\n"))
     + seen_by(
         "base.try_reports", ("commands/lib/aide_compare/compare/reports.py", 'DIGEST % b"New" + rb"\\Z")', 'DIGEST % b"New")')
     )
     + seen_by("base.try_files", (UNPACK, "os.pread(self.fd, BLOCK, at)", "os.pread(self.fd, BLOCK, 0)"))
-    + seen_by("attacks.try_broken_off", (RUN, "if memory else (Status.DEVICE", "if not memory else (Status.DEVICE"))
+    + seen_by("attacks.try_broken_off", ("commands/lib/aide_compare/base/ending.py", "if isinstance(error, MemoryError) else Fault", "if not isinstance(error, MemoryError) else Fault"))
     + seen_by(
         "attacks.try_user",
         (

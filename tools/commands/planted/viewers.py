@@ -188,8 +188,8 @@ PLANTED = (
         "viewers.try_program",
         (
             LIB + "commands/viewers.py",
-            "page(source, given.title, given.plain, given.only)",
-            "page(source, given.title, False, given.only)",
+            "page(lines, given.title, given.plain, given.only)",
+            "page(lines, given.title, False, given.only)",
         ),
     )
     + seen_by("viewers.try_levels", (LIB + "lines/report_parts.py", "out = LEVELS[4:6]", "out = LEVELS[4:5]"))

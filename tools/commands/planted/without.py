@@ -45,7 +45,7 @@ PLANTED = (
         (WITHOUT, "sum(counts.values())", "len(counts)"),
         (
             "commands/lib/aide_compare/compare/comparison.py",
-            "        outcome.notes += outcome.left_out[side].words(side)\n",
+            "        self.notes += self.left_out[side].words(side)\n",
             "",
         ),
     )

@@ -294,20 +294,21 @@ def waits_for_input(process):
 
 
 def try_secrecy(sandbox):
-    """Whatever the umask, the copies and the report have no name and can be opened by their owner only."""
+    """Whatever the umask, the copies and the configuration have no name and can be opened by their owner only."""
     program = sandbox.program
+    sandbox.write("conf", "report_url=stdout\n")
     os.rename(program, program + ".away")
     sandbox.stub(
         "aide",
-        'case $1 in -E) { find "%s" -mindepth 1; stat -L -c %%a-%%h /proc/self/fd/[1-5]; } > "%s"; readlink /proc/$$/fd/* >> "%s" ;; '
+        'case $1 in -E) { find "%s" -mindepth 1; stat -L -c %%a-%%h /proc/self/fd/[3-5]; } > "%s"; readlink /proc/$$/fd/* >> "%s" ;; '
         'esac; exec "%s.away" "$@"' % (sandbox.room, sandbox.path("modes"), sandbox.path("modes"), program),
         "libexec/aide-compare",
     )
     for mask in (0, 0o22, 0o77):
-        answer = sandbox.call(TOOL, "old.db", "new.db.gz", before=UMASK % mask)
+        answer = sandbox.call(TOOL, "-c", "conf", "old.db", "new.db.gz", before=UMASK % mask)
         lines = sandbox.read("modes").decode().splitlines()
         deleted = [line for line in lines if line.startswith(sandbox.room + "/#") and line.endswith(" (deleted)")]
-        good = answer.status == 7 and lines[1:5] == ["600-0"] * 4 and len(set(deleted)) == 4
+        good = answer.status == 7 and lines[:3] == ["600-0"] * 3 and len(set(deleted)) == 3
         sandbox.holds("private files under the umask %o" % mask, good, lines)
     os.remove(program)
     os.rename(program + ".away", program)

@@ -6,6 +6,7 @@ import shutil
 import socket
 import stat
 import subprocess
+import sys
 import time
 
 from .sandbox import END, HEAD, HERE, NEW, NOBODY, OLD, Answer, sha256
@@ -29,6 +30,7 @@ def try_mail(sandbox):
         try_queue,
         try_test_and_weekly,
         try_pages,
+        try_weight,
         try_units,
     ):
         trial(sandbox)
@@ -362,19 +364,58 @@ def try_test_and_weekly(sandbox):
 def try_pages(sandbox):
     prepare(sandbox)
     note = b"\naide-compare mail: there is no page: "
-    sandbox.put_in_place_of("page", 'cat > /dev/null; printf "<p>%s</p>" "$*"')
     sandbox.expect("a page", call(sandbox, "--html", "old.db", "new.db"), 7, b"", b"")
     message = sent(sandbox)
     parts = message.get_payload() if message is not None and message.is_multipart() else []
     kinds = [each.get_content_type() for each in parts]
     sandbox.holds("the parts", kinds == ["text/plain", "text/html"], message)
-    sandbox.holds(
-        "a plain page with the host", len(parts) == 2 and b"--plain --title File changes on " in body(parts[1]), parts
-    )
-    sandbox.put_in_place_of("page", 'echo "an odd report" >&2; exit 3')
+    page = body(parts[1]) if len(parts) == 2 else b""
+    sandbox.holds("a plain page with the host", b"File changes on " in page and b"<script" not in page, parts)
+    call(sandbox, "--html", "--max-mail", "9k", "old.db", "new.db")
+    sandbox.holds("a page that is too large", body(sent(sandbox)).endswith(note + b"it would be larger than --max-mail\n"))
+    edit(sandbox, "show/page", "    contents = Contents(is_plain, only)\n", "    raise KeyError('an odd report')\n")
     sandbox.expect("a page that fails", call(sandbox, "--html", "old.db", "new.db"), 7, b"", b"")
-    sandbox.holds("a mail without a page", body(sent(sandbox)).endswith(note + b"an odd report\n"))
-    sandbox.put_back()
+    want = note + b"a fault of this command: KeyError: 'an odd report'\n"
+    sandbox.holds("a mail without a page", body(sent(sandbox)).endswith(want))
+
+
+# Runs the command with a count of the processes that it starts, and of the files that it makes without a name.
+COUNTING = """import os, sys
+log, made = os.open(sys.argv[1], os.O_WRONLY | os.O_CREAT | os.O_APPEND | os.O_CLOEXEC), os.O_TMPFILE
+def count(event, words):
+    if event in ("os.fork", "os.forkpty", "os.posix_spawn", "subprocess.Popen", "os.system"):
+        os.write(log, b"process\\n")
+    elif event == "open" and words[2] & made == made:
+        os.write(log, b"file\\n")
+sys.addaudithook(count)
+del sys.argv[:2]
+exec(compile(open(sys.argv[0]).read(), sys.argv[0], "exec"), {"__name__": "__main__", "__file__": sys.argv[0]})
+"""
+
+
+def weight_of(sandbox, *words):
+    """How many processes a mail takes, with the command's own, and how many files without a name."""
+    command = [sys.executable, "-IS", "-c", COUNTING, sandbox.path("counted"), *sandbox.command(TOOL, *words)]
+    done = subprocess.run(command, cwd=sandbox.root, env=sandbox.environment(), capture_output=True)
+    counts = sandbox.read("counted").decode().split()
+    os.remove(sandbox.path("counted"))
+    return done.returncode, 1 + counts.count("process"), counts.count("file")
+
+
+def try_weight(sandbox):
+    """An alarm takes three processes and eight files without a name at the most, also as the unit of systemd asks for it, and
+    if the changes have to be listed once more."""
+    prepare(sandbox)
+    sandbox.write("conf", "database_in=file:%s\ndatabase_new=file:%s\n" % (sandbox.path("old.db"), sandbox.path("new.db")))
+    unit = ["--reasons", "--queue", "queue", "--max-age", "50h", "--state", "state"]
+    for label, words, most in (
+        ("a mail with a page", ["--html", "--reasons", "--queue", "queue", "old.db", "new.db"], (2, 4)),
+        ("the unit's mail", [*unit, "-c", "conf"], (2, 7)),
+        ("a mail with a list of its own", ["--reasons", *unit[1:3], "old.db", "new.db", "--", "-A", "report_level=summary"], (3, 5)),
+        ("a mail by sendmail", ["--reasons", "old.db", "new.db"], (3, 3)),
+    ):
+        found = weight_of(sandbox, *words)
+        sandbox.holds("%s takes so many processes and files" % label, found == (7, *most), found)
 
 
 def try_units(sandbox):

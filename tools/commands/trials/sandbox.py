@@ -125,16 +125,6 @@ class Sandbox:
         name, *subcommand = tool.split(" ")
         return [self.path("bin/" + name), *subcommand, *words]
 
-    def put_in_place_of(self, subcommand, body):
-        """A small program in place of a subcommand. Its arguments are those of the subcommand. All others are as before."""
-        if not os.path.exists(self.path("bin/front")):
-            os.rename(self.path("bin/aide-compare"), self.path("bin/front"))
-        text = '[ "$1" = %s ] || exec "%s" "$@"\nshift\n%s' % (subcommand, self.path("bin/front"), body)
-        self.stub("aide-compare", text, "bin")
-
-    def put_back(self):
-        os.rename(self.path("bin/front"), self.path("bin/aide-compare"))
-
     def environment(self, **more):
         return {**os.environ, "TMPDIR": self.room, "PATH": self.path("stubs") + ":" + os.environ["PATH"], **more}
 

@@ -1,4 +1,5 @@
 """Work in a child process that holds nothing but what it needs, and is ended if it takes longer than it may."""
+import ctypes
 import os
 import select
 import signal
@@ -8,6 +9,13 @@ from aide_compare.base.ending import Fault, Status, reason, write_all
 from aide_compare.base.escapes import guarded
 
 MOST_RESULT = 1 << 20
+PR_SET_PDEATHSIG = 1
+
+
+def end_with(parent):
+    """The kernel ends this process when its parent ends. False if that has ended already."""
+    ctypes.CDLL(None).prctl(PR_SET_PDEATHSIG, signal.SIGKILL)
+    return os.getppid() == parent
 
 
 def _close_all_but(kept):

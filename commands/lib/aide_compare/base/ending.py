@@ -84,6 +84,20 @@ def reason(error):
     return error.strerror or guarded(str(error)) or type(error).__name__
 
 
+def fault_of(error):
+    """The Fault that an exception means: itself, no memory, or a call of the system that failed."""
+    if isinstance(error, Fault):
+        return error
+    return Fault(Status.MEMORY, "out of memory") if isinstance(error, MemoryError) else Fault(Status.DEVICE, reason(error))
+
+
+def why_of(error):
+    """What an exception means, in words. One that is no Fault of the machine is a mistake of this program."""
+    if isinstance(error, (Fault, MemoryError, OSError)):
+        return fault_of(error).text
+    return "a fault of this command: %s: %s" % (type(error).__name__, guarded(str(error))[:300])
+
+
 def _status_of(main):
     try:
         take_standard_descriptors()
@@ -107,7 +121,7 @@ def _status_of(main):
         where = ": " + guarded(os.fsdecode(name)) if isinstance(name, (str, bytes)) else ""
         say("a call of the system failed%s: %s" % (where, reason(error)))
     except BaseException as error:  # Also KeyboardInterrupt, SystemExit and RecursionError.
-        say("a fault of this command: %s: %s" % (type(error).__name__, guarded(str(error))[:300]))
+        say(why_of(error))
     return Status.DEVICE
 
 

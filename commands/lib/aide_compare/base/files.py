@@ -1,6 +1,7 @@
 """Files that are opened without trust: read, made without a name, or replaced in one step. How a path is followed is in
 folders.py."""
 import errno
+import io
 import os
 import stat
 
@@ -14,7 +15,7 @@ from aide_compare.base.folders import (
     walked,
 )  # noqa: F401 (for those who use this module)
 
-COPIED = 1 << 18
+COPIED, HELD = 1 << 18, 1 << 20
 MOST_TRIES = 100
 NO_TMPFILE = (errno.EOPNOTSUPP, errno.EISDIR, errno.EINVAL)
 NEW_FILE = os.O_CREAT | os.O_EXCL | os.O_RDWR | os.O_NOFOLLOW | os.O_CLOEXEC
@@ -106,6 +107,27 @@ def nameless(room=None):
         )
 
 
+class Spool:
+    """A private file that is written from its beginning to its end, and then read. Up to HELD bytes are in memory only."""
+
+    def __init__(self):
+        self.file = io.BytesIO()
+        self.write = self._held
+
+    def _held(self, data):
+        self.file.write(data)
+        if self.file.tell() > HELD:
+            held, self.file = self.file, open(nameless(), "w+b", COPIED)
+            self.file.write(held.getvalue())
+            self.write = self.file.write
+
+    def __getattr__(self, name):
+        return getattr(self.file, name)
+
+    def __iter__(self):
+        return iter(self.file)
+
+
 class Replacement:
     """A file that is replaced in one step: others see the former one or the whole new one. `begin` finds out before the
     work whether the file can be written. Where another user can write in the folder, or in one above it, both work with
@@ -116,29 +138,31 @@ class Replacement:
         self.name = os.path.basename(path)
 
     def begin(self):
-        """Opens the folder, which is made if it is missing, and tries that a file can be made there."""
+        """Tries that a file can be made there."""
+        self._commit(self._try)
+        return self
+
+    def _open(self):
+        """Opens the folder, which is made if it is missing."""
         if not self.name or os.path.isdir(self.path):
             raise Fault(Status.USAGE, "%s is a folder: %s" % (self.what, shown(self.path)))
-        try:
-            self.folder = open_folder(os.path.dirname(self.path) or ".", make=True)
-            self._work(self._try)
-        except Fault as fault:
-            raise self._fault(fault.text)
-        return self
+        self.folder = open_folder(os.path.dirname(self.path) or ".", make=True)
 
     def commit(self, data):
         """Puts these bytes in the place of the file, on the disk before this returns."""
-        self._commit(lambda part: write_all(part, data))
+        self._commit(lambda: self._put(lambda part: write_all(part, data)))
 
     def commit_copy(self, source):
         """The same with the bytes of another file, by its descriptor."""
-        self._commit(lambda part: copy_file(source, part), (source,))
+        self._commit(lambda: self._put(lambda part: copy_file(source, part)), (source,))
 
-    def _commit(self, fill, keep=()):
+    def _commit(self, work, keep=()):
         try:
-            self._work(lambda: self._put(fill), keep)
+            if self.folder is None:
+                self._open()
+            self._work(work, keep)
         except Fault as fault:
-            raise self._fault(fault.text)
+            raise fault if fault.status == Status.USAGE else self._fault(fault.text)
 
     def close(self):
         if self.folder:
@@ -248,3 +272,12 @@ class Replacement:
             os.fsync(folder)
         finally:
             os.close(folder)
+
+
+def replace(path, data, mode=0o644, what="the file"):
+    """Puts these bytes in the place of a file, as Replacement does it."""
+    file = Replacement(path, mode, what)
+    try:
+        file.commit(data)
+    finally:
+        file.close()

@@ -40,6 +40,12 @@ class Parser(argparse.ArgumentParser):
         raise Fault(Status.USAGE, message, "try: %s --help" % self.prog)
 
 
+def with_values(parser):
+    """The names of all options of a parser, and of those that have a value."""
+    named = [(set(action.option_strings), action.nargs != 0) for action in parser._actions]
+    return set().union(*(names for names, _ in named)), set().union(*(names for names, has_value in named if has_value))
+
+
 def some_text(text):
     """A value that is not empty."""
     if not text:

@@ -1,35 +1,42 @@
-"""Runs the proved program: found, tried once, given its databases as descriptors, and ended when the command ends."""
-import ctypes
+"""Runs the proved program: found, given its databases as descriptors, and ended when the command ends."""
 import fcntl
 import os
 import resource
+import select
 import signal
 
+from aide_compare.base.child import end_with
 from aide_compare.base.ending import Fault, Status, reason
 from aide_compare.base.escapes import shown
-from aide_compare.base.files import nameless
 
-OLD_DESCRIPTOR, NEW_DESCRIPTOR, CONFIGURATION_DESCRIPTOR = 3, 4, 5
-DATABASES = "database_in=file:/proc/self/fd/%d\ndatabase_new=file:/proc/self/fd/%d" % (OLD_DESCRIPTOR, NEW_DESCRIPTOR)
+OLD, NEW, CONFIGURATION = 3, 4, 5  # Its descriptors, beside the standard ones.
+DATABASES = "database_in=file:/proc/self/fd/%d\ndatabase_new=file:/proc/self/fd/%d" % (OLD, NEW)
 FIRST_FREE = 10
 NOT_STARTED = 127
+BLOCK, MOST_ERRORS = 1 << 18, 1 << 20
 KNOWN = tuple(range(8)) + (Status.USAGE, Status.CONFIGURATION, Status.DEVICE, Status.MEMORY, Status.DATABASE)
-PR_SET_PDEATHSIG = 1
+
+
+class Stream:
+    """A pipe from the program: its first bytes go to `keep`, and all are counted."""
+
+    def __init__(self, most, keep):
+        self.reading, self.writing = os.pipe()
+        self.most, self.keep, self.size = most, keep, 0
+
+    def take(self):
+        """Takes what has come; False at the end."""
+        block = os.read(self.reading, BLOCK)
+        self.keep(block[: max(self.most - self.size, 0)])
+        self.size += len(block)
+        return bool(block)
 
 
 class Ended:
-    """How the program ended: by a `status`, or by a `signal` and then without a status."""
+    """How the program ended: its status, the first bytes of its error lines, and how many bytes went through a pipe."""
 
-    def __init__(self, wait_status):
-        self.signal = os.WTERMSIG(wait_status) if os.WIFSIGNALED(wait_status) else None
-        self.status = None if self.signal else os.WEXITSTATUS(wait_status)
-
-    def refuse_unknown(self, program):
-        """A Fault unless the status is one of the program's own."""
-        if self.signal:
-            raise Fault(Status.DEVICE, "%s was ended by signal %d" % (shown(program), self.signal))
-        if self.status not in KNOWN:
-            raise Fault(Status.DEVICE, "%s could not be run: status %d" % (shown(program), self.status))
+    def __init__(self, status, errors, size):
+        self.status, self.errors, self.size = status, errors, size
 
 
 def find_installed(name):
@@ -53,18 +60,6 @@ def find_program():
     return find_installed("libexec/aide-compare/aide")
 
 
-def accepts(program):
-    """A Fault if the program does not run on this machine: a loader that refuses it ends with 1, as added entries do."""
-    errors = nameless()
-    try:
-        ended = run_program(program, ["-D", "-c", "/dev/null"], (), errors, errors)
-        if ended.status != 0:
-            why = shown(os.pread(errors, 2000, 0).split(b"\n")[0], 300) or "no reason is known"
-            raise Fault(Status.DEVICE, "%s does not run here: %s" % (shown(program), why))
-    finally:
-        os.close(errors)
-
-
 def _raised(descriptor):
     """The same file under a number that is not one of those that the program is given."""
     return fcntl.fcntl(descriptor, fcntl.F_DUPFD_CLOEXEC, FIRST_FREE)
@@ -72,8 +67,7 @@ def _raised(descriptor):
 
 def _become_program(parent, program, words, places, most):
     """In the child: the program takes the place of this process. The kernel ends it if the command ends first."""
-    ctypes.CDLL(None).prctl(PR_SET_PDEATHSIG, signal.SIGKILL)
-    if os.getppid() != parent:
+    if not end_with(parent):
         return
     for place, descriptor in places.items():
         os.dup2(descriptor, place)
@@ -86,13 +80,17 @@ def _become_program(parent, program, words, places, most):
     os.execve(program, [program] + words, dict(os.environ, LC_ALL="C"))
 
 
-def run_program(program, words, databases, output, errors, configuration=None, most=None):
-    """Runs the program to its end. `databases` are the descriptors of the old and of the new one, which are 3 and 4 for the
-    program; that of a configuration is 5. `output` and `errors` are descriptors too. No file that the program writes gets
-    more than `most` bytes."""
-    given = dict(zip((1, 2, OLD_DESCRIPTOR, NEW_DESCRIPTOR), (output, errors) + tuple(databases)))
-    if configuration is not None:
-        given[CONFIGURATION_DESCRIPTOR] = configuration
+def _status_of(program, ended):
+    """The status by which the program ended; a Fault unless it is one of its own."""
+    if os.WIFSIGNALED(ended):
+        raise Fault(Status.DEVICE, "%s was ended by signal %d" % (shown(program), os.WTERMSIG(ended)))
+    if os.WEXITSTATUS(ended) not in KNOWN:
+        raise Fault(Status.DEVICE, "%s could not be run: status %d" % (shown(program), os.WEXITSTATUS(ended)))
+    return os.WEXITSTATUS(ended)
+
+
+def _started(program, words, given, most):
+    """The number of the process of the program. `given` are descriptors by the numbers that they have there."""
     places = {}
     try:
         for place, descriptor in given.items():
@@ -104,9 +102,44 @@ def run_program(program, words, databases, output, errors, configuration=None, m
                 _become_program(parent, program, words, places, most)
             finally:
                 os._exit(NOT_STARTED)
-        return Ended(os.waitpid(child, 0)[1])
-    except OSError as error:
-        raise Fault(Status.DEVICE, "cannot run %s: %s" % (shown(program), reason(error)))
+        return child
     finally:
         for descriptor in places.values():
             os.close(descriptor)
+
+
+def _drain(streams):
+    """Reads all streams to their ends."""
+    waiting = {stream.reading: stream for stream in streams}
+    while waiting:
+        for reading in select.select(list(waiting), [], [])[0]:
+            if not waiting[reading].take():
+                del waiting[reading]
+
+
+def run_program(program, words, given, most=None, keep=None):
+    """Runs the program to its end. `given` are the descriptors of its report, 1, of the databases, 3 and 4, and of the
+    configuration, 5. No file that it writes gets more than `most` bytes. With `keep` the report comes through a pipe, and its
+    first `most` bytes are given to that: so a report of any size takes no more room."""
+    lines, streams, child = [], {}, None
+    try:
+        streams[2] = Stream(MOST_ERRORS, lines.append)
+        if keep:
+            streams[1] = Stream(most, keep)
+        ends = {place: stream.writing for place, stream in streams.items()}
+        child = _started(program, words, {**given, **ends}, most)
+        for stream in streams.values():
+            stream.writing = os.close(stream.writing)
+        _drain(streams.values())
+        ended, child = os.waitpid(child, 0)[1], None
+        return Ended(_status_of(program, ended), b"".join(lines), streams[1].size if keep else 0)
+    except OSError as error:
+        raise Fault(Status.DEVICE, "cannot run %s: %s" % (shown(program), reason(error)))
+    finally:
+        if child:
+            os.kill(child, signal.SIGKILL)
+            os.waitpid(child, 0)
+        for stream in streams.values():
+            for end in (stream.reading, stream.writing):
+                if end is not None:
+                    os.close(end)

@@ -9,7 +9,7 @@ from aide_compare.base.times import date_of
 from aide_compare.commands.accepting import MOST_BYTES, Wish, accept, digest_of_former, user_of
 from aide_compare.compare.baseline import Baseline
 from aide_compare.compare.state import read_state
-from aide_compare.reasons.evidence_options import add_evidence_options
+from aide_compare.reasons.evidence_options import EVIDENCE, add_evidence_options
 from aide_compare.reasons.kept_records import Records
 
 NAME = "aide-compare accept"
@@ -143,7 +143,7 @@ def _parser():
 def _given(arguments):
     """The options; a Fault if they do not go together."""
     given = _parser().parse(arguments)
-    reasons = _reasons_of(given)
+    evidence = [name for name in EVIDENCE if getattr(given, name)]
     partly = given.keep_open or given.explained_only
     if len(given.files) != (1 if given.only_packages else 2):
         why = "name BASELINE alone" if given.only_packages else "name NEW and BASELINE"
@@ -151,22 +151,11 @@ def _given(arguments):
         why = "--only-packages goes with no other of these options"
     elif not given.only_packages and not given.sha256:
         why = "--sha256 DIGEST is needed"
-    elif reasons and not given.explained_only:
-        why = "%s needs --explained-only" % reasons[0]
+    elif evidence and not given.explained_only:
+        why = "--%s needs --explained-only" % evidence[0].replace("_", "-")
     else:
-        given.reasons = reasons if given.explained_only else None
         return given
     raise Fault(Status.USAGE, why, "try: %s --help" % NAME)
-
-
-def _reasons_of(given):
-    """The options of --explained-only as the words of a command line."""
-    words = []
-    for name in ("packages", "packages_now", "archive", "keyring", "rules", "severity"):
-        value = getattr(given, name) or []
-        for each in [value] if isinstance(value, str) else value:
-            words += ["--" + name.replace("_", "-"), each]
-    return words
 
 
 def _patterns_of(given):
@@ -186,7 +175,7 @@ def main(arguments):
         _print([keep_records_only(given.files[0], given.max_size)])
         return Status.OK
     state, unknown, (new, path) = None, "", given.files
-    wish = Wish(given.sha256, given.max_size, not given.no_packages, _patterns_of(given), given.reasons)
+    wish = Wish(given.sha256, given.max_size, not given.no_packages, _patterns_of(given), given if given.explained_only else None)
     try:
         state = read_state(given.state or STATE)
     except Fault as fault:

@@ -4,20 +4,25 @@ import binascii
 import gzip
 import os
 
-from aide_compare.base.ending import Fault, Status
+from aide_compare.base.child import in_child
+from aide_compare.base.ending import Fault, Status, write_all
 from aide_compare.base.escapes import shown
-from aide_compare.base.files import nameless, reopened
+from aide_compare.base.files import copy_file, nameless, reopened
+from aide_compare.base.path_keys import key_of_path
+from aide_compare.base.rights import become
 from aide_compare.compare.baseline import Baseline
+from aide_compare.compare.comparison import SIDES, Comparison, Request
 from aide_compare.compare.kept_open import Listed, Patterns, keep_open
 from aide_compare.compare.sound import refuse_unsound
-from aide_compare.compare.unexplained import unexplained_keys
-from aide_compare.compare.unpack import GZIP, Opened, copy_opened, copy_packed, digest_of, open_database
+from aide_compare.compare.unpack import GZIP, Copy, Opened, copy_opened, copy_packed, digest_of, open_database
 from aide_compare.reasons.kept_records import SUFFIX, Records
+from aide_compare.show.explaining import Sources, explain
+from aide_compare.show.told import told_of
 
 MOST_BYTES = 1 << 40
 FEWEST_DIGITS, ALL_DIGITS = 16, 64
 DIGITS = "0123456789abcdef"
-BLOCK = 1 << 18
+BLOCK, SECONDS_FOR_REASONS = 1 << 18, 6 * 3600
 
 
 class Wanted:
@@ -70,14 +75,14 @@ class Offered:
 
 class Wish:
     """What is asked for: the digest, the most bytes, the folder of the commands, and whether packages' records are kept.
-    `patterns` and the options of --reasons, or None, say what stays open."""
+    `patterns` and the options that name evidence, or None, say what stays open."""
 
-    def __init__(self, digest, most=MOST_BYTES, keeps_records=True, patterns=(), reasons=None):
+    def __init__(self, digest, most=MOST_BYTES, keeps_records=True, patterns=(), evidence=None):
         self.digest, self.most, self.keeps_records = Wanted(digest), most, keeps_records
-        self.patterns, self.reasons = list(patterns), reasons
+        self.patterns, self.evidence = list(patterns), evidence
 
     def is_partial(self):
-        return bool(self.patterns) or self.reasons is not None
+        return bool(self.patterns) or self.evidence is not None
 
 
 class Accepted:
@@ -119,15 +124,57 @@ def _old_copy(baseline, most):
     return copy_opened(Opened("old", baseline.path, descriptor), most)
 
 
+def _own_copy(copy):
+    """The same bytes in a file of this user's: the program could not open that of another user."""
+    target = nameless()
+    copy_file(copy.fd, target)
+    return Copy(target, copy.size, copy.name, copy.written)
+
+
+def _write_unexplained(evidence, path, copies, target):
+    """Writes the keys of the changes that have no verified reason, and returns the lines that say what was found."""
+    try:
+        sources = Sources(evidence)
+    except Fault as fault:
+        raise Fault(fault.status, "refused: nothing is explained: %s" % fault.text)
+    comparison = Comparison(Request(old=path, new=copies[1].name, copies=dict(zip(SIDES, copies)))).run()
+    if comparison.status > 7:
+        raise comparison.fault or Fault(Status(comparison.status), "refused: nothing was compared, so nothing is explained")
+    explained = explain(comparison, sources, with_details=False)
+    if explained is None:
+        raise Fault(Status.DEVICE, "refused, all would stay open: %s" % comparison.doubts[-1])
+    for change in explained.changes:
+        if not (change.reason and change.reason.verified):
+            write_all(target, key_of_path(change.path).hex().encode() + b"\n")
+    reasons = comparison.reasons
+    return ("%saide-compare: %s: %s\n" % (told_of(comparison), reasons.words(), reasons.line())).encode("utf-8", "replace")
+
+
+def _unexplained_keys(evidence, baseline, copies):
+    """The keys, in path order, of the changes that have no verified reason, found with the rights of the baseline's owner."""
+    target = nameless()
+
+    def find():
+        become(baseline.owner)
+        return _write_unexplained(evidence, baseline.path, [_own_copy(copy) for copy in copies], target)
+
+    if baseline.owner is None:
+        told = _write_unexplained(evidence, baseline.path, copies, target)
+    else:
+        told = in_child("the search for reasons", find, SECONDS_FOR_REASONS, [target] + [copy.fd for copy in copies])
+    write_all(2, told)
+    with open(target, "rb") as file:
+        file.seek(0)
+        yield from (bytes.fromhex(line.decode()) for line in file)
+
+
 def _with_open_part(wish, offered, baseline):
     """The Copy of the new database with the old entries of what stays open, and the counts of these."""
     old = _old_copy(baseline, wish.most)
     refuse_unsound(offered.copy, old)
     patterns, unexplained = Patterns(wish.patterns), Listed(())
-    if wish.reasons is not None:
-        user = ["--user", user_of(baseline.owner)] if baseline.owner is not None else []
-        options = user + ["--max-size", str(wish.most)] + wish.reasons
-        unexplained = Listed(unexplained_keys(options, baseline.path, (old, offered.copy)))
+    if wish.evidence is not None:
+        unexplained = Listed(_unexplained_keys(wish.evidence, baseline, (old, offered.copy)))
     merged, counts = keep_open(old, offered.copy, lambda key: any([patterns(key), unexplained(key)]))
     unused = patterns.unused()
     if unused:

@@ -5,6 +5,7 @@ import select
 import signal
 import time
 
+from aide_compare.base.child import end_with
 from aide_compare.base.ending import Fault, Status, reason, write_all
 from aide_compare.base.escapes import guarded, shown
 from aide_compare.base.files import open_regular
@@ -58,8 +59,7 @@ class Worker:
             try:
                 for number in ENDING:
                     signal.signal(number, signal.SIG_DFL)
-                comparing.end_with_parent()
-                if os.getppid() == parent:
+                if end_with(parent):
                     os.setpgid(0, 0)
                     for descriptor in others + [self.fd]:
                         os.close(descriptor)

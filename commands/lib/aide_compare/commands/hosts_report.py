@@ -4,7 +4,7 @@ import shlex
 
 from aide_compare.base.ending import Fault, Status, say, write_all
 from aide_compare.base.external_sort import ExternalSort
-from aide_compare.base.files import nameless
+from aide_compare.base.files import Spool
 from aide_compare.base.folders import open_folder
 from aide_compare.base.options import Parser, duration, size, some_text
 from aide_compare.base.patterns import BadPattern, Pattern
@@ -87,7 +87,7 @@ class HostsReport:
     """The report: the summary, the objects of the hosts, and those of the changes in a private file, a line each."""
 
     def __init__(self, names, given):
-        self.body, count = open(nameless(), "w+b", buffering=BLOCK), 0
+        self.body, count = Spool(), 0
         with ExternalSort() as sorter:
             hosts = read_hosts(names, given, sorter)
             for line in ordered(same_changes(sorter.lines(), names, given.max_hosts), given.order):

@@ -1,5 +1,5 @@
 """aide-compare json: a report of aide-compare as JSON."""
-from aide_compare.base.files import nameless
+from aide_compare.base.files import Spool
 from aide_compare.base.options import some_text
 from aide_compare.commands.viewers import BLOCK, parser_of, run
 
@@ -93,7 +93,7 @@ class _Lines(_Form):
     def begin(self):
         from aide_compare.lines.report_json import LineWriter
 
-        self.body, self.writer = open(nameless(), "w+b", buffering=BLOCK), LineWriter()
+        self.body, self.writer = Spool(), LineWriter()
 
     def add(self, fields):
         self.body.write(self.writer.line(fields))

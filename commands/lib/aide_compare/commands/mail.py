@@ -1,60 +1,30 @@
 """aide-compare mail: compares two databases and mails what differs, or why nothing was compared."""
-import fcntl
 import os
 import re
 import shlex
 
 from aide_compare.base.defaults import MAIL, RUN, defaults_for
-from aide_compare.base.ending import Fault, Status, say, write_all
-from aide_compare.base.escapes import shown_lines
-from aide_compare.base.files import nameless
-from aide_compare.base.options import Parser, duration, size, some_text
+from aide_compare.base.ending import Fault, Status, say, why_of, write_all
+from aide_compare.base.options import Parser, duration, size, some_text, with_values
 from aide_compare.base.program import find_front
+from aide_compare.commands import run
+from aide_compare.compare.comparison import Comparison, Request
+from aide_compare.compare.handing import Held
+from aide_compare.compare.hints import hint_for_owner
 from aide_compare.compare.reason_counts import counted
 from aide_compare.mail import weekly
-from aide_compare.mail.message import Result, build, clean, host, text_of
+from aide_compare.mail.message import Result, build, clean, host, is_explained, subject, text_of
 from aide_compare.mail.sending import SECONDS, alert, deliver, way_out
 from aide_compare.mail.smtp import server
 from aide_compare.show.readers import ALARMS
+from aide_compare.show.told import told_of
 
 NAME = "aide-compare mail"
 DESCRIPTION = """Runs aide-compare with all other arguments, and mails the report if the databases differ, or the errors if
 nothing was compared. No mail is sent if there is no difference."""
 EPILOG = """Status: that of aide-compare-compare(1); 18 if no mail can be sent. With --alarm-sent-is-success it is 0 if the mail
 went out or was kept in the queue."""
-RUN_VALUES = (
-    "-c",
-    "--config",
-    "--state",
-    "--max-size",
-    "--max-report",
-    "--max-age",
-    "--exclude-from",
-    "--exclude",
-    "--lines",
-    "--brief",
-    "--packages",
-    "--packages-now",
-    "--archive",
-    "--keyring",
-    "--rules",
-    "--severity",
-)
-OWN_VALUES = (
-    "--to",
-    "--max-mail",
-    "--smtp",
-    "--queue",
-    "--send-queue",
-    "--unit-failed",
-    "--user",
-    "--mail-time",
-    "--alarm",
-)
 UNIT = re.compile(r"[A-Za-z0-9:_.\\@-]{1,255}")  # As systemd.unit(5) has it.
-OWN_FLAGS = ("--html", "--test", "--alarm-sent-is-success", "--help", "-h", "--version")
-MOST_ERRORS = 1 << 20
-BRIEF, LINES = 3, 4  # The descriptors of what aide-compare writes for a mail beside the report.
 
 
 def address(text):
@@ -105,130 +75,89 @@ def parser():
 
 
 def split(arguments):
-    """The options of this command, and all others, for aide-compare, in their order."""
+    """The options of this command, and all others, for the comparison, in their order."""
+    (own_names, own_values), (_, values) = with_values(parser()), with_values(run.parser())
     own, others, rest = [], [], list(arguments)
     while rest:
         word = rest.pop(0)
         if word == "--":
             return own, others + ["--"] + rest
+        name, words = word.partition("=")[0], [word]
         if word == "--weekly":
-            own.append(word)
-            if rest and rest[0] in weekly.DAYS:
-                own.append(rest.pop(0))
-        elif word in OWN_FLAGS or word.partition("=")[0] in OWN_VALUES + ("--weekly",):
-            own += [word] + ([rest.pop(0)] if word in OWN_VALUES and rest else [])
-        else:
-            others += [word] + ([rest.pop(0)] if word in RUN_VALUES and rest else [])
+            words += [rest.pop(0)] if rest and rest[0] in weekly.DAYS else []
+        elif rest and word in (own_values if name in own_names else values):
+            words.append(rest.pop(0))
+        (own if name in own_names else others).extend(words)
     return own, others
 
 
-def before_dashes(words):
-    return words[: words.index("--")] if "--" in words else words
+def parted(words):
+    """The words before -- and those behind it."""
+    cut = words.index("--") if "--" in words else len(words)
+    return words[:cut], words[cut + 1 :]
 
 
-def has_flag(flag, words):
-    """Whether aide-compare is given an option that has no value."""
-    words = before_dashes(words)
-    return any(word == flag and before not in RUN_VALUES for word, before in zip(words, [""] + words))
-
-
-def value_of(option, words):
-    """The value of an option of aide-compare; None without it."""
-    words = before_dashes(words)
-    pairs = zip(words, words[1:] + [""])
-    return next((word.partition("=")[2] or following for word, following in pairs if word.partition("=")[0] == option), None)
-
-
-def without_value(option, words):
-    """The words without an option and its value: a command for reading must not overwrite the state."""
-    kept, words = [], list(words)
+def without_state(words):
+    """The words without --state and its value: a command for reading must not overwrite the state."""
+    values, kept, words = with_values(run.parser())[1], [], list(words)
     while words and words[0] != "--":
         word = words.pop(0)
-        if word.partition("=")[0] == option:
-            del words[: word == option]
-        else:
-            kept += [word] + ([words.pop(0)] if word in RUN_VALUES and words else [])
+        found = [word] + ([words.pop(0)] if word in values and words else [])
+        kept += found if word.partition("=")[0] != "--state" else []
     return kept + words
 
 
-class Comparison:
-    """aide-compare, run to its end. Its output goes to private files, so their room is known before a mail is begun."""
+class Alarm:
+    """Puts the mail together, if what came out is an alarm."""
 
-    def __init__(self, words, wants_lines, has_reasons):
-        self.path, self.words, self.has_reasons = find_front(), words, has_reasons
-        self.report, self.errors, self.brief = nameless(), nameless(), nameless()
-        self.lines = nameless() if wants_lines else None
+    def __init__(self, given):
+        self.given, self.message = given, Held()
 
-    def _start(self):
-        actions = [(os.POSIX_SPAWN_DUP2, self.report, 1), (os.POSIX_SPAWN_DUP2, self.errors, 2)]
-        words = [self.path, "compare"]
-        places = [(self.brief, BRIEF, "--brief")] if self.has_reasons else []
-        places += [(self.lines, LINES, "--lines")] if self.lines is not None else []
-        raised = [(fcntl.fcntl(descriptor, fcntl.F_DUPFD_CLOEXEC, 10), place, name) for descriptor, place, name in places]
-        for descriptor, place, name in raised:
-            actions.append((os.POSIX_SPAWN_DUP2, descriptor, place))
-            words += [name, "/dev/fd/%d" % place]
-        return os.posix_spawn(self.path, words + self.words, os.environ, file_actions=actions)
+    def begin(self, comparison):
+        """Nothing is told before all is known."""
 
-    def result(self):
-        try:
-            status = os.waitstatus_to_exitcode(os.waitpid(self._start(), 0)[1])
-        except OSError as error:
-            raise Fault(Status.DEVICE, "cannot run %s: %s" % (self.path, error.strerror))
-        text = os.pread(self.errors, MOST_ERRORS, 0)
-        if status < 0 or (status > 7 and status not in (15, 17, 18, 22, 24)):
-            text += ("%s: aide-compare ended with %d\n" % (NAME, status)).encode()
-            status = int(Status.DEVICE)
-        return Result(status, self.report, text + owner_hint(text), os.pread(self.brief, MOST_ERRORS, 0))
+    def is_quiet(self, state):
+        return state.status == 0 or (self.given.alarm == "unexplained" and 1 <= state.status <= 7 and is_explained(state))
+
+    def end(self, comparison, explained):
+        state, told = comparison.state(), self._told(comparison)
+        if comparison.status == Status.USAGE:  # Who has typed it sees it at once.
+            write_all(2, told.encode("utf-8", "backslashreplace"))
+        if not self.is_quiet(state):
+            result = Result(state, comparison.report, told, explained.brief() if explained else b"")
+            self.message.commit(self._message_of(result, explained))
+
+    def _told(self, comparison):
+        hints = hint_for_owner(comparison.fault.text) if comparison.fault else ()
+        return told_of(comparison) + "".join("%s: %s\n" % (NAME, hint) for hint in hints)
+
+    def _message_of(self, result, explained):
+        given = self.given
+        text, page = text_of(result, given.max_mail, shlex.join([find_front()] + without_state(given.words))), None
+        if given.html and result.size:
+            page, why = page_of(explained, given.max_mail)
+            text += clean(("\n%s: there is no page: %s\n" % (NAME, why)).encode()) if page is None else b""
+        if given.fault:
+            text += clean(("\n%s: %s\n" % (NAME, given.fault)).encode("utf-8", "surrogateescape"))
+        return build(given.to, subject(result.state), text, page)
 
 
-def owner_hint(text):
-    """The command that mends a database that aideinit, as root, has left for root only."""
-    found = re.search(rb"cannot open the (old|new) database ([\w/.+-]+): Permission denied", text)
-    if not found or os.geteuid() == 0:
-        return b""
-    import pwd
+def page_of(explained, most):
+    """The plain page of the changes, or None with the reason: an alarm is not lost if there can be no page."""
+    from aide_compare.show.page import page
 
+    parts, room = [], most // 2
     try:
-        user = pwd.getpwuid(os.geteuid()).pw_name
-    except KeyError:
-        user = str(os.geteuid())
-    what = "baseline" if found.group(1) == b"old" else "new database"
-    return (
-        "%s: the %s is not readable for this user, as aideinit leaves it. As root: chown %s: %s\n"
-        % (NAME, what, user, os.fsdecode(found.group(2)))
-    ).encode()
-
-
-def page_of(lines, most):
-    """The plain page of the lines of a report, or None with the reason: an alarm is not lost if there can be no page."""
-    if os.fstat(lines).st_size > most:
-        return None, "the report is too large for one"
-    page, errors, path = nameless(), nameless(), find_front()
-    os.lseek(lines, 0, os.SEEK_SET)
-    actions = [(os.POSIX_SPAWN_DUP2, lines, 0), (os.POSIX_SPAWN_DUP2, page, 1), (os.POSIX_SPAWN_DUP2, errors, 2)]
-    try:
-        child = os.posix_spawn(
-            path, [path, "page", "--plain", "--title", "File changes on %s" % host()], os.environ, file_actions=actions
-        )
-    except OSError as error:
-        return None, "cannot run aide-compare page: %s" % error.strerror
-    if os.waitpid(child, 0)[1] != 0:
-        why = os.pread(errors, 2000, 0).strip().split(b"\n")[-1]
-        return None, why.decode("utf-8", "replace") or "aide-compare page failed"
-    made = os.pread(page, most + 1, 0)
-    return (None, "it would be larger than --max-mail") if len(made) > most // 2 else (made, None)
-
-
-def message_of(given, comparison, result):
-    command = shlex.join([comparison.path] + without_value("--state", comparison.words))
-    text, page = text_of(result, given.max_mail, command), None
-    if comparison.lines is not None and result.differs:
-        page, why = page_of(comparison.lines, given.max_mail)
-        text += clean(("\n%s: there is no page: %s\n" % (NAME, why)).encode()) if page is None else b""
-    if given.fault:
-        text += clean(("\n%s: %s\n" % (NAME, given.fault)).encode("utf-8", "surrogateescape"))
-    return build(given.to, result.subject(), text, page)
+        if explained is None or explained.entries.size > most:
+            return None, "the changes are not known" if explained is None else "the report is too large for one"
+        for part in page(explained.lines(), "File changes on %s" % host(), is_plain=True):
+            parts.append(part)
+            room -= len(part)
+            if room < 0:
+                return None, "it would be larger than --max-mail"
+    except Exception as error:
+        return None, why_of(error)
+    return b"".join(parts), None
 
 
 def way_of(given):
@@ -258,32 +187,50 @@ def quiet_text(runs, explained):
     )
 
 
-def be_quiet(given, words, way, result):
+def be_quiet(given, way, state):
     """A run that raises no alarm: it is counted, and once a week a mail says so."""
     if given.weekly:
-        explained = result.reasons.explained if result.reasons else 0
+        explained = state.reasons.explained if state.reasons else 0
         weekly.count(
-            value_of("--state", words), given.weekly, explained, lambda *sums: send(way, simple(given, *quiet_text(*sums)))
+            given.run.state, given.weekly, explained, lambda *sums: send(way, simple(given, *quiet_text(*sums)))
         )
-    return 0 if given.alarm_sent_is_success else result.status
 
 
-def compare_and_mail(given, words):
-    comparison = Comparison(words, given.html, given.has_reasons)
-    result = comparison.result()
-    if result.status > 7:
-        os.truncate(result.report, 0)
-    if result.status == Status.USAGE:  # Who has typed it sees it at once.
-        write_all(2, shown_lines(result.errors).encode("utf-8", "backslashreplace"))
+def compared(given, alarm):
+    """Compares, and lets the alarm put a mail together. Returns the State. A child that compares with the rights of another
+    user ends here: its parent sends what it has put together."""
+    task = None
+    try:
+        if given.refusal:
+            raise given.refusal
+        task = run.Task(given.run, parted(given.words)[1], with_details=given.html)
+        task.state, alarm.message = task.state or task.made(Held()), task.made(alarm.message)
+        status, state = task.carry_out(alarm)
+    except (Fault, MemoryError, OSError) as error:
+        if task and task.is_child():
+            raise
+        comparison = Comparison(Request(old="", new=""))
+        comparison.end_by(error)
+        alarm.end(comparison, None)
+        return comparison.state()
+    if task.is_child():
+        os._exit(status)
+    return state
+
+
+def compare_and_mail(given):
+    alarm = Alarm(given)
+    state = compared(given, alarm)
     try:
         way = way_of(given)
     except Fault as fault:
-        alert("%s; %s" % (fault.text, result.subject() if result.status else "no difference"))
-        raise Fault(fault.status, "%s; the comparison ended with status %d" % (fault.text, result.status))
-    if result.status == 0 or (given.alarm == "unexplained" and result.is_explained):
-        return be_quiet(given, words, way, result)
-    send(way, message_of(given, comparison, result))
-    return 0 if given.alarm_sent_is_success else result.status
+        alert("%s; %s" % (fault.text, subject(state) if state.status else "no difference"))
+        raise Fault(fault.status, "%s; the comparison ended with status %d" % (fault.text, state.status))
+    if alarm.is_quiet(state):
+        be_quiet(given, way, state)
+    else:
+        send(way, alarm.message.data())
+    return 0 if given.alarm_sent_is_success else state.status
 
 
 def failed_unit(given):
@@ -309,12 +256,18 @@ def empty_queue(given):
 
 
 def parsed(own, words):
-    """The options, where `words` are those of aide-compare; a Fault for options that mean nothing without another one."""
+    """The options; a Fault for those that mean nothing without another one. A Fault in those of the comparison is mailed."""
     given = parser().parse(own)
-    given.has_reasons, given.fault = has_flag("--reasons", words), ""
-    if given.alarm == "unexplained" and not given.has_reasons:
+    given.words, given.fault, given.run, given.refusal = words, "", None, None
+    try:
+        given.run = run.parser().parse(parted(words)[0])
+        given.run.user = given.user
+    except Fault as fault:
+        given.refusal = fault
+        return given
+    if given.alarm == "unexplained" and not given.run.reasons:
         raise Fault(Status.USAGE, "--alarm unexplained needs --reasons, which finds out what explains a change")
-    if given.weekly and not value_of("--state", words):
+    if given.weekly and not given.run.state:
         raise Fault(Status.USAGE, "--weekly needs --state, beside which the number of quiet runs is kept")
     if given.unit_failed and not given.send_queue:
         raise Fault(Status.USAGE, "--unit-failed needs --send-queue")
@@ -322,23 +275,27 @@ def parsed(own, words):
 
 
 def with_defaults(own, words):
-    """The options with the administrator's defaults before them. A fault in the defaults costs no mail: without them more is
-    mailed, and the mail says so."""
+    """The options with the administrator's defaults before them. A fault in the defaults costs no mail, and the mail says it."""
+    added, others, refusal = [], [], None
     try:
-        added, others = split(defaults_for({**RUN, **MAIL}, own + before_dashes(words)))
-        if not value_of("--state", words):  # A command by hand keeps no number of quiet runs.
-            added = [word for word in added if word.partition("=")[0] != "--weekly"]
-        return parsed(added + own, others + words)
+        added, others = split(defaults_for({**RUN, **MAIL}, own + parted(words)[0]))
     except Fault as fault:
-        given = parsed(own, words)
-        say(fault.text)
-        given.fault = fault.text
-        return given
+        refusal = fault
+    if not any(word.partition("=")[0] == "--state" for word in parted(words)[0]):
+        # A command by hand keeps no number of quiet runs.
+        added = [word for word in added if word.partition("=")[0] != "--weekly"]
+    try:
+        given, why = parsed(added + own, others + words), refusal
+    except Fault as fault:
+        given, why = parsed(own, others + words), fault
+    if why:
+        say(why.text)
+        given.fault, given.refusal = why.text, given.refusal or refusal
+    return given
 
 
 def main(arguments):
-    own, words = split(arguments)
-    given = with_defaults(own, words)
+    given = with_defaults(*split(arguments))
     if given.user:
         from aide_compare.base.rights import give_up
 
@@ -348,4 +305,4 @@ def main(arguments):
     if given.test:
         send(way_of(given), simple(given, "test", "This is a test of aide-compare mail. Mails of this host arrive.\n"))
         return 0
-    return compare_and_mail(given, words)
+    return compare_and_mail(given)

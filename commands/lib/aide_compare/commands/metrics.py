@@ -1,6 +1,6 @@
 """The result of the last run as metrics for Prometheus."""
 from aide_compare.base.ending import Status, write_all
-from aide_compare.base.files import Replacement
+from aide_compare.base.files import replace
 from aide_compare.compare.reason_counts import GRADE_KEYS, GRADES
 from aide_compare.compare.state import read_state
 from aide_compare.show.readers import parser
@@ -50,10 +50,5 @@ def main(arguments):
     if given.output is None:
         write_all(1, data)
         return Status.OK
-    target = Replacement(given.output, what="the metrics")
-    try:
-        target.begin()
-        target.commit(data)
-    finally:
-        target.close()
+    replace(given.output, data, what="the metrics")
     return Status.OK

@@ -6,7 +6,7 @@ from bisect import bisect_left
 from aide_compare.base.ending import Fault, Status, reason, say, write_all
 from aide_compare.base.escapes import shown
 from aide_compare.base.external_sort import ExternalSort
-from aide_compare.base.files import nameless
+from aide_compare.base.files import Spool
 from aide_compare.base.options import Parser, size, some_text
 from aide_compare.base.path_keys import key_of, path_of
 from aide_compare.base.private_room import stoppable
@@ -66,7 +66,7 @@ class Database:
     def __init__(self, copy, give):
         self.file, self.give = open(copy.fd, "rb", buffering=BLOCK), give
         self.file.seek(0)
-        self.head, self.count, self.name_field = open(nameless(), "w+b", buffering=BLOCK), 0, None
+        self.head, self.count, self.name_field = Spool(), 0, None
         self.end = self._read()
 
     def _read(self):

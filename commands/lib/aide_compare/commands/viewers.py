@@ -44,10 +44,12 @@ def run(path, work):
 
 def _write_page(source, target, given):
     import gc
+    from aide_compare.lines.json_lines import LINE_LIMIT
     from aide_compare.show.page import page
 
     gc.disable()  # Entries have no cycles, and looking for cycles takes a tenth of the time.
-    for part in page(source, given.title, given.plain, given.only):
+    lines = iter(lambda: source.readline(LINE_LIMIT), b"")
+    for part in page(lines, given.title, given.plain, given.only):
         target.write(part)
 
 

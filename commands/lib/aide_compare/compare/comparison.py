@@ -1,12 +1,13 @@
-"""A comparison of two databases by aide-compare, as the commands do it: private copies, private report, checked answer."""
+"""The one engine: two databases made ready, the proved program run over them, and its answer checked. It gives a value, and no
+text for people."""
 import os
 import re
 import time
 
-from aide_compare.base.ending import Fault, Status, write_all
+from aide_compare.base.ending import Fault, Status, fault_of, write_all
 from aide_compare.base.escapes import shown, shown_lines
 from aide_compare.base.files import nameless
-from aide_compare.base.program import CONFIGURATION_DESCRIPTOR, DATABASES, accepts, find_program, run_program
+from aide_compare.base.program import CONFIGURATION, DATABASES, NEW, OLD, find_program, run_program
 from aide_compare.base.times import age_in_words
 from aide_compare.compare.configuration import (
     Texts,
@@ -16,14 +17,14 @@ from aide_compare.compare.configuration import (
     read_configuration,
     without_includes,
 )
-from aide_compare.compare.hints import explained
+from aide_compare.compare.hints import hints_of
 from aide_compare.compare.reports import DIFFER, END_BYTES, HEAD_BYTES, SAME, counts_of, digests_of, lists_entries, status_of
+from aide_compare.compare.state import State
 from aide_compare.compare.unpack import copy_opened, open_database
 from aide_compare.compare.without import cut_copy
 
-MOST, MOST_REPORT = 1 << 40, 1 << 30
-MOST_ERRORS = 1 << 20
-CLOCKS_DIFFER = 600
+CLOCKS_DIFFER, SMALL = 600, 1 << 20
+SIDES = ("old", "new")
 SUMMARY = b"\nreport_level=summary\nreport_quiet=no\n"
 ENTRIES = b"\nreport_level=list_entries\nreport_quiet=no\n"
 # One list with a word for each entry is read from the databases most cheaply; two lists with letters say more.
@@ -33,192 +34,206 @@ LETTERS_LIST = ENTRIES + b"report_grouped=yes\nreport_summarize_changes=yes\n"
 
 class Request:
     """What is to be compared. `old` and `new` are paths, or None if the configuration names both. `before` and `after` are
-    the texts of -B and -A. `counts`: the counts are wanted at every level. `without`:
-    the Rules of the entries that are left out, or None. `handing`: the Handing of a run of root's, or None."""
+    the texts of -B and -A. `counts`: the counts are wanted at every level. `rules`: the Rules of the entries that are left
+    out, or None. `handing`: the Handing of a run of root's, or None. `copies`: by side the Copy of a database, if there is one
+    already. `report`: a descriptor for a report that is cut after `max_report` bytes; a longer one is refused otherwise."""
 
-    def __init__(
-        self,
-        old=None,
-        new=None,
-        configuration=None,
-        before=None,
-        after=None,
-        most=MOST,
-        most_age=0,
-        most_report=MOST_REPORT,
-        counts=True,
-        without=None,
-        handing=None,
-    ):
-        self.old, self.new, self.before, self.after = old, new, before, after
-        self.configuration = configuration or (default_configuration() if old is None else "/dev/null")
-        self.most, self.most_age, self.most_report, self.counts = most, most_age, most_report, counts
-        self.without, self.handing = without, handing
+    old = new = configuration = before = after = rules = handing = report = None
+    max_size, max_report, max_list, max_age, counts, copies = 1 << 40, 1 << 30, 1 << 30, 0, True, {}
 
-
-class Outcome:
-    """What came out: the status of the program, a descriptor of its report (a file without a name), its error lines, the
-    lines that explain them, the lines that say what was passed over, the counts (None if there are none), and the copies by
-    side, as far as they were made. `left_out`: by side, the LeftOut. `compared`: by side, a descriptor of what was compared.
-    """
-
-    def __init__(self):
-        self.status, self.report, self.errors, self.hints, self.notes = None, None, b"", [], []
-        self.counts, self.copies, self.old, self.new = None, {}, None, None
-        self.left_out, self.compared, self._time = {}, {}, None
-
-    @property
-    def time(self):
-        """When it ended: the time of the first question, so that the state file and the lines agree."""
-        if self._time is None:
-            self._time = int(time.time())
-        return self._time
-
-    @property
-    def error(self):
-        """The first error line if nothing was compared, to be shown."""
-        return "" if self.status <= 7 else shown_lines(self.errors).partition("\n")[0][:5000]
+    def __init__(self, **given):
+        vars(self).update(given)
+        if not self.configuration:
+            self.configuration = default_configuration() if self.old is None else "/dev/null"
 
 
 class Comparison:
-    """One request on its way: the outcome is there also when a Fault ends it."""
+    """What came out: the `status`, the `fault` that ended it (None if the program has), a descriptor of the `report` and its
+    `size`, the `errors` of the program and the `hints` that explain them, `notes` on what was passed over and `doubts` on what
+    was not explained, the `counts` (None if there are none) and the ReasonCounts, `reasons`. By side: the names, the `copies`,
+    the descriptors of what was `compared`, and the LeftOut, as far as there are any."""
 
-    def __init__(self, request, outcome):
-        self.request, self.outcome, self.path = request, outcome, request.configuration
-        self.program = find_program()
-        accepts(self.program)
-        self.texts = self._read_texts()
+    def __init__(self, request):
+        self.request, self.old, self.new = request, request.old, request.new
+        self.status, self.fault, self.report, self.size, self.errors = None, None, None, 0, b""
+        self.hints, self.notes, self.doubts, self.counts, self.reasons = [], [], [], None, None
+        self.copies, self.compared, self.left_out, self.time = {}, {}, {}, int(time.time())
+
+    def run(self):
+        """Compares. What ends it is told by the status and the `fault`, never by an exception."""
+        try:
+            self.program, self.texts = find_program(), self._read_texts()
+            if self._is_sound() and self._has_databases():
+                self._compare()
+        except (Fault, MemoryError, OSError) as error:
+            self.end_by(error)
+        self.time = int(time.time())
+        return self
+
+    def end_by(self, error):
+        """The comparison has failed, by an exception."""
+        self.fault = fault_of(error)
+        self.status = int(self.fault.status)
+
+    @property
+    def differs(self):
+        return 1 <= self.status <= 7
+
+    def state(self):
+        """The State that says it."""
+        values = {}
+        for side in SIDES:
+            name, copy = getattr(self, side), self.copies.get(side)
+            values[side] = "" if name is None else shown(name, 4000)
+            if copy:
+                values[side + "_sha256"] = copy.sha256
+                values[side + "_written"] = None if copy.written is None else int(copy.written)
+        if self.status <= 7 and self.counts:
+            values.update(zip(("added", "removed", "changed"), self.counts))
+        more = {"left_out_" + side: str(left_out.total) for side, left_out in self.left_out.items()}
+        more.update((key, str(count)) for key, count in (self.reasons._asdict() if self.reasons else {}).items())
+        return State(self.status, self.time, error=self._error()[:5000], more=more, **values)
+
+    def _error(self):
+        """Why nothing was compared, in a line."""
+        if self.fault:
+            return "aide-compare: %s" % self.fault.text
+        lines = shown_lines(self.errors).split("\n") if self.status > 7 else [""]
+        return next((line for line in lines if line and not line.endswith(" skipped")), "")
 
     def _read_texts(self):
-        config, included = without_includes(read_configuration(self.path))
+        path, request = self.request.configuration, self.request
+        config, included = without_includes(read_configuration(path))
         if included:
             count = len(included)
             lines = "1 line that includes other files is" if count == 1 else "%d lines that include other files are" % count
-            self.outcome.notes.append("%s: %s passed over, the first: %s" % (shown(self.path), lines, shown(included[0], 200)))
-        before, after = ((text or "").encode("utf-8", "surrogateescape") for text in (self.request.before, self.request.after))
+            self.notes.append("%s: %s passed over, the first: %s" % (shown(path), lines, shown(included[0], 200)))
+        before, after = ((text or "").encode("utf-8", "surrogateescape") for text in (request.before, request.after))
         self.given = Texts(before, config, after)
         return self.given.unfixed(("config",)) if after else self.given
 
-    def run(self):
-        """Compares. A Fault ends it if the command itself cannot go on; the outcome then has what is known until there."""
-        if self._is_sound() and self._names_are_known():
-            self._copy()
-            self._compare()
-        return self.outcome
-
     def _is_sound(self):
         """Whether the configuration as it was given is right: a comparison does not see the lines that -A replaces."""
-        if self.texts.config != self.given.config:
-            os.close(self._run("-D", self.given, b""))
-        return not self.outcome.status
+        return self.texts.config == self.given.config or self._is_right(self.given, b"")
 
-    def _names_are_known(self):
-        request, outcome = self.request, self.outcome
-        outcome.old, outcome.new = request.old, request.new
-        if request.old is None:
-            self._run("-D", self.texts, self.texts.after)
-            if outcome.status:
-                return False
-            outcome.old, outcome.new = databases_of(defining_host(self.texts)[0], self.path)
-        return True
+    def _is_right(self, texts, after):
+        """Whether the program takes a configuration."""
+        self.status, self.errors, _ = self._run("-D", texts, after)
+        if self.differs:
+            raise self._odd_answer()
+        return self.status == 0
+
+    def _has_databases(self):
+        """Finds the databases and copies them. What the program refuses in a configuration that names them is told first."""
+        try:
+            if self.old is None:
+                self.old, self.new = databases_of(defining_host(self.texts)[0], self.request.configuration)
+            self._copy()
+            return True
+        except Fault:
+            if self.request.old is not None or self._is_right(self.texts, self.texts.after):
+                raise
+            return False
 
     def _copy(self):
-        opened = [open_database(*names) for names in (("old", self.outcome.old), ("new", self.outcome.new))]
-        check_age(opened[1], self.request.most_age)
-        if self.request.handing:
-            self.request.handing.take(self.outcome.old)
-        for database in opened:
-            copy = copy_opened(database, self.request.most)
-            self.outcome.copies[database.side], self.outcome.compared[database.side] = copy, copy.fd
-            if self.request.without:
-                self._leave_out(database.side, copy)
+        if not self.request.copies:
+            opened = [open_database(*names) for names in zip(SIDES, (self.old, self.new))]
+            check_age(opened[1], self.request.max_age)
+            if self.request.handing:
+                self.request.handing.take(self.old)
+            for database in opened:
+                self.copies[database.side] = copy_opened(database, self.request.max_size)
+        self.copies.update(self.request.copies)
+        for side in SIDES:
+            self.compared[side] = self.copies[side].fd
+            if self.request.rules:
+                self._leave_out(side)
 
-    def _leave_out(self, side, copy):
+    def _leave_out(self, side):
         """What is compared then is a copy of the copy; digests are of the whole database, so that it can be accepted."""
-        outcome = self.outcome
-        outcome.compared[side], outcome.left_out[side] = cut_copy(copy.fd, self.request.without)
-        outcome.notes += outcome.left_out[side].words(side)
+        self.compared[side], self.left_out[side] = cut_copy(self.compared[side], self.request.rules)
+        self.notes += self.left_out[side].words(side)
 
     def _compare(self):
-        outcome = self.outcome
-        outcome.report = self._run("-E", self.texts, self.texts.after + b"\n" + DATABASES.encode(), self.request.most_report)
-        size = os.fstat(outcome.report).st_size
-        if outcome.status == Status.DEVICE and size >= self.request.most_report:
-            raise Fault(
-                Status.DEVICE, "the report has more than %d bytes; --max-report allows more" % self.request.most_report
-            )
-        if outcome.status > 7:
+        request, options = self.request, self.texts.after + b"\n" + DATABASES.encode()
+        self.report = nameless() if request.report is None else request.report
+        self.status, self.errors, self.size = self._run(
+            "-E", self.texts, options, self.report, request.max_report, is_cut=request.report is not None
+        )
+        if self.status == Status.DEVICE and self.size >= request.max_report:
+            raise Fault(Status.DEVICE, "the report has more than %d bytes; --max-report allows more" % request.max_report)
+        if self.status > 7:
             return
-        head = os.pread(outcome.report, HEAD_BYTES, 0)
-        outcome.counts = (0, 0, 0) if outcome.status == 0 else counts_of(head)
-        if outcome.counts is None and self.request.counts:
-            outcome.counts = self._counted()
-        if not (head.startswith(DIFFER) if outcome.status else head.startswith(SAME) or not head) or (
-            outcome.counts and status_of(outcome.counts) != outcome.status
-        ):
-            raise Fault(
-                Status.DEVICE,
-                "%s ended with status %d, but its report does not say so" % (shown(self.program), outcome.status),
-            )
-        if not self.request.without:
-            for side, digest in zip(("old", "new"), digests_of(os.pread(outcome.report, END_BYTES, max(size - END_BYTES, 0)))):
-                outcome.copies[side].take_digest(digest)
+        head = os.pread(self.report, HEAD_BYTES, 0)
+        self.counts = (0, 0, 0) if self.status == 0 else counts_of(head)
+        if self.counts is None and request.counts:
+            self.counts = self._counted()
+        is_odd = self.counts and status_of(self.counts) != self.status
+        if is_odd or not (head.startswith(DIFFER) if self.status else head.startswith(SAME) or not head):
+            raise self._odd_answer()
+        if not request.rules and not self.is_cut:
+            for side, digest in zip(SIDES, digests_of(os.pread(self.report, END_BYTES, max(self.size - END_BYTES, 0)))):
+                self.copies[side].take_digest(digest)
+
+    @property
+    def is_cut(self):
+        """Whether the report is longer than what was kept of it."""
+        return self.size > self.request.max_report
+
+    def _odd_answer(self):
+        """The Fault for a status that is not borne out: a loader that refuses the program ends with 1, as added entries do."""
+        said = shown(self.errors.split(b"\n")[0], 300)
+        why = "does not run here: %s" % said if said else "ended with status %d, but its report does not say so" % self.status
+        return Fault(Status.DEVICE, "%s %s" % (shown(self.program), why))
 
     def _counted(self):
         """The counts by a second run at the level summary: only the level minimal has none. None if it ends otherwise."""
         report, status = self._run_again(SUMMARY, 1 << 16)
         try:
-            return counts_of(os.pread(report, HEAD_BYTES, 0)) if self.outcome.status == status else None
+            return counts_of(os.pread(report, HEAD_BYTES, 0)) if self.status == status else None
         finally:
             os.close(report)
 
-    def has_list(self):
-        """Whether the report itself lists the entries that differ."""
-        return lists_entries(os.pread(self.outcome.report, HEAD_BYTES, 0))
-
-    def listed(self, with_letters):
-        """A descriptor of a report that lists the entries that differ and has no details, by a second run. With letters it
-        says of what kind each change is."""
-        report, status = self._run_again(LETTERS_LIST if with_letters else PLAIN_LIST, self.request.most_report)
+    def listed(self, with_details):
+        """A descriptor of a report that lists the entries that differ: the report itself if it has a list, and details are
+        wanted or it is small; otherwise that of a second run, which has no details and so is read many times faster."""
+        has_list = not self.is_cut and lists_entries(os.pread(self.report, HEAD_BYTES, 0))
+        if self.status == 0 or (has_list and (with_details or self.size <= SMALL)):
+            return self.report
+        report, status = self._run_again(LETTERS_LIST if with_details else PLAIN_LIST, self.request.max_list)
         counts = counts_of(os.pread(report, HEAD_BYTES, 0))
-        if status == self.outcome.status and self.outcome.counts in (None, counts):
+        if status == self.status and self.counts in (None, counts):
             return report
         os.close(report)
         raise Fault(Status.DEVICE, "the list of the entries is not that of the report")
 
     def _run_again(self, options, most):
         """A second run with the same databases and other options of the report: what it printed, and its status."""
-        outcome, texts = self.outcome, self.texts.unfixed(("before", "config", "after"))
-        kept = outcome.status, outcome.errors
+        texts, report = self.texts.unfixed(("before", "config", "after")), nameless()
         try:
-            report = self._run("-E", texts, texts.after + options + DATABASES.encode(), most)
-            return report, outcome.status
-        finally:
-            outcome.status, outcome.errors = kept
-            outcome.hints = []
-
-    def _run(self, command, texts, after, most=None):
-        """Runs the program; the outcome gets its status and its errors. Returns a descriptor of what it printed."""
-        defined, moved = defining_host(texts)
-        configuration, output, errors = nameless(), nameless(), nameless()
-        try:
-            write_all(configuration, defined.config)
-            words = [command, "-c", "/proc/self/fd/%d" % CONFIGURATION_DESCRIPTOR, b"--after=" + after]
-            words += [b"--before=" + defined.before] if defined.before else []
-            databases = [self.outcome.compared[side] for side in ("old", "new") if side in self.outcome.compared]
-            ended = run_program(self.program, words, databases, output, errors, configuration, most)
-            ended.refuse_unknown(self.program)
-            self.outcome.status = ended.status
-            self.outcome.errors = _moved_back(os.pread(errors, MOST_ERRORS, 0), moved)
-            if ended.status > 7:
-                self.outcome.hints = explained(self.outcome.errors, texts, self.path, self.outcome.copies)
-            return output
+            return report, self._run("-E", texts, texts.after + options + DATABASES.encode(), report, most)[0]
         except BaseException:
-            os.close(output)
+            os.close(report)
             raise
+
+    def _run(self, job, texts, after, report=None, most=0, is_cut=False):
+        """Runs the program: its status, its error lines, and the bytes of its report, which may be cut, or is not kept."""
+        defined, moved = defining_host(texts)
+        given = dict(zip((OLD, NEW), (self.compared[side] for side in SIDES if side in self.compared)))
+        words = [job, "-c", "/dev/null", b"--after=" + after] + ([b"--before=" + defined.before] if defined.before else [])
+        keep = (lambda data: write_all(report, data)) if is_cut else (lambda data: None) if report is None else None
+        try:
+            if defined.config:
+                given[CONFIGURATION], words[2] = nameless(), "/proc/self/fd/%d" % CONFIGURATION
+                write_all(given[CONFIGURATION], defined.config)
+            ended = run_program(self.program, words, given if keep else {1: report, **given}, most, keep)
         finally:
-            os.close(configuration)
-            os.close(errors)
+            if CONFIGURATION in given:
+                os.close(given[CONFIGURATION])
+        errors = _moved_back(ended.errors, moved)
+        if ended.status > 7:
+            self.hints = hints_of(errors, texts, self.request.configuration, self.copies)
+        return ended.status, errors, ended.size if keep else os.fstat(report).st_size
 
 
 def _moved_back(errors, count):

@@ -4,14 +4,13 @@ there. So root sees what a comparison of this user sees, and what others have wr
 Root opens both databases. Then a child gives up root's rights for good and does the rest, and its parent puts in place what it
 has written.
 """
-import ctypes
 import os
-import signal
 
+from aide_compare.base.child import end_with
 from aide_compare.base.ending import Fault, Status, write_all
 from aide_compare.base.files import copy_file, nameless
 from aide_compare.base.folders import ANYBODY, open_folder
-from aide_compare.base.program import KNOWN, PR_SET_PDEATHSIG
+from aide_compare.base.program import KNOWN
 from aide_compare.base.rights import become, name_of
 from aide_compare.compare.state import MOST_BYTES, parse_state
 from aide_compare.compare.unpack import given_descriptor
@@ -30,6 +29,22 @@ class Handed(BaseException):
         if status not in KNOWN:
             raise Fault(Status.DEVICE, "the comparison with the rights of %s ended with %d" % (name_of(self.owner), status))
         return status
+
+
+class Held:
+    """An output that stays in this process."""
+
+    def __init__(self):
+        self.held = b""
+
+    def commit(self, data):
+        self.held = data
+
+    def commit_copy(self, descriptor):
+        self.held = os.pread(descriptor, os.fstat(descriptor).st_size, 0)
+
+    def data(self):
+        return self.held
 
 
 class Later:
@@ -51,13 +66,18 @@ class Later:
     def put(self):
         self.output.commit_copy(self.kept)
 
+    def data(self):
+        return self.output.data()
 
-def is_of(state, status):
-    """Whether a private file has the whole state of a run that ended with this status."""
-    try:
-        return parse_state(os.pread(state.kept, MOST_BYTES + 1, 0)).status == status
-    except (ValueError, KeyError):
-        return False
+    def state(self, status):
+        """The whole State in the private file, of a run that ended with this status; a Fault if there is none."""
+        try:
+            state = parse_state(os.pread(self.kept, MOST_BYTES + 1, 0))
+        except (ValueError, KeyError):
+            state = None
+        if state is None or state.status != status:
+            raise Fault(Status.DEVICE, "the comparison with the rights of another user left no whole result")
+        return state
 
 
 def owner_of(baseline):
@@ -95,8 +115,7 @@ class Handing:
         for output in self.outputs:
             output.is_childs = True
         become(owner)
-        ctypes.CDLL(None).prctl(PR_SET_PDEATHSIG, signal.SIGKILL)
-        if os.getppid() != parent:
+        if not end_with(parent):
             raise Fault(Status.DEVICE, "the command was ended")
 
     def hint(self):

@@ -96,7 +96,7 @@ def _configuration_hints(number, words, text, introduction):
         yield LEVELS
 
 
-def explained(errors, texts, path, copies):
+def hints_of(errors, texts, path, copies):
     """The lines that explain the first error line. `texts` were read, `path` is that of the configuration, and `copies` are
     those of the databases, as far as they were made."""
     found = LINE.match(errors)
@@ -114,3 +114,18 @@ def explained(errors, texts, path, copies):
         "after": "this is the text of -A",
     }[where]
     return list(_configuration_hints(number, words, getattr(texts, where), introduction))
+
+
+def hint_for_owner(text):
+    """The command that mends a database that aideinit, as root, has left for root only, by the words of a Fault."""
+    found = re.search(r"cannot open the (old|new) database ([\w/.+-]+): Permission denied", text, re.ASCII)
+    if not found or os.geteuid() == 0:
+        return
+    import pwd
+
+    try:
+        user = pwd.getpwuid(os.geteuid()).pw_name
+    except KeyError:
+        user = str(os.geteuid())
+    what = "baseline" if found.group(1) == "old" else "new database"
+    yield "the %s is not readable for this user, as aideinit leaves it. As root: chown %s: %s" % (what, user, found.group(2))

@@ -4,39 +4,23 @@ import signal
 import time
 
 from aide_compare.base.ending import Fault, Status, say, write_all
-from aide_compare.base.escapes import guarded, shown, shown_lines
-from aide_compare.base.files import nameless, open_regular
+from aide_compare.base.files import open_regular
 from aide_compare.base.options import Parser, duration, size
-from aide_compare.base.program import DATABASES, accepts, find_program, run_program
-from aide_compare.compare.reports import HEAD_BYTES, counts_of
+from aide_compare.compare.comparison import SIDES, Comparison, Request
+from aide_compare.compare.configuration import texts_of
 from aide_compare.compare.state import State
 from aide_compare.compare.unpack import copy_database
-from aide_compare.compare.without import cut_copy
 from aide_compare.hosts import explaining
 from aide_compare.hosts.fetching import add_place
 from aide_compare.hosts.fleet_store import BLOCK, Part, Place, check_name, no_room, seconds_left
 from aide_compare.lines.cut_reports import CUT_WORDS
+from aide_compare.show.told import told_of
 
 NAME = "aide-compare hosts compare-one"
 MOST_BASELINE, LEAST_BOUND, MOST_REPORT, SAME_FOR = 4 << 30, 64 << 20, 4 << 20, 50 * 3600
-MOST_ERRORS = 1 << 20
 MOST_AHEAD = 600
 # The level at which an added file has its values, so that the report can tell whether it is the same one on two hosts.
 LEVEL = "report_level=added_removed_entries"
-
-
-class Outcome:
-    """A status, the counts (None if unknown), the error lines, the ReasonCounts (None without), and by side how many entries
-    were left out."""
-
-    def __init__(self, status, counts, errors):
-        self.status, self.counts, self.errors, self.reasons, self.left_out = status, counts, errors, None, {}
-
-    def more(self):
-        """The further keys of the state."""
-        reasons = self.reasons._asdict() if self.reasons else {}
-        counts = {**{"left_out_" + side: count for side, count in self.left_out.items()}, **reasons}
-        return {key: str(count) for key, count in counts.items()}
 
 
 def limit(place, seconds, deadline):
@@ -50,62 +34,6 @@ def limit(place, seconds, deadline):
     signal.setitimer(signal.ITIMER_REAL, max(seconds_left(deadline), 0.001), 2)
 
 
-def drained(place, reading, part, most):
-    """Reads a report to its end, keeps its first bytes, and returns these bytes' head and the size of the whole."""
-    head, whole = b"", 0
-    while True:
-        block = os.read(reading, BLOCK)
-        if not block:
-            return head, whole
-        head += block[: max(HEAD_BYTES - len(head), 0)]
-        whole += len(block)
-        try:
-            part.write(block[: max(most - part.size, 0)])
-        except OSError as error:
-            raise place.fault("cannot keep its report: %s" % no_room(error))
-
-
-def run(place, program, words, databases, configuration, part, most):
-    """Runs the program with its report through a pipe, so that a report of any size takes no more room than is allowed."""
-    reading, writing = os.pipe()
-    errors = nameless()
-    child = os.fork()
-    if child == 0:
-        status = Status.DEVICE
-        try:
-            os.close(reading)
-            signal.setitimer(signal.ITIMER_REAL, 0)
-            end_with_parent()
-            ended = run_program(program, words, databases, writing, errors, configuration, MOST_ERRORS)
-            ended.refuse_unknown(program)
-            status = ended.status
-        except Fault as fault:
-            write_all(errors, (fault.text + "\n").encode("utf-8", "backslashreplace"))
-        finally:
-            os._exit(status)
-    os.close(writing)
-    try:
-        head, whole = drained(place, reading, part, most)
-        status = os.waitstatus_to_exitcode(os.waitpid(child, 0)[1])
-        child = None
-    finally:
-        os.close(reading)
-        if child:
-            os.kill(child, signal.SIGKILL)
-            os.waitpid(child, 0)
-    if whole > part.size:
-        part.write(b"\n" + (CUT_WORDS % (whole, most)).encode())
-    lines = os.pread(errors, MOST_ERRORS, 0)
-    os.close(errors)
-    return Outcome(status if 0 <= status < 128 else int(Status.DEVICE), counts_of(head), lines)
-
-
-def end_with_parent():
-    import ctypes
-
-    ctypes.CDLL(None).prctl(1, signal.SIGKILL)
-
-
 def copied(place, given):
     """Private copies of both databases. Without --max-unpacked, the new one may have four times the bytes of the old."""
     old = copy_database("old", place.file("aide.db"), MOST_BASELINE)
@@ -113,66 +41,31 @@ def copied(place, given):
     return old, copy_database("new", place.file("aide.db.new"), most)
 
 
-def words_of(given, arguments, last=""):
-    """The arguments of the program, which takes each option once: lines of the caller come before those of this command. The
-    level comes first, so that the configuration or the caller may name another one."""
-    before, after, others, rest = [LEVEL], [], [], list(arguments)
-    takes = {"-B": before, "--before": before, "-A": after, "--after": after}
-    while rest:
-        word = rest.pop(0)
-        name, equals, value = word.partition("=")
-        if word in takes and rest:
-            takes[word].append(rest.pop(0))
-        elif equals and name in ("--before", "--after"):
-            takes[name].append(value)
-        else:
-            others.append(word)
-    after += [DATABASES] + [last] * bool(last)
-    file = "/proc/self/fd/5" if given.conf else "/dev/null"
-    return ["-E", "-c", file, "-B", "\n".join(before), "-A", "\n".join(after)] + others
-
-
 def compared(place, given, arguments, part, jobs):
-    """Compares, and keeps the report. The counts come from its head, or from a second run if it has none."""
-    program = find_program()
-    accepts(program)
-    configuration = open_regular(given.conf, "the configuration ") if given.conf else None
-    copies = copied(place, given)
-    databases, left_out = without(copies, explaining.rules_of(given))
+    """The Comparison, with its report in the part: cut, if it is longer than this host may have. The level comes first, so
+    that the configuration or the caller may name another one."""
+    before, after = texts_of(arguments)
     most = min(given.max_report, place.room(jobs))
-    outcome = run(place, program, words_of(given, arguments), databases, configuration, part, most)
-    outcome.left_out = left_out
-    if 0 < outcome.status <= 7 and not outcome.counts:
-        scratch = Part(place.fd)
-        words = words_of(given, arguments, "report_level=summary")
-        outcome.counts = run(place, program, words, databases, configuration, scratch, HEAD_BYTES).counts
-        scratch.close()
-    if outcome.status == 0:
-        outcome.counts = (0, 0, 0)
-    return outcome, copies
-
-
-def without(copies, rules):
-    """The descriptors of what is compared, and by side how many entries were left out."""
-    if rules is None:
-        return tuple(copy.fd for copy in copies), {}
-    cut = [cut_copy(copy.fd, rules) for copy in copies]
-    return tuple(fd for fd, _ in cut), {side: left_out.total for side, (_, left_out) in zip(("old", "new"), cut)}
-
-
-def explain(place, given, outcome, copies):
-    """Finds out what explains the changes, and keeps their lines. Without reasons every change is an alarm."""
-    place.remove("lines")
-    if not (given.reasons and 1 <= outcome.status <= 7 and outcome.counts):
-        return
-    part = Part(place.fd)
-    try:
-        outcome.reasons, errors = explaining.explained(place, given, copies, outcome.counts, part)
-        outcome.errors += errors
-        if outcome.reasons:
-            part.keep("lines")
-    finally:
-        part.close()
+    comparison = Comparison(
+        Request(
+            old=place.file("aide.db"),
+            new=place.file("aide.db.new"),
+            configuration=given.conf,
+            before="\n".join(filter(None, (LEVEL, before))),
+            after=after,
+            copies=dict(zip(SIDES, copied(place, given))),
+            rules=explaining.rules_of(given),
+            report=part.fd,
+            max_report=most,
+            max_list=explaining.most_lines(place, jobs),
+        )
+    ).run()
+    part.size = os.fstat(part.fd).st_size
+    if comparison.fault:
+        raise place.fault(comparison.fault.text, comparison.fault.status)
+    if comparison.is_cut:
+        part.write(b"\n" + (CUT_WORDS % (comparison.size, most)).encode())
+    return comparison
 
 
 def stale_text(place, seconds):
@@ -183,31 +76,6 @@ def stale_text(place, seconds):
     if age < 0:
         return "its database was fetched in the future; is the clock of this host right?"
     return "has sent the same database for more than %d hours; does AIDE run there?" % (seconds // 3600)
-
-
-def first_error(lines):
-    """The error line that says why nothing was compared."""
-    texts = [line for line in shown_lines(lines).split("\n") if line and not line.endswith(" skipped")]
-    return guarded(texts[0])[:300] if texts else "no reason was given"
-
-
-def state_of(place, outcome, copies):
-    old, new = copies
-    counts = outcome.counts or (None,) * 3
-    error = first_error(outcome.errors) if outcome.status > 7 else ""
-    return State(
-        outcome.status,
-        int(time.time()),
-        *(counts if outcome.status <= 7 else (None,) * 3),
-        old.sha256,
-        new.sha256,
-        shown(old.name),
-        shown(new.name),
-        int(old.written),
-        int(new.written),
-        error,
-        outcome.more(),
-    )
 
 
 def keep_text(place, name, data):
@@ -229,23 +97,18 @@ def compare(place, given, arguments=(), jobs=1):
             raise place.fault(text)
     part = Part(place.fd)
     try:
-        outcome, copies = compared(place, given, arguments, part, jobs)
-        explain(place, given, outcome, copies)
-        state = state_of(place, outcome, copies)
+        comparison = compared(place, given, arguments, part, jobs)
+        place.remove("lines")
+        if given.reasons and comparison.differs:
+            explaining.explain(place, given, comparison, jobs)
+        state = comparison.state()
         stale = stale_text(place, given.same_for)
         if stale:
             found = "; it differs: added %d, removed %d, changed %d" % state.counts if state.status and state.counts else ""
-            state = State(
-                int(Status.DEVICE),
-                state.time,
-                old_sha256=state.old_sha256,
-                new_sha256=state.new_sha256,
-                old=state.old,
-                new=state.new,
-                error="%s: %s%s" % (place.host, stale, found),
-            )
-            outcome.errors += (state.error + "\n").encode()
-        keep_text(place, "errors", outcome.errors)
+            known = {name: getattr(state, name) for name in ("old", "new", "old_sha256", "new_sha256")}
+            state = State(int(Status.DEVICE), state.time, error="%s: %s%s" % (place.host, stale, found), **known)
+        told = told_of(comparison) + (state.error + "\n" if stale else "")
+        keep_text(place, "errors", told.encode("utf-8", "backslashreplace"))
         part.keep("report")
         place.write_state(state)
         return state

@@ -1,11 +1,11 @@
 """Fetches the database of a host by ssh, with a bound on bytes, error lines and time."""
-import ctypes
 import os
 import re
 import select
 import signal
 import time
 
+from aide_compare.base.child import end_with
 from aide_compare.base.ending import Fault, Status, reason, say
 from aide_compare.base.escapes import shown
 from aide_compare.base.options import Parser, duration, size, some_text
@@ -25,19 +25,17 @@ HINTS = (
     ("Host key verification failed", "is its key in known_hosts?"),
     ("Permission denied", "is the key of this user in its authorized_keys?"),
 )
-PR_SET_PDEATHSIG = 1
 
 
 def start(words, output, errors):
     """Starts ssh in a group of its own. The kernel ends it if this process ends first, however that ends."""
-    parent, prctl = os.getpid(), ctypes.CDLL(None).prctl
+    parent = os.getpid()
     child = os.fork()
     if child:
         return child
     try:
         os.setpgid(0, 0)
-        prctl(PR_SET_PDEATHSIG, signal.SIGKILL)
-        if os.getppid() == parent:
+        if end_with(parent):
             os.dup2(output, 1)
             os.dup2(errors, 2)
             for number in (signal.SIGPIPE, signal.SIGXFSZ):

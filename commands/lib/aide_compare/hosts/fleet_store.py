@@ -7,7 +7,7 @@ import re
 import time
 
 from aide_compare.base.ending import Fault, Status, reason, say, write_all
-from aide_compare.base.files import NEW_FILE, NO_TMPFILE, Replacement, open_regular
+from aide_compare.base.files import NEW_FILE, NO_TMPFILE, open_regular, replace
 from aide_compare.base.folders import open_folder
 from aide_compare.compare.state import State
 
@@ -162,12 +162,7 @@ class Place:
         return self._readable
 
     def write_state(self, state):
-        target = Replacement(self.state_path, what="the state")
-        try:
-            target.begin()
-            target.commit(state.text())
-        finally:
-            target.close()
+        replace(self.state_path, state.text(), what="the state")
 
     def not_compared(self, text):
         """The state says at once that nothing was compared, so that no check shows an older result."""

@@ -1,7 +1,7 @@
 """The report of all hosts as one page without a script: the counts, the hosts, and each change with the hosts that have it."""
 from html import escape
 
-from aide_compare.base.files import nameless
+from aide_compare.base.files import Spool
 from aide_compare.base.shown_text import shown_note, shown_path
 from aide_compare.hosts.host_changes import is_explained, path_in
 from aide_compare.hosts.hosts_text import ORDERS, WHY, counts_text, headline, not_listed, reason_words
@@ -56,7 +56,7 @@ class Items:
     cannot crowd out what the others have."""
 
     def __init__(self, hosts, room):
-        self.file, self.hosts, self.room, self.share = open(nameless(), "w+b"), hosts, room, room // 2
+        self.file, self.hosts, self.room, self.share = Spool(), hosts, room, room // 2
         self.taken, self.left_out = {}, 0
 
     def add(self, fields):

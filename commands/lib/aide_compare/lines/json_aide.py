@@ -3,7 +3,7 @@ import base64
 import json
 import re
 
-from aide_compare.base.files import nameless
+from aide_compare.base.files import Spool
 from aide_compare.lines.decoded import decoded
 from aide_compare.lines.decoded_acl import acl_lists
 from aide_compare.lines.decoded_base import exact_bytes
@@ -100,7 +100,7 @@ class _Part:
     """An object or a list of the whole one, in a private file."""
 
     def __init__(self):
-        self.file, self.count = open(nameless(), "w+b", buffering=BLOCK), 0
+        self.file, self.count = Spool(), 0
 
     def add(self, text):
         self.file.write((",\n    " if self.count else "\n    ").encode() + text.replace("\n", "\n    ").encode())

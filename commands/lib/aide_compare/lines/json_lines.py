@@ -157,12 +157,12 @@ def judge_database(fields, side):
 class Report:
     """A report, read from its lines: the summary and the databases. Each entry is given away as it comes."""
 
-    def __init__(self, source, give, begin=None):
-        """`begin` is called with the summary before the first entry is given."""
+    def __init__(self, lines, give, begin=None):
+        """`lines` have at most LINE_LIMIT bytes. `begin` is called with the summary before the first entry is given."""
         self.summary, self.databases, self.count, self.last = None, [], 0, []
         self.give, self.begin = give, begin
         number = 0
-        for number, line in enumerate(iter(lambda: source.readline(LINE_LIMIT), b""), 1):
+        for number, line in enumerate(lines, 1):
             try:
                 demand(line[-1:] == b"\n", "the line is cut, or too long")
                 self.add(json.loads(line.decode()), line)

@@ -3,7 +3,7 @@ import base64
 import re
 from collections import namedtuple
 
-from aide_compare.base.files import nameless
+from aide_compare.base.files import Spool
 from aide_compare.lines.report_details import read_details
 from aide_compare.lines.report_lines import Refused, put_bytes, unprinted
 from aide_compare.lines.report_objects import Making, objects_of
@@ -72,7 +72,7 @@ class Section:
 
     def __init__(self, lines, counts):
         lines.expect(b"")
-        self.file, self.number, self.counts = open(nameless(), "w+b"), lines.number, counts
+        self.file, self.number, self.counts = Spool(), lines.number, counts
         self.possible, self.summarized = dict.fromkeys(KINDS, 0), None
         for _ in range(sum(counts.values())):
             letters, kind, _ = found = lines.match(LISTED, "an entry of this list").groups()

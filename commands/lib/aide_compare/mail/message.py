@@ -10,8 +10,7 @@ import time
 from collections import Counter
 
 from aide_compare.base.escapes import shown_lines
-from aide_compare.compare.reason_counts import ReasonCounts
-from aide_compare.compare.reports import HEAD_BYTES, counts_of
+from aide_compare.base.times import date_of
 from aide_compare.lines.cut_reports import KINDS, TITLES, TOGETHER, kind_of
 from aide_compare.lines.report_lines import RULE
 
@@ -21,12 +20,6 @@ MOST_LINE = 1000
 FOLDER_SHARE, TREE_SHARE, MOST_FOLDERS = 20, 100, 10
 # What was removed or changed comes before what was added, since everybody can add files somewhere.
 ORDER = (b"changed", b"removed", b"added")
-REASONS = re.compile(
-    r"^aide-compare: [a-z0-9 ,]+: unexplained=(\d{1,18}) not_verified=(\d{1,18}) explained=(\d{1,18}) "
-    r"high=(\d{1,18}) medium=(\d{1,18}) low=(\d{1,18})(?: explained_[a-z]+=\d{1,18})*\n",
-    re.M,
-)
-DATABASE = re.compile(r"^aide-compare: (old|new) database: (.*), written (\S+), SHA-256 ([0-9a-f]{64})$", re.M)
 BITS = ((1, "added"), (2, "removed"), (4, "changed"))
 
 
@@ -42,63 +35,43 @@ def differences(status, counts):
     return ", ".join(name for bit, name in BITS if status & bit)
 
 
-def reasons_in(text, counts):
-    """The ReasonCounts that error lines have, or None, also if they are not those of so many changes."""
-    found = REASONS.findall(text)
-    if len(found) != 1:
-        return None
-    unexplained, not_verified, explained, *severities = map(int, found[0])
-    reasons = ReasonCounts(explained, not_verified, unexplained, *severities)
-    return reasons if reasons.fits(sum(counts) if counts else reasons.total) else None
+def is_explained(state):
+    """Whether something explains every change of a State for certain."""
+    return bool(state.reasons) and state.reasons.total > 0 and not state.reasons.unanswered
+
+
+def subject(state):
+    if state.reasons:
+        return "aide on %s: %s" % (host(), state.reasons.words())
+    if 1 <= state.status <= 7:
+        return "aide on %s: differences (%s)" % (host(), differences(state.status, state.counts))
+    return "aide on %s: no comparison (status %d)" % (host(), state.status)
 
 
 class Result:
-    """What a comparison left: its status, the report (a descriptor and its size), the bytes of its error lines, and the text
-    that people read first; there is none without --reasons."""
+    """What a mail tells: the State, the report (a descriptor and its size), the lines that were told, and the bytes of what
+    people read first; there is none without --reasons."""
 
-    def __init__(self, status, report, errors, brief=b""):
-        self.status, self.report, self.errors, self.brief = status, report, errors, brief
-        self.size = os.fstat(report).st_size
-        self.counts = counts_of(os.pread(report, HEAD_BYTES, 0))
-        text = errors.decode("utf-8", "surrogateescape")
-        self.databases = {side: (name, date, digest) for side, name, date, digest in DATABASE.findall(text)}
-        self.reasons = reasons_in(text, self.counts) if 1 <= status <= 7 else None
-
-    @property
-    def differs(self):
-        return 1 <= self.status <= 7 and self.size > 0
-
-    @property
-    def is_explained(self):
-        """Whether something explains every change for certain."""
-        return self.reasons is not None and self.reasons.total > 0 and not self.reasons.unanswered
-
-    def subject(self):
-        if self.reasons:
-            return "aide on %s: %s" % (host(), self.reasons.words())
-        if self.differs:
-            return "aide on %s: differences (%s)" % (host(), differences(self.status, self.counts))
-        return "aide on %s: no comparison (status %d)" % (host(), self.status)
+    def __init__(self, state, report, told, brief=b""):
+        self.state, self.report, self.told, self.brief = state, report, told, brief
+        self.size = os.fstat(report).st_size if 1 <= state.status <= 7 else 0
 
 
-def opening(result):
+def opening(state):
     """The first lines of a mail: which databases, when each was written, and the command that accepts what was read."""
-    if len(result.databases) != 2:
+    if not (state.old_sha256 and state.new_sha256):
         return ""
     lines = [
-        "%s database: %s, written %s" % (side.capitalize(), name, date)
-        for side, (name, date, _) in sorted(result.databases.items(), reverse=True)
+        "%s database: %s%s" % (side, name, "" if written is None else ", written %s" % date_of(written))
+        for side, name, written in (("Old", state.old, state.old_written), ("New", state.new, state.new_written))
     ]
-    old, new = result.databases["old"][0], result.databases["new"][0]
-    if "\\" in old + new:  # An escaped name is not the name, so no command is given that could mean another file.
-        lines.append(
-            "To accept what is reported here: aide-compare accept --sha256 %s NEW BASELINE" % result.databases["new"][2]
-        )
+    if "\\" in state.old + state.new:  # An escaped name is not the name, so no command is given that could mean another file.
+        lines.append("To accept what is reported here: aide-compare accept --sha256 %s NEW BASELINE" % state.new_sha256)
     else:
+        names = [shlex.quote(os.path.abspath(name)) for name in (state.new, state.old)]
         lines += [
             "To accept what is reported here, and nothing else:",
-            "    aide-compare accept --sha256 %s %s %s"
-            % (result.databases["new"][2], shlex.quote(os.path.abspath(new)), shlex.quote(os.path.abspath(old))),
+            "    aide-compare accept --sha256 %s %s %s" % (state.new_sha256, *names),
         ]
     return "\n".join(lines) + "\n\n"
 
@@ -202,18 +175,17 @@ class CutReport:
 
 def text_of(result, most, command):
     """The text of the mail, in bytes: whole if it fits, cut otherwise. All bytes of others are escaped."""
-    errors = result.errors[: most // 8 + 1].decode("utf-8", "surrogateescape")
-    errors = DATABASE.sub("", REASONS.sub("", errors)).strip("\n")
-    if not result.differs:
-        return clean((errors + "\n").encode("utf-8", "surrogateescape"))
+    told = result.told.encode("utf-8", "surrogateescape")[: most // 8 + 1].strip(b"\n")
+    if not result.size:
+        return clean(told + b"\n")
     first = beginning(result.brief, most // 2)
     room = most - most // 4 - len(first)
     report = os.pread(result.report, room + 1, 0) if result.size <= room else b""
     text = clean(report) if report else b""
     if not text or len(text) > room:
         text = clean(CutReport(result, room - room // 4).text(command))
-    tail = clean(("\n" + errors + "\n").encode("utf-8", "surrogateescape")) if errors else b""
-    return first + clean(opening(result).encode("utf-8", "surrogateescape")) + text + tail
+    tail = clean(b"\n" + told + b"\n") if told else b""
+    return first + clean(opening(result.state).encode("utf-8", "surrogateescape")) + text + tail
 
 
 def clean(data):

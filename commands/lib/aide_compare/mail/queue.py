@@ -5,7 +5,7 @@ import time
 
 from aide_compare.base.ending import Fault, Status, reason
 from aide_compare.base.escapes import shown
-from aide_compare.base.files import Replacement, open_folder
+from aide_compare.base.files import open_folder, replace
 from aide_compare.mail.sending import alert, deliver
 
 MOST_WAITING = 64
@@ -34,11 +34,7 @@ class Queue:
     def send(self, message):
         try:
             name = "%020d-%d.mail" % (time.time_ns(), os.getpid())
-            file = Replacement(os.path.join(self.path, name), 0o600, "the mail that waits").begin()
-            try:
-                file.commit(message)
-            finally:
-                file.close()
+            replace(os.path.join(self.path, name), message, 0o600, "the mail that waits")
         except Fault as fault:
             return fault.text
         return None

@@ -2,6 +2,9 @@
 from aide_compare.base.options import some_text
 
 
+EVIDENCE = ("packages", "packages_now", "archive", "keyring", "rules", "severity")
+
+
 def add_evidence_options(parser):
     """Adds the options that name evidence to the options of a command."""
     parser.add_argument(

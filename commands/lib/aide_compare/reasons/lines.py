@@ -1,7 +1,7 @@
 """The lines of aide-compare json: read whole and kept, then written with their reasons, and otherwise byte for byte."""
 import json
 
-from aide_compare.base.files import nameless
+from aide_compare.base.files import Spool
 from aide_compare.lines.json_lines import KINDS, LINE_LIMIT
 from aide_compare.lines.report_lines import Refused
 from aide_compare.reasons.explainer import members_of, path_of
@@ -21,7 +21,7 @@ class Lines:
     """The lines of a report, kept in a private file. `entries` yields the objects of the entries while they are read."""
 
     def __init__(self, source):
-        self.source, self.kept = source, open(nameless(), "w+b", buffering=BLOCK)
+        self.source, self.kept = source, Spool()
         self.number, self.entry_count, self.databases, self.last = 0, 0, 0, []
         self.summary = self._next()
         if not self.summary or self.summary.get("record") != "summary" or self.summary.get("format") != 1:

@@ -5,7 +5,7 @@ import json
 import os
 from html import escape
 
-from aide_compare.base.files import nameless
+from aide_compare.base.files import Spool
 from aide_compare.lines.json_lines import KINDS, LABELS, Report
 from aide_compare.show.page_heading import OUTCOMES, counts, databases, facts, remarks, title_of
 from aide_compare.show.page_items import GRADES, entries, number
@@ -174,7 +174,7 @@ def head(report, contents, title, parts):
 
 def spooled(parts):
     """The size of some parts, and a file that has them."""
-    file = open(nameless(), "w+b")
+    file = Spool()
     for part in parts:
         file.write(part)
     return file.tell(), file
@@ -194,10 +194,10 @@ def packed_parts(streams):
             yield b"</script>\n"
 
 
-def page(source, title, is_plain, only=""):
+def page(lines, title, is_plain, only=""):
     """Yields the page of a report, when all of its lines have been read and are good."""
     contents = Contents(is_plain, only)
-    report = Report(source, contents.take, contents.reasons.begin)
+    report = Report(lines, contents.take, contents.reasons.begin)
     contents.end(report.summary)
     title, has_script = title_of(os.fsencode(title or ""), report.summary), not is_plain and report.count > 0
     style, script = part_of("page.css"), script_of() if has_script else ""

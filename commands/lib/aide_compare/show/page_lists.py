@@ -2,7 +2,7 @@
 from array import array
 from html import escape
 
-from aide_compare.base.files import nameless
+from aide_compare.base.files import Spool
 from aide_compare.base.shown_text import shown
 from aide_compare.lines.json_lines import KINDS, SEVERITIES
 from aide_compare.show.page_items import GRADES, Room, bar, counted, entries, files
@@ -22,7 +22,7 @@ class FolderLists:
     """
 
     def __init__(self, whole, valued):
-        self.file, self.waiting, self.room, self.count = open(nameless(), "w+b"), None, Room(whole, valued), 0
+        self.file, self.waiting, self.room, self.count = Spool(), None, Room(whole, valued), 0
         self.names, self.places = [b""], [0]
         # Of each folder: how many entries of each kind, how many entries of its own, and how many folders.
         self.counts, self.own, self.below = array("Q", [0, 0, 0]), array("Q", [0]), array("Q", [0])
@@ -123,9 +123,9 @@ class ReasonLists:
     def __init__(self, whole, valued):
         # Entries that are not explained have at most three quarters of the room, the others what is left.
         self.rooms, self.left = [Room(3 * whole // 4, valued), Room(whole, valued // 2)], whole
-        self.files = [open(nameless(), "w+b") for _ in self.rooms]
+        self.file = Spool()
         self.places, self.counts, self.count, self.names, self.values = {}, {}, 0, 0, 0
-        self.valued_to = [0, 0]  # Where the items end that had room for values, in each file.
+        self.valued_to = [0, 0]  # Where the items of each stream end that had room for values.
 
     def add(self, entry, group=None):
         """Adds an entry; `group` is the group of its reason, None without one."""
@@ -134,7 +134,7 @@ class ReasonLists:
         key = (standing, group if standing == 2 else entry.severity)
         self.counts[key] = self.counts.get(key, 0) + 1
         stream = standing == 2
-        room, file = self.rooms[stream], self.files[stream]
+        room, file = self.rooms[stream], self.file
         valued = room.values
         item = room.item(entry, entry.name, group.text if standing == 1 else "")
         if item:
@@ -184,8 +184,8 @@ class ReasonLists:
     def items(self, stream, places):
         """The items at some places of a file, as far as there is room."""
         for place in places:
-            self.files[stream].seek(place)
-            item = self.files[stream].readline()
+            self.file.seek(place)
+            item = self.file.readline()
             self.left -= len(item)
             if self.left < 0:
                 return

@@ -9,7 +9,7 @@ import json
 import zlib
 from array import array
 
-from aide_compare.base.files import nameless
+from aide_compare.base.files import Spool
 from aide_compare.lines.json_lines import LABELS, PLACES
 from aide_compare.show.page_view import ATTRIBUTES, DIGESTS_NAME
 
@@ -32,7 +32,7 @@ class Layer:
     """Something of each entry. What comes after the limits is not kept."""
 
     def __init__(self, room, settings, letters=None):
-        self.file, self.counts, self.ends = open(nameless(), "w+b"), array("Q"), array("Q")
+        self.file, self.counts, self.ends = Spool(), array("Q"), array("Q")
         self.room, self.settings, self.letters, self.is_full, self.size = room, settings, letters, False, 0
         self.begin()
 
