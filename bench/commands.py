@@ -72,7 +72,7 @@ def rows_of(bench, entries):
     subprocess.run([sys.executable, "-c", MAKE, os.path.join(HERE, "bench"), bench.folder, str(entries)], check=True)
     old, new, report, lines = (bench.path(name) for name in ("old", "new", "report", "lines"))
     lines_after = "database_in=file:%s\ndatabase_new=file:%s\n%s" % (old, new, LEVEL[1])
-    run = ["aide-compare", old, new, "--", *LEVEL]
+    run = ["aide-compare", old, new, *LEVEL]
     with_state = ["aide-compare", "--state", bench.path("state"), *run[1:]]
     without = [*with_state[:3], "--exclude-from", os.path.join(HERE, "contrib", "aide", "debian.without"), *run[1:]]
     nightly = [*without[:5], "--reasons", "--lines", bench.path("kept"), "--brief", bench.path("brief"), *run[1:]]

@@ -41,7 +41,7 @@ _aide_compare_text() {
     [[ $2 == report_level || ${COMPREPLY[0]-} == yes ]] || compopt -o nospace 2> /dev/null
 }
 
-# What the words before this one are about: a subcommand, the program, or what follows --.
+# What the words before this one are about: a subcommand, or the program.
 _aide_compare_about() {
     local about=compare place
     if [[ ${COMP_WORDS[0]##*/} != aide-compare ]]; then
@@ -54,7 +54,6 @@ _aide_compare_about() {
     fi
     for ((place = 1; place < COMP_CWORD; place++)); do
         case ${COMP_WORDS[place]} in
-            --) [[ $about != compare && $about != mail ]] || about='after --' ;;
             -E | -D | --compare | --config-check) [[ ${COMP_WORDS[1]} != -* ]] || about=program ;;
         esac
     done

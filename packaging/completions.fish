@@ -3,7 +3,6 @@
 # Whether the words before this one are about a subcommand. Without one they are about compare.
 function __fish_aide_compare_is
     set -l words (commandline -opc)
-    contains -- -- $words; and return 1
     if test "$argv[1]" = hosts
         test "$words[2]" = hosts; and test "$words[3]" = "$argv[2]"
         return
@@ -13,12 +12,6 @@ function __fish_aide_compare_is
     else
         test "$argv[1]" = compare
     end
-end
-
-# Whether arguments for the program follow.
-function __fish_aide_compare_after
-    set -l words (commandline -opc)
-    contains -- -- $words; and contains -- "$words[2]" compare mail -- $words[2]
 end
 
 # One line of configuration, as -A and -B take it.
@@ -39,6 +32,4 @@ end
 
 complete -c aide-compare -n '__fish_is_first_token' -a '@FIRST@'
 complete -c aide-compare -n 'test (count (commandline -opc)) = 2; and contains hosts (commandline -opc)' -f -a '@HOSTS@'
-complete -c aide-compare -n '__fish_aide_compare_after' -f -a '-A --after' -d 'Lines after the configuration'
-complete -c aide-compare -n '__fish_aide_compare_after' -f -a '-B --before' -d 'Lines before the configuration'
 @LINES@

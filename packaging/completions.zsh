@@ -25,14 +25,8 @@ _aide_compare_program() {
     @PROGRAM@
 }
 
-_aide_compare_after() {
-  _arguments \
-    @TEXTS@
-}
-
 _aide_compare() {
   local about=compare
-  local -i at
   if [[ $service == check_aide_compare ]]; then
     about=$service
   elif (( CURRENT == 2 )) && [[ $PREFIX != -* ]]; then
@@ -53,14 +47,6 @@ _aide_compare() {
     (( CURRENT -= 1 ))
   elif [[ ${words[2]} == -* && -n ${words[(r)(-E|-D|--compare|--config-check)]} ]]; then
     _aide_compare_program
-    return
-  fi
-  # After -- come arguments for the program.
-  at=${words[(I)--]}
-  if [[ $about == (compare|mail) ]] && (( at > 0 && at < CURRENT )); then
-    (( CURRENT -= at - 1 ))
-    shift $(( at - 1 )) words
-    _aide_compare_after
     return
   fi
   (( CURRENT > 2 )) || [[ ${words[1]} != aide-compare || $about != compare || $PREFIX != -* ]] || compadd -- -E -D --compare --config-check

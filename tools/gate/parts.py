@@ -24,8 +24,8 @@ FILES = [
     exactly(210, "tools.source.check_edits"),
     exactly(540, "tools.source.check_docs"),
     exactly(90, "tools.source.check_layout"),
-    exactly(150, "tools.source.check_layers"),
-    exactly(561, "tools.source.check_tools"),
+    exactly(152, "tools.source.check_layers"),
+    exactly(563, "tools.source.check_tools"),
     exactly(929, "tools.source.check_planted"),
     exactly(1828, "tools.wrong_bodies.check"),
 ]

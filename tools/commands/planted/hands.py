@@ -39,7 +39,7 @@ PLANTED = (
         (RUN, "given.exclude_from or given.no_defaults", "True"),
         (RUN, "given.exclude_from or given.no_defaults", "given.no_defaults"),
         (RUN, "given.exclude_from or given.no_defaults", "given.exclude_from"),
-        (RUN, "defaults_for(RUN, arguments[:cut]) + ", ""),
+        (RUN, "defaults_for(RUN, arguments) + ", ""),
         (CHECK, "defaults_for(CHECK, arguments) + ", ""),
         (MAIL, "parsed(added + own, others + words), refusal", "parsed(added + own, words), refusal"),
         (MAIL, "parsed(added + own, others + words), refusal", "parsed(own, others + words), refusal"),

@@ -31,8 +31,8 @@ PLANTED = (
         (LIB + "hosts/host_changes.py", "self.own |= own", "pass"),
         (
             LIB + "hosts/comparing.py",
-            "filter(None, (LEVEL, before))",
-            "filter(None, (before,))",
+            "filter(None, (LEVEL, given.before))",
+            "filter(None, (given.before,))",
         ),
     )
     + seen_by(

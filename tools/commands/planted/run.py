@@ -1,7 +1,7 @@
 """Bugs of aide-compare: the configuration, the program that it runs, the answer, and what it says."""
 from .plant import seen_by
 
-CONFIGURATION, HINTS, PROGRAM, COMPARISON, RUN, FILES, FOLDERS, UNPACK, TIMES = (
+CONFIGURATION, HINTS, PROGRAM, COMPARISON, RUN, FILES, FOLDERS, UNPACK, TIMES, OPTIONS = (
     "commands/lib/aide_compare/%s.py" % name
     for name in (
         "compare/configuration",
@@ -13,6 +13,7 @@ CONFIGURATION, HINTS, PROGRAM, COMPARISON, RUN, FILES, FOLDERS, UNPACK, TIMES = 
         "base/folders",
         "compare/unpack",
         "base/times",
+        "base/options",
     )
 )
 # The state is emptied to find out whether it can be written; or it is written in its place and not in one step.
@@ -216,7 +217,13 @@ PLANTED = (
             "            comparison.status > 7 and write_all(2, shown_lines(comparison.errors)",
         ),
     )
-    + seen_by("run.try_arguments", (CONFIGURATION, 'word[3:] if word[2] == "=" else word[2:]', "word[2:]"))
+    + seen_by(
+        "run.try_arguments",
+        (OPTIONS, "text[text.startswith(OPERAND) :]", "text"),
+        (OPTIONS, "if getattr(given, self.dest) is not None:", "if False:"),
+        (UNPACK, 'if path in ("-", "/dev/stdin"):', 'if path == "/dev/stdin":'),
+        (RUN, 'if old == new == "-":', "if False:"),
+    )
     + seen_by(
         "run.try_state",
         (FILES, "            os.fchmod(part, self.mode)\n", ""),

@@ -48,7 +48,7 @@ def try_old_files(sandbox):
         ["--max-age", "7200"],
         ["--max-age=7200"],
         ["--max-age", str(3 * HOUR)],
-        ["--max-age", "1", "--", "-A", "report_quiet=yes"],
+        ["--max-age", "1", "-A", "report_quiet=yes"],
     ):
         answer = sandbox.call(TOOL, "--state", "state", "old.db", "late.db", *words)
         refused(sandbox, "an old database with %r" % words, answer)

@@ -273,11 +273,11 @@ def try_fixed_reports(sandbox):
     minimal = b"AIDE found differences between the two databases.\n"
     answer = sandbox.call(TOOL, "-c", "fixed", "old.db", "new.db")
     sandbox.holds("a fixed level", answer.output == minimal, answer)
-    answer = sandbox.call(TOOL, "-c", "fixed", "old.db", "new.db", "--", "-A", "report_base16=yes")
+    answer = sandbox.call(TOOL, "-c", "fixed", "old.db", "new.db", "-A", "report_base16=yes")
     sandbox.holds("a fixed level with -A", answer.output == minimal, answer)
-    answer = sandbox.call(TOOL, "-c", "fixed", "old.db", "old.db", "--", "-A", "report_base16=yes")
+    answer = sandbox.call(TOOL, "-c", "fixed", "old.db", "old.db", "-A", "report_base16=yes")
     sandbox.holds("later options of the file", b"NO differences" in answer.output, answer)
-    answer = sandbox.call(TOOL, "-c", "fixed", "old.db", "new.db", "--", "-A", "report_level=summary")
+    answer = sandbox.call(TOOL, "-c", "fixed", "old.db", "new.db", "-A", "report_level=summary")
     sandbox.holds(
         "a level of -A", answer.output.startswith(minimal + b"\nSummary:\n") and answer.output.count(b"\n") == 7, answer
     )
@@ -301,7 +301,7 @@ def try_places(sandbox):
     sandbox.write("one", "@@include /etc/aide.d/x\n")
     answer = sandbox.call(TOOL, "-c", "one", "old.db", "new.db")
     sandbox.holds("one line that includes", b"one: 1 line that includes other files is passed over" in answer.errors, answer)
-    answer = sandbox.call(TOOL, "-c", "conf", "--", "-B", "# @@{HOSTNAME}\nreport_level=x")
+    answer = sandbox.call(TOOL, "-c", "conf", "-B", "# @@{HOSTNAME}\nreport_level=x")
     sandbox.expect("the line of -B", answer, 17, b"", [b"aide: before:2: bad value\n", b"line 2: report_level=x\n"])
     answer = sandbox.call(TOOL, "-c", "conf", "old.db", "new.db", before=UMASK % 0o77)
     sandbox.holds("a configuration beside OLD and NEW", compared(answer), answer)

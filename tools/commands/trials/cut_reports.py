@@ -70,7 +70,7 @@ def try_cut_stream(sandbox):
     hosts.compared(texts, "--max-report", "20k")
     sandbox.write("conf", "report_level=summary\n")
     hosts.put("listless", new, old)
-    hosts.call("aide-compare hosts compare", "--conf", sandbox.path("conf"), "--one", "listless")
+    hosts.call("aide-compare hosts compare", "--config", sandbox.path("conf"), "--one", "listless")
     sandbox.write("store/hosts/damaged/report", sandbox.read("store/hosts/long/report").replace(b"Size", b"Sise"), 0o600)
     sandbox.write("hosts", "long\nshort\ndamaged\nlistless\n")
     summary, found, changes = hosts.objects()

@@ -115,8 +115,8 @@ def try_levels(sandbox):
         "report_quiet=yes",
     ]
     for text in texts:
-        plain = sandbox.call(TOOL, "o.db", "n.db", "--", "-A", text)
-        answer = run(sandbox, "--brief", "brief", "--lines", "lines", "o.db", "n.db", "--", "-A", text)
+        plain = sandbox.call(TOOL, "o.db", "n.db", "-A", text)
+        answer = run(sandbox, "--brief", "brief", "--lines", "lines", "o.db", "n.db", "-A", text)
         sandbox.expect("reasons at " + text, answer, 7, plain.output, WORDS.encode())
         sandbox.holds("the report at " + text, answer.output == plain.output)
         sandbox.holds("the text at " + text, read(sandbox, "brief").decode() == BRIEF, read(sandbox, "brief"))
@@ -218,7 +218,7 @@ def try_many(sandbox):
         "large.db", HEAD + b"".join(b"/g/%05d %d 100644 0 0 1\n" % (number, ALL | GOES) for number in range(30000)) + END
     )
     sandbox.write("none.db", HEAD + END)
-    answer = run(sandbox, "--brief", "brief", "large.db", "none.db", "--", "-A", "report_level=summary")
+    answer = run(sandbox, "--brief", "brief", "large.db", "none.db", "-A", "report_level=summary")
     sandbox.expect("30,000 explained entries", answer, 2, None, b"30000 changes, all explained")
 
 

@@ -102,7 +102,7 @@ def try_configuration_hints(sandbox):
                 answer,
             )
     for option, name in (("-A", b"after"), ("-B", b"before")):
-        answer = sandbox.call(TOOL, "old.db", "new.db", "--", option, "\nreport_level=x")
+        answer = sandbox.call(TOOL, "old.db", "new.db", option, "\nreport_level=x")
         sandbox.expect(
             "a hint on " + option,
             answer,

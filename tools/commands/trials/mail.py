@@ -150,7 +150,7 @@ def try_texts(sandbox):
     ):
         answer = call(sandbox, "old.db", "new.db", *words)
         sandbox.holds("the arguments %r" % words, answer.status == 15 and sent(sandbox) is None, answer)
-    sandbox.expect("after --", call(sandbox, "--to", "x", "old.db", "new.db", "--", "-A", "report_level=minimal"), 7, b"", b"")
+    sandbox.expect("lines for the program", call(sandbox, "--to", "x", "old.db", "new.db", "-A", "report_level=minimal"), 7, b"", b"")
     message = sent(sandbox)
     sandbox.holds("the subject without counts", subject(message) == SUBJECT + "differences (added, removed, changed)", message)
     sandbox.expect("an alarm is success", call(sandbox, "old.db", "new.db", "--alarm-sent-is-success"), 0, b"", b"")

@@ -54,7 +54,7 @@ def try_same(sandbox):
         for name in ("o.db", "n.db"):
             sandbox.write(name, random_database(numbers, paths))
         level = LEVELS[number % len(LEVELS)]
-        report = sandbox.call("aide-compare", "o.db", "n.db", "--", "-B", "report_level=" + level)
+        report = sandbox.call("aide-compare", "o.db", "n.db", "-B", "report_level=" + level)
         before = sandbox.call("aide-compare json", text=report.output)
         sandbox.write("rules", b"size,perm /a* any\nadded,removed,size /** text \xff\n")
         answer = sandbox.call(NAME, *GIVEN, *(("--rules", "rules") if number % 2 else ()), text=before.output)

@@ -100,7 +100,7 @@ def explained(sandbox, name, parts):
         extra |= more
         sandbox.write("%s.db" % side, "@@begin_db\n@@db_spec %s\n%s@@end_db\n" % (" ".join(COLUMNS), text))
         sandbox.write("%s.packages" % side, packed(records))
-    report = sandbox.call("aide-compare", "old.db", "new.db", "--", "-B", "report_level=changed_attributes")
+    report = sandbox.call("aide-compare", "old.db", "new.db", "-B", "report_level=changed_attributes")
     lines = sandbox.call("aide-compare json", text=report.output).output
     answer = sandbox.call(
         NAME, "--databases", "old.db", "new.db", "--packages", "old.packages", "--packages-now", "new.packages", text=lines

@@ -154,14 +154,14 @@ def try_configurations(sandbox):
         (
             "two of a side, and one of -A",
             databases % "database_new" + "database_in=file:/no",
-            ("--", "-A", "database_in=file:" + sandbox.path("old.db")),
+            ("-A", "database_in=file:" + sandbox.path("old.db")),
         ),
         (
             "a variable of -B",
             "database_in=file:@@{D}/old.db\ndatabase_new=file:@@{D}/new.db",
-            ("--", "-B", "@@define D " + sandbox.root),
+            ("-B", "@@define D " + sandbox.root),
         ),
-        ("a database of -A", "database_in=file:/no\ndatabase_new=file:/no", ("--", "-A", databases % "database_new")),
+        ("a database of -A", "database_in=file:/no\ndatabase_new=file:/no", ("-A", databases % "database_new")),
         ("a rule and a comment", "# database_in=file:/no\n/etc R\n!/database_in=file:/no\n" + databases % "database_new", ()),
     ):
         sandbox.write("conf", text)
@@ -204,9 +204,17 @@ def try_arguments(sandbox):
         ["--after=report_level=minimal"],
         ["-B", "report_level=minimal"],
     ):
-        answer = sandbox.call(TOOL, "old.db", "new.db", "--", *words)
+        answer = sandbox.call(TOOL, "old.db", "new.db", *words)
         sandbox.holds("the arguments %r" % words, (answer.status, answer.output) == (7, minimal), answer)
-    answer = sandbox.call(TOOL, "old.db", "new.db", "--", "-A", "database_in=file:/no")
+    for name in ("-A", "--json"):
+        sandbox.write(name, OLD)
+        answer = sandbox.call(TOOL, "-B", "report_level=minimal", "--", name, "new.db")
+        sandbox.holds("an operand after --: %s" % name, (answer.status, answer.output) == (7, minimal), answer)
+    for words, text in ((("-", "new.db"), OLD), (("old.db.gz", "-"), gzip.compress(NEW))):
+        answer = sandbox.call(TOOL, *words, "-A", "report_level=minimal", text=text)
+        sandbox.holds("standard input in %s" % (words,), (answer.status, answer.output) == (7, minimal), answer)
+    sandbox.expect("standard input twice", sandbox.call(TOOL, "-", "-", text=OLD), 15, b"", b"one database only")
+    answer = sandbox.call(TOOL, "old.db", "new.db", "-A", "database_in=file:/no")
     sandbox.expect("the databases of the command line win", answer, 7, minimal, DIFFER)
     for words in ([], ["old.db", "new.db", "x"]):
         sandbox.expect(
@@ -215,9 +223,9 @@ def try_arguments(sandbox):
     for words in (
         ["--", "-D"],
         ["--", "-c", "x"],
-        ["--", "-A"],
-        ["--", "-A", "a", "--after=b"],
-        ["--", "-B", "a", "-Bb"],
+        ["-A"],
+        ["-A", "a", "--after=b"],
+        ["-B", "a", "-Bb"],
         ["--max-size"],
         ["--max-size", "1x"],
         ["--max-size", "-1"],
@@ -226,7 +234,6 @@ def try_arguments(sandbox):
         ["--user", "no such user"],
         ["--state", ""],
         ["--odd"],
-        ["-A", "x"],
         ["--", "x"],
     ):
         sandbox.expect("the arguments %r" % words, sandbox.call(TOOL, "old.db", "new.db", *words), 15, b"", b"aide-compare: ")
@@ -295,10 +302,10 @@ def try_counts(sandbox):
         (["-c", "quiet"], "2"),
         (["-c", "fixed"], "2"),
         (["-c", "named"], "2"),
-        (["--", "-A", "report_level=minimal\nreport_url=stdout"], "2"),
-        (["--", "-B", "report_level=minimal\nreport_url=stdout"], "2"),
-        (["--", "-A", "report_ignore_changed_attrs=s"], "1"),
-        (["--", "-A", "report_level=added_removed_entries\nreport_base16=yes"], "2"),
+        (["-A", "report_level=minimal\nreport_url=stdout"], "2"),
+        (["-B", "report_level=minimal\nreport_url=stdout"], "2"),
+        (["-A", "report_ignore_changed_attrs=s"], "1"),
+        (["-A", "report_level=added_removed_entries\nreport_base16=yes"], "2"),
     ):
         plain = sandbox.call(TOOL, "old.db", "new.db", *words)
         answer = sandbox.call(TOOL, "--state", "state", "old.db", "new.db", *words)
@@ -311,7 +318,7 @@ def try_counts(sandbox):
         )
 
     sandbox.write("faulty", "report_url=stdout\nreport_level=nonsense\n")
-    for words in ([], ["--", "-A", "report_level=summary"]):
+    for words in ([], ["-A", "report_level=summary"]):
         answer = sandbox.call(TOOL, "-c", "faulty", "old.db", "new.db", *words)
         sandbox.expect(
             "a fault in a line that -A replaces, with %r" % words,
@@ -333,9 +340,9 @@ def try_runs(sandbox):
     )
     for words, runs in (
         (["--state", "state"], 1),
-        (["--state", "state", "--", "-A", "report_level=summary"], 1),
-        (["--state", "state", "--", "-A", "report_level=minimal"], 2),
-        (["--", "-A", "report_level=minimal"], 1),
+        (["--state", "state", "-A", "report_level=summary"], 1),
+        (["--state", "state", "-A", "report_level=minimal"], 2),
+        (["-A", "report_level=minimal"], 1),
     ):
         sandbox.write("ran", "")
         answer = sandbox.call(TOOL, "old.db", "new.db", *words)

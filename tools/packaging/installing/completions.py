@@ -45,7 +45,7 @@ print -r -- "$answer"
 
 def options(trial, words):
     """The options that the help of a subcommand has; aide-compare mail takes those of a comparison too."""
-    text = help_of(trial, words)[0]
+    text = help_of(trial, words)
     found = {"--help"} | named_in(text)
     for line in re.findall(r"^usage: .*(?:\n {4,}.*)*", text, re.M):
         found |= set(re.findall(r"[\[(| ](--?[A-Za-z][\w-]*)", line))
@@ -53,7 +53,7 @@ def options(trial, words):
         found |= set(options(trial, "compare"))
     if words == "status":
         for form in ("nagios", "prometheus"):
-            found |= named_in(help_of(trial, "status --format " + form)[0])
+            found |= named_in(help_of(trial, "status --format " + form))
     return sorted(found - {"-h"})
 
 
@@ -64,16 +64,8 @@ def options_of_program():
     return ["-" + short for short, _ in found] + ["--" + long for _, long in found]
 
 
-def options_after(trial):
-    """The options after --, which are for the program. Before it the commands refuse them."""
-    return sorted(named_in(help_of(trial, "compare")[1]))
-
-
 def help_of(trial, words):
-    """The help of a subcommand, in two parts: its own options, and those after --."""
-    text = trial.run([trial.path("first/usr/local/bin/aide-compare"), *words.split(), "--help"])[1]
-    own, _, after = text.partition("\nafter --, for the program:\n")
-    return own, after
+    return trial.run([trial.path("first/usr/local/bin/aide-compare"), *words.split(), "--help"])[1]
 
 
 def named_in(text):
@@ -117,10 +109,7 @@ def try_bash(trial):
         for option in wanted:
             trial.holds("bash offers %s %s" % (words, option), option in given, given)
         for option in given:
-            trial.holds("%s has the option %s that bash offers" % (words, option), option in wanted + ["--"], wanted)
-        if words in ("compare", "mail"):
-            given = ask_bash(trial, "aide-compare", words, "--state", "x", "--", "-")
-            trial.holds("bash offers what %s takes after --" % words, sorted(given) == options_after(trial) != [], given)
+            trial.holds("%s has the option %s that bash offers" % (words, option), option in wanted, wanted)
     wanted, given = sorted(options_of_program()), sorted(ask_bash(trial, "aide-compare", "-E", "-"))
     trial.holds("bash offers the options of the program", given == wanted, (given, wanted))
     given = ask_bash(trial, "aide-compare", "s")
@@ -140,7 +129,7 @@ def try_bash(trial):
         (["aide-compare", "--exclude", "VERS"], []),
         (["aide-compare", "mail", "--queue", "pack"], ["packaging"]),
         (["aide-compare", "mail", "--queue", "VERS"], []),
-        (["aide-compare", "mail", "--", "-A", "report_l"], ["report_level="]),
+        (["aide-compare", "mail", "-A", "report_l"], ["report_level="]),
         (["aide-compare", "sort", "VERS"], ["VERSION"]),
         (["aide-compare", "hosts", "report", "--order", ""], ["common", "path", "rare"]),
         (["aide-compare", "hosts", "report", "--store", "pack"], ["packaging"]),
@@ -164,7 +153,7 @@ def try_zsh(trial):
         ("aide-compare --exclude-f", "aide-compare --exclude-from"),
         ("aide-compare --exclude-from=VERS", "--exclude-from=VERSION"),
         ("aide-compare mail --max-r", "aide-compare mail --max-report"),
-        ("aide-compare mail -- --aft", "aide-compare mail -- --after="),
+        ("aide-compare mail --aft", "aide-compare mail --after="),
         ("aide-compare sort --h", "aide-compare sort --help"),
         ("aide-compare sort VERS", "aide-compare sort VERSION"),
         ("aide-compare hosts report --order=ra", "aide-compare hosts report --order=rare"),
@@ -192,7 +181,7 @@ def try_fish(trial):
         ("aide-compare sort VERS", ["VERSION"]),
         ("aide-compare --exclude-f", ["--exclude-from"]),
         ("aide-compare mail --max-r", ["--max-report"]),
-        ("aide-compare mail -- --aft", ["--after"]),
+        ("aide-compare mail --aft", ["--after"]),
         ("aide-compare hosts report --order ra", ["rare"]),
         ("aide-compare hosts fe", ["fetch"]),
     ):

@@ -306,7 +306,7 @@ def try_options(trial):
     trial.holds("a host for options", trial.run([*tool(trial, "aide-compare hosts fetch"), "other"])[0] == 0)
     conf = trial.write("/tmp/one line.conf", "report_level=minimal\n")
     compare = tool(trial, "aide-compare hosts compare-one")
-    for words in (["other", "--", "-A", "report_level=minimal"], ["--conf", conf, "other"], ["--conf", conf, "other", "--"]):
+    for words in (["other", "-A", "report_level=minimal"], ["--config", conf, "other"], ["-c", conf, "--", "other"]):
         done = trial.run(compare + words)
         trial.holds(
             "aide-compare hosts compare-one with options",

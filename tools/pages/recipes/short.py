@@ -113,7 +113,7 @@ def try_debian(trial):
     spec = "@@begin_db\n@@db_spec name attr e2fsattrs\n/a %d %%s\n@@end_db\n" % (1 << 36)
     put_pair(trial, spec % "1", spec % "17")
     for option, status in (("report_ignore_e2fsattrs=VNIE", 4), ("report_ignore_changed_attrs=e2fsattrs", 0)):
-        done = trial.run(["aide-compare", "old.db.gz", "new.db.gz", "--", "-A", option])
+        done = trial.run(["aide-compare", "old.db.gz", "new.db.gz", "-A", option])
         trial.holds(option, done[0] == status, done)
 
 

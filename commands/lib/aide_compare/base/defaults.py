@@ -50,6 +50,7 @@ def _word(line, place):
 
 def defaults_for(options, words):
     """The words of the lines whose options are among these; none if the words of the command line turn the defaults off."""
+    words = words[: words.index("--")] if "--" in words else words
     path = None if {OFF, "--help", "-h", "--version"} & set(words) else place_of("defaults")
     lines = [_word(*line) for line in lines_of(path, "the defaults")] if path else []
     return [word for name, word in lines if name in options]

@@ -7,6 +7,7 @@ from aide_compare.base.escapes import shown
 from aide_compare.base.times import seconds_of
 
 SIZES = {"k": 1 << 10, "M": 1 << 20, "G": 1 << 30}
+OPERAND = "\0"  # Before a word that follows --. No argument has this byte.
 
 
 def _formatter(prog):
@@ -22,11 +23,15 @@ class Parser(argparse.ArgumentParser):
         self.add_argument("--version", action="store_true", help="print the version and stop")
 
     def parse(self, arguments):
-        """What the arguments say; options and operands may stand in any order."""
-        if "--version" in arguments[: arguments.index("--") if "--" in arguments else None]:
+        """What the arguments say; options and operands may stand in any order, and after -- there are operands only."""
+        cut = arguments.index("--") if "--" in arguments else len(arguments)
+        if "--version" in arguments[:cut]:
             write_all(1, ("%s %s\n" % (self.prog, VERSION)).encode())
             raise Done
-        return self.parse_intermixed_args(arguments)
+        return self.parse_intermixed_args(arguments[:cut] + [OPERAND + word for word in arguments[cut + 1 :]])
+
+    def _get_value(self, action, text):
+        return super()._get_value(action, text[text.startswith(OPERAND) :])
 
     def print_help(self, file=None):
         write_all(1, self.format_help().encode())
@@ -37,7 +42,23 @@ class Parser(argparse.ArgumentParser):
         raise Done
 
     def error(self, message):
-        raise Fault(Status.USAGE, message, "try: %s --help" % self.prog)
+        raise Fault(Status.USAGE, message.replace(OPERAND, ""), "try: %s --help" % self.prog)
+
+
+class Once(argparse.Action):
+    """An option that may be given once."""
+
+    def __call__(self, parser, given, value, name=None):
+        if getattr(given, self.dest) is not None:
+            parser.error("%s is given twice" % "/".join(self.option_strings))
+        setattr(given, self.dest, value)
+
+
+def add_texts(parser):
+    """The lines of configuration that the command line has beside a file."""
+    add = parser.add_argument
+    add("-A", "--after", metavar="TEXT", action=Once, help="lines that follow the configuration, as report_level=summary")
+    add("-B", "--before", metavar="TEXT", action=Once, help="lines that precede it")
 
 
 def with_values(parser):

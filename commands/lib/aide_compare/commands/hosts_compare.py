@@ -29,7 +29,7 @@ def one_host(host, given):
         place.lock(deadline)
         if not given.no_fetch:
             fetching.fetch(place, given, deadline, given.jobs)
-        state = comparing.compare_or_say(place, given, (), given.jobs, deadline)
+        state = comparing.compare_or_say(place, given, given.jobs, deadline)
     except Fault as fault:
         return int(fault.status), False, fault.text
     except OSError as error:

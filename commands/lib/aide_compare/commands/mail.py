@@ -203,7 +203,7 @@ def compared(given, alarm):
     try:
         if given.refusal:
             raise given.refusal
-        task = run.Task(given.run, parted(given.words)[1], with_details=given.html)
+        task = run.Task(given.run, with_details=given.html)
         task.state, alarm.message = task.state or task.made(Held()), task.made(alarm.message)
         status, state = task.carry_out(alarm)
     except (Fault, MemoryError, OSError) as error:
@@ -260,7 +260,7 @@ def parsed(own, words):
     given = parser().parse(own)
     given.words, given.fault, given.run, given.refusal = words, "", None, None
     try:
-        given.run = run.parser().parse(parted(words)[0])
+        given.run = run.parser().parse(words)
         given.run.user = given.user
     except Fault as fault:
         given.refusal = fault

@@ -5,21 +5,17 @@ from aide_compare.base.defaults import RUN, add_off, defaults_for, place_of
 from aide_compare.base.ending import Fault, Status, reason, say, write_all
 from aide_compare.base.escapes import shown, shown_lines
 from aide_compare.base.files import Replacement, copy_file
-from aide_compare.base.options import Parser, duration, size, some_text
+from aide_compare.base.options import Parser, add_texts, duration, size, some_text
 from aide_compare.base.rights import give_up
 from aide_compare.base.times import date_of
 from aide_compare.compare.comparison import SIDES, Comparison, Request
-from aide_compare.compare.configuration import TRY, texts_of
 from aide_compare.compare.handing import Handed, Handing
 from aide_compare.compare.without import Rules, read_rules
 from aide_compare.reasons.evidence_options import EVIDENCE, add_evidence_options
 
 DESCRIPTION = "Compares two AIDE databases, plain or compressed by gzip. The report goes to standard output."
-EPILOG = """after --, for the program:
-  -A TEXT, --after TEXT   lines that follow the configuration
-  -B TEXT, --before TEXT  lines that precede it
-
-Times are as in 90s, 15m, 26h or 3d; a plain number is seconds. Sizes are in bytes, or as in 500k, 20M or 1G.
+TRY = "try: aide-compare compare --help"
+EPILOG = """Times are as in 90s, 15m, 26h or 3d; a plain number is seconds. Sizes are in bytes, or as in 500k, 20M or 1G.
 Where another user can write in the folder of the state file, or above it, it is written with that user's rights.
 Root compares with the rights of the user in whose folder the baseline is, unless --user names another one.
 
@@ -28,16 +24,14 @@ Status: that of aide-compare-program(8). 0 no difference, 1 to 7 differences, ab
 
 def parser():
     """The options of a comparison, which aide-compare mail has too."""
-    made = Parser(
-        "aide-compare compare", DESCRIPTION, epilog=EPILOG, usage="aide-compare [compare] [OPTIONS] [OLD NEW] [-- ARGUMENTS]"
-    )
+    made = Parser("aide-compare compare", DESCRIPTION, epilog=EPILOG, usage="aide-compare [compare] [OPTIONS] [OLD NEW]")
     add = made.add_argument
     add(
         "databases",
         nargs="*",
         metavar="OLD NEW",
         type=some_text,
-        help="the databases; without them the configuration names both",
+        help="the databases, - for standard input; without them the configuration names both",
     )
     add(
         "-c",
@@ -46,6 +40,7 @@ def parser():
         type=some_text,
         help="the configuration (/dev/null with OLD NEW, otherwise AIDE's, /etc/aide/aide.conf or /etc/aide.conf)",
     )
+    add_texts(made)
     add("--state", metavar="FILE", type=some_text, help="write the status, the time, the counts and both SHA-256 to FILE")
     add("--max-size", metavar="BYTES", type=size, default=Request.max_size, help="refuse a database that has more bytes unpacked")
     add("--max-report", metavar="BYTES", type=size, default=Request.max_report, help="refuse a longer report (1G)")
@@ -82,15 +77,15 @@ def rules_of(given):
 
 
 class Task:
-    """A comparison as the options ask for it, and what is written of it. `given` are the options, `words` those after --.
+    """A comparison as the options ask for it, and what is written of it. `given` are the options.
     `with_details`: whoever is told of the changes wants all lines of them."""
 
-    def __init__(self, given, words, with_details=False):
+    def __init__(self, given, with_details=False):
         for name in ("brief",) + EVIDENCE:
             if getattr(given, name) and not given.reasons:
                 raise Fault(Status.USAGE, "--%s needs --reasons" % name.replace("_", "-"), TRY)
         self.handing = Handing() if os.geteuid() == 0 and not given.user else None
-        self.request, self.wanted, self.with_details = self._request(given, words), None, with_details
+        self.request, self.wanted, self.with_details = self._request(given), None, with_details
         if given.reasons or given.lines or with_details:
             # The modules for it are more than all others together.
             from aide_compare.show.explaining import Sources, Wanted
@@ -106,18 +101,20 @@ class Task:
         """Whether this process compares for its parent, with the rights of another user."""
         return self.handing is not None and self.handing.owner is not None
 
-    def _request(self, given, words):
+    def _request(self, given):
         if len(given.databases) not in (0, 2):
             few = "name both databases, OLD and NEW, or none"
             many = "more than two databases: %s" % shown(given.databases[-1] if given.databases else "", 200)
             raise Fault(Status.USAGE, few if len(given.databases) < 2 else many, TRY)
-        (old, new), (before, after) = given.databases or (None, None), texts_of(words)
+        old, new = given.databases or (None, None)
+        if old == new == "-":
+            raise Fault(Status.USAGE, "standard input has one database only", TRY)
         return Request(
             old=old,
             new=new,
             configuration=given.config,
-            before=before,
-            after=after,
+            before=given.before,
+            after=given.after,
             max_size=given.max_size,
             max_age=given.max_age,
             max_report=given.max_report,
@@ -200,8 +197,7 @@ class Printer:
 
 
 def main(arguments):
-    cut = arguments.index("--") if "--" in arguments else len(arguments)
-    given = parser().parse(defaults_for(RUN, arguments[:cut]) + arguments[:cut])
+    given = parser().parse(defaults_for(RUN, arguments) + arguments)
     if given.user:
         give_up(given.user)
-    return Task(given, arguments[cut + 1 :]).carry_out(Printer())[0]
+    return Task(given).carry_out(Printer())[0]

@@ -26,7 +26,6 @@ REPORT_OPTIONS = frozenset(
     )
 )
 BLANKS = b" \t"
-TRY = "try: aide-compare compare --help"
 
 
 def default_configuration():
@@ -44,27 +43,6 @@ def read_configuration(path):
             return file.read(MOST_BYTES + 1)
     except OSError as error:
         raise Fault(Status.DEVICE, "cannot read the configuration %s: %s" % (shown(path), reason(error)))
-
-
-def texts_of(words):
-    """The texts of -A and -B after --."""
-    found, words = {}, list(words)
-    while words:
-        word = words.pop(0)
-        name, equals, text = word.partition("=")
-        if word in ("-A", "-B", "--after", "--before"):
-            if not words:
-                raise Fault(Status.USAGE, "%s needs a text" % word, TRY)
-            name, text = word, words.pop(0)
-        elif word[:2] in ("-A", "-B"):
-            name, text = word[:2], word[3:] if word[2] == "=" else word[2:]
-        elif name not in ("--after", "--before"):
-            raise Fault(Status.USAGE, "after -- only -A TEXT and -B TEXT are allowed: %s" % shown(word, 200), TRY)
-        name = name.lstrip("-")[0].lower()
-        if name in found:
-            raise Fault(Status.USAGE, "-%s is given twice" % name.upper(), TRY)
-        found[name] = text
-    return found.get("b"), found.get("a")
 
 
 def without_includes(text):

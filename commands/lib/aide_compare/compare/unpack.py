@@ -46,8 +46,8 @@ class Copy:
 
 
 def given_descriptor(path):
-    """The number of the descriptor that a path means, such as /dev/stdin, and None for all other paths."""
-    if path == "/dev/stdin":
+    """The number of the descriptor that a path means, such as - or /dev/stdin, and None for all other paths."""
+    if path in ("-", "/dev/stdin"):
         return 0
     number = next((path[len(head) :] for head in DESCRIPTORS if path.startswith(head)), "")
     return int(number) if number.isascii() and number.isdigit() and len(number) < 8 else None

@@ -5,9 +5,8 @@ import time
 
 from aide_compare.base.ending import Fault, Status, say, write_all
 from aide_compare.base.files import open_regular
-from aide_compare.base.options import Parser, duration, size
+from aide_compare.base.options import Parser, add_texts, duration, size
 from aide_compare.compare.comparison import SIDES, Comparison, Request
-from aide_compare.compare.configuration import texts_of
 from aide_compare.compare.state import State
 from aide_compare.compare.unpack import copy_database
 from aide_compare.hosts import explaining
@@ -41,18 +40,17 @@ def copied(place, given):
     return old, copy_database("new", place.file("aide.db.new"), most)
 
 
-def compared(place, given, arguments, part, jobs):
+def compared(place, given, part, jobs):
     """The Comparison, with its report in the part: cut, if it is longer than this host may have. The level comes first, so
     that the configuration or the caller may name another one."""
-    before, after = texts_of(arguments)
     most = min(given.max_report, place.room(jobs))
     comparison = Comparison(
         Request(
             old=place.file("aide.db"),
             new=place.file("aide.db.new"),
-            configuration=given.conf,
-            before="\n".join(filter(None, (LEVEL, before))),
-            after=after,
+            configuration=given.config,
+            before="\n".join(filter(None, (LEVEL, given.before))),
+            after=given.after,
             copies=dict(zip(SIDES, copied(place, given))),
             rules=explaining.rules_of(given),
             report=part.fd,
@@ -87,7 +85,7 @@ def keep_text(place, name, data):
         part.close()
 
 
-def compare(place, given, arguments=(), jobs=1):
+def compare(place, given, jobs=1):
     """Compares under the lock of the host, and keeps report, errors and state. Returns the State."""
     for name, text in (
         ("aide.db.new", "nothing was fetched yet; see aide-compare hosts fetch --help"),
@@ -97,7 +95,7 @@ def compare(place, given, arguments=(), jobs=1):
             raise place.fault(text)
     part = Part(place.fd)
     try:
-        comparison = compared(place, given, arguments, part, jobs)
+        comparison = compared(place, given, part, jobs)
         place.remove("lines")
         if given.reasons and comparison.differs:
             explaining.explain(place, given, comparison, jobs)
@@ -118,11 +116,11 @@ def compare(place, given, arguments=(), jobs=1):
         part.close()
 
 
-def compare_or_say(place, given, arguments, jobs, deadline):
+def compare_or_say(place, given, jobs, deadline):
     """Compares; if that fails, the state of the host says so."""
     limit(place, given.time, deadline)
     try:
-        return compare(place, given, arguments, jobs)
+        return compare(place, given, jobs)
     except Fault as fault:
         place.not_compared(fault.text)
         raise
@@ -131,7 +129,8 @@ def compare_or_say(place, given, arguments, jobs, deadline):
 
 
 def add_options(parser):
-    parser.add_argument("--conf", metavar="FILE", help="a configuration for aide-compare (none)")
+    parser.add_argument("-c", "--config", metavar="CONF", help="a configuration of this machine (none)")
+    add_texts(parser)
     parser.add_argument(
         "--max-unpacked",
         type=size,
@@ -167,20 +166,18 @@ def main(arguments):
     parser = Parser(
         NAME,
         "Compares the database that was fetched from HOST with its baseline, prints the report and keeps it.",
-        usage="%(prog)s [options] HOST [-- ARGUMENTS]",
-        epilog="ARGUMENTS are for aide-compare. Status: that of aide-compare. 18 also means that there is no baseline\n"
+        epilog="Status: that of aide-compare. 18 also means that there is no baseline\n"
         "yet, or that AIDE has written no new database on HOST for too long.",
     )
     add_place(parser)
     add_options(parser)
     parser.add_argument("host", metavar="HOST")
-    cut = arguments.index("--") if "--" in arguments[1:] else len(arguments)
-    given = parser.parse(arguments[:cut])
+    given = parser.parse(arguments)
     explaining.rules_of(given)
     deadline = time.monotonic() + given.time
     place = Place(given.store, check_name(given.host))
     place.lock(deadline)
-    state = compare_or_say(place, given, arguments[cut + 1 :], 1, deadline)
+    state = compare_or_say(place, given, 1, deadline)
     print_file(place.file("errors"), 2)
     print_file(place.file("report"), 1)
     if 0 < state.status <= 7:
