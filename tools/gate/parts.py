@@ -26,7 +26,7 @@ FILES = [
     exactly(90, "tools.source.check_layout"),
     exactly(152, "tools.source.check_layers"),
     exactly(563, "tools.source.check_tools"),
-    exactly(929, "tools.source.check_planted"),
+    exactly(933, "tools.source.check_planted"),
     exactly(1828, "tools.wrong_bodies.check"),
 ]
 

@@ -218,6 +218,13 @@ PLANTED = (
         ),
     )
     + seen_by(
+        "hints.try_misspelt",
+        (CONFIGURATION, "group not in OPTIONS:", "group not in REPORT_OPTIONS:"),
+        (CONFIGURATION, "found[:MOST_MISSPELT]]", "found]"),
+        (CONFIGURATION, "(reader.option(line) or (b\"\",))[0]", 'line.partition(b"=")[0].strip()'),
+        (COMPARISON, "        self.notes += self.given.misspelt(request.configuration)\n", ""),
+    )
+    + seen_by(
         "run.try_arguments",
         (OPTIONS, "text[text.startswith(OPERAND) :]", "text"),
         (OPTIONS, "if getattr(given, self.dest) is not None:", "if False:"),

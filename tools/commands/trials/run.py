@@ -5,7 +5,7 @@ import re
 import subprocess
 import time
 
-from .hints import try_configuration_hints, try_database_hints
+from .hints import try_configuration_hints, try_database_hints, try_misspelt
 from .sandbox import COUNTS, DIFFER, END, HEAD, NEW, OLD, UMASK, sha256
 
 KEYS = [
@@ -35,6 +35,7 @@ def try_run(sandbox):
         try_configurations,
         try_arguments,
         try_database_hints,
+        try_misspelt,
         try_configuration_hints,
         try_state,
         try_counts,

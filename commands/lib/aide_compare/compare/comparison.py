@@ -164,6 +164,7 @@ class Comparison:
             raise Fault(Status.DEVICE, "the report has more than %d bytes; --max-report allows more" % request.max_report)
         if self.status > 7:
             return
+        self.notes += self.given.misspelt(request.configuration)
         head = os.pread(self.report, HEAD_BYTES, 0)
         self.counts = (0, 0, 0) if self.status == 0 else counts_of(head)
         if self.counts is None and request.counts:

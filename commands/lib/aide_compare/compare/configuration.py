@@ -25,6 +25,12 @@ REPORT_OPTIONS = frozenset(
         b"report_force_attrs",
     )
 )
+# The other options whose names begin as those of the report and of databases do. A name that is none of them is a group.
+OPTIONS = REPORT_OPTIONS | frozenset(
+    b"report_url report_format report_append report_attributes report_detailed_init report_ignore_e2fsattrs database "
+    b"database_in database_new database_out database_add_metadata database_attrs database_gzip".split()
+)
+MOST_MISSPELT = 5
 BLANKS = b" \t"
 
 
@@ -127,6 +133,17 @@ class Texts:
             results[name] = b"\n".join(lines)
         return Texts(**results)
 
+    def misspelt(self, path):
+        """A line for each of the first groups with a name like that of an option: AIDE refuses it, and here it has no effect."""
+        reader, found, names = Reader(), [], {"config": shown(path), "before": "-B", "after": "-A"}
+        for name, text in self.joined():
+            for number, line in enumerate(text.split(b"\n"), 1):
+                group = (reader.option(line) or (b"",))[0]
+                if group.startswith((b"report_", b"database")) and group not in OPTIONS:
+                    found.append((names[name], number, shown(group, 100)))
+        lines = ["%s:%d: %s is no option, but a group%s" % (*each, _nearest(each[2])) for each in found[:MOST_MISSPELT]]
+        return lines + ["%d more such groups" % (len(found) - MOST_MISSPELT)] * (len(found) > MOST_MISSPELT)
+
     def databases(self):
         """The last value of each option that names a database, and the names that the file itself gives twice."""
         reader, values, in_file, twice = Reader(), {}, {}, set()
@@ -143,6 +160,14 @@ class Texts:
                     twice.discard(name)
                 values[name] = value
         return values, twice
+
+
+def _nearest(name):
+    """The option that a name may mean."""
+    import difflib
+
+    near = difflib.get_close_matches(name, [option.decode() for option in sorted(OPTIONS)], 1)
+    return "; did you mean %s?" % near[0] if near else ""
 
 
 def _database(side, names, values, twice, path):
