@@ -22,6 +22,7 @@ from tools.commands.base.texts import try_texts
 from tools.commands.trials.age import try_age
 from tools.commands.trials.attacks import try_attacks
 from tools.commands.trials.bounded import try_bounded
+from tools.commands.trials.columns import try_columns
 from tools.commands.trials.cut_reports import try_cut_reports
 from tools.commands.trials.explained import try_explained
 from tools.commands.trials.explained_readers import try_explained_readers
@@ -94,6 +95,7 @@ TRIALS = [
     try_without_random,
     try_explained,
     try_explained_readers,
+    try_columns,
     try_age,
     try_signals,
     try_lost_modules,

@@ -75,9 +75,7 @@ class _Form:
         for fields in self.databases:
             occasion.name(fields)
         self.summary["lines"] = 1 + self.count + len(self.databases)
-        left_out = occasion.left_out()
-        if left_out:
-            self.summary["left_out"] = left_out
+        self.summary.update(occasion.beside())
         full = occasion.members(self.summary, self.databases) if self.given.full else {}
         return {**full, **members(self.given.members)}
 

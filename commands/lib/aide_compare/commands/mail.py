@@ -8,10 +8,12 @@ from aide_compare.base.ending import Fault, Status, say, why_of, write_all
 from aide_compare.base.options import Parser, duration, size, some_text, with_values
 from aide_compare.base.program import find_front
 from aide_compare.commands import run
+from aide_compare.compare.columns import skipped_of
 from aide_compare.compare.comparison import Comparison, Request
 from aide_compare.compare.handing import Held
 from aide_compare.compare.hints import hint_for_owner
 from aide_compare.compare.reason_counts import counted
+from aide_compare.compare.state import read_state
 from aide_compare.mail import weekly
 from aide_compare.mail.message import Result, build, clean, host, is_explained, subject, text_of
 from aide_compare.mail.sending import SECONDS, alert, deliver, way_out
@@ -107,16 +109,33 @@ def without_state(words):
     return kept + words
 
 
+def known_columns(given):
+    """The columns that are not compared by the state of the last run; None if no state is kept that a next run can see."""
+    if given is None or not given.state:
+        return None
+    try:
+        return {name for names in skipped_of(read_state(given.state)).values() for name in names}
+    except Fault:
+        return set()
+
+
 class Alarm:
     """Puts the mail together, if what came out is an alarm."""
 
     def __init__(self, given):
-        self.given, self.message = given, Held()
+        self.given, self.message, self.known = given, Held(), known_columns(given.run)
 
     def begin(self, comparison):
         """Nothing is told before all is known."""
 
+    def unknown(self, state):
+        """The columns that are not compared, and that no earlier mail can have told."""
+        names = dict.fromkeys(name for names in skipped_of(state).values() for name in names)
+        return [name for name in names if self.known is not None and name not in self.known]
+
     def is_quiet(self, state):
+        if self.unknown(state):
+            return False
         return state.status == 0 or (self.given.alarm == "unexplained" and 1 <= state.status <= 7 and is_explained(state))
 
     def end(self, comparison, explained):
@@ -139,7 +158,7 @@ class Alarm:
             text += clean(("\n%s: there is no page: %s\n" % (NAME, why)).encode()) if page is None else b""
         if given.fault:
             text += clean(("\n%s: %s\n" % (NAME, given.fault)).encode("utf-8", "surrogateescape"))
-        return build(given.to, subject(result.state), text, page)
+        return build(given.to, subject(result.state, self.unknown(result.state)), text, page)
 
 
 def page_of(explained, most):

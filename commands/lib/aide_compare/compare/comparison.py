@@ -9,6 +9,7 @@ from aide_compare.base.escapes import shown, shown_lines
 from aide_compare.base.files import nameless
 from aide_compare.base.program import CONFIGURATION, DATABASES, NEW, OLD, find_program, run_program
 from aide_compare.base.times import age_in_words
+from aide_compare.compare.columns import skipped_in, texts_for_state, words_of
 from aide_compare.compare.configuration import (
     Texts,
     databases_of,
@@ -51,13 +52,13 @@ class Comparison:
     """What came out: the `status`, the `fault` that ended it (None if the program has), a descriptor of the `report` and its
     `size`, the `errors` of the program and the `hints` that explain them, `notes` on what was passed over and `doubts` on what
     was not explained, the `counts` (None if there are none) and the ReasonCounts, `reasons`. By side: the names, the `copies`,
-    the descriptors of what was `compared`, and the LeftOut, as far as there are any."""
+    the descriptors of what was `compared`, the LeftOut and the columns that were `skipped`, as far as there are any."""
 
     def __init__(self, request):
         self.request, self.old, self.new = request, request.old, request.new
         self.status, self.fault, self.report, self.size, self.errors = None, None, None, 0, b""
         self.hints, self.notes, self.doubts, self.counts, self.reasons = [], [], [], None, None
-        self.copies, self.compared, self.left_out, self.time = {}, {}, {}, int(time.time())
+        self.copies, self.compared, self.left_out, self.skipped, self.time = {}, {}, {}, {}, int(time.time())
 
     def run(self):
         """Compares. What ends it is told by the status and the `fault`, never by an exception."""
@@ -91,6 +92,7 @@ class Comparison:
         if self.status <= 7 and self.counts:
             values.update(zip(("added", "removed", "changed"), self.counts))
         more = {"left_out_" + side: str(left_out.total) for side, left_out in self.left_out.items()}
+        more.update(texts_for_state(self.skipped))
         more.update((key, str(count)) for key, count in (self.reasons._asdict() if self.reasons else {}).items())
         return State(self.status, self.time, error=self._error()[:5000], more=more, **values)
 
@@ -164,7 +166,8 @@ class Comparison:
             raise Fault(Status.DEVICE, "the report has more than %d bytes; --max-report allows more" % request.max_report)
         if self.status > 7:
             return
-        self.notes += self.given.misspelt(request.configuration)
+        self.skipped = skipped_in(self.errors, self.compared)
+        self.notes += [*self.given.misspelt(request.configuration), *words_of(self.skipped)]
         head = os.pread(self.report, HEAD_BYTES, 0)
         self.counts = (0, 0, 0) if self.status == 0 else counts_of(head)
         if self.counts is None and request.counts:

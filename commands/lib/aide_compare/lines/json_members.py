@@ -7,6 +7,7 @@ import time
 from aide_compare.base.ending import Fault, Status
 from aide_compare.base.escapes import shown
 from aide_compare.base.times import date_of
+from aide_compare.compare.columns import skipped_of
 from aide_compare.compare.reports import status_of
 from aide_compare.compare.state import read_state
 from aide_compare.lines.report_lines import put_bytes
@@ -17,7 +18,7 @@ MOST_MEMBERS, LONGEST = 64, 4096
 # The members that lines have themselves.
 TAKEN = frozenset(
     "record kind path path_hex summary type attributes uncertain severity reason reasons side sha256 format "
-    "differences total added removed changed levels grouped summarized base16 lines left_out".split()
+    "differences total added removed changed levels grouped summarized base16 lines left_out skipped".split()
 )
 DIGITS = 16
 COUNTS, SIDES = ("added", "removed", "changed"), ("old", "new")
@@ -96,6 +97,11 @@ class Occasion:
         more = self.state.more if self.state else {}
         found = {side: more.get("left_out_" + side, "") for side in SIDES}
         return {side: int(count) for side, count in found.items() if count.isascii() and count.isdigit() and len(count) < 19}
+
+    def beside(self):
+        """What the first line has beside the report: what was left out, and which columns were not compared."""
+        found = {"left_out": self.left_out(), "skipped": skipped_of(self.state) if self.state else {}}
+        return {name: value for name, value in found.items() if value}
 
     def members(self, summary, databases):
         """What --full adds to each line."""

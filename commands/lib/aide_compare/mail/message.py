@@ -14,7 +14,7 @@ from aide_compare.base.times import date_of
 from aide_compare.lines.cut_reports import KINDS, TITLES, TOGETHER, kind_of
 from aide_compare.lines.report_lines import RULE
 
-MOST_PATHS = 1000
+MOST_PATHS, MOST_COLUMNS = 1000, 3
 MOST_LINE = 1000
 # How many paths of one folder a cut list has, how many below the first two pieces of a path, and how many folders it counts.
 FOLDER_SHARE, TREE_SHARE, MOST_FOLDERS = 20, 100, 10
@@ -40,12 +40,19 @@ def is_explained(state):
     return bool(state.reasons) and state.reasons.total > 0 and not state.reasons.unanswered
 
 
-def subject(state):
-    if state.reasons:
-        return "aide on %s: %s" % (host(), state.reasons.words())
-    if 1 <= state.status <= 7:
-        return "aide on %s: differences (%s)" % (host(), differences(state.status, state.counts))
-    return "aide on %s: no comparison (status %d)" % (host(), state.status)
+def subject(state, columns=()):
+    """`columns`: the names of those that are not compared, if this mail is the first one that says so."""
+    told = []
+    if state.reasons and state.status:
+        told.append(state.reasons.words())
+    elif 1 <= state.status <= 7:
+        told.append("differences (%s)" % differences(state.status, state.counts))
+    elif state.status:
+        told.append("no comparison (status %d)" % state.status)
+    if columns:
+        names = ", ".join(re.sub(r"[^A-Za-z0-9._#-]", "?", name) for name in columns[:MOST_COLUMNS])
+        told.append("the column%s %s %s not compared" % (("", names, "is") if len(columns) == 1 else ("s", names, "are")))
+    return "aide on %s: %s" % (host(), "; ".join(told))
 
 
 class Result:

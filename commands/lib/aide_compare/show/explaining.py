@@ -124,10 +124,9 @@ class Entries:
         self.size = self.kept.tell()
 
     def lines(self, reasons, members):
-        """All lines, as aide-compare json --full and aide-compare reasons write them. The summary says what was left out, and
-        has the counts of the reasons, if any; each entry has its `members`, if any."""
-        left_out = self.occasion.left_out()
-        summary = {**self.summary, "lines": self.count, **({"left_out": left_out} if left_out else {}), **self.full}
+        """All lines, as aide-compare json --full and aide-compare reasons write them. The summary says what was left
+        out or not compared, and has the counts of the reasons, if any; each entry has its `members`, if any."""
+        summary = {**self.summary, "lines": self.count, **self.occasion.beside(), **self.full}
         yield ENCODE({**summary, **({"reasons": reasons} if reasons else {})}).encode() + b"\n"
         self.kept.seek(0)
         for line in self.kept:

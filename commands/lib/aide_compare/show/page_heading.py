@@ -8,7 +8,7 @@ from aide_compare.show.page_items import entries, number
 OUTCOMES = {True: "The two databases differ", False: "No differences between the two databases"}
 KNOWN = set(
     """record format differences total added removed changed levels grouped summarized base16 lines uncertain reasons
-    left_out host @timestamp old_time new_time old_digest new_digest""".split()
+    left_out skipped host @timestamp old_time new_time old_digest new_digest""".split()
 )
 MOST_MEMBERS, MOST_LETTERS = 20, 5000
 HINT = (
@@ -102,9 +102,16 @@ def left_out(value):
     return "The comparison left out %s, by the rules of --exclude-from." % (where if len(counts) == 2 else entries(counts[0]))
 
 
+def skipped(value):
+    """The columns of the databases that were not compared, as far as the summary says it."""
+    names = [name for names in value.values() for name in names] if isinstance(value, dict) else []
+    for name in list(dict.fromkeys(names))[:MOST_MEMBERS]:
+        yield "The column %s is not compared: the program does not know it." % shown_note(str(name))
+
+
 def remarks(report, more):
     """What a reader should know of what is missing."""
-    found = [left_out(report.summary.get("left_out"))]
+    found = [left_out(report.summary.get("left_out")), *skipped(report.summary.get("skipped"))]
     if "uncertain" in report.summary:
         found.append("The report ends after its first part. A report that was cut there looks the same.")
     elif report.changes() and not report.count:

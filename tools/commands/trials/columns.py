@@ -1,0 +1,80 @@
+"""Columns that the program does not know: their names in notes, state, lines, page and mail, which comes once for them."""
+import json
+import os
+
+from . import mail
+from .sandbox import END
+
+TOOL = "aide-compare"
+OLD = b"@@begin_db\n@@db_spec name attr perm fstype size\n/b 36 40755 ext4 4096\n/c 36 100644 ext4 5\n" + END
+# The same without a difference, with one more column, and with a difference that something explains.
+SAME = OLD.replace(b"ext4", b"xfs")
+MORE = OLD.replace(b"size\n", b"size new\n").replace(b"4096\n", b"4096 1\n").replace(b" 5\n", b" 5 1\n")
+NOTE = b"aide-compare: the column fstype is not compared: the program does not know it\n"
+
+
+def try_columns(sandbox):
+    for name, text in (("o.db", OLD), ("same.db", SAME), ("more.db", MORE)):
+        sandbox.write(name, text)
+    for trial in (try_places, try_names, try_mails):
+        trial(sandbox)
+
+
+def try_places(sandbox):
+    answer = sandbox.call(TOOL, "--state", "state", "--lines", "lines", "o.db", "same.db")
+    sandbox.expect("a column of both", answer, 0, b"NO differences", [NOTE, b"aide: old database: column 4 skipped\n"])
+    state = sandbox.state()
+    good = (state.get("skipped_old"), state.get("skipped_new")) == ("fstype", "fstype")
+    sandbox.holds("the state has its name", good, state)
+    first = json.loads(sandbox.read("lines").split(b"\n")[0])
+    sandbox.holds("so has the first line", first.get("skipped") == {"old": ["fstype"], "new": ["fstype"]}, first)
+    lines = sandbox.call("aide-compare json", "--state", "state", text=answer.output).output
+    sandbox.holds("and that of a report", json.loads(lines.split(b"\n")[0])["skipped"] == first.get("skipped"), lines)
+    page = sandbox.call("aide-compare page", "lines").output
+    sandbox.holds("and a page", b"The column fstype is not compared" in page, page[:300])
+    answer = sandbox.call(TOOL, "o.db", "more.db")
+    told = b"the column new of the new database is not compared"
+    sandbox.expect("a column of one", answer, 0, None, [NOTE, told])
+    sandbox.call(TOOL, "--state", "state", "old.db", "new.db")
+    sandbox.holds("no column, no key", not [key for key in sandbox.state() if "skipped" in key], sandbox.state())
+
+
+def try_names(sandbox):
+    """Names of others are escaped and cut, and of a spec line that is too far away there are numbers only."""
+    for name, told in (
+        (b"\x1b[31m", b"the column \\033[31m is"),
+        (b"\xe2\x80\xae", b"the column \\342\\200\\256 is"),
+        (b"n" * 90, b"the column " + b"n" * 40 + b"... is"),
+        (b"fstype\r", b"the column fstype\\015 is"),
+    ):
+        sandbox.write("odd.db", OLD.replace(b"fstype", name))
+        answer = sandbox.call(TOOL, "--state", "state", "odd.db", "odd.db")
+        sandbox.expect("the name %r" % name[:9], answer, 0, None, told)
+        sandbox.holds("the state with the name %r" % name[:9], sandbox.call("aide-compare status", "--state", "state").status == 0)
+    sandbox.write("far.db", b"#" * (1 << 16) + b"\n" + OLD)
+    sandbox.expect("a far name", sandbox.call(TOOL, "far.db", "far.db"), 0, None, b"the column #4 is not compared")
+
+
+def try_mails(sandbox):
+    """A mail tells a column once, also if nothing differs or all is explained; without a state nobody would know of it."""
+    mail.take_mail(sandbox)
+    os.remove(sandbox.path("state"))
+    for label, new, subject in (
+        ("the first mail", "same.db", "the column fstype is not compared"),
+        ("no second mail", "same.db", None),
+        ("a mail for one more", "more.db", "the column new is not compared"),
+        ("no second one for it", "more.db", None),
+    ):
+        answer = mail.call(sandbox, "--state", "state", "--reasons", "--alarm", "unexplained", "o.db", new)
+        sandbox.expect(label, answer, 0, b"", b"")
+        message = mail.sent(sandbox)
+        good = message is None if subject is None else message is not None and message["Subject"].endswith(": " + subject)
+        sandbox.holds("the subject of " + label, good, message and message["Subject"])
+    sandbox.expect("a mail by hand", mail.call(sandbox, "o.db", "same.db"), 0, b"", b"")
+    sandbox.holds("none is sent by hand", mail.sent(sandbox) is None)
+    os.remove(sandbox.path("state"))
+    sandbox.write("odd.db", OLD.replace(b"fstype", b"\xc3\xa9:x").replace(b"4096", b"9"))
+    sandbox.expect("with a difference", mail.call(sandbox, "--state", "state", "o.db", "odd.db"), 4, b"", b"")
+    message = mail.sent(sandbox)
+    wanted = "differences (1 changed); the columns fstype, ??x are not compared"
+    sandbox.holds("both are in the subject", message is not None and message["Subject"].endswith(wanted), message)
