@@ -75,7 +75,7 @@ def rows_of(bench, entries):
     run = ["aide-compare", old, new, *LEVEL]
     with_state = ["aide-compare", "--state", bench.path("state"), *run[1:]]
     without = [*with_state[:3], "--exclude-from", os.path.join(HERE, "contrib", "aide", "debian.without"), *run[1:]]
-    nightly = [*without[:5], "--reasons", "--lines", bench.path("kept"), "--brief", bench.path("brief"), *run[1:]]
+    nightly = [*without[:5], "--reasons", "--json", bench.path("kept"), *run[1:]]
     bench.rows(
         entries,
         bench.runs,
@@ -83,7 +83,7 @@ def rows_of(bench, entries):
         ("`aide-compare OLD NEW`", run, None, report),
         ("`aide-compare --state FILE OLD NEW`", with_state, None, None),
         ("the same with `--exclude-from debian.without`", without, None, None),
-        ("the nightly call of the unit, with `--reasons --lines --brief` too", nightly, None, None),
+        ("the nightly call of the unit, with `--reasons --json` too", nightly, None, None),
         ("`aide-compare json`, of this report", ["aide-compare", "json", report], None, lines),
         ("`aide-compare page`, of these lines", ["aide-compare", "page", lines], None, bench.path("page")),
         ("`aide-compare sort`, of a database in order", ["aide-compare", "sort", old], None, None),

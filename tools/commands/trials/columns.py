@@ -21,7 +21,7 @@ def try_columns(sandbox):
 
 
 def try_places(sandbox):
-    answer = sandbox.call(TOOL, "--state", "state", "--lines", "lines", "o.db", "same.db")
+    answer = sandbox.call(TOOL, "--state", "state", "--json", "lines", "o.db", "same.db")
     sandbox.expect("a column of both", answer, 0, b"NO differences", [NOTE, b"aide: old database: column 4 skipped\n"])
     state = sandbox.state()
     good = (state.get("skipped_old"), state.get("skipped_new")) == ("fstype", "fstype")

@@ -46,6 +46,14 @@ Explained:
 """
     % WORDS
 )
+# The table of the commands weighs more than that of the trial.
+UNJUDGED = """4 changes, 1 high, 3 medium
+
+  high    added    /usr/.x y: -rwsr-xr-x root:root 7 bytes
+  medium  removed  /etc/gone: -rw-r--r-- root:root 5 bytes
+  medium  changed  /etc/plain: mode -rw-r--r-- -> -rw-------
+  medium  changed  /srv/log: size 5 -> 9
+"""
 REASONS = ["--reasons", "--severity", "table"]
 
 
@@ -59,6 +67,7 @@ def try_explained(sandbox):
         try_places,
         try_levels,
         try_outputs,
+        try_forms,
         try_lines,
         try_many,
         try_hostile,
@@ -79,31 +88,29 @@ def read(sandbox, name):
 
 
 def try_places(sandbox):
-    """The report is that of a run without reasons; standard error and the state have the counts, and --brief the text."""
+    """The report is that of a run without reasons; standard error and the state have the counts, and --brief prints the text."""
     prepare(sandbox)
     plain = sandbox.call(TOOL, "o.db", "n.db")
-    answer = run(sandbox, "--state", "state", "--brief", "brief", "o.db", "n.db")
+    answer = run(sandbox, "--state", "state", "o.db", "n.db")
     line = "%s: unexplained=2 not_verified=1 explained=1 high=1 medium=1 low=1 explained_databases=1\n" % WORDS
     sandbox.expect("with reasons", answer, 7, plain.output, plain.errors + b"aide-compare: " + line.encode())
     sandbox.holds("nothing else is said", len(answer.errors) == len(plain.errors) + len("aide-compare: " + line), answer)
     state = sandbox.state()
     sandbox.holds("the state has the counts", COUNTS.items() <= state.items() and state["status"] == "7", state)
-    sandbox.holds("what people read first", read(sandbox, "brief").decode() == BRIEF, read(sandbox, "brief"))
-    sandbox.holds(
-        "who may read it", os.path.exists(sandbox.path("brief")) and os.stat(sandbox.path("brief")).st_mode & 0o777 == 0o600
-    )
+    for words in (["--brief"], ["--format", "brief"]):
+        brief = run(sandbox, *words, "o.db", "n.db")
+        sandbox.holds("what people read first by %s" % words, (brief.status, brief.output.decode()) == (7, BRIEF), brief)
+        sandbox.holds("the same is said", brief.errors == answer.errors, brief)
     sandbox.call(TOOL, "--state", "state", "o.db", "n.db")
     sandbox.holds("a state without reasons", not COUNTS.keys() & sandbox.state().keys(), sandbox.state())
-    answer = run(sandbox, "--state", "state", "--brief", "brief", "o.db", "o.db")
+    answer = run(sandbox, "--state", "state", "--brief", "o.db", "o.db")
     sandbox.expect("no difference", answer, 0, b"NO differences", b"0 changes, all explained: unexplained=0")
     state = sandbox.state()
     sandbox.holds("its state", state.get("explained") == state.get("unexplained") == "0", state)
-    answer = run(sandbox, "--brief", "brief", "o.db", "gone.db")
+    answer = run(sandbox, "--brief", "o.db", "gone.db")
+    told = b"1 change, all explained\nExplained by: databases 1\n\nExplained:\n"
+    sandbox.holds("what people read first then", answer.output.startswith(told), answer)
     sandbox.expect("all is explained", answer, 2, None, b"1 change, all explained: unexplained=0 not_verified=0 explained=1")
-    sandbox.holds(
-        "what people read first then",
-        read(sandbox, "brief").startswith(b"1 change, all explained\nExplained by: databases 1\n\nExplained:\n"),
-    )
 
 
 def try_levels(sandbox):
@@ -116,14 +123,15 @@ def try_levels(sandbox):
     ]
     for text in texts:
         plain = sandbox.call(TOOL, "o.db", "n.db", "-A", text)
-        answer = run(sandbox, "--brief", "brief", "--lines", "lines", "o.db", "n.db", "-A", text)
+        answer = run(sandbox, "--json", "lines", "o.db", "n.db", "-A", text)
         sandbox.expect("reasons at " + text, answer, 7, plain.output, WORDS.encode())
         sandbox.holds("the report at " + text, answer.output == plain.output)
-        sandbox.holds("the text at " + text, read(sandbox, "brief").decode() == BRIEF, read(sandbox, "brief"))
+        brief = run(sandbox, "--brief", "o.db", "n.db", "-A", text).output
+        sandbox.holds("the text at " + text, brief.decode() == BRIEF, brief)
         sandbox.holds("the lines at " + text, len(entries(sandbox, "lines")) == 4, read(sandbox, "lines"))
     sandbox.write("conf", "report_url=stdout\nreport_level=minimal\n")
-    answer = run(sandbox, "-c", "conf", "--brief", "brief", "o.db", "n.db")
-    sandbox.expect("a fixed configuration", answer, 7, None, WORDS.encode())
+    answer = run(sandbox, "-c", "conf", "--brief", "o.db", "n.db")
+    sandbox.expect("a fixed configuration", answer, 7, BRIEF.encode(), WORDS.encode())
 
 
 def entries(sandbox, name):
@@ -132,48 +140,91 @@ def entries(sandbox, name):
 
 
 def try_outputs(sandbox):
-    """The places of --lines and --brief: a file, a descriptor, and what cannot be written."""
+    """The places of --json and --page: a file, a descriptor, and what cannot be written."""
     prepare(sandbox)
-    answer = run(sandbox, "--brief", "/dev/stderr", "o.db", "n.db")
-    sandbox.expect("to standard error", answer, 7, b"Added entries:", BRIEF.encode())
+    plain = run(sandbox, "--json", "lines", "--page", "page", "o.db", "n.db")
+    lines = read(sandbox, "lines")
+    for name in ("lines", "page"):
+        path = sandbox.path(name)
+        sandbox.holds("who may read it", os.path.exists(path) and os.stat(path).st_mode & 0o777 == 0o600)
+    page = sandbox.call("aide-compare page", "lines").output
+    sandbox.holds("the page is that of the lines", page and read(sandbox, "page") == page, len(page))
+    answer = run(sandbox, "--json", "/dev/stderr", "o.db", "n.db")
+    first = same(lines)[:1]
+    good = answer.output == plain.output and first[0] in map(without_time, answer.errors.split(b"\n"))
+    sandbox.holds("to standard error", first and good, answer)
     with open(sandbox.path("there"), "wb") as file:
-        done = run(sandbox, "--brief", "/dev/fd/%d" % file.fileno(), "o.db", "n.db", pass_fds=[file.fileno()])
-    sandbox.holds("to a descriptor", done.status == 7 and sandbox.read("there").decode() == BRIEF, done)
+        done = run(sandbox, "--json", "/dev/fd/%d" % file.fileno(), "o.db", "n.db", pass_fds=[file.fileno()])
+    sandbox.holds("to a descriptor", done.status == 7 and same(sandbox.read("there")) == same(lines), done)
+    for words in (["--json", "-"], ["--json=/dev/stdout"], ["-q", "--json", "/dev/fd/1"]):
+        done = run(sandbox, *words, "o.db", "n.db")
+        sandbox.holds("in place of the report: %s" % words, done.status == 7 and same(done.output) == same(lines), done)
+    done = run(sandbox, "--page", "-", "o.db", "n.db")
+    sandbox.holds("a page in place of the report", done.status == 7 and done.output.startswith(b"<!doctype html>"), done)
+    for words in (["--json", "-", "--page", "-"], ["--json", "-", "--brief"], ["--page", "/dev/stdout", "--format", "report"]):
+        done = run(sandbox, *words, "o.db", "n.db")
+        sandbox.expect("two on standard output: %s" % words, done, 15, b"", b"only one of")
     with open(sandbox.path("there"), "rb") as file:
-        done = run(sandbox, "--lines", "/dev/fd/%d" % file.fileno(), "o.db", "n.db", pass_fds=[file.fileno()])
+        done = run(sandbox, "--json", "/dev/fd/%d" % file.fileno(), "o.db", "n.db", pass_fds=[file.fileno()])
     sandbox.expect("to one that is only read", done, 18, b"", b"has not opened it for writing")
     os.symlink("there", sandbox.path("link"))
     for name, status in (("link", 18), ("bin", 15), ("table/x", 18)):
         sandbox.expect(
-            "to " + name, run(sandbox, "--lines", name, "o.db", "n.db"), status, b"", b"cannot write" if status == 18 else None
+            "to " + name, run(sandbox, "--json", name, "o.db", "n.db"), status, b"", b"cannot write" if status == 18 else None
         )
     with open("/dev/full", "wb") as full:
-        done = run(sandbox, "--brief", "/dev/stderr", "o.db", "n.db", stderr=full)
-    sandbox.holds("to a full device", done.status == 18 and b"Added entries:" in done.output, done)
-    for name in ("lines", "brief"):
+        done = run(sandbox, "--json", "/dev/stderr", "o.db", "n.db", stderr=full)
+        sandbox.holds("to a full device", done.status == 18 and b"Added entries:" in done.output, done)
+        for words in (["--brief"], ["--json", "-"]):
+            done = run(sandbox, *words, "--state", "state", "o.db", "n.db", stdout=full)
+            sandbox.expect("%s to a full device" % words, done, 18, b"", b"cannot write")
+            sandbox.holds("the state then", sandbox.state()["status"] == "18", sandbox.state())
+    for name in ("lines", "page"):
         sandbox.write(name, "of an earlier run")
-    done = run(sandbox, "--lines", "lines", "--brief", "brief", "o.db", "missing.db")
+    done = run(sandbox, "--json", "lines", "--page", "page", "o.db", "missing.db")
     sandbox.holds(
-        "nothing is left of an earlier run", done.status == 18 and read(sandbox, "lines") == read(sandbox, "brief") == b""
+        "nothing is left of an earlier run", done.status == 18 and read(sandbox, "lines") == read(sandbox, "page") == b""
     )
+
+
+def without_time(line):
+    """A line without what differs from run to run."""
+    return re.sub(rb'"@timestamp":"[^"]*",', b"", line)
+
+
+def same(lines):
+    return [without_time(line) for line in lines.split(b"\n") if line]
+
+
+def try_forms(sandbox):
+    """What people read first without reasons, and -q, which says nothing but why nothing was compared."""
+    prepare(sandbox)
+    answer = sandbox.call(TOOL, "--brief", "o.db", "n.db")
+    sandbox.expect("without reasons", answer, 7, None, b"new database: n.db")
+    sandbox.holds("the text without reasons", answer.output.decode() == UNJUDGED and b"unexplained" not in answer.errors, answer)
+    sandbox.expect("no difference", sandbox.call(TOOL, "--brief", "o.db", "o.db"), 0, b"AIDE found NO differences", b"")
+    answer = run(sandbox, "-q", "--state", "state", "--exclude", "/etc/*", "o.db", "n.db")
+    sandbox.expect("quiet", answer, 5, b"", b"")
+    sandbox.holds("the state of it", sandbox.state()["changed"] == "1", sandbox.state())
+    sandbox.expect("quiet, and a fault", sandbox.call(TOOL, "--quiet", "o.db", "no.db"), 18, b"", b"cannot open the new database")
 
 
 def try_lines(sandbox):
     """The lines are those of aide-compare json and aide-compare reasons, and the summary also says what was left out."""
     prepare(sandbox)
-    report = run(sandbox, "--state", "state", "--lines", "lines", "o.db", "n.db").output
+    report = run(sandbox, "--state", "state", "--json", "lines", "o.db", "n.db").output
     json_lines = sandbox.call("aide-compare json", "--full", "--state", "state", text=report).output
     reasons = sandbox.call(
         "aide-compare reasons", "--databases", "o.db", "n.db", "--severity", "table", text=json_lines
     ).output
     sandbox.holds("the lines with reasons", reasons and read(sandbox, "lines") == reasons, (read(sandbox, "lines"), reasons))
-    answer = sandbox.call(TOOL, "--state", "state", "--lines", "lines", "o.db", "n.db")
+    answer = sandbox.call(TOOL, "--state", "state", "--json", "lines", "o.db", "n.db")
     json_lines = sandbox.call("aide-compare json", "--full", "--state", "state", text=report).output
     sandbox.expect("the lines alone", answer, 7, report, b"SHA-256")
     sandbox.holds(
         "they are those of aide-compare json", read(sandbox, "lines") == json_lines and b"unexplained" not in answer.errors
     )
-    answer = sandbox.call(TOOL, "--state", "state", "--lines", "lines", "--exclude", "/etc/*", "o.db", "n.db")
+    answer = sandbox.call(TOOL, "--state", "state", "--json", "lines", "--exclude", "/etc/*", "o.db", "n.db")
     json_lines = sandbox.call("aide-compare json", "--full", "--state", "state", text=answer.output).output
     sandbox.holds("they are so if entries are left out", json_lines and read(sandbox, "lines") == json_lines, json_lines)
     summary = json.loads(read(sandbox, "lines").split(b"\n")[0] or b"{}")
@@ -187,7 +238,7 @@ def try_lines(sandbox):
     )
     page = sandbox.call("aide-compare page", "--plain", "lines")
     sandbox.holds("a page of them", page.status == 0 and b">log<" in page.output, page.output[-2000:])
-    sandbox.call(TOOL, "--lines", "lines", "o.db", "o.db")
+    sandbox.call(TOOL, "--json", "lines", "o.db", "o.db")
     summary = json.loads(read(sandbox, "lines").split(b"\n")[0] or b"{}")
     sandbox.holds("the lines of no difference", summary.get("differences") is False and "left_out" not in summary, summary)
 
@@ -197,8 +248,7 @@ def try_many(sandbox):
     prepare(sandbox)
     new = b"".join(b"/m/%04d %d 100644 0 0 1\n" % (number, ALL) for number in range(3000))
     sandbox.write("many.db", NEW.replace(b"/srv", new + b"/srv"))
-    run(sandbox, "--brief", "brief", "o.db", "many.db")
-    text = read(sandbox, "brief").decode()
+    text = run(sandbox, "--brief", "o.db", "many.db").output.decode()
     places = [
         text.find(part)
         for part in (
@@ -218,7 +268,7 @@ def try_many(sandbox):
         "large.db", HEAD + b"".join(b"/g/%05d %d 100644 0 0 1\n" % (number, ALL | GOES) for number in range(30000)) + END
     )
     sandbox.write("none.db", HEAD + END)
-    answer = run(sandbox, "--brief", "brief", "large.db", "none.db", "-A", "report_level=summary")
+    answer = run(sandbox, "--brief", "large.db", "none.db", "-A", "report_level=summary")
     sandbox.expect("30,000 explained entries", answer, 2, None, b"30000 changes, all explained")
 
 
@@ -228,8 +278,7 @@ def try_hostile(sandbox):
     for name in (b"/a%0aUnexplained:", b"/a%1b[31m", b"/a%e2%80%ae", b"/a%ff", b"/a\\\\b"):
         sandbox.write("h.db", HEAD + name + b" %d 100644 0 0 1\n" % ALL + END)
         sandbox.write("none.db", HEAD + END)
-        run(sandbox, "--brief", "brief", "none.db", "h.db")
-        text = read(sandbox, "brief")
+        text = run(sandbox, "--brief", "none.db", "h.db").output
         good = text.count(b"\n") == 5 and not re.search(rb"[\x00-\x09\x0b-\x1f\x7f-\xff]", text)
         sandbox.holds("the hostile name %r" % name, good and b"\\" in text, text)
 
@@ -270,7 +319,7 @@ def try_records(sandbox):
 
 def try_misuse(sandbox):
     prepare(sandbox)
-    for words in (["--brief", "x"], ["--packages", "x"], ["--rules", "table"], ["--severity", "table"], ["--archive", "bin"]):
+    for words in (["--packages", "x"], ["--rules", "table"], ["--severity", "table"], ["--archive", "bin"]):
         sandbox.expect("%s alone" % words[0], sandbox.call(TOOL, *words, "o.db", "n.db"), 15, b"", b"needs --reasons")
     sandbox.write("bad", "high odd /**\n")
     for words, status in ((["--severity", "bad"], 15), (["--rules", "bad"], 15), (["--rules", "missing"], 18)):
@@ -291,12 +340,12 @@ def try_no_reasons(sandbox):
         ("objects = list(objects)[:1]", b"the counts of the reasons"),
     ):
         sandbox.write("state", "")
-        for each in ("brief", "lines"):
+        for each in ("page", "lines"):
             sandbox.write(each, "of an earlier run")
         sandbox.write(name, text.replace(line.encode(), ("        %s\n" % fault).encode() + line.encode()))
-        answer = run(sandbox, "--state", "state", "--brief", "brief", "--lines", "lines", "o.db", "n.db")
+        answer = run(sandbox, "--brief", "--state", "state", "--page", "page", "--json", "lines", "o.db", "n.db")
         sandbox.expect("no reasons by " + fault, answer, 7, b"Added entries:", b"the changes are not explained: ")
         good = not COUNTS.keys() & sandbox.state().keys() and sandbox.state().get("status") == "7"
-        sandbox.holds("the state then", good and read(sandbox, "brief") == read(sandbox, "lines") == b"", sandbox.state())
+        sandbox.holds("the state then", good and read(sandbox, "page") == read(sandbox, "lines") == b"", sandbox.state())
         sandbox.holds("what is said by " + fault, said in answer.errors, answer)
     sandbox.write(name, text)

@@ -32,7 +32,7 @@ def try_explained_readers(sandbox):
 def try_values(sandbox):
     """A plain page on which nothing is cut does not say so: entries of one side have no values at the level of AIDE."""
     prepare(sandbox)
-    sandbox.call("aide-compare", *REASONS, "--lines", "lines", "o.db", "n.db")
+    sandbox.call("aide-compare", *REASONS, "--json", "lines", "o.db", "n.db")
     answer = sandbox.call("aide-compare page", "--plain", text=sandbox.read("lines"))
     sandbox.expect("a plain page", answer, 0, [b"<table>", b"/usr/.x y"], b"")
     sandbox.holds("nothing is cut on it", b"Values are shown for" not in answer.output, answer)

@@ -72,9 +72,9 @@ def try_floods(sandbox):
 
 
 def brief_of(sandbox, *databases):
-    answer = sandbox.call(TOOL, "--reasons", "--brief", "brief", *databases)
+    answer = sandbox.call(TOOL, "--reasons", "--brief", *databases)
     sandbox.holds("a comparison of %s and %s" % databases, answer.status in range(1, 8), answer)
-    return sandbox.read("brief").decode().split("\n")
+    return answer.output.decode().split("\n")
 
 
 def try_order(sandbox):

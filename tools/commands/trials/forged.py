@@ -439,7 +439,7 @@ def try_between(sandbox):
         sandbox.holds("the records of the %s night are kept" % side, kept.status == 0, kept)
     later = host_of(tool=EVIL).new.package("tool", "3", {**TOOLS, TOOL: EVIL}, {CONF: EVIL}).files()
     write_dpkg(sandbox, later)
-    run = sandbox.call("aide-compare", "--reasons", "--state", "state", "--brief", "brief", *names)
+    run = sandbox.call("aide-compare", "--reasons", "--state", "state", *names)
     explained = int(sandbox.state().get("explained_dpkg", 0))
     sandbox.holds("an upgrade after AIDE, and its records of before", explained >= 4 and run.status == 7, (run, explained))
     sandbox.holds("nothing is said of them", b"not verified: the" not in run.errors, run)
@@ -470,13 +470,13 @@ def try_new_packages(sandbox):
     for side, night in (("old", host.old), ("new", host.new)):
         sandbox.write("night-%s.db" % side, night.database())
         sandbox.write("night-%s.tar" % side, night.records())
-    words = ("--reasons", "--brief", "brief", "--packages", "night-old.tar", "--packages-now", "night-new.tar")
+    words = ("--reasons", "--brief", "--packages", "night-old.tar", "--packages-now", "night-new.tar")
     for label, more, lines in (
         ("an archive", ("--archive", "forged-archive", "--keyring", "archive.gpg"), BESIDE_ARCHIVE),
         ("no archive", (), BY_RECORDS),
     ):
         answer = sandbox.call("aide-compare", *words, *more, "night-old.db", "night-new.db")
-        text = sandbox.read("brief").decode()
+        text = answer.output.decode()
         sandbox.holds("what people read first with " + label, all(line in text for line in lines), (text[:500], answer))
 
 

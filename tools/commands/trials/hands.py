@@ -182,7 +182,7 @@ def try_bad_lines(sandbox):
         "--state x",
         "--user root",
         "--queue q",
-        "--lines x",
+        "--json x",
         "-c x",
         "o.db",
         "--",
@@ -248,12 +248,14 @@ def try_owner(sandbox):
         return print("skipped: the rights of the baseline's owner (it needs root)")
     put_baseline(sandbox)
     note_users(sandbox)
-    words = ["--reasons", "--severity", "table", "--state", "mine/state", "--lines", "mine/lines", "--brief", "mine/brief"]
+    words = ["--reasons", "--severity", "table", "--state", "mine/state", "--json", "mine/lines"]
     answer = sandbox.call(TOOL, *words, "his/o.db", "mine/n.db")
     sandbox.expect("root's comparison", answer, 7, [b"Changed entries:         2"], [explained.WORDS.encode()])
     sandbox.holds("the records are used", b"no package explains" not in answer.errors, answer.errors)
+    brief = sandbox.call(TOOL, *words, "--brief", "his/o.db", "mine/n.db").output
+    sandbox.holds("what people read first", brief == explained.BRIEF.encode(), brief)
     sandbox.holds("whose rights", {user for user, _ in users(sandbox)} == {str(NOBODY)})
-    for name, text in (("state", b"unexplained=2\n"), ("lines", b'"severity":"high"'), ("brief", explained.BRIEF.encode())):
+    for name, text in (("state", b"unexplained=2\n"), ("lines", b'"severity":"high"')):
         found = os.stat(sandbox.path("mine/" + name))
         sandbox.holds("root's %s" % name, text in sandbox.read("mine/" + name) and found.st_uid == 0, found)
     answer = sandbox.call(TOOL, "--user", "root", *words, "his/o.db", "mine/n.db")
@@ -279,7 +281,7 @@ def try_lost_child(sandbox):
     if os.geteuid() != 0:
         return print("skipped: the child of root's comparison (it needs root)")
     put_baseline(sandbox)
-    words = ["--reasons", "--severity", "table", "--state", "mine/state", "--lines", "mine/lines", "his/o.db", "mine/n.db"]
+    words = ["--reasons", "--severity", "table", "--state", "mine/state", "--json", "mine/lines", "his/o.db", "mine/n.db"]
     for name in ("state", "lines"):
         sandbox.write("mine/" + name, b"as before\n")
     note_users(sandbox, "case $1 in -E) kill -9 $PPID; sleep 5;; esac")

@@ -219,14 +219,13 @@ def try_quiet_alarm(sandbox, text):
 
 
 def has_brief(sandbox, done):
-    good = done[1].startswith(MINIMAL) and " unexplained of 4 changes" in done[1] and "\nUnexplained:\n" in done[1]
+    good = " unexplained of 4 changes" in done[1].split("\n")[0] and "\nUnexplained:\n" in done[1]
     sandbox.holds("what people read first", good, done)
 
 
 def has_page_of_reasons(sandbox, done):
-    sandbox.holds(
-        "lines and page", '"left_out"' in sandbox.read("/tmp/lines") and "</html>" in sandbox.read("/tmp/page.html"), done
-    )
+    page = sandbox.read("/tmp/page.html")
+    sandbox.holds("the page", "The comparison left out" in page and "</html>" in page, done)
 
 
 def try_alarms(sandbox, text):

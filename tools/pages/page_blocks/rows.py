@@ -104,7 +104,7 @@ LEVELS = [
 ]
 ROWS = [
     Commands(FRONT, "What differs between two databases, plain or compressed by gzip:", [7], expectations.has_summary),
-    Commands(FRONT, "The same, with what packages, logs and rules explain, and as a page:", [7, 0], expectations.is_page),
+    Commands(FRONT, "The same, with what packages, logs and rules explain, and as a page:", [7], expectations.is_page),
     Elsewhere(
         FRONT,
         "A comparison each day on this machine, with a mail:",
@@ -215,7 +215,7 @@ ROWS = [
         [7],
         expectations.has_brief,
     ),
-    Commands(RUN, "Make a page that says which changes are explained, ...", [7, 0], expectations.has_page_of_reasons),
+    Commands(RUN, "Make a page that says which changes are explained, ...", [7], expectations.has_page_of_reasons),
     Commands(RUN, "Compare a database that comes from another host, of at most one gibibyte:", [7], expectations.has_summary),
     Commands("man/aide-compare-sort.1", "Sort a database and compare it with the baseline:", [0, 7], expectations.has_summary),
     Commands(

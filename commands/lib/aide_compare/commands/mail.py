@@ -125,8 +125,10 @@ class Alarm:
     def __init__(self, given):
         self.given, self.message, self.known = given, Held(), known_columns(given.run)
 
-    def begin(self, comparison):
+    def begin(self, *_):
         """Nothing is told before all is known."""
+
+    go_on = begin
 
     def unknown(self, state):
         """The columns that are not compared, and that no earlier mail can have told."""

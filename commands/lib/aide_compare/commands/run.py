@@ -15,6 +15,7 @@ from aide_compare.reasons.evidence_options import EVIDENCE, add_evidence_options
 
 DESCRIPTION = "Compares two AIDE databases, plain or compressed by gzip. The report goes to standard output."
 TRY = "try: aide-compare compare --help"
+FORMATS, STDOUT = ("report", "brief"), ("-", "/dev/stdout", "/dev/fd/1")
 EPILOG = """Times are as in 90s, 15m, 26h or 3d; a plain number is seconds. Sizes are in bytes, or as in 500k, 20M or 1G.
 Where another user can write in the folder of the state file, or above it, it is written with that user's rights.
 Root compares with the rights of the user in whose folder the baseline is, unless --user names another one.
@@ -61,8 +62,11 @@ def parser():
     )
     add("--exclude", metavar="PATTERN", action="append", default=[], type=some_text, help="the same for one line")
     add("--reasons", action="store_true", help="say which changes packages, logs and rules explain, and which nothing does")
-    add("--lines", metavar="FILE", type=some_text, help="write the report to FILE as aide-compare json does, with the reasons")
-    add("--brief", metavar="FILE", type=some_text, help="with --reasons: write to FILE what people should read first")
+    add("--format", choices=FORMATS, help="what is printed: the report, or what people should read first")
+    add("--brief", action="store_const", const="brief", dest="format", help="--format brief")
+    add("--json", metavar="FILE", type=some_text, help="write the changes to FILE as aide-compare json does, with the reasons")
+    add("--page", metavar="FILE", type=some_text, help="write them to FILE as a page for a browser")
+    add("-q", "--quiet", action="store_true", help="print neither report nor notes: only why nothing was compared")
     add_evidence_options(made)
     add("--user", metavar="NAME", type=some_text, help="drop privileges to this user first")
     add_off(made)
@@ -78,19 +82,19 @@ def rules_of(given):
 
 class Task:
     """A comparison as the options ask for it, and what is written of it. `given` are the options.
-    `with_details`: whoever is told of the changes wants all lines of them."""
+    `with_details`: whoever is told of the changes wants all lines of them. `weighs`: he wants what people read first."""
 
-    def __init__(self, given, with_details=False):
-        for name in ("brief",) + EVIDENCE:
+    def __init__(self, given, with_details=False, weighs=False):
+        for name in EVIDENCE:
             if getattr(given, name) and not given.reasons:
                 raise Fault(Status.USAGE, "--%s needs --reasons" % name.replace("_", "-"), TRY)
         self.handing = Handing() if os.geteuid() == 0 and not given.user else None
-        self.request, self.wanted, self.with_details = self._request(given), None, with_details
-        if given.reasons or given.lines or with_details:
+        self.request, self.wanted = self._request(given, weighs), None
+        if given.reasons or given.json or given.page or with_details or weighs:
             # The modules for it are more than all others together.
-            from aide_compare.show.explaining import Sources, Wanted
+            from aide_compare.show.explaining import Wanted
 
-            self.wanted = Wanted(given.lines, given.brief, Sources(given) if given.reasons else None, self.made)
+            self.wanted = Wanted(given, self.made, with_details, weighs)
         self.state = self.made(Replacement(given.state, what="the state file").begin()) if given.state else None
 
     def made(self, output):
@@ -101,7 +105,7 @@ class Task:
         """Whether this process compares for its parent, with the rights of another user."""
         return self.handing is not None and self.handing.owner is not None
 
-    def _request(self, given):
+    def _request(self, given, weighs):
         if len(given.databases) not in (0, 2):
             few = "name both databases, OLD and NEW, or none"
             many = "more than two databases: %s" % shown(given.databases[-1] if given.databases else "", 200)
@@ -119,20 +123,21 @@ class Task:
             max_age=given.max_age,
             max_report=given.max_report,
             max_list=given.max_report,
-            counts=given.state is not None or given.reasons,
+            counts=given.state is not None or given.reasons or weighs,
             rules=rules_of(given),
             handing=self.handing,
         )
 
     def carry_out(self, teller):
-        """Compares, explains, and writes what is wanted. The teller is told of the Comparison before that, and of all at the
-        end. Returns the status, and the State if one is written."""
+        """Compares, explains, and writes what is wanted. The teller is told of the Comparison before that, of what was found
+        out then, and of all at the end. Returns the status, and the State if one is written."""
         comparison, explained = Comparison(self.request), None
         try:
             comparison.run()
             teller.begin(comparison)
             if self.wanted and comparison.status <= 7:
-                explained = self.wanted.explain(comparison, self.with_details)
+                explained = self.wanted.explain(comparison)
+            teller.go_on(comparison, explained)
         except Handed as handed:
             try:
                 return self._put_in_place(handed)
@@ -159,18 +164,26 @@ class Task:
         return status, state
 
 
+def format_of(given):
+    """What standard output gets, one of FORMATS; nothing with -q, and if it is the file of another output."""
+    taken = [name for name in ("json", "page") if getattr(given, name) in STDOUT]
+    if len(taken) + (given.format is not None) > 1:
+        raise Fault(Status.USAGE, "only one of --json, --page and --format can be on standard output", TRY)
+    return None if taken or given.quiet else given.format or "report"
+
+
 class Printer:
-    """Tells what came out on standard output and standard error."""
+    """Tells what came out on standard output and standard error. `form`: what standard output gets, None for nothing."""
+
+    def __init__(self, form, is_quiet):
+        self.form, self.note = form, (lambda text: None) if is_quiet else say
 
     def begin(self, comparison):
         """Passes on what the program wrote, and what explains it."""
         for note in comparison.notes:
-            say(note)
-        if comparison.report is not None and comparison.status <= 7:
-            try:
-                copy_file(comparison.report, 1)
-            except OSError as error:
-                raise Fault(Status.DEVICE, "cannot write the report: %s" % reason(error))
+            self.note(note)
+        if self.form == "report" or (self.form and not comparison.differs):
+            self._print(comparison)
         try:
             write_all(2, shown_lines(comparison.errors).encode("utf-8", "backslashreplace"))
         except OSError:
@@ -180,18 +193,33 @@ class Printer:
         if comparison.differs:
             self._introduce(comparison)
 
+    def _print(self, comparison, explained=None):
+        """Prints the report, or what people read first of the changes."""
+        try:
+            if explained:
+                write_all(1, explained.brief())
+            elif comparison.report is not None and comparison.status <= 7:
+                copy_file(comparison.report, 1)
+        except OSError as error:
+            raise Fault(Status.DEVICE, "cannot write the report: %s" % reason(error))
+
     def _introduce(self, comparison):
         """Says which databases differ: a report names only their descriptors."""
         for side in SIDES:
             copy = comparison.copies[side]
             written = "" if copy.written is None else "written %s, " % date_of(int(copy.written))
-            say("%s database: %s, %sSHA-256 %s" % (side, shown(copy.name), written, copy.sha256))
+            self.note("%s database: %s, %sSHA-256 %s" % (side, shown(copy.name), written, copy.sha256))
+
+    def go_on(self, comparison, explained):
+        """What people read first comes when all is known of it."""
+        if self.form == "brief" and comparison.differs:
+            self._print(comparison, explained)
 
     def end(self, comparison, _):
         for doubt in comparison.doubts:
             say(doubt)
         if comparison.reasons:
-            say("%s: %s" % (comparison.reasons.words(), comparison.reasons.line()))
+            self.note("%s: %s" % (comparison.reasons.words(), comparison.reasons.line()))
         if comparison.fault:
             raise comparison.fault
 
@@ -200,4 +228,5 @@ def main(arguments):
     given = parser().parse(defaults_for(RUN, arguments) + arguments)
     if given.user:
         give_up(given.user)
-    return Task(given).carry_out(Printer())[0]
+    form = format_of(given)
+    return Task(given, weighs=form == "brief").carry_out(Printer(form, given.quiet))[0]

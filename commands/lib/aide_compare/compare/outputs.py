@@ -7,13 +7,13 @@ from aide_compare.base.escapes import shown
 from aide_compare.base.files import Replacement, copy_file
 from aide_compare.compare.unpack import given_descriptor
 
-STREAMS = {"/dev/stdout": 1, "/dev/stderr": 2}
+STREAMS = {"-": 1, "/dev/stdout": 1, "/dev/stderr": 2}
 PRIVATE = 0o600
 
 
 class Output:
     """The place that a path means. `begin` finds out before the work whether it can be written. A file is replaced in one
-    step, and only its owner may read it; /dev/stdout, /dev/stderr and /dev/fd/N are what the caller has opened."""
+    step, and only its owner may read it; -, /dev/stdout, /dev/stderr and /dev/fd/N are what the caller has opened."""
 
     def __init__(self, path, what):
         self.path, self.what, self.file = path, what, None

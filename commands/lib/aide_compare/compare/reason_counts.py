@@ -47,8 +47,11 @@ class ReasonCounts(namedtuple("ReasonCounts", KEYS + GRADE_KEYS, defaults=(0,) *
             return "%s, all explained" % counted(self.total, "change")
         parts = ["%d unexplained" % self.unexplained] if self.unexplained else []
         parts += ["%d not verified" % self.not_verified] if self.not_verified else []
-        severities = ["%d %s" % (count, name) for name, count in zip(SEVERITIES[:2], (self.high, self.medium)) if count]
-        return ", ".join([", ".join(parts) + " of %s" % counted(self.total, "change")] + severities)
+        return ", ".join([", ".join(parts) + " of %s" % counted(self.total, "change")] + self.severities())
+
+    def severities(self):
+        """As in "1 high", "3 medium"; low ones are not named."""
+        return ["%d %s" % (count, name) for name, count in zip(SEVERITIES[:2], (self.high, self.medium)) if count]
 
     def line(self):
         """As in "unexplained=3 not_verified=0 explained=509 high=1 medium=0 low=2", and after it the counts of the grades by

@@ -62,6 +62,10 @@ class Explainer:
         Parents(self.read, packages.owner_of if packages else lambda change: None).explain(changes)
         return self._weigh(changes)
 
+    def weigh(self, objects):
+        """The same changes, each with its severity only: no reason is looked for."""
+        return self._weigh([self._found(fields) for fields in objects])
+
     def _explain_derived(self, changes):
         """Explains what programs make of files that are verified by then."""
         Compiled(changes, self.read).explain()

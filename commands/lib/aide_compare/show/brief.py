@@ -49,6 +49,14 @@ class Reasons:
             yield "  same content in other folders: %s" % counted(rest, "file")
 
 
+def unjudged(changes, counts, read):
+    """The text if nobody has looked for reasons: all changes by their severity."""
+    listing = Listing(SEVERITIES)
+    for change in changes:
+        listing.add(change)
+    return "\n".join([", ".join([counted(counts.total, "change")] + counts.severities()), "", *listing.lines(read)]) + "\n"
+
+
 def brief(changes, counts, read):
     """The text. `read` gives what both databases say of a change. Entries that are unexplained are listed, and of those whose
     reason is not verified the ones of high severity; the others are counted by their reasons."""

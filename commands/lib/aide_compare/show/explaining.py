@@ -12,10 +12,11 @@ from aide_compare.lines.report_json import LineWriter
 from aide_compare.lines.report_lines import Lines, Refused
 from aide_compare.lines.report_parts import read_report
 from aide_compare.lines.report_written import Values
-from aide_compare.reasons.evidence import evidence_of
+from aide_compare.reasons.evidence import Evidence, evidence_of
 from aide_compare.reasons.explainer import Explainer, members_of
 from aide_compare.reasons.kept_records import SUFFIX, misfit
-from aide_compare.show.brief import brief
+from aide_compare.reasons.severity import Severity
+from aide_compare.show.brief import brief, unjudged
 
 BLOCK = 1 << 18
 MOST_CAME = 20
@@ -62,29 +63,32 @@ class Sources:
 
 
 class Wanted:
-    """What a run is asked to write beside its report: the places of --lines and --brief, and the Sources of --reasons, None
-    without this option. `made` is given each output."""
+    """What a run is asked for beside its report: the places of --json and --page, and the Sources of --reasons, None
+    without this option. `made` is given each output. `with_details`: all values are wanted. `weighs`: so are severities."""
 
-    def __init__(self, lines, brief, sources, made):
-        self.lines = made(Output(lines, "the lines").begin()) if lines else None
-        self.brief = made(Output(brief, "what people read first").begin()) if brief else None
-        self.sources = sources
+    def __init__(self, given, made, with_details, weighs):
+        self.lines = made(Output(given.json, "the lines").begin()) if given.json else None
+        self.page = made(Output(given.page, "the page").begin()) if given.page else None
+        self.sources = Sources(given) if given.reasons else None
+        self.with_details, self.weighs = with_details or bool(given.json or given.page), weighs
 
-    def explain(self, comparison, with_details):
+    def explain(self, comparison):
         """Explains a comparison and writes what is wanted. Returns the Explained, None if the changes are not explained."""
-        explained = explain(comparison, self.sources, with_details or self.lines is not None)
+        explained = explain(comparison, self.sources, self.with_details, self.weighs)
         if explained is None:
             self.write_nothing()
             return None
         if self.lines:
             self.lines.commit_copy(written(explained.lines()))
-        if self.brief:
-            self.brief.commit_copy(written([explained.brief()]))
+        if self.page:
+            from aide_compare.show.page import page
+
+            self.page.commit_copy(written(page(explained.lines(), None, is_plain=False)))
         return explained
 
     def write_nothing(self):
         """Without a comparison both files are empty, so that nobody reads those of an earlier one."""
-        for output in (self.lines, self.brief):
+        for output in (self.lines, self.page):
             if output:
                 output.commit_copy(nameless())
 
@@ -147,19 +151,21 @@ def evidence_lines(counts, came):
 
 
 class Explained:
-    """The entries of a comparison; and with `sources` the changes as the explainer has them, and their counts."""
+    """The entries of a comparison; with `sources` the changes as the explainer has them, and their counts; and if it `weighs`
+    the changes with their severity only."""
 
-    def __init__(self, comparison, sources, with_details):
+    def __init__(self, comparison, sources, with_details, weighs):
         self.entries, self.changes, self.counts = Entries(comparison, with_details), None, None
-        if sources is None:
+        if sources is None and not weighs:
             for _ in self.entries:
                 pass
             return
-        self.explainer = Explainer(comparison.compared["old"], comparison.compared["new"], sources.evidence(comparison))
-        self.changes = self.explainer.judge(self.entries)
-        self.counts = self.explainer.counts
-        if not self.counts.fits(sum(comparison.counts)):
+        evidence = sources.evidence(comparison) if sources else Evidence(None, Severity())
+        self.explainer = Explainer(comparison.compared["old"], comparison.compared["new"], evidence)
+        self.changes = (self.explainer.judge if sources else self.explainer.weigh)(self.entries)
+        if not self.explainer.counts.fits(sum(comparison.counts)):
             raise Fault(Status.DEVICE, "the counts of the reasons are not those of the report")
+        self.counts = self.explainer.counts if sources else None
         doubt = self.explainer.evidence.doubt()
         if doubt:
             comparison.doubts.append("what packages explain is not verified: %s" % doubt)
@@ -171,19 +177,21 @@ class Explained:
         return self.entries.lines(self.counts._asdict(), map(members_of, self.changes))
 
     def brief(self):
-        """The bytes of what people read first; nothing without reasons."""
-        if self.counts is None:
+        """The bytes of what people read first; nothing if the changes were not looked at."""
+        if self.changes is None:
             return b""
+        if self.counts is None:
+            return unjudged(self.changes, self.explainer.counts, self.explainer.read).encode("utf-8", "backslashreplace")
         first, _, rest = brief(self.changes, self.counts, self.explainer.read).partition("\n")
         lines = [first] + evidence_lines(self.counts, self.explainer.evidence.came())
         return ("\n".join(lines) + "\n" + rest).encode("utf-8", "backslashreplace")
 
 
-def explain(comparison, sources, with_details):
+def explain(comparison, sources, with_details, weighs=False):
     """The Explained of a comparison, which gets the ReasonCounts. None, and then a line says why the changes are not explained:
     the comparison stands as it is, and without reasons every change is an alarm."""
     try:
-        explained = Explained(comparison, sources, with_details)
+        explained = Explained(comparison, sources, with_details, weighs)
     except Refused as refused:
         why = "the report: %s" % refused
     except Exception as error:  # A fault in the search for reasons must not cost the alarm.

@@ -1,0 +1,24 @@
+"""Bugs in what a comparison prints and writes: which output standard output gets, and what people read first."""
+from .plant import seen_by
+
+LIB = "commands/lib/aide_compare/"
+RUN, EXPLAINING, OUTPUTS = LIB + "commands/run.py", LIB + "show/explaining.py", LIB + "compare/outputs.py"
+
+PLANTED = (
+    seen_by(
+        "explained.try_outputs",
+        (OUTPUTS, '"-": 1, ', ""),
+        (RUN, 'FORMATS, STDOUT = ("report", "brief"), ("-", "/dev/stdout", "/dev/fd/1")', 'FORMATS, STDOUT = ("report", "brief"), ("-",)'),
+        (RUN, "len(taken) + (given.format is not None) > 1", "len(taken) > 1"),
+        (EXPLAINING, "page(explained.lines(), None, is_plain=False)", "page(explained.lines(), None, is_plain=True)"),
+        (EXPLAINING, "for output in (self.lines, self.page):", "for output in (self.lines,):"),
+    )
+    + seen_by(
+        "explained.try_forms",
+        (EXPLAINING, "self.explainer.judge if sources else self.explainer.weigh", "self.explainer.judge"),
+        (RUN, "(self.form and not comparison.differs)", "False"),
+        (RUN, "(lambda text: None) if is_quiet else say", "say"),
+        (RUN, "None if taken or given.quiet else", "None if taken else"),
+    )
+    + seen_by("explained.try_no_reasons", (RUN, "            elif comparison.report is not None and", "            elif False and"))
+)
