@@ -80,7 +80,7 @@ def try_links(tally, folder):
         ("own/file/", "Not a directory"),
         ("own/file/x", "Not a directory"),
         ("own/fifo", "a FIFO"),
-        ("own", "a folder"),
+        ("own", "a directory"),
         ("none", "No such file"),
         ("group/link", "not followed"),
     ]
@@ -140,7 +140,7 @@ def try_replacements(tally, folder):
     os.umask(mask)
     expect(tally, "the modes of new folders", stat.S_IMODE(os.stat(folder + "/new").st_mode), 0o755)
     for name, status, part in (
-        ("own", 15, "is a folder"),
+        ("own", 15, "is a directory"),
         ("own/fifo", 18, "a FIFO"),
         ("own/short", 18, "a link"),
         ("group/state", 18, "other users"),
@@ -197,7 +197,7 @@ def try_rights(tally, _):
     os.setgroups(groups)
     for label, work, part in (
         ("a fault", lambda: files.open_regular("/etc/shadow"), "ermission denied"),
-        ("a fault, whose rights it had", lambda: files.open_regular("/etc/shadow"), " (with the rights of "),
+        ("a fault, whose rights it had", lambda: files.open_regular("/etc/shadow"), " (with the privileges of "),
         ("an error", lambda: 1 // 0, "division"),
         ("no answer", lambda: os._exit(0), "without an answer"),
         ("no end", lambda: time.sleep(60), "more than 1 seconds"),

@@ -106,7 +106,7 @@ def try_odd_room(sandbox):
     os.makedirs(sandbox.path("rooms"), exist_ok=True)
     text, left = room(sandbox, "odd")
     sandbox.holds(
-        "a file system without modes", text.startswith("18 cannot make a private folder in ") and not left, (text, left)
+        "a file system without modes", text.startswith("18 cannot make a private directory in ") and not left, (text, left)
     )
 
 

@@ -82,7 +82,7 @@ def try_files(sandbox):
     sandbox.expect(
         "a missing database", sandbox.call(TOOL, "missing", "new.db"), 18, b"", b"cannot open the old database missing: "
     )
-    sandbox.expect("a folder", sandbox.call(TOOL, "old.db", "."), 18, b"", b"cannot open the new database .: it is a folder")
+    sandbox.expect("a folder", sandbox.call(TOOL, "old.db", "."), 18, b"", b"cannot open the new database .: it is a directory")
     sandbox.expect(
         "the folder of a missing database", sandbox.call(TOOL, "old.db", "x/y"), 18, b"", b"cannot open the new database x/y: "
     )
@@ -108,7 +108,7 @@ def try_rooms(sandbox):
         sandbox.call(TOOL, "old.db", "new.db", environment={"TMPDIR": sandbox.path("missing")}),
         18,
         b"",
-        b"name another folder by TMPDIR",
+        b"name another directory by TMPDIR",
     )
     sandbox.expect(
         "a room by a relative name",

@@ -105,7 +105,7 @@ def try_order(sandbox):
     rest = names[len(roots) + 1 :]
     sandbox.holds("then those of others", rest[: len(others)] == others, rest)
     sandbox.holds("a folder that is counted", "  high    added    /home/anna/.ssh: 230 more files" in lines, lines[-20:])
-    sandbox.holds("folders that are not named", lines[-1] == "  high    and 31 more in 31 more folders", lines[-3:])
+    sandbox.holds("folders that are not named", lines[-1] == "  high    and 31 more in 31 more directories", lines[-3:])
 
 
 def try_folders(sandbox):
@@ -141,7 +141,7 @@ def try_folders(sandbox):
         "medium  added    /opt/x",
         "low     changed  /usr/local/bin",
         "low     changed  /srv",
-        "3 folders of what is listed changed too",
+        "3 directories of what is listed changed too",
     ]
     sandbox.holds("the lines of folders", got == wanted, got)
 

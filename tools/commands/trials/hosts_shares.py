@@ -130,7 +130,7 @@ def try_missing(sandbox, fleet, shares, workers):
     stores = stores_of(workers)
     os.rename(sandbox.path(stores[-1]), sandbox.path("away"))
     status, summary, hosts, _ = reported(fleet, stores, "--max-age", "0")
-    told = {name for name, host in hosts.items() if "its share is missing: there is no folder " in host.get("error", "")}
+    told = {name for name, host in hosts.items() if "its share is missing: there is no directory " in host.get("error", "")}
     want = {name for name in shares if shares[name] == workers}
     sandbox.holds("a missing store", status == 18 and told == want, (status, summary))
     os.rename(sandbox.path("away"), sandbox.path(stores[-1]))

@@ -350,7 +350,7 @@ def try_test_and_weekly(sandbox):
     sandbox.holds("the heartbeat of a single run", subject(sent(sandbox)) == SUBJECT + "no difference in 1 run")
     os.mkdir(sandbox.path("odd.state.quiet"))
     answer = call(sandbox, "old.db", "old.db", "--state", "odd.state", "--weekly", day)
-    sandbox.expect("a folder in the place of the number", answer, 18, b"", b"odd.state.quiet: it is a folder")
+    sandbox.expect("a folder in the place of the number", answer, 18, b"", b"odd.state.quiet: it is a directory")
     for label, number in (
         ("no time at all", 10**30),
         ("later than now, by a clock that was ahead", int(time.time()) + 86400),

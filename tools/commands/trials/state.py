@@ -108,7 +108,7 @@ def try_check_faults(sandbox):
     os.remove(good)
     check(sandbox, "no state", 3, "there is no state")
     os.makedirs(good)
-    check(sandbox, "a folder", 3, "it is a folder")
+    check(sandbox, "a folder", 3, "it is a directory")
     os.rmdir(good)
     os.mkfifo(good)
     check(sandbox, "a FIFO", 3, "it is a FIFO")

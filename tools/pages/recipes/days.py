@@ -178,7 +178,7 @@ def set_up(trial, page):
     # The package brings this file.
     trial.write("/etc/aide-compare/without", "")
     status, output, errors = page.run("first")
-    output = output.replace("a folder of root's", "a folder of _aide's")
+    output = output.replace("a directory of root's", "a directory of _aide's")
     trial.holds("the first recipe", status == 0 and not errors, (status, output, errors))
     return status, output, errors
 

@@ -20,7 +20,7 @@ MOST_TRIES = 100
 NO_TMPFILE = (errno.EOPNOTSUPP, errno.EISDIR, errno.EINVAL)
 NEW_FILE = os.O_CREAT | os.O_EXCL | os.O_RDWR | os.O_NOFOLLOW | os.O_CLOEXEC
 KINDS = (
-    (stat.S_ISDIR, "a folder"),
+    (stat.S_ISDIR, "a directory"),
     (stat.S_ISFIFO, "a FIFO"),
     (stat.S_ISSOCK, "a socket"),
     (stat.S_ISCHR, "a device"),
@@ -48,7 +48,7 @@ def open_regular(path, what=""):
         folder, file = walked(path)
         folder.close()
         if file is None:
-            raise failure(errno.EISDIR, "it is a folder")
+            raise failure(errno.EISDIR, "it is a directory")
         try:
             mode = os.fstat(file).st_mode
             if not stat.S_ISREG(mode):
@@ -103,7 +103,8 @@ def nameless(room=None):
             os.close(folder)
     except OSError as error:
         raise Fault(
-            Status.DEVICE, "cannot make a private file in %s: %s; name another folder by TMPDIR" % (shown(room), reason(error))
+            Status.DEVICE,
+            "cannot make a private file in %s: %s; name another directory by TMPDIR" % (shown(room), reason(error)),
         )
 
 
@@ -145,7 +146,7 @@ class Replacement:
     def _open(self):
         """Opens the folder, which is made if it is missing."""
         if not self.name or os.path.isdir(self.path):
-            raise Fault(Status.USAGE, "%s is a folder: %s" % (self.what, shown(self.path)))
+            raise Fault(Status.USAGE, "%s is a directory: %s" % (self.what, shown(self.path)))
         self.folder = open_folder(os.path.dirname(self.path) or ".", make=True)
 
     def commit(self, data):
@@ -181,7 +182,7 @@ class Replacement:
             except OSError as error:
                 raise Fault(Status.DEVICE, reason(error))
         if len(others) > 1 or ANYBODY in others or os.geteuid() != 0:
-            raise Fault(Status.DEVICE, "other users can write in its folder or above it")
+            raise Fault(Status.DEVICE, "other users can write in its directory or above it")
         from aide_compare.base.rights import with_rights_of
 
         return with_rights_of(min(others), work, keep=(self.folder.fd,) + tuple(keep))

@@ -143,4 +143,4 @@ def open_folder(path, make=False):
         folder.close()
         raise failure(errno.ENOTDIR)
     except OSError as error:
-        raise Fault(Status.DEVICE, "cannot open the folder %s: %s" % (shown(path), reason(error)))
+        raise Fault(Status.DEVICE, "cannot open the directory %s: %s" % (shown(path), reason(error)))

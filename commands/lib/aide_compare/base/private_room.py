@@ -97,7 +97,8 @@ class PrivateRoom:
             except OSError as error:
                 raise Fault(
                     Status.DEVICE,
-                    "cannot make a private folder in %s: %s; name another folder by TMPDIR" % (shown(path), reason(error)),
+                    "cannot make a private directory in %s: %s; name another directory by TMPDIR"
+                    % (shown(path), reason(error)),
                 )
         return self
 
@@ -112,7 +113,7 @@ class PrivateRoom:
         for _ in range(MOST_TRIES):
             if self._make():
                 return
-        raise failure(errno.EPERM, "a folder that is made there is not its maker's alone, or does not stay")
+        raise failure(errno.EPERM, "a directory that is made there is not its maker's alone, or does not stay")
 
     def _make(self):
         """Makes the folder and locks it; False, with nothing left, if that cannot be."""

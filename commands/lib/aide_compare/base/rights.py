@@ -37,7 +37,7 @@ def _become(uid, gid, groups):
         except PermissionError:
             continue
         if come_back is not os.setegid or gid != 0:
-            raise Fault(Status.DEVICE, "the rights of root cannot be given up")
+            raise Fault(Status.DEVICE, "the privileges of root cannot be given up")
 
 
 def give_up(user):
@@ -83,5 +83,5 @@ def with_rights_of(uid, work, seconds=60, keep=()):
         _become(uid, _group_of(uid), [])
         return work()
 
-    whose = "with the rights of %s" % name_of(uid)
+    whose = "with the privileges of %s" % name_of(uid)
     return in_child("the work " + whose, become_and_work, seconds, keep, " (%s)" % whose)

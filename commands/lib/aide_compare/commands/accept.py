@@ -20,7 +20,7 @@ DESCRIPTION = (
     "as BASELINE.previous."
 )
 EPILOG = """\
-If another user can write in the folder of BASELINE, or in one above it, all changes there are made with the rights of
+If another user can write in the directory of BASELINE, or in one above it, all changes there are made with the privileges of
 that user, and the new baseline belongs to him. A BASELINE that is a link is refused.
 
 Status: 0 NEW is the baseline; 15 bad arguments; 18 a file cannot be read or written; 22 out of memory; 24 refused: NEW

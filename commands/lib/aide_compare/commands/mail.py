@@ -66,10 +66,10 @@ def parser():
         choices=weekly.DAYS,
         help="with --state: mail a heartbeat on one day of the week (Mon)",
     )
-    add("--smtp", metavar="HOST[:PORT]", type=server, help="send by SMTP to this server in place of sendmail")
+    add("--smtp", metavar="HOST[:PORT]", type=server, help="send by SMTP to this server instead of sendmail")
     add("--mail-time", metavar="TIME", type=duration, default=SECONDS, help="how long sending may take (60s)")
-    add("--queue", metavar="FOLDER", type=some_text, help="keep the mail in this folder; --send-queue sends it")
-    add("--send-queue", metavar="FOLDER", type=some_text, help="compare nothing, and send the mails of this folder")
+    add("--queue", metavar="DIRECTORY", type=some_text, help="keep the mail in this directory; --send-queue sends it")
+    add("--send-queue", metavar="DIRECTORY", type=some_text, help="compare nothing, and send the mails of this directory")
     add("--unit-failed", metavar="NAME", type=unit, help="with --send-queue: mail first that this unit of systemd has failed")
     add("--user", metavar="NAME", type=some_text, help="drop privileges to this user first")
     add("--alarm-sent-is-success", action="store_true", help="end with 0 also after differences or errors that were mailed")

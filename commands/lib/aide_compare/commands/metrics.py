@@ -35,8 +35,8 @@ def main(arguments):
     options = parser(
         NAME,
         "Writes the result of the last comparison for the node exporter of Prometheus.",
-        epilog="A folder in which another user can write, as Debian's user prometheus can in its own, is\n"
-        "written with that user's rights.\n\n"
+        epilog="A directory in which another user can write, as Debian's user prometheus can in its own, is\n"
+        "written with that user's privileges.\n\n"
         "Status: 0 written; 15 bad arguments; 18 a file cannot be read or written.",
     )
     options.add_argument(

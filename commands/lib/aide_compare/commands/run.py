@@ -17,8 +17,8 @@ DESCRIPTION = "Compares two AIDE databases, plain or compressed by gzip. The rep
 TRY = "try: aide-compare compare --help"
 FORMATS, STDOUT = ("report", "brief"), ("-", "/dev/stdout", "/dev/fd/1")
 EPILOG = """Times are as in 90s, 15m, 26h or 3d; a plain number is seconds. Sizes are in bytes, or as in 500k, 20M or 1G.
-Where another user can write in the folder of the state file, or above it, it is written with that user's rights.
-Root compares with the rights of the user in whose folder the baseline is, unless --user names another one.
+Where another user can write in the directory of the state file, or above it, it is written with that user's privileges.
+Root compares with the privileges of the user in whose directory the baseline is, unless --user names another one.
 
 Status: that of aide-compare-program(8). 0 no difference, 1 to 7 differences, above 7 no comparison."""
 

@@ -190,7 +190,7 @@ class Machine:
                 lambda: put(WITHOUT, shipped("aide/debian.without")),
             )
         yield Step("options of each day: " + DEFAULTS, lambda: exists(DEFAULTS), lambda: put(DEFAULTS, self.defaults()))
-        yield Step("a folder of %s's: %s/%s" % (self.user.pw_name, OWN, DAILY), self.has_folder, self.make_folder)
+        yield Step("a directory of %s's: %s/%s" % (self.user.pw_name, OWN, DAILY), self.has_folder, self.make_folder)
         yield Step("the baseline %s, which takes minutes" % base, lambda: exists(base), self.make_baseline)
         for name in (self.baseline, self.new):
             what = "%s is %s's" % (os.path.join(DATABASES, name), self.user.pw_name)
@@ -240,7 +240,7 @@ def main(arguments):
         default="unexplained",
         help="mail what nothing explains, or all (unexplained)",
     )
-    parser.add_argument("--cron", action="store_true", help="a job of cron in place of the timer")
+    parser.add_argument("--cron", action="store_true", help="a job of cron instead of the timer")
     parser.add_argument("--no-mail", action="store_true", help="send no test mail")
     given = parser.parse(arguments)
     if not any(exists(ROOT + path) for path in CONFIGURATIONS):

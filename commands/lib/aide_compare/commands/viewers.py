@@ -25,7 +25,7 @@ def _opened(path):
     if not (number.isascii() and number.isdigit() and len(number) < 8):
         return open(open_regular(path), "rb", buffering=BLOCK)
     if stat.S_ISDIR(os.fstat(int(number)).st_mode):
-        raise Fault(Status.DEVICE, "cannot read %s: it is a folder" % shown(path))
+        raise Fault(Status.DEVICE, "cannot read %s: it is a directory" % shown(path))
     return open(int(number), "rb", buffering=BLOCK, closefd=False)
 
 

@@ -55,16 +55,16 @@ class Baseline:
         if not folder.others:
             return None
         if ANYBODY in folder.others or len(folder.others) > 1:
-            raise self.fault("more than one user can write in its folder, or above it; only its owner should")
+            raise self.fault("more than one user can write in its directory, or above it; only its owner should")
         if os.geteuid() != 0:
-            raise self.fault("its folder, or one above it, belongs to another user; run this as that user or as root")
+            raise self.fault("its directory, or one above it, belongs to another user; run this as that user or as root")
         return min(folder.others)
 
     def _opened(self, folder):
         try:
             return os.open(".", os.O_RDONLY | os.O_DIRECTORY | os.O_CLOEXEC, dir_fd=folder.fd)
         except OSError as error:
-            raise self.fault("its folder cannot be read: %s" % reason(error))
+            raise self.fault("its directory cannot be read: %s" % reason(error))
 
     def _lock(self):
         """Waits for another run, but not for ever: the owner of the folder could keep the lock."""
@@ -74,10 +74,10 @@ class Baseline:
                 return fcntl.flock(self.folder, fcntl.LOCK_EX | fcntl.LOCK_NB)
             except BlockingIOError:
                 if time.monotonic() > limit:
-                    raise self.fault("its folder has been locked by another process for %d seconds" % SECONDS_FOR_LOCK)
+                    raise self.fault("its directory has been locked by another process for %d seconds" % SECONDS_FOR_LOCK)
                 time.sleep(0.02)
             except OSError as error:
-                raise self.fault("its folder cannot be locked: %s" % reason(error))
+                raise self.fault("its directory cannot be locked: %s" % reason(error))
 
     def _find(self):
         try:

@@ -27,7 +27,7 @@ class Handed(BaseException):
         """The status with which the child ends; a Fault if it is none of a comparison."""
         status = os.waitstatus_to_exitcode(os.waitpid(self.child, 0)[1])
         if status not in KNOWN:
-            raise Fault(Status.DEVICE, "the comparison with the rights of %s ended with %d" % (name_of(self.owner), status))
+            raise Fault(Status.DEVICE, "the comparison with %s's privileges ended with %d" % (name_of(self.owner), status))
         return status
 
 
@@ -76,7 +76,7 @@ class Later:
         except (ValueError, KeyError):
             state = None
         if state is None or state.status != status:
-            raise Fault(Status.DEVICE, "the comparison with the rights of another user left no whole result")
+            raise Fault(Status.DEVICE, "the comparison with the privileges of another user left no whole result")
         return state
 
 
@@ -120,6 +120,5 @@ class Handing:
 
     def hint(self):
         """Why a file may be closed to root's own comparison."""
-        return "this was done with the rights of %s, whose folder the baseline is in; --user root keeps root's" % name_of(
-            self.owner
-        )
+        words = "this was done with the privileges of %s, whose directory the baseline is in; --user root keeps root's"
+        return words % name_of(self.owner)

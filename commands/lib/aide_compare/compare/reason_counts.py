@@ -9,8 +9,9 @@ GRADE_KEYS = tuple("explained_" + grade for grade in GRADES)
 
 
 def counted(number, word):
-    """A number and a word, which gets an s unless the number is 1."""
-    return "%d %s%s" % (number, word, "" if number == 1 else "s")
+    """A number and a word, which is in the plural unless the number is 1."""
+    plural = word[:-1] + "ies" if word.endswith("y") else word + "s"
+    return "%d %s" % (number, word if number == 1 else plural)
 
 
 class ReasonCounts(namedtuple("ReasonCounts", KEYS + GRADE_KEYS, defaults=(0,) * len(GRADES))):

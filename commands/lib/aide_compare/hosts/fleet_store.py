@@ -51,7 +51,7 @@ def _make(path, mode):
     except FileExistsError:
         pass
     except OSError as error:
-        raise Fault(Status.DEVICE, "cannot make the folder %s: %s" % (path, reason(error)))
+        raise Fault(Status.DEVICE, "cannot make the directory %s: %s" % (path, reason(error)))
 
 
 class Part:

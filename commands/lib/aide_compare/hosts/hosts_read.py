@@ -125,7 +125,7 @@ def read_host(name, store, given, take):
     try:
         check_name(name)
         if not os.path.isdir(store):
-            return Host(name, Status.DEVICE, "its share is missing: there is no folder %s" % shown(store))
+            return Host(name, Status.DEVICE, "its share is missing: there is no directory %s" % shown(store))
         if not os.path.lexists("%s/hosts/%s" % (store, name)):
             return Host(name, Status.DEVICE, "was never compared")
         place = Place(store, name)

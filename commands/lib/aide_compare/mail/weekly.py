@@ -35,7 +35,7 @@ def count(state, day, explained, send):
     changes += explained
     is_day = DAYS[time.localtime(now).tm_wday] == day and time.localtime(now)[:3] != time.localtime(sent)[:3]
     if os.path.isdir(path):
-        raise Fault(Status.DEVICE, "cannot write the number of quiet runs in %s: it is a folder" % shown(path))
+        raise Fault(Status.DEVICE, "cannot write the number of quiet runs in %s: it is a directory" % shown(path))
     file = Replacement(path, what="the number of quiet runs in").begin()
     try:
         if is_day or (sent and now - sent > 7 * 86400):

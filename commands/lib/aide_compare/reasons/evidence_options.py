@@ -21,7 +21,7 @@ def add_evidence_options(parser):
     )
     parser.add_argument(
         "--archive",
-        metavar="FOLDER",
+        metavar="DIRECTORY",
         action="append",
         default=[],
         type=some_text,

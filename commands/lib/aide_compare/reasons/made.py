@@ -84,7 +84,7 @@ class Made:
         if not self.names:
             return None
         if old is None and self._is_kept(change.path, new):
-            return made_by("in a folder of a changed package")
+            return made_by("in a directory of a changed package")
         reason = self._explain(change, old, new, differ)
         if reason and change.path.startswith(ALTERNATIVES):
             self.alternatives.add(change.path)

@@ -74,7 +74,7 @@ class Rest:
             yield "%-7s  %s: %s" % (kind, shown(folder, MOST_PATHS[1]), more(count, (folder, kind) in self.others))
         rest = most[MOST_FOLDERS:]
         if rest:
-            yield "and %d more in %d more folders" % (
+            yield "and %d more in %d more directories" % (
                 sum(count for _, count in rest),
                 len({folder for (folder, _), _ in rest}),
             )
@@ -106,7 +106,7 @@ class Listing:
                 for line in group_lines(in_order(found, folders), shares, folders):
                     yield "  %-6s  %s" % (severity, line)
         if folders.count:
-            yield "  %s of what is listed changed too" % counted(folders.count, "folder")
+            yield "  %s of what is listed changed too" % counted(folders.count, "directory")
 
 
 class Folders:
