@@ -1,8 +1,8 @@
 #!/bin/sh
 # Compares the hosts of a file as an array of jobs in Slurm, on any nodes; each job fetches, compares and keeps its own share:
 #     sbatch --array=1-10 compare.sbatch /etc/aide-compare/hosts
-# All nodes need the programs, the file of hosts, the key and this folder, on a file system that they share. A share is always
-# in the same folder below it, whichever node takes it, so the number of jobs stays the same from night to night.
+# All nodes need the programs, the file of hosts, the key and this directory, on a file system that they share. A share is always
+# in the same directory below it, whichever node takes it, so the number of jobs stays the same from night to night.
 # A job's exit code is the greatest status of its hosts: sacct --format=JobID,ExitCode has it before the colon.
 #SBATCH --job-name=aide-compare
 #SBATCH --output=/var/log/aide-compare/%A_%a.log
