@@ -61,7 +61,7 @@ PLANTED = (
     )
     + seen_by(
         "viewers.try_views",
-        (LIB + "show/page_view.py", 'seen.path.startswith(self.folder + "/")', "seen.path.startswith(self.folder)"),
+        (LIB + "show/page_view.py", 'seen.path.startswith(self.directory + "/")', "seen.path.startswith(self.directory)"),
         (LIB + "show/page_view.py", "-abs(seen.growth)", "-seen.growth"),
     )
     + seen_by(

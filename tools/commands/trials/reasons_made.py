@@ -34,7 +34,7 @@ def try_made_links(sandbox):
             ("a script of no package", b"/etc/rc2.d/K01alien"): "-",
             ("a file beside such links", b"/etc/rc2.d/S09text"): "-",
             ("a link without a target", b"/etc/alternatives/none"): "-",
-            ("a folder of compiled files", LIB + b"__pycache__"): "folder databases",
+            ("a folder of compiled files", LIB + b"__pycache__"): "directory databases",
             ("such a folder in one of no package", b"/usr/lib/alien/__pycache__"): "-",
             ("such a folder that went", LIB + b"gone/__pycache__"): MADE,
             ("such a folder that went, of no package", b"/usr/lib/other/__pycache__"): "-",
@@ -103,7 +103,7 @@ def try_new_folders(sandbox):
         sandbox,
         {
             ("a new folder with something that nothing explains", b"/srv/html"): "-",
-            ("a new folder with a file of a package", b"/srv/own"): "folder databases!",
+            ("a new folder with a file of a package", b"/srv/own"): "directory databases!",
             ("a new folder with nothing", b"/srv/none"): "-",
             ("a new folder that a group can write", b"/srv/open"): "-",
             ("a new folder of a user", b"/srv/given"): "-",
@@ -139,7 +139,7 @@ def try_kept(sandbox):
             ("a folder of a package that did not change", b"/var/lib/other/body"): "-",
             ("a folder in another place", b"/srv/web/body"): "-",
             ("a file in the place of a folder", b"/var/lib/web/file"): "-",
-            ("a new folder with what is verified", b"/usr/share/web"): "folder databases!",
+            ("a new folder with what is verified", b"/usr/share/web"): "directory databases!",
             ("a new folder with something of no package", b"/usr/share/more"): "-",
         },
     )
@@ -158,9 +158,9 @@ def try_jail(sandbox):
         sandbox,
         {
             ("a link with the same target", b"/var/spool/jail/good/a"): "same_content databases!",
-            ("its folder", b"/var/spool/jail/good"): "folder databases!",
+            ("its folder", b"/var/spool/jail/good"): "directory databases!",
             ("a link with another target", b"/var/spool/jail/bad/a"): "-",
             ("the folder of such a link", b"/var/spool/jail/bad"): "-",
-            ("a folder with a file of a weak digest", b"/var/spool/jail/weak"): "folder databases",
+            ("a folder with a file of a weak digest", b"/var/spool/jail/weak"): "directory databases",
         },
     )

@@ -4,8 +4,8 @@ import os
 from .reasons_host import ANF, LOG, NO_COUNTS, Entry, Host
 from .sandbox import HERE
 
-MADE, FOLDER, RULE = "package_made dpkg", "folder databases!", "rule rules"
-NOT_ALL = "folder databases"
+MADE, FOLDER, RULE = "package_made dpkg", "directory databases!", "rule rules"
+NOT_ALL = "directory databases"
 ONE, TWO = b"one", b"two"
 LIB = b"/usr/lib/python3/"
 
@@ -111,7 +111,7 @@ def try_folders(sandbox):
     host.new.entries[b"/srv/alien/file"].values["inode"] = 41
     host.old.package("tool", "1", listed=[b"/srv/own"])
     host.new.package("tool", "2", files, listed=[b"/srv/own", b"/srv/deep/in"])
-    for name, want in zip(names, (FOLDER, "-", NOT_ALL, "-", "-", FOLDER, "folder dpkg", "-", FOLDER)):
+    for name, want in zip(names, (FOLDER, "-", NOT_ALL, "-", "-", FOLDER, "directory dpkg", "-", FOLDER)):
         wanted["a folder, " + name.decode(), b"/srv/" + name] = want
     wanted["a new folder with an alien file", b"/srv/deep/in"] = "package dpkg!"
     host.expect(sandbox, wanted)
@@ -130,7 +130,7 @@ def try_folders(sandbox):
     table.old.folder(never, inode=50)
     table.new.folder(never, inode=50, **later).packages["tool"][4].append(never)
     wanted = {
-        ("an index of names", b"/srv/own"): "folder dpkg",
+        ("an index of names", b"/srv/own"): "directory dpkg",
         ("another flag", b"/srv/flag"): "-",
         ("flags that are no number", b"/srv/odd"): "-",
         ("a removed folder", b"/srv/gone"): "-",

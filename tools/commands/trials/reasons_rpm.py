@@ -213,7 +213,7 @@ def try_links(sandbox):
     wanted["a file that is a link now", b"/usr/lib/type"] = "-"
     wanted["a new folder", b"/usr/share/new"] = BY_RPM
     wanted["a new folder with another mode", b"/usr/share/open"] = "-"
-    wanted["a folder with another time", b"/usr/share/times"] = "folder rpm"
+    wanted["a folder with another time", b"/usr/share/times"] = "directory rpm"
     wanted["a folder that is a file at rpm", b"/usr/share/file"] = "-"
     for path, inode, want in ((b"/usr/bin/perl", 70, BY_RPM), (b"/usr/bin/perl5", 70, BY_RPM), (b"/usr/bin/half", 71, "-")):
         upgrade.case("two names", want, path, before={"lcount": 2}, after={"inode": inode, "lcount": 2})

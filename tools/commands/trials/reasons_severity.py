@@ -50,7 +50,7 @@ FITS = {
     "new-world-writable": OPENED,
     "executable": SET_ID | {"new program", "gone program", "gone set-ID", "set-ID", "loses set-ID"},
     "file": CHANGES.keys() - FOLDERS - LINKS,
-    "folder": FOLDERS,
+    "directory": FOLDERS,
     "link": LINKS,
     "type": TYPES,
     "mode": TYPES | OPENED | {"narrower", "gains set-ID", "gains more", "loses set-ID", "group of a folder", "sticky folder"},

@@ -8,7 +8,7 @@ TEXTS = {
     b"/usr/bin/same": "tool 1:2, same content as before",
     b"/usr/bin/went": "gone with tool 1",
     b"/usr/lib/made": "tool 1:2",
-    b"/usr/lib/inner": "a folder of tool 1:2, only its times or size changed",
+    b"/usr/lib/inner": "a directory of tool 1:2, only its times or size changed",
     b"/usr/lib/to-a": "tool 1:2",
     b"/usr/lib/kept": "tool 1:2, same target as before",
     b"/usr/lib/away": "made by packages, not verified: a link of tool 1:2",

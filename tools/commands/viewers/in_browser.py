@@ -173,7 +173,7 @@ def try_address(browser, path, tally):
             ["not explained", "added"],
         ),
     )
-    browser.value("location.hash = 'folder=/etc&page=1'")
+    browser.value("location.hash = 'directory=/etc&page=1'")
     tally.add("another address", wait_for(browser, FOUND.replace(".textContent", ".textContent.slice(0, 2)"), "4 "))
 
 

@@ -5,7 +5,7 @@ from aide_compare.reasons.entries import DIGESTS, TIMES, differences
 
 KINDS = {
     stat.S_IFREG: "file",
-    stat.S_IFDIR: "folder",
+    stat.S_IFDIR: "directory",
     stat.S_IFLNK: "link",
     stat.S_IFIFO: "FIFO",
     stat.S_IFSOCK: "socket",

@@ -188,7 +188,7 @@ class Packages:
         """The reason for a folder of a changed package in which no name changed: dpkg writes new files beside the old ones."""
         owners = self.known.now.get(change.path)
         return (
-            Reason("folder", "a folder of %s, only its times or size changed" % words_of(owners[-1]), False, "dpkg")
+            Reason("directory", "a directory of %s, only its times or size changed" % words_of(owners[-1]), False, "dpkg")
             if owners
             else None
         )

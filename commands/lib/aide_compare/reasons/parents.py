@@ -2,14 +2,14 @@
 from aide_compare.reasons.entries import NAMES, differences
 from aide_compare.reasons.reason import Reason
 
-VERIFIED = Reason("folder", "all that came, went or was replaced in it is explained", True, "databases")
+VERIFIED = Reason("directory", "all that came, went or was replaced in it is explained", True, "databases")
 NOT_VERIFIED = Reason(
-    "folder", "all that came, went or was replaced in it is explained, not all of it verified", False, "databases"
+    "directory", "all that came, went or was replaced in it is explained, not all of it verified", False, "databases"
 )
-ANEW = Reason("folder", "made anew; all that is in it is explained", True, "databases")
-ANEW_NOT_VERIFIED = Reason("folder", "made anew; all that is in it is explained, not all of it verified", False, "databases")
-NEW = Reason("folder", "new; all that is in it is explained", True, "databases")
-NEW_NOT_VERIFIED = Reason("folder", "new; all that is in it is explained, not all of it verified", False, "databases")
+ANEW = Reason("directory", "made anew; all that is in it is explained", True, "databases")
+ANEW_NOT_VERIFIED = Reason("directory", "made anew; all that is in it is explained, not all of it verified", False, "databases")
+NEW = Reason("directory", "new; all that is in it is explained", True, "databases")
+NEW_NOT_VERIFIED = Reason("directory", "new; all that is in it is explained, not all of it verified", False, "databases")
 # The one bit of the file system's attributes that a folder gets by having many names: its index.
 INDEX = 0x1000
 

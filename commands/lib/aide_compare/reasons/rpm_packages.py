@@ -115,8 +115,8 @@ class RpmPackages:
         files = [file for file in self._files(change) if stat.S_ISDIR(file.mode)]
         if not files:
             return None
-        text = "a folder of %s, only its times or size changed" % words_of(files[-1].package)
-        return Reason("folder", text, False, "rpm")
+        text = "a directory of %s, only its times or size changed" % words_of(files[-1].package)
+        return Reason("directory", text, False, "rpm")
 
 
 def _capabilities(text):

@@ -44,7 +44,7 @@ TESTS = {
     "new-world-writable": lambda old, new: is_open(new) and not is_open(old),
     "executable": lambda old, new: any(stat.S_ISREG(mode) and mode & RUN_BITS for mode in (old, new)),
     "file": lambda old, new: stat.S_ISREG(new or old),
-    "folder": lambda old, new: stat.S_ISDIR(new or old),
+    "directory": lambda old, new: stat.S_ISDIR(new or old),
     "link": lambda old, new: stat.S_ISLNK(new or old),
     "type": lambda old, new: bool(old and new) and stat.S_IFMT(old) != stat.S_IFMT(new),
     "mode": lambda old, new: bool(old and new) and old != new,

@@ -9,7 +9,7 @@ MOST_REASONS, MOST_FOLDERS = 40, 10
 MOST_TEXT = 200
 
 # Reasons of these classes differ from change to change, so that they are counted together.
-TOGETHER = {"package_made": "made by packages", "folder": "folders", "moved": "moved to another name"}
+TOGETHER = {"package_made": "made by packages", "directory": "directories", "moved": "moved to another name"}
 
 
 def group_of(reason):
@@ -46,7 +46,7 @@ class Reasons:
             yield "  %s: %s, %s, %s" % (shown(folder, MOST_TEXT), counted(count, "file"), text, how)
         rest = sum(count for _, count in listed[MOST_FOLDERS:])
         if rest:
-            yield "  same content in other folders: %s" % counted(rest, "file")
+            yield "  same content in other directories: %s" % counted(rest, "file")
 
 
 def unjudged(changes, counts, read):

@@ -5,13 +5,13 @@ function askedWords() {
     .map((name) => name + ' ' + choices[name].filter((word, place) => view[name].has(place)).join(' or ').replace('_', ' '));
   if (view.reason.size) words.push('reason ' + [...view.reason].join(' or '));
   if (view.path) words.push('path with \u201c' + view.path + '\u201d');
-  if (view.folder) words.push('in ' + view.folder + '/');
+  if (view.directory) words.push('in ' + view.directory + '/');
   return words.join(', ');
 }
 
 function showCounts(pages) {
   find('found').textContent = (matching.length === entries.length ? entriesOf(entries.length)
-    : number(matching.length) + ' of ' + entriesOf(entries.length)) + (view.folder ? ' in ' + view.folder + '/' : '');
+    : number(matching.length) + ' of ' + entriesOf(entries.length)) + (view.directory ? ' in ' + view.directory + '/' : '');
   find('asked').textContent = askedWords() ? 'Only entries with: ' + askedWords() + '.' : '';
   find('clear').hidden = !askedWords();
   find('pager').hidden = pages === 1;
@@ -54,7 +54,7 @@ function change(what, isFilter = true) {
   filter();
   if (isFilter) showTree();
   for (const item of find('tree').querySelectorAll('[data-node]')) {
-    item.setAttribute('aria-selected', String(view.folder !== '' && pathOf(Number(item.dataset.node)) === view.folder));
+    item.setAttribute('aria-selected', String(view.directory !== '' && pathOf(Number(item.dataset.node)) === view.directory));
   }
   for (const button of document.querySelectorAll('.choices button')) button.show();
   write();
@@ -163,7 +163,7 @@ function readAddress() {
   if (text === 'content' || text === written) return;
   view = viewOf(text, choices);
   find('search').value = view.path;
-  if (view.folder && nodeAt(view.folder) < 0) view.folder = '';
+  if (view.directory && nodeAt(view.directory) < 0) view.directory = '';
   const { page } = view;
   change({ page });
 }
@@ -208,7 +208,7 @@ async function begin() {
   makeFilters();
   view = viewOf(location.hash.slice(1) || data.state || (entries.length <= FEW ? 'values=shown' : ''), choices);
   find('search').value = view.path;
-  if (view.folder && nodeAt(view.folder) < 0) view.folder = '';
+  if (view.directory && nodeAt(view.directory) < 0) view.directory = '';
   filter();
   for (let first = shownChildren(0); first.length === 1 && !first[0].leaf && opened.size < DEEP;
     first = shownChildren(first[0].node)) opened.add(first[0].node);

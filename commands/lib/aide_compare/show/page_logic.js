@@ -13,14 +13,14 @@ function choicesOf(attributes) {
 
 // A view from its text. A filter without choices takes every entry; several choices take what has one of them.
 function viewOf(text, choices) {
-  const view = { reason: new Set(), path: '', folder: '', order: '', page: 1, values: '' };
+  const view = { reason: new Set(), path: '', directory: '', order: '', page: 1, values: '' };
   for (const name of Object.keys(choices)) view[name] = new Set();
   for (const [name, value] of new URLSearchParams(text)) {
     if (Object.hasOwn(choices, name)) {
       for (const word of value.split(',')) if (choices[name].includes(word)) view[name].add(choices[name].indexOf(word));
     } else if (name === 'reason' && value) {
       view.reason.add(value);
-    } else if ((name === 'path' || name === 'folder') && value) {
+    } else if ((name === 'path' || name === 'directory') && value) {
       view[name] = value;
     } else if (name === 'order' && ORDERS.includes(value)) {
       view.order = value;
@@ -41,7 +41,7 @@ function textOf(view, choices) {
     if (words.length) parts.append(name, words.join(','));
   }
   for (const reason of [...view.reason].sort()) parts.append('reason', reason);
-  for (const name of ['path', 'folder', 'order']) if (view[name]) parts.append(name, view[name]);
+  for (const name of ['path', 'directory', 'order']) if (view[name]) parts.append(name, view[name]);
   if (view.page > 1) parts.append('page', view.page);
   if (view.values) parts.append('values', view.values);
   return parts.toString().replaceAll('%2C', ',').replaceAll('%2F', '/').replaceAll('%3A', ':');
@@ -60,7 +60,7 @@ function fits(view, folded, entry) {
     && (!view.attribute.size || hasOne(view.attribute, entry.attributes))
     && (!view.reason.size || view.reason.has(entry.reason))
     && (!folded || entry.folded.includes(folded))
-    && (!view.folder || entry.path === view.folder || entry.path.startsWith(view.folder + '/'));
+    && (!view.directory || entry.path === view.directory || entry.path.startsWith(view.directory + '/'));
 }
 
 // The numbers by which an order compares entries, the first one first; entries that are equal in them stay in path order.

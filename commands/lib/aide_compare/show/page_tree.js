@@ -38,7 +38,7 @@ const total = (node) => counts[3 * node] + counts[3 * node + 1] + counts[3 * nod
 
 // Counts what fits, folder by folder, and keeps what is in the chosen folder, in the chosen order.
 function filter() {
-  const folded = view.path.toLowerCase(), everywhere = { ...view, folder: '' };
+  const folded = view.path.toLowerCase(), everywhere = { ...view, directory: '' };
   const order = view.order || (data.hasReasons ? 'importance' : 'path');
   const fitting = inOrder(order).filter((entry) => fits(everywhere, folded, entry));
   counts = new Uint32Array(3 * nodes.length);
@@ -53,7 +53,7 @@ function filter() {
     for (let kind = 0; kind < 3; kind += 1) counts[3 * parent + kind] += counts[3 * node + kind];
     if (total(node)) below[parent] += 1;
   }
-  matching = view.folder ? fitting.filter((entry) => fits(view, folded, entry)) : fitting;
+  matching = view.directory ? fitting.filter((entry) => fits(view, folded, entry)) : fitting;
   shownOrder = order;
 }
 
@@ -118,7 +118,7 @@ function treeItem(label) {
 function folderItem({ node, name, leaf }, whole, waiting) {
   const item = treeItem(name + ', ' + wordsOf(node)), row = make('div', 'folder');
   item.dataset.node = node;
-  item.setAttribute('aria-selected', String(view.folder !== '' && pathOf(node) === view.folder));
+  item.setAttribute('aria-selected', String(view.directory !== '' && pathOf(node) === view.directory));
   row.append(make('span', leaf ? '' : 'fold'), make('code', '', name), bar(node, whole), numbers(node));
   item.append(row);
   if (!leaf) {
@@ -142,8 +142,8 @@ function fillOne(waiting, list, node, from = 0) {
   children.slice(from, from + CHILDREN).forEach((child) => list.append(folderItem(child, whole, waiting)));
   const left = children.length - from - CHILDREN;
   if (left > 0) {
-    const more = treeItem(number(left) + ' more folders');
-    more.append(make('div', 'folder more', number(left) + ' more folders'));
+    const more = treeItem(number(left) + ' more directories');
+    more.append(make('div', 'folder more', number(left) + ' more directories'));
     more.more = () => {
       more.remove();
       fill(list, node, from + CHILDREN);
@@ -168,7 +168,7 @@ function choose(item) {
     return;
   }
   const path = pathOf(Number(item.dataset.node));
-  change({ folder: view.folder === path ? '' : path }, false);
+  change({ directory: view.directory === path ? '' : path }, false);
 }
 
 // One element of the tree, or of a row of buttons, is reached by the tabulator: the one that had the focus last.

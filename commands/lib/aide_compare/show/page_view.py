@@ -30,7 +30,7 @@ def fault_of(text):
     """The part of a view's text that means nothing; None if all has a meaning."""
     for name, value in parse_qsl(text, keep_blank_values=True):
         words = value.split(",") if name in CHOICES else [value]
-        known = CHOICES.get(name, ORDERS if name == "order" else words if name in ("reason", "path", "folder") else ())
+        known = CHOICES.get(name, ORDERS if name == "order" else words if name in ("reason", "path", "directory") else ())
         if not value or not all(word in known for word in words):
             return "%s=%s" % (name, value)
     return None if not text or "=" in text else text
@@ -41,13 +41,13 @@ class View:
 
     def __init__(self, text=""):
         self.choices = {name: set() for name in CHOICES}
-        self.reasons, self.path, self.folder, self.order = set(), "", "", ""
+        self.reasons, self.path, self.directory, self.order = set(), "", "", ""
         for name, value in parse_qsl(text):
             if name in CHOICES:
                 self.choices[name].update(CHOICES[name].index(word) for word in value.split(",") if word in CHOICES[name])
             elif name == "reason":
                 self.reasons.add(value)
-            elif name in ("path", "folder"):
+            elif name in ("path", "directory"):
                 setattr(self, name, value)
             elif name == "order" and value in ORDERS:
                 self.order = value
@@ -60,7 +60,7 @@ class View:
             if places
         ]
         parts += [("reason", reason) for reason in sorted(self.reasons)]
-        parts += [(name, getattr(self, name)) for name in ("path", "folder", "order") if getattr(self, name)]
+        parts += [(name, getattr(self, name)) for name in ("path", "directory", "order") if getattr(self, name)]
         return "&".join("%s=%s" % (name, quoted(value)) for name, value in parts)
 
     def fits(self, seen):
@@ -72,7 +72,7 @@ class View:
             and (not attributes or not attributes.isdisjoint(seen.attributes))
             and (not self.reasons or seen.reason in self.reasons)
             and self.path.lower() in seen.path.lower()
-            and (not self.folder or seen.path == self.folder or seen.path.startswith(self.folder + "/"))
+            and (not self.directory or seen.path == self.directory or seen.path.startswith(self.directory + "/"))
         )
 
     def ordered(self, entries):
