@@ -9,7 +9,7 @@ from .sandbox import NOBODY, OLD
 MODULE, TOOL = "lib/aide_compare/commands/setup.py", "aide-compare setup"
 DATABASES, DAILY = "root/var/lib/aide/", "root/var/lib/aide-compare/daily"
 STUBS = {
-    "aideinit": 'cp "%s" "%s"',
+    "aideinit": 'cp "%s" "%s"; echo aideinit >> "%s"',
     "systemctl": 'echo "$*" >> "%s"; [ "$1" != is-enabled ] || grep -q "^enable --now" "%s"',
     "aide-compare": '[ "$1" = mail ] || : > "$3.packages"; echo "$*" >> "%s"',
 }
@@ -26,7 +26,7 @@ def prepare(sandbox, systemd=True):
     sandbox.write("contrib/aide/debian.without", "/var/log\n")
     sandbox.write("contrib/cron/aide-compare.cron.daily", "#!/bin/sh\n")
     calls = sandbox.path("calls/log")
-    places = {"aideinit": (sandbox.path("old.db"), sandbox.path(DATABASES + "aide.db")), "systemctl": (calls, calls)}
+    places = {"aideinit": (sandbox.path("old.db"), sandbox.path(DATABASES + "aide.db"), calls), "systemctl": (calls, calls)}
     for name, body in STUBS.items():
         sandbox.stub(name, body % places.get(name, (calls,)))
     os.chown(sandbox.path("root/var/lib/aide"), NOBODY, NOBODY)
@@ -68,7 +68,7 @@ def try_steps(sandbox):
     sandbox.holds("--dry-run changes nothing", made(sandbox)[0] == before, made(sandbox))
     sandbox.expect("setup --check, before", sandbox.call(TOOL, "--check"), 18, [b"missing: the baseline", b"6 things"], b"")
     done = sandbox.call(TOOL, "--to", "a@example.org")
-    sandbox.expect("setup", done, 0, [b"4. the baseline"], b"")
+    sandbox.expect("setup", done, 0, [b"4. the timer", b"5. the baseline"], b"")
     found, calls = made(sandbox)
     for name, owner in ((DATABASES + "aide.db", NOBODY), (DAILY, NOBODY), ("root/etc/aide-compare/without", 0)):
         sandbox.holds("the owner of " + name, found.get(name[len("root/") :]) == owner, found)
@@ -77,9 +77,11 @@ def try_steps(sandbox):
         "the defaults", all(line in text for line in (b"\n--reasons\n", b"--to a@example.org\n", b"--alarm unexplained\n"))
     )
     sandbox.holds(
-        "a mail last", calls[-1:] == ["mail --test --user %s --to=a@example.org" % pwd.getpwuid(NOBODY).pw_name], calls
+        "a mail, and then the baseline",
+        calls[-3:-1] == ["mail --test --user %s --to=a@example.org" % pwd.getpwuid(NOBODY).pw_name, "aideinit"],
+        calls,
     )
-    sandbox.holds("the timer is on", "enable --now aide-compare.timer" in calls, calls)
+    sandbox.holds("the timer is on before", "enable --now aide-compare.timer" in calls[:-3], calls)
     sandbox.expect("setup --check, after", sandbox.call(TOOL, "--check"), 0, b"nothing is missing", b"")
     sandbox.write("root/etc/aide-compare/defaults", "--reasons\n")
     sandbox.expect("setup again, for root's mail", sandbox.call(TOOL), 0, b"a test mail\n", b"")
@@ -138,6 +140,10 @@ def try_hostile(sandbox):
 
 
 def try_failures(sandbox):
+    sandbox.stub("aide-compare", "exit 18")
+    done = sandbox.call(TOOL)
+    sandbox.expect("no mail system", done, 18, None, b"was not sent; install a mail system, or go on with --no-mail\n")
+    sandbox.stub("aide-compare", "exit 0")
     sandbox.stub("aideinit", "exit 3")
     sandbox.expect("aideinit fails", sandbox.call(TOOL), 18, None, b"aideinit ended with status 3\n")
     sandbox.write(DATABASES + "aide.db", OLD)

@@ -91,10 +91,10 @@ def answers(words):
 
 
 class Step:
-    """A step: `what` it makes, whether that `is_done`, and how it is made."""
+    """A step: `what` it makes, whether that `is_done`, how it is made, and what comes after it each time."""
 
-    def __init__(self, what, is_done, make):
-        self.what, self.is_done, self.make = what, is_done, make
+    def __init__(self, what, is_done, make, after=None):
+        self.what, self.is_done, self.make, self.after = what, is_done, make, after
 
 
 class Machine:
@@ -180,7 +180,18 @@ class Machine:
         else:
             put(CRON, shipped("cron/aide-compare.cron.daily"), 0o755)
 
+    def send_test(self):
+        if self.given.no_mail:
+            return
+        tell("a test mail%s" % (" to " + shown(self.given.to) if self.given.to else ""))
+        to = ["--to=" + self.given.to] if self.given.to else []
+        try:
+            run(["aide-compare", "mail", "--test", "--user", self.user.pw_name] + to)
+        except Fault:
+            raise Fault(Status.DEVICE, "the test mail was not sent; install a mail system, or go on with --no-mail")
+
     def steps(self):
+        """The job and the first mail leave files of their own. So they come before the baseline, which then has these."""
         base = os.path.join(DATABASES, self.baseline)
         job = "the timer aide-compare.timer" if self.has_systemd else CRON
         if self.is_debian:
@@ -191,6 +202,7 @@ class Machine:
             )
         yield Step("options of each day: " + DEFAULTS, lambda: exists(DEFAULTS), lambda: put(DEFAULTS, self.defaults()))
         yield Step("a directory of %s's: %s/%s" % (self.user.pw_name, OWN, DAILY), self.has_folder, self.make_folder)
+        yield Step(job, self.has_job, self.make_job, self.send_test)
         yield Step("the baseline %s, which takes minutes" % base, lambda: exists(base), self.make_baseline)
         for name in (self.baseline, self.new):
             what = "%s is %s's" % (os.path.join(DATABASES, name), self.user.pw_name)
@@ -198,7 +210,6 @@ class Machine:
         if os.path.isdir(DPKG) or os.path.isdir(RPM):
             records = ["aide-compare", "accept", "--only-packages", base]
             yield Step("records of the packages: %s.packages" % base, lambda: exists(base + ".packages"), lambda: run(records))
-        yield Step(job, self.has_job, self.make_job)
 
 
 def check(machine):
@@ -214,13 +225,12 @@ def make(machine):
     for number, step in enumerate(machine.steps(), 1):
         done = step.is_done()
         tell("%d. %s%s" % (number, step.what, ": is there" if done else ""))
-        if not done and not machine.given.dry_run:
+        if machine.given.dry_run:
+            continue
+        if not done:
             step.make()
-    if machine.given.no_mail or machine.given.dry_run:
-        return Status.OK
-    tell("a test mail%s" % (" to " + shown(machine.given.to) if machine.given.to else ""))
-    to = ["--to=" + machine.given.to] if machine.given.to else []
-    run(["aide-compare", "mail", "--test", "--user", machine.user.pw_name] + to)
+        if step.after:
+            step.after()
     return Status.OK
 
 
