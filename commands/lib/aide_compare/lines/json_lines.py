@@ -171,7 +171,8 @@ class Report:
             except Malformed as malformed:
                 raise Refused(number, malformed) from None
         if self.summary is None or number != self.summary["lines"] or self.count not in (0, self.changes()):
-            raise Refused(number, "this ends too early: the last line of aide-compare json is missing")
+            cut = "this ends too early: the last line of aide-compare json is missing"
+            raise Refused(number, cut if number else "nothing was given: was there no report?")
 
     def add(self, fields, line):
         if self.summary is None:

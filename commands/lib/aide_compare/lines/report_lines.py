@@ -16,7 +16,7 @@ class Refused(Exception):
     """What is wrong with a line, so that the text is no whole report."""
 
     def __init__(self, number, words):
-        super().__init__("line %d: %s" % (number, words))
+        super().__init__("line %d: %s" % (number, words) if number else str(words))
 
 
 class Lines:

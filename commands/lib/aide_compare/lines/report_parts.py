@@ -25,6 +25,12 @@ HEADS = {
     b"AIDE found differences between the two databases.": True,
     b"AIDE found NO differences between the two databases.": False,
 }
+# What is often given instead of a report, by how it begins.
+OTHERS = (
+    ((b"@@begin_db", b"@@db_spec", b"#", b"\x1f\x8b"), "this is a database, not a report"),
+    ((b"Start timestamp:", b"AIDE "), "this is a report of AIDE itself"),
+    ((b"{", b"["), "this is JSON already"),
+)
 COUNTS = {
     "total": b"Total number of entries:",
     "added": b"Added entries:",
@@ -45,6 +51,15 @@ DIGEST_LINES = [re.compile(rb"  SHA256    : (.{32})"), re.compile(rb" {14}(.{1,3
 
 # An entry of a list; it is doubtful if the text leaves open whether it is of this kind or changed.
 Entry = namedtuple("Entry", "number kind doubtful letters path")
+
+
+def read_head(lines):
+    """The first line: whether there are differences."""
+    head = lines.take()
+    if head not in HEADS:
+        kind = next((words for begins, words in OTHERS if head.startswith(begins)), "this is not a report of aide-compare")
+        raise Refused(lines.number, kind + "; try: aide-compare OLD NEW | aide-compare json")
+    return HEADS[head]
 
 
 def read_counts(lines):
@@ -189,13 +204,10 @@ def read_report(lines, values=None, by_shapes=False):
         "base16": None,
     }
     if lines.coming is not None:
-        head = lines.take()
-        if head not in HEADS:
-            lines.refuse(head, "the first line of a report")
-        summary.update(differences=HEADS[head], levels=LEVELS[:1])
+        summary.update(differences=read_head(lines), levels=LEVELS[:1])
     if lines.coming is not None:
         counts = read_counts(lines)
-        if HEADS[head] != any(counts[kind] for kind in KINDS):
+        if summary["differences"] != any(counts[kind] for kind in KINDS):
             raise Refused(lines.number, "the counts do not fit the first line")
         summary.update(counts, levels=LEVELS[1:2])
     if lines.coming is not None:
