@@ -203,7 +203,7 @@ class Machine:
         yield Step("options of each day: " + DEFAULTS, lambda: exists(DEFAULTS), lambda: put(DEFAULTS, self.defaults()))
         yield Step("a directory of %s's: %s/%s" % (self.user.pw_name, OWN, DAILY), self.has_folder, self.make_folder)
         yield Step(job, self.has_job, self.make_job, self.send_test)
-        yield Step("the baseline %s, which takes minutes" % base, lambda: exists(base), self.make_baseline)
+        yield Step("the baseline %s, which takes several minutes" % base, lambda: exists(base), self.make_baseline)
         for name in (self.baseline, self.new):
             what = "%s is %s's" % (os.path.join(DATABASES, name), self.user.pw_name)
             yield Step(what, lambda name=name: self.owns(name), lambda name=name: self.give(name))
