@@ -114,7 +114,7 @@ def try_refusals(sandbox):
 
 def try_places(sandbox):
     """What is no regular file is no baseline, and a folder where everybody can write holds none."""
-    kinds = ("a link", lambda path: os.symlink("aide.db.new", path)), ("a FIFO", os.mkfifo), ("a folder", os.mkdir)
+    kinds = ("a link", lambda path: os.symlink("aide.db.new", path)), ("a FIFO", os.mkfifo), ("a directory", os.mkdir)
     for name, make in kinds:
         fresh(sandbox)
         os.remove(sandbox.path("base/aide.db"))

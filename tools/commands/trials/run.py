@@ -355,7 +355,7 @@ def try_runs(sandbox):
 def try_state_faults(sandbox):
     os.makedirs(sandbox.path("folder"), exist_ok=True)
     sandbox.expect(
-        "a state that is a folder", sandbox.call(TOOL, "old.db", "new.db", "--state", "folder"), 15, b"", b"is a folder"
+        "a state that is a folder", sandbox.call(TOOL, "old.db", "new.db", "--state", "folder"), 15, b"", b"is a directory"
     )
     sandbox.expect(
         "a state below a file",
