@@ -143,7 +143,7 @@ PLANTED = (
     + seen_by(
         "attacks.try_few_descriptors",
         (PROGRAM, "FIRST_FREE = 10", "FIRST_FREE = 100"),
-        (FILES, 'Status.DEVICE, "cannot make a private file', 'Status.DATABASE, "cannot make a private file'),
+        (FILES, 'Status.DEVICE,\n            "cannot make a', 'Status.DATABASE,\n            "cannot make a'),
     )
     + seen_by(
         "attacks.try_little_memory",
