@@ -2,7 +2,7 @@
 """Checks the layout of every crate: cycles of modules, wide contracts, long argument lists, long lines, long files,
 and imports on more lines than they need.
 
-Each finding fails unless docs/DECISIONS.md has a row for it in the table under the heading "Exceptions of the house".
+Each finding fails unless docs/DECISIONS.md has a row for it in the table under the heading "Exceptions from the layout".
 A row that matches no finding fails too, so the table stays as short as it can be. A row about lines or files may name
 a folder. The rules:
 
@@ -23,7 +23,7 @@ import sys
 
 from tools.lib.arguments import parser_of
 
-HEADING = "Exceptions of the house"
+HEADING = "Exceptions from the layout"
 RULES = ("cycle", "ensures", "arguments", "column", "length", "imports")
 MOST_ENSURES = 8
 MOST_ARGUMENTS = 6
