@@ -46,6 +46,7 @@ from tools.commands.trials.run import try_run
 from tools.commands.trials.smtp import try_smtp
 from tools.commands.trials.sorting import try_sorting
 from tools.commands.trials.state import try_readers
+from tools.commands.trials.terminal import try_terminal
 from tools.commands.trials.without import try_without
 from tools.commands.trials.without_random import try_without_random
 from tools.lib.tally import Tally, program_of, side_by_side
@@ -96,6 +97,7 @@ TRIALS = [
     try_explained,
     try_explained_readers,
     try_columns,
+    try_terminal,
     try_age,
     try_signals,
     try_lost_modules,

@@ -43,7 +43,7 @@ PLANTED = (
     )
     + seen_by(
         RUNS % "try_lines",
-        (EXPLAINING, '{"left_out": left_out} if left_out else {}', "{}"),
+        ("commands/lib/aide_compare/lines/json_members.py", '{"left_out": self.left_out(), ', "{"),
         (EXPLAINING, "map(members_of, self.changes)", "map(members_of, self.changes[::-1])"),
     )
     + seen_by(

@@ -27,7 +27,7 @@ PLANTED = (
     )
     + seen_by(
         "mail.try_bounds",
-        (MESSAGE, "MOST_PATHS = 1000", "MOST_PATHS = 10**9"),
+        (MESSAGE, "MOST_COLUMNS = 1000, 3", "MOST_COLUMNS = 10**9, 3"),
         (MESSAGE, "if not text or len(text) > room:", "if False:"),
         (MESSAGE, "            self.left_out += 1\n", ""),
     )

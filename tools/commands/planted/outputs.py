@@ -3,6 +3,7 @@ from .plant import seen_by
 
 LIB = "commands/lib/aide_compare/"
 RUN, EXPLAINING, OUTPUTS = LIB + "commands/run.py", LIB + "show/explaining.py", LIB + "compare/outputs.py"
+COLOURS = LIB + "show/colours.py"
 
 PLANTED = (
     seen_by(
@@ -17,8 +18,18 @@ PLANTED = (
         "explained.try_forms",
         (EXPLAINING, "self.explainer.judge if sources else self.explainer.weigh", "self.explainer.judge"),
         (RUN, "(self.form and not comparison.differs)", "False"),
-        (RUN, "(lambda text: None) if is_quiet else say", "say"),
+        (RUN, "(lambda text: None) if given.quiet else say", "say"),
         (RUN, "None if taken or given.quiet else", "None if taken else"),
+    )
+    + seen_by(
+        "terminal.try_terminal",
+        (RUN, "os.isatty(1) and not given.after", "os.isatty(1)"),
+        (RUN, "os.isatty(1) and not given.after", "False"),
+        (RUN, "guarded(whole)", "whole"),
+        (COLOURS, 'return choice == "always"', "return True"),
+        (COLOURS, ' and not os.environ.get("NO_COLOR")', ""),
+        (COLOURS, 'SEVERITY, TITLE = re.compile("^  (high|medium) ", re.M)', 'SEVERITY, TITLE = re.compile("(high|medium) ", re.M)'),
+        (LIB + "show/listing.py", "path = shown(change.path, MOST_PATHS", 'path = str(change.path, "latin-1")[:1000] or (MOST_PATHS'),
     )
     + seen_by("explained.try_no_reasons", (RUN, "            elif comparison.report is not None and", "            elif False and"))
 )

@@ -83,8 +83,8 @@ PLANTED = (
         ),
         (
             RUN,
-            '                raise Fault(Status.DEVICE, "cannot write the report: %s" % reason(error))\n',
-            "                pass\n",
+            '            raise Fault(Status.DEVICE, "cannot write the report: %s" % reason(error))\n',
+            "            pass\n",
         ),
     )
     + seen_by("faults.try_signals", (PROGRAM, "    if not end_with(parent):\n", "    if False:\n"))
@@ -222,7 +222,7 @@ PLANTED = (
         (CONFIGURATION, "group not in OPTIONS:", "group not in REPORT_OPTIONS:"),
         (CONFIGURATION, "found[:MOST_MISSPELT]]", "found]"),
         (CONFIGURATION, "(reader.option(line) or (b\"\",))[0]", 'line.partition(b"=")[0].strip()'),
-        (COMPARISON, "        self.notes += self.given.misspelt(request.configuration)\n", ""),
+        (COMPARISON, "*self.given.misspelt(request.configuration), ", ""),
     )
     + seen_by(
         "run.try_arguments",

@@ -52,7 +52,7 @@ PLANTED = (
     + seen_by("viewers.try_sizes", (LIB + "show/page_items.py", "or self.used + size > self.whole", "or False"))
     + seen_by(
         "viewers.try_heading",
-        (LIB + "show/page_heading.py", 'found = [left_out(report.summary.get("left_out"))]', "found = []"),
+        (LIB + "show/page_heading.py", 'found = [left_out(report.summary.get("left_out")), ', "found = ["),
         (
             LIB + "show/page_heading.py",
             "(escape(name), escape(value)) for name, value in rows",

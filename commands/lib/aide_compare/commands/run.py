@@ -1,9 +1,10 @@
 """aide-compare: compares two databases, explains errors, and keeps the result in a state file."""
 import os
+import shlex
 
 from aide_compare.base.defaults import RUN, add_off, defaults_for, place_of
 from aide_compare.base.ending import Fault, Status, reason, say, write_all
-from aide_compare.base.escapes import shown, shown_lines
+from aide_compare.base.escapes import guarded, shown, shown_lines
 from aide_compare.base.files import Replacement, copy_file
 from aide_compare.base.options import Parser, add_texts, duration, size, some_text
 from aide_compare.base.rights import give_up
@@ -12,6 +13,7 @@ from aide_compare.compare.comparison import SIDES, Comparison, Request
 from aide_compare.compare.handing import Handed, Handing
 from aide_compare.compare.without import Rules, read_rules
 from aide_compare.reasons.evidence_options import EVIDENCE, add_evidence_options
+from aide_compare.show.colours import CHOICES, are_wanted, coloured
 
 DESCRIPTION = "Compares two AIDE databases, plain or compressed by gzip. The report goes to standard output."
 TRY = "try: aide-compare compare --help"
@@ -62,10 +64,11 @@ def parser():
     )
     add("--exclude", metavar="PATTERN", action="append", default=[], type=some_text, help="the same for one line")
     add("--reasons", action="store_true", help="say which changes packages, logs and rules explain, and which nothing does")
-    add("--format", choices=FORMATS, help="what is printed: the report, or what people should read first")
+    add("--format", choices=FORMATS, help="what is printed: the report, or what people should read first (on a terminal)")
     add("--brief", action="store_const", const="brief", dest="format", help="--format brief")
     add("--json", metavar="FILE", type=some_text, help="write the changes to FILE as aide-compare json does, with the reasons")
     add("--page", metavar="FILE", type=some_text, help="write them to FILE as a page for a browser")
+    add("--color", choices=CHOICES, default=CHOICES[0], help="colours in what people read first (on a terminal)")
     add("-q", "--quiet", action="store_true", help="print neither report nor notes: only why nothing was compared")
     add_evidence_options(made)
     add("--user", metavar="NAME", type=some_text, help="drop privileges to this user first")
@@ -169,14 +172,18 @@ def format_of(given):
     taken = [name for name in ("json", "page") if getattr(given, name) in STDOUT]
     if len(taken) + (given.format is not None) > 1:
         raise Fault(Status.USAGE, "only one of --json, --page and --format can be on standard output", TRY)
-    return None if taken or given.quiet else given.format or "report"
+    is_read = os.isatty(1) and not given.after  # Who gives options of the report wants to see that.
+    return None if taken or given.quiet else given.format or ("brief" if is_read else "report")
 
 
 class Printer:
     """Tells what came out on standard output and standard error. `form`: what standard output gets, None for nothing."""
 
-    def __init__(self, form, is_quiet):
-        self.form, self.note = form, (lambda text: None) if is_quiet else say
+    def __init__(self, given, form, arguments):
+        self.form, self.note = form, (lambda text: None) if given.quiet else say
+        self.has_colours = are_wanted(given.color)
+        whole = shlex.join(["aide-compare", "--format", "report", *arguments])
+        self.more = "" if given.format else "\nThe whole report: %s\n" % guarded(whole)
 
     def begin(self, comparison):
         """Passes on what the program wrote, and what explains it."""
@@ -197,7 +204,9 @@ class Printer:
         """Prints the report, or what people read first of the changes."""
         try:
             if explained:
-                write_all(1, explained.brief())
+                text = explained.brief()
+                write_all(1, coloured(text) if self.has_colours else text)
+                write_all(1, self.more.encode("utf-8", "backslashreplace"))
             elif comparison.report is not None and comparison.status <= 7:
                 copy_file(comparison.report, 1)
         except OSError as error:
@@ -229,4 +238,4 @@ def main(arguments):
     if given.user:
         give_up(given.user)
     form = format_of(given)
-    return Task(given, weighs=form == "brief").carry_out(Printer(form, given.quiet))[0]
+    return Task(given, weighs=form == "brief").carry_out(Printer(given, form, arguments))[0]

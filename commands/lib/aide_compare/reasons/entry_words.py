@@ -1,7 +1,8 @@
 """What is new or has changed of an entry, in a few words, by what the databases say of it."""
 import stat
 
-from aide_compare.reasons.entries import DIGESTS, TIMES, differences
+from aide_compare.base.times import date_of
+from aide_compare.reasons.entries import DIGESTS, differences
 
 KINDS = {
     stat.S_IFREG: "file",
@@ -12,6 +13,7 @@ KINDS = {
     stat.S_IFCHR: "device",
     stat.S_IFBLK: "device",
 }
+TIMES_IN_ORDER = ("mtime", "ctime", "atime")
 OTHERS = (
     ("lname", "target"),
     ("acl", "ACL"),
@@ -64,13 +66,21 @@ def _pairs(old, new, differ):
         yield "links %s -> %s" % (_number(old, "lcount"), _number(new, "lcount"))
 
 
+def _times(old, new, differ):
+    """The first of the times that differ, as in "mtime 2026-11-24T06:00:00Z -> 2026-11-25T06:00:00Z"."""
+    for column in (column for column in TIMES_IN_ORDER if column in differ):
+        dates = [entry.time(column) for entry in (old, new)]
+        return ["%s %s -> %s" % (column, *("none" if date is None else date_of(date) for date in dates))]
+    return []
+
+
 def words_of_both(old, new):
     """What has changed of an entry, as in "content, mode -rwxr-xr-x -> -rwsr-xr-x"."""
     differ = differences(old, new)
     words = ["content"] if differ & DIGESTS else []
     words += list(_pairs(old, new, differ)) + [word for column, word in OTHERS if column in differ]
     if not words:
-        words += ["another inode"] if "inode" in differ else ["times"] if differ & TIMES else []
+        words += ["another inode"] if "inode" in differ else list(_times(old, new, differ))
     return ", ".join(words)
 
 
