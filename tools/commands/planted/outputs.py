@@ -3,7 +3,7 @@ from .plant import seen_by
 
 LIB = "commands/lib/aide_compare/"
 RUN, EXPLAINING, OUTPUTS = LIB + "commands/run.py", LIB + "show/explaining.py", LIB + "compare/outputs.py"
-COLOURS = LIB + "show/colours.py"
+COLOURS, PROGRESS = LIB + "show/colours.py", LIB + "base/progress.py"
 
 PLANTED = (
     seen_by(
@@ -30,6 +30,15 @@ PLANTED = (
         (COLOURS, ' and not os.environ.get("NO_COLOR")', ""),
         (COLOURS, 'SEVERITY, TITLE = re.compile("^  (high|medium) ", re.M)', 'SEVERITY, TITLE = re.compile("(high|medium) ", re.M)'),
         (LIB + "show/listing.py", "path = shown(change.path, MOST_PATHS", 'path = str(change.path, "latin-1")[:1000] or (MOST_PATHS'),
+    )
+    + seen_by(
+        "terminal.try_progress",
+        (PROGRESS, "os.isatty(descriptor) and ", ""),
+        (PROGRESS, "    if _line and _line.is_shown:\n", "    if False:\n"),
+        (PROGRESS, " - self.given\n", "\n"),
+        (PROGRESS, "if 0 < at < self.last[number]:", "if False:"),
+        (PROGRESS, "time.monotonic() >= self.last + EVERY", "True"),
+        (RUN, "    if not given.quiet:\n        progress", "    if True:\n        progress"),
     )
     + seen_by("explained.try_no_reasons", (RUN, "            elif comparison.report is not None and", "            elif False and"))
 )

@@ -1,18 +1,28 @@
-"""aide-compare on a terminal: what people read first, colours. In a pipe nothing of that is there."""
+"""aide-compare on a terminal: what people read first, colours, and how far it is. In a pipe nothing of that is there."""
 import os
 import pty
 import re
 import subprocess
+import time
 
 from . import explained
 
 TOOL = "aide-compare"
 RED, YELLOW, BOLD, PLAIN = b"\033[1;31m", b"\033[33m", b"\033[1m", b"\033[0m"
+# In place of the program: it reads both files twice, slowly, as the program would a large one, and then becomes the program.
+SLOW = """import os, sys, time
+for side in (3, 4, 3, 4) if sys.argv[1] == "-E" else ():
+    file = os.open("/proc/self/fd/%%d" %% side, os.O_RDONLY)
+    for _ in range(2):
+        os.read(file, os.fstat(file).st_size // 2)
+        time.sleep(%s)
+    os.close(file)
+os.execv(%r, [%r] + sys.argv[1:])"""
 
 
 def try_terminal(sandbox):
     explained.prepare(sandbox)
-    for trial in (try_forms, try_colours, try_hostile):
+    for trial in (try_forms, try_colours, try_hostile, try_progress, try_verbose):
         trial(sandbox)
 
 
@@ -84,3 +94,45 @@ def try_hostile(sandbox):
     text = on_terminal(sandbox, *explained.REASONS, "o.db", "h\033[2J.db")[1]
     ours = re.sub(rb"\033\[(1|1;31|33|0)m", b"", text)
     sandbox.holds("only our own colours", b"\033" not in ours and b"h\\033[2J.db" in ours and b"\n  high    x" not in ours, text)
+
+
+def slow(sandbox, seconds):
+    real = sandbox.program + ".real"
+    os.rename(sandbox.program, real)
+    text = "#!/usr/bin/env python3\n" + SLOW % (seconds, real, real)
+    sandbox.write("libexec/aide-compare/aide", text, 0o755)
+    return real
+
+
+def try_progress(sandbox):
+    """How far it is, on a terminal only: the passes and the bytes of both files. It is gone before anything else is written."""
+    explained.prepare(sandbox)
+    sandbox.edit("lib/aide_compare/base/progress.py", "EVERY, FIRST = 0.25, 1.0", "EVERY, FIRST = 0.1, 0.1")
+    real = slow(sandbox, 0.4)
+    begun = time.monotonic()
+    status, text = on_terminal(sandbox, "o.db", "n.db", output=False)
+    seconds = time.monotonic() - begun
+    told = re.findall(rb"\rcomparing: pass (\d) of at most 6, (\d+)% of 0 MB\033\[K", text)
+    shares = {number: [int(share) for one, share in told if one == number] for number in (b"1", b"2")}
+    sandbox.holds("two passes", status == 7 and {number for number, _ in told} == {b"1", b"2"}, text)
+    good = all(part and part == sorted(part) and part[-1] >= 90 for part in shares.values())
+    sandbox.holds("each from its beginning to its end", good and min(shares[b"1"]) <= 30, told)
+    sandbox.holds("some a second at most", len(told) <= seconds / 0.1 + 1, (len(told), seconds))
+    last = text.rpartition(b"\033[K")
+    sandbox.holds("it is gone then", last[0].endswith(b"%\r") or last[0].endswith(b"\r"), text[-600:])
+    sandbox.holds("the lines stay", last[2].startswith(b"aide-compare: old database: o.db"), last[2])
+    for label, answer in (
+        ("in a pipe", sandbox.call(TOOL, "o.db", "n.db").errors),
+        ("with -q", on_terminal(sandbox, "-q", "o.db", "n.db")[1]),
+        ("without a terminal that obeys", on_terminal(sandbox, "o.db", "n.db", output=False, TERM="dumb")[1]),
+    ):
+        sandbox.holds("nothing of it %s" % label, b"\r" not in answer and b"pass" not in answer, answer)
+    os.rename(real, sandbox.program)
+
+
+def try_verbose(sandbox):
+    answer = sandbox.call(TOOL, "-v", "--brief", "o.db", "n.db")
+    steps = [b"the old database is read, %d bytes: 0." % len(explained.OLD), b"the program has run: ", b"the changes are looked at: "]
+    sandbox.expect("each step", answer, 7, explained.UNJUDGED.encode(), steps)
+    answer = sandbox.call(TOOL, "o.db", "n.db")
+    sandbox.holds("no step without -v", b": 0." not in answer.errors, answer)

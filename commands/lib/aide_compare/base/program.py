@@ -6,6 +6,7 @@ import select
 import signal
 
 from aide_compare.base.child import end_with
+from aide_compare.base import progress
 from aide_compare.base.ending import Fault, Status, reason
 from aide_compare.base.escapes import shown
 
@@ -108,13 +109,15 @@ def _started(program, words, given, most):
             os.close(descriptor)
 
 
-def _drain(streams):
-    """Reads all streams to their ends."""
+def _drain(streams, tell, seconds):
+    """Reads all streams to their ends, and meanwhile tells how far the program is."""
     waiting = {stream.reading: stream for stream in streams}
     while waiting:
-        for reading in select.select(list(waiting), [], [])[0]:
+        for reading in select.select(list(waiting), [], [], seconds)[0]:
             if not waiting[reading].take():
                 del waiting[reading]
+        if tell:
+            tell()
 
 
 def run_program(program, words, given, most=None, keep=None):
@@ -130,8 +133,10 @@ def run_program(program, words, given, most=None, keep=None):
         child = _started(program, words, {**given, **ends}, most)
         for stream in streams.values():
             stream.writing = os.close(stream.writing)
-        _drain(streams.values())
+        databases = {place: given[place] for place in (OLD, NEW) if place in given}
+        _drain(streams.values(), *progress.watched(child, databases))
         ended, child = os.waitpid(child, 0)[1], None
+        progress.done("the program has run")
         return Ended(_status_of(program, ended), b"".join(lines), streams[1].size if keep else 0)
     except OSError as error:
         raise Fault(Status.DEVICE, "cannot run %s: %s" % (shown(program), reason(error)))

@@ -2,6 +2,7 @@
 import os
 import shlex
 
+from aide_compare.base import progress
 from aide_compare.base.defaults import RUN, add_off, defaults_for, place_of
 from aide_compare.base.ending import Fault, Status, reason, say, write_all
 from aide_compare.base.escapes import guarded, shown, shown_lines
@@ -70,6 +71,7 @@ def parser():
     add("--page", metavar="FILE", type=some_text, help="write them to FILE as a page for a browser")
     add("--color", choices=CHOICES, default=CHOICES[0], help="colours in what people read first (on a terminal)")
     add("-q", "--quiet", action="store_true", help="print neither report nor notes: only why nothing was compared")
+    add("-v", "--verbose", action="store_true", help="say which step is done, and how long it took")
     add_evidence_options(made)
     add("--user", metavar="NAME", type=some_text, help="drop privileges to this user first")
     add_off(made)
@@ -187,6 +189,7 @@ class Printer:
 
     def begin(self, comparison):
         """Passes on what the program wrote, and what explains it."""
+        progress.clear()
         for note in comparison.notes:
             self.note(note)
         if self.form == "report" or (self.form and not comparison.differs):
@@ -221,10 +224,12 @@ class Printer:
 
     def go_on(self, comparison, explained):
         """What people read first comes when all is known of it."""
+        progress.end()
         if self.form == "brief" and comparison.differs:
             self._print(comparison, explained)
 
     def end(self, comparison, _):
+        progress.end()
         for doubt in comparison.doubts:
             say(doubt)
         if comparison.reasons:
@@ -238,4 +243,6 @@ def main(arguments):
     if given.user:
         give_up(given.user)
     form = format_of(given)
+    if not given.quiet:
+        progress.begin(2, given.verbose)
     return Task(given, weighs=form == "brief").carry_out(Printer(given, form, arguments))[0]

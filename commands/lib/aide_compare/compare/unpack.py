@@ -5,6 +5,7 @@ import stat
 import zlib
 from hashlib import sha256
 
+from aide_compare.base import progress
 from aide_compare.base.ending import Fault, Status, reason, write_all
 from aide_compare.base.escapes import shown
 from aide_compare.base.files import kind_of, nameless, open_regular, private_folder
@@ -22,6 +23,7 @@ class Opened:
         self.side, self.path, self.fd = side, path, descriptor
         self.words = "the %s database %s" % (side, shown(path))
         self.written = found.st_mtime if stat.S_ISREG(found.st_mode) else None
+        self.size = found.st_size
 
 
 class Copy:
@@ -96,7 +98,7 @@ class _Target:
 
 def _blocks(opened, most):
     """The bytes of the file as it is, never many more than are allowed unpacked."""
-    left = 2 * most + (1 << 20)
+    left, done = 2 * most + (1 << 20), 0
     while left > 0:
         try:
             block = os.read(opened.fd, BLOCK)
@@ -104,7 +106,8 @@ def _blocks(opened, most):
             raise Fault(Status.DEVICE, "cannot read %s: %s" % (opened.words, reason(error)))
         if not block:
             return
-        left -= len(block)
+        left, done = left - len(block), done + len(block)
+        progress.tell("reading the %s database" % opened.side, done, opened.size)
         yield block
     raise Fault(Status.DEVICE, "%s has more than %d bytes unpacked" % (opened.words, most))
 
@@ -170,6 +173,7 @@ def copy_opened(opened, most):
             raise
     finally:
         os.close(opened.fd)
+    progress.done("the %s database is read, %d bytes" % (opened.side, target.size))
     return Copy(target.fd, target.size, opened.path, opened.written)
 
 

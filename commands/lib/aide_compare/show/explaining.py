@@ -3,6 +3,7 @@ import argparse
 import json
 import os
 
+from aide_compare.base import progress
 from aide_compare.base.ending import Fault, Status, why_of
 from aide_compare.base.escapes import shown
 from aide_compare.base.files import Spool, nameless
@@ -198,6 +199,7 @@ def explain(comparison, sources, with_details, weighs=False):
         why = why_of(error)
     else:
         comparison.reasons = explained.counts
+        progress.done("the changes are looked at")
         return explained
     comparison.doubts.append("the changes are not explained: %s" % why)
     return None
