@@ -225,7 +225,7 @@ def has_brief(sandbox, done):
 
 def has_page_of_reasons(sandbox, done):
     page = sandbox.read("/tmp/page.html")
-    sandbox.holds("the page", "The comparison left out" in page and "</html>" in page, done)
+    sandbox.holds("the page", "Severity of what is not explained" in page and "</html>" in page, done)
 
 
 def try_alarms(sandbox, text):
