@@ -18,7 +18,7 @@ import traceback
 
 from tools.lib.arguments import parser_of
 from tools.commands import planted
-from tools.commands.trials.sandbox import HERE, Sandbox
+from tools.commands.trials.sandbox import HERE, PYTHON, Sandbox, after
 from tools.lib import signals
 from tools.lib.apart import apart, has_own_mounts
 from tools.lib.tally import Tally, program_of
@@ -38,9 +38,11 @@ def bugs(only):
                 yield name, plant
 
 
-def run_trial(folder, trial, program):
-    """Runs a trial, named MODULE.FUNCTION in trials/, with the commands of a folder: status and output."""
-    words = [sys.executable, "-m", "tools.commands.plant", "--trial", trial, os.fsdecode(program)]
+def run_trial(folder, trial, program, before=None):
+    """Runs a trial, named MODULE.FUNCTION in trials/, with the commands of a folder: status and output. Before it something may
+    be done, such as giving up the rights of root, with which only root's own Python may be read."""
+    python = PYTHON if before else sys.executable
+    words = after(before, [python, "-m", "tools.commands.plant", "--trial", trial, os.fsdecode(program)])
     done = subprocess.run(apart(words), cwd=folder, stdin=subprocess.DEVNULL, stdout=subprocess.PIPE, stderr=subprocess.STDOUT)
     return done.returncode, done.stdout.decode("utf-8", "replace")
 

@@ -39,6 +39,7 @@ from tools.commands.trials.faults import try_faults, try_signals
 from tools.commands.trials.lost_modules import try_lost_modules
 from tools.commands.trials.mail import try_mail
 from tools.commands.trials.others_modules import try_others_modules
+from tools.commands.trials.own_user import try_own_user
 from tools.commands.trials.reasons import try_reasons, try_reasons_archive, try_reasons_lines, try_reasons_packages
 from tools.commands.trials.sandbox import Sandbox
 from tools.commands.trials.setup import try_setup
@@ -52,7 +53,7 @@ from tools.commands.trials.without_random import try_without_random
 from tools.lib.tally import Tally, program_of, side_by_side
 
 BASE = [try_texts, try_configurations, try_files]
-# These take minutes: they kill a command at each of its calls, wait for signals, or fill a disk.
+# These take long: they kill a command at each of its calls, wait for signals, fill a disk, or run others once more.
 LONG = [
     try_accept_attacks,
     try_accept_kills,
@@ -63,6 +64,7 @@ LONG = [
     try_signals,
     try_mail,
     try_floods,
+    try_own_user,
 ]
 # The longest come first, so that none of them is left at the end.
 TRIALS = [
@@ -103,6 +105,7 @@ TRIALS = [
     try_lost_modules,
     try_setup,
     try_others_modules,
+    try_own_user,
 ]
 
 

@@ -24,9 +24,9 @@ FILES = [
     exactly(210, "tools.source.check_edits"),
     exactly(540, "tools.source.check_docs"),
     exactly(90, "tools.source.check_layout"),
-    exactly(154, "tools.source.check_layers"),
-    exactly(571, "tools.source.check_tools"),
-    exactly(976, "tools.source.check_planted"),
+    exactly(152, "tools.source.check_layers"),
+    exactly(564, "tools.source.check_tools"),
+    exactly(931, "tools.source.check_planted"),
     exactly(1828, "tools.wrong_bodies.check"),
 ]
 

@@ -1,7 +1,8 @@
-"""Bugs of the administrator's defaults, of root's comparison by hand, and of the unit that says that one failed."""
+"""Bugs of the administrator's defaults, of root's comparison by hand, of the unit that says that one failed, and those that only
+another user than root meets."""
 from .plant import seen_by
 
-DEFAULTS, HANDING, RUN, MAIL, CHECK, COMPARISON, REASONS = (
+DEFAULTS, HANDING, RUN, MAIL, CHECK, COMPARISON, REASONS, FOLDERS, TRUSTED = (
     "commands/lib/aide_compare/%s.py" % name
     for name in (
         "base/defaults",
@@ -11,6 +12,8 @@ DEFAULTS, HANDING, RUN, MAIL, CHECK, COMPARISON, REASONS = (
         "commands/check",
         "compare/comparison",
         "commands/reasons",
+        "base/folders",
+        "base/trusted",
     )
 )
 SETUP = "commands/lib/aide_compare/commands/setup.py"
@@ -75,5 +78,11 @@ PLANTED = (
         "hands.try_lost_child",
         (HANDING, "        if not end_with(parent):\n", "        if False:\n"),
         (HANDING, "        if status not in KNOWN:\n", "        if False:\n"),
+    )
+    + seen_by(
+        "own_user.try_own_user",
+        (MAIL, "if not found or os.geteuid() == 0:", "if not found and os.geteuid() == 0:"),
+        (FOLDERS, "{found.st_uid} - {0, os.geteuid()}", "{found.st_uid} - {0}"),
+        (TRUSTED, "found.st_uid not in (0, os.geteuid()) or", "found.st_uid != 0 or"),
     )
 )

@@ -48,7 +48,7 @@ def no_environment(sandbox, words, **more):
 def try_failed_unit(sandbox):
     """The units' own words, without a variable of systemd: the one that is started after a failure mails it."""
     mail.prepare(sandbox)
-    mail.edit(sandbox, "mail/sending", '("/usr/sbin/sendmail", "/usr/lib/sendmail")', "(%r,)" % sandbox.path("stubs/sendmail"))
+    sandbox.edit(mail.SENDING, mail.MAILERS, "(%r,)" % sandbox.path("stubs/sendmail"))
     failed = "aide-compare.service failed%s. Its lines: journalctl -u aide-compare.service\n"
     variables = {"MONITOR_SERVICE_RESULT": "exit-code", "MONITOR_EXIT_STATUS": "18", "MONITOR_UNIT": "aide-compare.service"}
     for label, more, text in (

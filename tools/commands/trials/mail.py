@@ -9,10 +9,11 @@ import subprocess
 import sys
 import time
 
-from .sandbox import END, HEAD, HERE, NEW, NOBODY, OLD, Answer, sha256
+from .sandbox import END, HEAD, HERE, NEW, NOBODY, OLD, as_user, sha256
 
 TOOL = "aide-compare mail"
 SUBJECT = "aide on %s: " % "".join(letter for letter in os.uname().nodename if letter.isalnum() or letter in "._-")
+SENDING, MAILERS = "lib/aide_compare/mail/sending.py", '("/usr/sbin/sendmail", "/usr/lib/sendmail")'
 UNNAMED = 12345  # A user that the system has no name for.
 CHECK = "dailyaidecheck.service.d/aide-compare.conf"
 COUNTS = "differences (1 added, 1 removed, 2 changed)"
@@ -40,19 +41,11 @@ def prepare(sandbox):
     """The modules as they are, but for the places of the logs; a sendmail that keeps the mail; and an empty database."""
     shutil.rmtree(sandbox.path("lib"), ignore_errors=True)
     shutil.copytree(os.path.join(HERE, "commands", "lib"), sandbox.path("lib"))
-    for name in ('LOG, JOURNAL = "/dev/log", "/run/systemd/journal/socket"',):
-        edit(sandbox, "mail/sending", name, "LOG, JOURNAL = %r, %r" % (sandbox.path("log"), sandbox.path("journal")))
+    places = 'LOG, JOURNAL = "/dev/log", "/run/systemd/journal/socket"'
+    sandbox.edit(SENDING, places, "LOG, JOURNAL = %r, %r" % (sandbox.path("log"), sandbox.path("journal")))
     sandbox.point_defaults()
     take_mail(sandbox)
     sandbox.write("empty.db", HEAD + END)
-
-
-def edit(sandbox, module, old, new):
-    """The copied module with one text replaced, such as the folder of sendmail by one of the trial."""
-    name = "lib/aide_compare/%s.py" % module
-    text = sandbox.read(name).decode()
-    sandbox.holds("a text of the module " + module, old in text, old)
-    sandbox.write(name, text.replace(old, new))
 
 
 def take_mail(sandbox, before=""):
@@ -63,18 +56,8 @@ def take_mail(sandbox, before=""):
     )
 
 
-def call(sandbox, *words, environment=None, limit=120):
-    more = sandbox.environment(**(environment or {}))
-    done = subprocess.run(
-        sandbox.command(TOOL, *words),
-        cwd=sandbox.root,
-        env=more,
-        stdin=subprocess.DEVNULL,
-        stdout=subprocess.PIPE,
-        stderr=subprocess.PIPE,
-        timeout=limit,
-    )
-    return Answer(done.stdout, done.stderr, done.returncode)
+def call(sandbox, *words, **more):
+    return sandbox.call(TOOL, *words, **more)
 
 
 def sent(sandbox):
@@ -100,12 +83,7 @@ def subject(message):
 
 def try_texts(sandbox):
     prepare(sandbox)
-    report = subprocess.run(
-        [sandbox.path("bin/aide-compare"), "old.db", "new.db"],
-        cwd=sandbox.root,
-        stdout=subprocess.PIPE,
-        stderr=subprocess.DEVNULL,
-    ).stdout
+    report = sandbox.call("aide-compare", "old.db", "new.db").output
     accept = "aide-compare accept --sha256 %s %s %s\n" % (sha256(NEW), sandbox.path("new.db"), sandbox.path("old.db"))
     written = time.strftime("%Y-%m-%dT%H:%M:%SZ", time.gmtime(os.stat(sandbox.path("new.db")).st_mtime))
     for words, to in (([], "root"), (["--to", "a@b.example"], "a@b.example"), (["--to=x, y"], "x, y")):
@@ -226,7 +204,7 @@ def try_refusals(sandbox):
     )
     sandbox.holds("the time limit", time.monotonic() - start < 45, time.monotonic() - start)
     os.remove(sandbox.path("stubs/sendmail"))
-    edit(sandbox, "mail/sending", '("/usr/sbin/sendmail", "/usr/lib/sendmail")', "()")
+    sandbox.edit(SENDING, MAILERS, "()")
     path = {"PATH": sandbox.path("stubs") + ":/usr/bin:/bin"}
     for new, status in (("new.db", "7"), ("old.db", "0")):
         answer = call(sandbox, "old.db", new, "--state", "state", environment=path)
@@ -249,7 +227,7 @@ def try_hint(sandbox):
     sandbox.write("secret.db", OLD, 0o600)
     for user, name in ((NOBODY, pwd.getpwuid(NOBODY).pw_name), (UNNAMED, str(UNNAMED))):
         for words, what in ((("secret.db", "new.db"), "baseline"), (("old.db", "secret.db"), "new database")):
-            answer = sandbox.call(TOOL, *words, before="os.setgroups([]); os.setgid(%d); os.setuid(%d)" % (user, user))
+            answer = sandbox.call(TOOL, *words, before=as_user(user))
             sandbox.expect("%s reads no %s" % (name, what), answer, 18, b"", b"")
             text = body(email.message_from_bytes(sandbox.read("out/mail"))).decode() if os.path.exists(mail) else "no mail"
             hint = "the %s is not readable for this user, as aideinit leaves it. As root: chown %s: secret.db\n" % (what, name)

@@ -4,9 +4,8 @@ import shutil
 import subprocess
 
 from .lost_modules import FOLDERS
-from .sandbox import HERE, TIME_LIMIT
+from .sandbox import HERE, PYTHON, TIME_LIMIT
 
-PYTHON = "/usr/bin/python3"
 # In a name space of its own, so that nothing of the machine changes.
 SCRIPT = """set -e
 mount --make-rprivate /

@@ -14,15 +14,23 @@ HERE = os.path.dirname(os.path.dirname(os.path.dirname(os.path.dirname(os.path.a
 # Only for a tool that hangs: on a machine with much other work a run may take minutes.
 TIME_LIMIT = 300
 NOBODY = 65534
+# The Python of the machine, which the commands name.
+PYTHON = "/usr/bin/python3"
 
 # What a child does before it becomes the tool: it gives up the rights of root, has another umask, or cannot write much.
-AS_NOBODY = "os.setgroups([]); os.setgid(%d); os.setuid(%d)" % (NOBODY, NOBODY)
 UMASK = "os.umask(0o%o)"
 SMALL_FILES = "resource.setrlimit(resource.RLIMIT_FSIZE, (%d, %d))"
 BECOME = """import os, resource, signal, sys
 signal.signal(signal.SIGPIPE, signal.SIG_DFL)
 %s
 os.execvp(sys.argv[1], sys.argv[1:])"""
+
+
+def as_user(number):
+    return "os.setgroups([]); os.setgid(%d); os.setuid(%d)" % (number, number)
+
+
+AS_NOBODY = as_user(NOBODY)
 
 
 def after(before, command):
