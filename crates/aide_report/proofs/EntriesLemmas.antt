@@ -11,30 +11,14 @@ use Rattle.aide_report.specs.Changed.{differ_by}
 use Rattle.aide_report.specs.Entries.{PathChange, Pair, attribute_text, attributes_text, shown_text}
 use Rattle.aide_report.specs.Sections.{all_listed, is_in, lists, entry_text, one_text, entries_text}
 use Rattle.aide_report.proofs.SameEntries.{and_no, in_none, nowhere}
+use Rattle.aide_report.proofs.WriterLemmas.{all_passing}
 use Rattle.aide_text.specs.declared.section.Contents.{Contents}
 use Rattle.aide_text.specs.declared.section.Contents.TheVariants.{Listed, Detailed}
 
-pub entries_first : (options : Options) (contents : Contents) (entry : PathChange) (more : List PathChange)
-    → entries_text options contents (entry ∷ more) ≡ one_text options contents entry ++ entries_text options contents more
-unfolding entries_text one_text
-entries_first options contents entry more = by_test (is_in options contents entry)
-  where
-    by_test : (b : Bool)
-        → flat_map (entry_text options contents) (cond b (entry ∷ filter (is_in options contents) more) (filter (is_in options contents) more))
-        ≡ (if b then entry_text options contents entry else []) ++ flat_map (entry_text options contents) (filter (is_in options contents) more)
-    by_test true = refl
-    by_test false = refl
-
-pub entries_step : (options : Options) (contents : Contents) (entry : PathChange) (rest changes more : List PathChange)
-    → rest ≡ changes ++ more → changes ≡ entry ∷ []
-    → entries_text options contents rest ≡ one_text options contents entry ++ entries_text options contents more
-entries_step options contents entry rest changes more is one =
-    ap (entries_text options contents) (is ∙ ap (λ l. l ++ more) one) ∙ entries_first options contents entry more
-
-pub entries_end : (options : Options) (contents : Contents) (rest : List PathChange) → rest ≡ []
-    → entries_text options contents rest ≡ []
-unfolding entries_text
-entries_end options contents rest none = ap (entries_text options contents) none
+pub each_entry : (options : Options) (contents : Contents) (entries : List PathChange)
+    → flat_map (one_text options contents) entries ≡ entries_text options contents entries
+unfolding one_text entries_text
+each_entry options contents entries = all_passing (entry_text options contents) (is_in options contents) entries
 
 -- ---- one change
 
@@ -48,13 +32,9 @@ pub text_of_none : (options : Options) (contents : Contents) (entry : PathChange
 unfolding one_text
 text_of_none options contents entry h = sym (ap (λ b. if b then entry_text options contents entry else []) h)
 
--- an entry that both sides have alike says nothing
-pub entries_alike : (options : Options) (contents : Contents) (entry : Entry) (rest changes more : List PathChange)
-    → rest ≡ changes ++ more → changes ≡ alike_of entry ∷ []
-    → entries_text options contents rest ≡ entries_text options contents more
-entries_alike options contents entry rest changes more is one =
-    entries_step options contents (alike_of entry) rest changes more is one
-    ∙ ap (λ text. text ++ entries_text options contents more) (sym (text_of_none options contents (alike_of entry) (in_none options contents entry)))
+-- an entry that both sides have alike has no text
+pub alike_text : (options : Options) (contents : Contents) (entry : Entry) → one_text options contents (alike_of entry) ≡ []
+alike_text options contents entry = sym (text_of_none options contents (alike_of entry) (in_none options contents entry))
 
 -- a list that has such changes says what the list of all says
 pub listed_text : (options : Options) (contents : Contents) (entry : PathChange) → lists contents entry ≡ true

@@ -1,5 +1,6 @@
 pub mod ShownLemmas
 pub mod FormLemmas
+pub mod WriterLemmas
 pub mod EntriesLemmas
 pub mod SectionsLemmas
 pub mod SectionLaws

@@ -23,8 +23,8 @@ use Rattle.aide_report.specs.code.Passes.{KeepsDesk, KeepsPen, IsPassFault, Pass
 use Rattle.aide_report.specs.code.Seen.{Seen, KeepsSources}
 use Rattle.aide_report.specs.RunFaults.{HasPenWritten, IsCaused, IsLater}
 use Rattle.aide_report.specs.Standing.{IsFaultOf}
-use Rattle.aide_report.specs.declared.entries.PassFault.{PassFault}
-use Rattle.aide_report.specs.declared.entries.PassFault.TheVariants as passes
+use Rattle.aide_report.specs.declared.change_writer.PassFault.{PassFault}
+use Rattle.aide_report.specs.declared.change_writer.PassFault.TheVariants as passes
 use Rattle.aide_report.specs.declared.merge.Merge.{Merge}
 use Rattle.aide_report.specs.declared.run_fault.RunFault.{RunFault}
 use Rattle.aide_report.specs.declared.run_fault.RunFault.TheVariants.{Open, Database, Changed, Write}

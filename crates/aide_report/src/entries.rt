@@ -1,29 +1,17 @@
-//! The entries of a section, in one pass over both databases.
-ghost use Rattle.std.specs.Prelude.{◌≡◌, ℕ, List, IfErr, OnOk, false};
+//! What a section writes of each change.
+ghost use Rattle.std.specs.Prelude.{◌≡◌, ℕ, List, []};
 ghost use Rattle.aide_report.specs.code.ChangeView.{change_of};
 ghost use Rattle.aide_report.specs.Entries.{list_line, label_of, letters_of, change_word};
-ghost use Rattle.aide_report.specs.code.MergeCalls.{IsStopOf, KeepsMerge};
-ghost use Rattle.aide_report.specs.code.Merging.{remaining, IsReady, IsEnded, StandsAt};
-ghost use Rattle.aide_report.specs.code.PassFaults.{Writes};
-ghost use Rattle.aide_report.specs.Sections.{all_listed, lists, entries_text, one_text};
+ghost use Rattle.aide_report.specs.Sections.{all_listed, lists, one_text};
 ghost use Rattle.aide_text.specs.PenSheet.{on_sheet};
-ghost use Rattle.aide_text.specs.Sheet.{Wrote, WritesSome};
+ghost use Rattle.aide_text.specs.Sheet.{Wrote};
 
-use crate::change::{AtPath, Change, name_of};
+use crate::change::{Change, name_of};
+use crate::change_writer::ChangeWriter;
 use crate::details::put_details;
 use crate::difference::letters;
-use crate::merge::Merge;
 use aide_conf::Options;
-use aide_db::{DbFault, Desk, Reel, Side};
 use aide_text::{Contents, Pen, Sink, put, put_encoded_path_end};
-use std::alloc::Allocator;
-
-/// Why a pass was broken off.
-#[derive(Clone, Copy)]
-pub(crate) enum PassFault {
-    Database(DbFault),
-    Write,
-}
 
 /// The word that a list has for a change.
 fn change_word(change: Change<'_>) -> &'static [u8]
@@ -117,40 +105,21 @@ fn put_change<W: Sink>(
     }
 }
 
-/// The pass of a section: over both databases, to their ends.
-pub(crate) fn put_entries<R: Reel, W: Sink, A: Allocator + Copy>(
-    merge: &mut Merge<R>,
-    desk: &mut Desk<A>,
-    out: &mut W,
-    pen: &mut Pen,
-    options: &Options,
-    contents: Contents,
-) -> Result<(), PassFault>
-    requires ready { IsReady merge.old desk.old }
-    requires writes_on { pen.old.failed ≡ false }
-    ensures keeps { KeepsMerge R.Reel merge.old merge.new desk.old desk.new }
-    ensures writes { (old new : List ℕ) → StandsAt R.to_come merge.old desk.old Side.Old old
-        → StandsAt R.to_come merge.old desk.old Side.New new
-        → Writes result (entries_text options.now contents (remaining merge.old desk.old old new))
-        (on_sheet W.Sink out.old pen.old) (on_sheet W.Sink out.new pen.new) }
-    ensures some { WritesSome (on_sheet W.Sink out.old pen.old) (on_sheet W.Sink out.new pen.new) }
-    ensures writes_on { OnOk result (pen.new.failed ≡ false) }
-    ensures ended { OnOk result (IsEnded merge.new) }
-    ensures fault { IfErr result (IsStopOf R.Reel merge.old merge.new desk.old pen.new) }
-{
-    'pass: loop {
-        if let Err(fault) = merge.read_due(desk) {
-            return Err(PassFault::Database(fault));
-        }
-        match merge.next(desk) {
-            AtPath::Differs(change) => {
-                put_change(out, pen, options, contents, change);
-                if pen.failed {
-                    return Err(PassFault::Write);
-                }
-            }
-            AtPath::Alike => {}
-            AtPath::End => return Ok(()),
-        }
+/// Writes the changes of a section.
+#[derive(Clone, Copy)]
+pub(crate) struct SectionWriter<'a> {
+    pub(crate) options: &'a Options,
+    pub(crate) contents: Contents,
+}
+
+impl<'a> ChangeWriter for SectionWriter<'a> {
+    ghost use Rattle.aide_report.specs.Sections.{one_text};
+
+    ghost text_of = { λ writer. one_text writer.options.now writer.contents };
+
+    fn put<W: Sink>(&self, out: &mut W, pen: &mut Pen, change: Change<'_>) {
+        put_change(out, pen, self.options, self.contents, change);
     }
+
+    fn skips_alike(&self) {}
 }

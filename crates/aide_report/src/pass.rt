@@ -1,5 +1,6 @@
 //! Readings of databases: each whole, or both in lock step.
 ghost use Rattle.std.specs.Prelude.{◌≡◌, ◌<◌, [], false, true, ℕ, List, Some, IfOk, IfErr, OnOk};
+ghost use Rattle.std.specs.List.{flat_map};
 ghost use Rattle.aide_db.specs.Answer.{Stands};
 ghost use Rattle.aide_db.specs.Count.{one_more};
 ghost use Rattle.aide_db.specs.Database.{IsSound};
@@ -20,20 +21,19 @@ ghost use Rattle.aide_report.specs.code.Merging.{reels_failed};
 ghost use Rattle.aide_report.specs.code.PassFaults.{pass_fault_of};
 ghost use Rattle.aide_report.specs.code.Passes.{KeepsPen, Passes, WritesOver, on_sheet};
 ghost use Rattle.aide_report.specs.code.Readings.{GivesBoth, IsReadingFault, IsWholeReading};
-ghost use Rattle.aide_report.specs.Sections.{entries_text};
 ghost use Rattle.aide_report.specs.code.Seen.{AreLimits, KeepsSources, OpensOnce, seen};
 ghost use Rattle.aide_report.specs.Standing.{IsUnfailed};
 ghost use Rattle.aide_text.specs.Failures.{Rose};
 
+use crate::change_writer::{ChangeWriter, PassFault, put_entries};
 use crate::count::count;
 use crate::digests::{Digests, WholeReading, changed_side, digest_of};
-use crate::entries::{PassFault, put_entries};
 use crate::merge::{Merge, start_cursor};
 use crate::plan::Plan;
 use crate::run_fault::RunFault;
 use aide_conf::Options;
 use aide_db::{Cursor, DbFault, DbFaultKind, Desk, Limits, OpenFault, Reel, Side, Sources, Step};
-use aide_text::{Contents, Counts, Pen, Sink};
+use aide_text::{Counts, Pen, Sink};
 use std::alloc::Allocator;
 
 /// Lets go of what a desk still holds from an earlier run.
@@ -202,15 +202,15 @@ pub(crate) fn count_pass<S: Sources, A: Allocator + Copy>(
     }
 }
 
-/// The pass of a section, which writes what it says of the entries.
+/// A pass that writes the text of each change.
 #[inline(never)]
-pub(crate) fn entries_pass<S: Sources, W: Sink, A: Allocator + Copy>(
+pub(crate) fn entries_pass<S: Sources, W: Sink, A: Allocator + Copy, T: ChangeWriter>(
     plan: &Plan<'_>,
     sources: &mut S,
     desk: &mut Desk<A>,
     out: &mut W,
     pen: &mut Pen,
-    contents: Contents,
+    writer: &T,
 ) -> Result<(), RunFault>
     requires limits { AreLimits plan.now.limits }
     requires digests { AreDigests (S.bytes_of sources.old) plan.now.finding.now.digests }
@@ -219,7 +219,7 @@ pub(crate) fn entries_pass<S: Sources, W: Sink, A: Allocator + Copy>(
         (seen S.Sources sources.old) (seen S.Sources sources.new)
         desk.old desk.new (pen.new.failed ≡ true) result }
     ensures writes { WritesOver (S.bytes_of sources.old) (λ old new.
-        entries_text plan.now.task.now.options contents
+        flat_map (T.text_of writer.now)
         (merged path_cmp (entries_of old) (entries_of new)))
         result (on_sheet W.Sink out.old pen.old) (on_sheet W.Sink out.new pen.new) }
     ensures pen { KeepsPen (on_sheet W.Sink out.old pen.old) (on_sheet W.Sink out.new pen.new)
@@ -229,7 +229,7 @@ pub(crate) fn entries_pass<S: Sources, W: Sink, A: Allocator + Copy>(
 {
     let (old_reel, new_reel) = open_both(sources)?;
     let mut merge = Merge::start(old_reel, new_reel, plan.limits, desk);
-    match put_entries(&mut merge, desk, out, pen, &plan.task.options, contents) {
+    match put_entries(&mut merge, desk, out, pen, writer) {
         Ok(()) => {
             let changed = changed_side(&merge, &plan.finding.digests);
             close_both(sources, merge);

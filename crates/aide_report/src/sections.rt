@@ -10,6 +10,7 @@ ghost use Rattle.aide_report.specs.Sections.{has_entry, is_there, sections_of, s
 ghost use Rattle.aide_report.specs.code.Seen.{AreLimits, seen};
 ghost use Rattle.aide_text.specs.Sheet.{WritesFirst};
 
+use crate::entries::SectionWriter;
 use crate::pass::entries_pass;
 use crate::plan::Plan;
 use crate::run_fault::RunFault;
@@ -68,7 +69,11 @@ fn section_pass<S: Sources, W: Sink, A: Allocator + Copy>(
     if pen.failed {
         return Err(RunFault::Write { written: pen.sent });
     }
-    entries_pass(plan, sources, desk, out, pen, section.contents())
+    let writer = SectionWriter {
+        options: &plan.task.options,
+        contents: section.contents(),
+    };
+    entries_pass(plan, sources, desk, out, pen, &writer)
 }
 
 /// Writes all sections of the report.

@@ -27,8 +27,8 @@ use Rattle.aide_report.specs.Room.{IsNotMemory}
 use Rattle.aide_report.specs.Standing.{rest_of, left_of, IsUnfailed, IsFaultOf}
 use Rattle.aide_report.specs.declared.change.AtPath.{AtPath}
 use Rattle.aide_report.specs.declared.change.AtPath.TheVariants.{End}
-use Rattle.aide_report.specs.declared.entries.PassFault.{PassFault}
-use Rattle.aide_report.specs.declared.entries.PassFault.TheVariants.{Database, Write}
+use Rattle.aide_report.specs.declared.change_writer.PassFault.{PassFault}
+use Rattle.aide_report.specs.declared.change_writer.PassFault.TheVariants.{Database, Write}
 use Rattle.aide_report.specs.declared.merge.NextEntry.{NextEntry}
 use Rattle.aide_report.specs.declared.merge.NextEntry.TheVariants.{Due, Here, Ended}
 use Rattle.aide_report.specs.declared.merge.Merge.{Merge}

@@ -2,8 +2,8 @@
 use Rattle.std.specs.Prelude.{ℕ, Result, Ok, Err, List}
 use Rattle.aide_report.specs.code.LaterFault.{later_of}
 use Rattle.aide_text.specs.Sheet.{Sheet, Wrote, WritesPart}
-use Rattle.aide_report.specs.declared.entries.PassFault.{PassFault}
-use Rattle.aide_report.specs.declared.entries.PassFault.TheVariants.{Database, Write}
+use Rattle.aide_report.specs.declared.change_writer.PassFault.{PassFault}
+use Rattle.aide_report.specs.declared.change_writer.PassFault.TheVariants.{Database, Write}
 use Rattle.aide_report.specs.declared.run_fault.RunFault.{RunFault}
 use Rattle.aide_report.specs.declared.run_fault.RunFault.TheVariants.{Write as WriteFault}
 

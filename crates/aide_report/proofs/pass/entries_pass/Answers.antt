@@ -7,7 +7,7 @@ use Rattle.aide_db.specs.declared.side.Side.TheVariants.{Old, New}
 use Rattle.aide_report.specs.code.Merged.{merged}
 use Rattle.aide_report.specs.code.Merging.{cursor_at}
 use Rattle.aide_report.specs.code.Passes.{on_sheet}
-use Rattle.aide_report.specs.Sections.{entries_text}
+use Rattle.std.specs.List.{flat_map}
 use Rattle.aide_text.specs.Failures.{Rose}
 use Rattle.aide_text.specs.Sheet.{Wrote, WritesPart}
 use Rattle.aide_text.proofs.Sheets.{part_whole, part_nothing, some_nothing}
@@ -20,7 +20,7 @@ returns-in_err-old_reel-clause-passes g c =
 
 pub returns-in_err-old_reel-clause-writes : goal.returns-in_err-old_reel-clause-writes
 returns-in_err-old_reel-clause-writes g c old new told_old told_new =
-    let p = err_from_is_err_and c.from_residual.result c.from_residual.ensures.1 in rw p.1 (part_nothing (entries_text c.args.plan.now.task.now.options c.args.contents (merged path_cmp (entries_of old) (entries_of new))) (on_sheet g.W.Sink c.args.out.now c.args.pen.now))
+    let p = err_from_is_err_and c.from_residual.result c.from_residual.ensures.1 in rw p.1 (part_nothing (flat_map (g.T.ChangeWriter.text_of c.args.writer.now) (merged path_cmp (entries_of old) (entries_of new))) (on_sheet g.W.Sink c.args.out.now c.args.pen.now))
 
 pub returns-in-None-clause-passes : goal.returns-in-None-clause-passes
 returns-in-None-clause-passes g c =
@@ -33,7 +33,7 @@ pub returns-in-None-clause-writes : goal.returns-in-None-clause-writes
 returns-in-None-clause-writes g c old new told_old told_new =
     let bytes_of = g.S.Sources.bytes_of c.args.sources.now in
     let opened = c.start-merge.ensures.opened bytes_of c.in_ok-old_reel.ensures.gives in
-    subst (λ all. Wrote (entries_text c.args.plan.now.task.now.options c.args.contents all) (on_sheet g.W.Sink c.args.out.now c.args.pen.now) (on_sheet g.W.Sink c.put_entries.new.out c.put_entries.new.pen)) (opened.rest old new)
+    subst (λ all. Wrote (flat_map (g.T.ChangeWriter.text_of c.args.writer.now) all) (on_sheet g.W.Sink c.args.out.now c.args.pen.now) (on_sheet g.W.Sink c.put_entries.new.out c.put_entries.new.pen)) (opened.rest old new)
     (c.in-Ok.ensures.writes old new (opened.stands Old old told_old) (opened.stands New new told_new))
 
 pub returns-in-Some-clause-passes : goal.returns-in-Some-clause-passes
@@ -51,7 +51,7 @@ pub returns-in-Some-clause-writes : goal.returns-in-Some-clause-writes
 returns-in-Some-clause-writes g c old new told_old told_new =
     let bytes_of = g.S.Sources.bytes_of c.args.sources.now in
     let opened = c.start-merge.ensures.opened bytes_of c.in_ok-old_reel.ensures.gives in
-    part_whole (subst (λ all. Wrote (entries_text c.args.plan.now.task.now.options c.args.contents all) (on_sheet g.W.Sink c.args.out.now c.args.pen.now) (on_sheet g.W.Sink c.put_entries.new.out c.put_entries.new.pen)) (opened.rest old new)
+    part_whole (subst (λ all. Wrote (flat_map (g.T.ChangeWriter.text_of c.args.writer.now) all) (on_sheet g.W.Sink c.args.out.now c.args.pen.now) (on_sheet g.W.Sink c.put_entries.new.out c.put_entries.new.pen)) (opened.rest old new)
     (c.in-Ok.ensures.writes old new (opened.stands Old old told_old) (opened.stands New new told_new)))
 
 pub returns-in-Err-clause-passes : goal.returns-in-Err-clause-passes
@@ -67,7 +67,7 @@ pub returns-in-Err-clause-writes : goal.returns-in-Err-clause-writes
 returns-in-Err-clause-writes g c old new told_old told_new =
     let bytes_of = g.S.Sources.bytes_of c.args.sources.now in
     let opened = c.start-merge.ensures.opened bytes_of c.in_ok-old_reel.ensures.gives in
-    subst (λ all. WritesPart (entries_text c.args.plan.now.task.now.options c.args.contents all) (on_sheet g.W.Sink c.args.out.now c.args.pen.now) (on_sheet g.W.Sink c.put_entries.new.out c.put_entries.new.pen)) (opened.rest old new)
+    subst (λ all. WritesPart (flat_map (g.T.ChangeWriter.text_of c.args.writer.now) all) (on_sheet g.W.Sink c.args.out.now c.args.pen.now) (on_sheet g.W.Sink c.put_entries.new.out c.put_entries.new.pen)) (opened.rest old new)
     (c.in-Err.ensures.writes old new (opened.stands Old old told_old) (opened.stands New new told_new))
 
 pub returns-in-Err-clause-pen : goal.returns-in-Err-clause-pen

@@ -1,9 +1,10 @@
-use Rattle.std.proofs.Common.{ℕ, ap, arith, refl, sym}
+use Rattle.std.proofs.Common.{◌∙◌, ℕ, ap, arith, refl, sym}
 use Rattle.aide_report.specs.code.Finding.{pass_of}
 use Rattle.aide_report.specs.code.Passes.{on_sheet}
 use Rattle.aide_report.specs.code.Seen.{seen}
 use Rattle.aide_report.specs.Sections.{section_text, entries_text}
 use Rattle.aide_text.specs.Section.{contents_of}
+use Rattle.aide_report.proofs.EntriesLemmas.{each_entry}
 use Rattle.aide_report.proofs.PassLemmas.{passes_broken, passes_none, pen_then, writes_behind, writes_same}
 use Rattle.aide_text.proofs.Sheets.{part_of_wrote, some_of}
 use Rattle.aide_report.proofs.sections.section_pass.Goals as goal
@@ -24,7 +25,8 @@ returns-clause-writes g c old new told_old told_new =
     writes_behind (entries_text c.args.plan.now.task.now.options (contents_of c.args.section) (pass_of old new)) (on_sheet g.W.Sink c.entries_pass.new.out c.entries_pass.new.pen)
     c.put_section_head.ensures c.entries_pass.result
     (writes_same (on_sheet g.W.Sink c.put_section_head.new.out c.put_section_head.new.pen) (on_sheet g.W.Sink c.entries_pass.new.out c.entries_pass.new.pen)
-    (ap (λ contents. entries_text c.args.plan.now.task.now.options contents (pass_of old new)) (sym c.contents.ensures)) c.entries_pass.result
+    (ap (λ contents. entries_text c.args.plan.now.task.now.options contents (pass_of old new)) (sym c.contents.ensures)
+    ∙ sym (each_entry c.args.plan.now.task.now.options c.contents.result (pass_of old new))) c.entries_pass.result
     (c.entries_pass.ensures.writes old new told_old told_new))
 
 pub returns-clause-pen : goal.returns-clause-pen

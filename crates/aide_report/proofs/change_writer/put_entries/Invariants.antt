@@ -3,10 +3,10 @@ use Rattle.std.proofs.Common.{◌≡◌, ℕ, List, false}
 use Rattle.aide_db.specs.declared.side.Side.TheVariants.{Old, New}
 use Rattle.aide_report.specs.code.MergeCalls.{KeepsMerge}
 use Rattle.aide_report.specs.code.Passes.{on_sheet}
-use Rattle.aide_report.specs.Sections.{entries_text}
+use Rattle.std.specs.List.{flat_map}
 use Rattle.aide_text.specs.Sheet.{Writing, WritesSome}
 use Rattle.aide_report.specs.code.Merging.{remaining, IsReady, StandsAt, total_work}
-use Rattle.aide_report.proofs.entries.put_entries.Given as goal
+use Rattle.aide_report.proofs.change_writer.put_entries.Given as goal
 
 abbrev pub invariant-pass : goal.invariant-pass
 invariant-pass g l = record {
@@ -15,7 +15,7 @@ invariant-pass g l = record {
   keeps : KeepsMerge g.R.Reel l.fn.merge l.merge l.fn.desk l.desk;
   writes : (old new : List ℕ) → StandsAt g.R.Reel.to_come l.fn.merge l.fn.desk Old old
       → StandsAt g.R.Reel.to_come l.fn.merge l.fn.desk New new
-      → Writing (entries_text l.options l.contents (remaining l.fn.merge l.fn.desk old new)) (entries_text l.options l.contents (remaining l.merge l.desk old new))
+      → Writing (flat_map (g.T.ChangeWriter.text_of l.writer) (remaining l.fn.merge l.fn.desk old new)) (flat_map (g.T.ChangeWriter.text_of l.writer) (remaining l.merge l.desk old new))
       (on_sheet g.W.Sink l.fn.out l.fn.pen) (on_sheet g.W.Sink l.out l.pen);
   some : WritesSome (on_sheet g.W.Sink l.fn.out l.fn.pen) (on_sheet g.W.Sink l.out l.pen);
 }

@@ -3,20 +3,20 @@ use Rattle.aide_db.specs.declared.side.Side.TheVariants.{Old, New}
 use Rattle.aide_report.specs.code.ChangeView.{change_of}
 use Rattle.aide_report.specs.code.Merging.{remaining}
 use Rattle.aide_report.specs.code.Passes.{on_sheet}
-use Rattle.aide_report.proofs.EntriesLemmas.{entries_alike, entries_step, entries_end}
+use Rattle.std.specs.List.{flat_map}
+use Rattle.aide_report.proofs.WriterLemmas.{alike_written, all_written, more_written}
 use Rattle.aide_report.proofs.CallLemmas.{merge_fault, merge_none, merge_then}
 use Rattle.aide_text.proofs.Sheets.{writing_start, writing_more, writing_done, writing_so_far, some_nothing, some_more}
 use Rattle.aide_text.proofs.Sheets.{some_of}
 use Rattle.aide_text.specs.Sheet.{Writing}
-use Rattle.aide_report.specs.Sections.{entries_text}
-use Rattle.aide_report.proofs.entries.put_entries.Goals as goal
+use Rattle.aide_report.proofs.change_writer.put_entries.Goals as goal
 
 pub pass-init : goal.pass-init
 pass-init g c = record {
   ready = c.requires.ready;
   writes_on = c.requires.writes_on;
   keeps = merge_none g.R.Reel c.args.merge.now c.args.desk.now;
-  writes = λ old new s t. writing_start (entries_text c.args.options.now c.args.contents (remaining c.args.merge.now c.args.desk.now old new))
+  writes = λ old new s t. writing_start (flat_map (g.T.ChangeWriter.text_of c.args.writer.now) (remaining c.args.merge.now c.args.desk.now old new))
       (on_sheet g.W.Sink c.args.out.now c.args.pen.now);
   some = some_nothing (on_sheet g.W.Sink c.args.out.now c.args.pen.now);
 }
@@ -45,7 +45,7 @@ returns-in-End-clause-keeps g c =
 pub returns-in-End-clause-writes : goal.returns-in-End-clause-writes
 returns-in-End-clause-writes g c old new s t =
     let stands = c.pass.invariant.keeps.stands in
-    writing_done (entries_end c.args.options.now c.args.contents (remaining c.pass.merge c.pass.desk old new)
+    writing_done (all_written (g.T.ChangeWriter.text_of c.args.writer.now) (remaining c.pass.merge c.pass.desk old new)
     (c.in_default.ensures.read.same old new (stands Old old s) (stands New new t) ∙ c.in-End.ensures.step.end old new refl))
     (c.pass.invariant.writes old new s t)
 
@@ -66,11 +66,11 @@ returns-then-pen g c =
     record {
       keeps = merge_then c.pass.invariant.keeps (merge_then c.read_due.ensures.keeps c.next.ensures.keeps);
       writes = λ old new s t. writing_so_far (writing_more
-          (entries_step c.args.options.now c.args.contents (change_of c.in-Differs.change) (remaining c.pass.merge c.pass.desk old new)
+          (more_written (g.T.ChangeWriter.text_of c.args.writer.now) (change_of c.in-Differs.change) (remaining c.pass.merge c.pass.desk old new)
           step.changes (remaining c.next.new.self c.read_due.new.desk old new)
           (read.same old new (stands Old old s) (stands New new t) ∙ step.gives old new) step.shows)
-          (c.pass.invariant.writes old new s t) c.put_change.ensures);
-      some = some_more c.pass.invariant.some (some_of c.put_change.ensures);
+          (c.pass.invariant.writes old new s t) c.put.ensures);
+      some = some_more c.pass.invariant.some (some_of c.put.ensures);
       writes_on = tt;
       ended = tt;
       fault = c.if-pen.true;
@@ -86,11 +86,11 @@ pass-preserved-else-pen g c =
       writes_on = c.if-pen.false;
       keeps = merge_then c.pass.invariant.keeps (merge_then c.read_due.ensures.keeps c.next.ensures.keeps);
       writes = λ old new s t. writing_more
-          (entries_step c.args.options.now c.args.contents (change_of c.in-Differs.change) (remaining c.pass.merge c.pass.desk old new)
+          (more_written (g.T.ChangeWriter.text_of c.args.writer.now) (change_of c.in-Differs.change) (remaining c.pass.merge c.pass.desk old new)
           step.changes (remaining c.next.new.self c.read_due.new.desk old new)
           (read.same old new (stands Old old s) (stands New new t) ∙ step.gives old new) step.shows)
-          (c.pass.invariant.writes old new s t) c.put_change.ensures;
-      some = some_more c.pass.invariant.some (some_of c.put_change.ensures);
+          (c.pass.invariant.writes old new s t) c.put.ensures;
+      some = some_more c.pass.invariant.some (some_of c.put.ensures);
     }
 
 pub pass-preserved : goal.pass-preserved
@@ -102,11 +102,11 @@ pass-preserved g c =
       ready = step.ready;
       writes_on = c.pass.invariant.writes_on;
       keeps = merge_then c.pass.invariant.keeps (merge_then c.read_due.ensures.keeps c.next.ensures.keeps);
-      writes = λ old new s t. subst (λ rest. Writing (entries_text c.args.options.now c.args.contents (remaining c.args.merge.now c.args.desk.now old new)) rest
+      writes = λ old new s t. subst (λ rest. Writing (flat_map (g.T.ChangeWriter.text_of c.args.writer.now) (remaining c.args.merge.now c.args.desk.now old new)) rest
           (on_sheet g.W.Sink c.args.out.now c.args.pen.now) (on_sheet g.W.Sink c.pass.out c.pass.pen))
-          (entries_alike c.args.options.now c.args.contents step.shows.entry (remaining c.pass.merge c.pass.desk old new)
+          (alike_written (g.T.ChangeWriter.text_of c.args.writer.now) step.shows.entry (remaining c.pass.merge c.pass.desk old new)
           step.changes (remaining c.next.new.self c.read_due.new.desk old new)
-          (read.same old new (stands Old old s) (stands New new t) ∙ step.gives old new) step.shows.only)
+          (c.skips_alike.ensures step.shows.entry) (read.same old new (stands Old old s) (stands New new t) ∙ step.gives old new) step.shows.only)
           (c.pass.invariant.writes old new s t);
       some = c.pass.invariant.some;
     }
