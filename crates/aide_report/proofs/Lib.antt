@@ -2,8 +2,10 @@ pub mod ShownLemmas
 pub mod FormLemmas
 pub mod WriterLemmas
 pub mod EntriesLemmas
+pub mod LineLemmas
 pub mod SectionsLemmas
 pub mod SectionLaws
+pub mod LineLaws
 pub mod ReportLemmas
 pub mod MergeLemmas
 pub mod Laws

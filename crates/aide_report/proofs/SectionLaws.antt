@@ -29,7 +29,7 @@ more_counted : (b : Bool) (n : ℕ) (rest : Bool) → not (n == 0) ≡ rest → 
 more_counted true n rest e = one_more n
 more_counted false n rest e = ap (λ k. not (k == 0)) (none_more n) ∙ e
 
-first_counted : {X : Type 0} (p : X → Bool) (x : X) (xs : List X) → count_by p (x ∷ xs) ≡ cond (p x) 1 0 + count_by p xs
+pub first_counted : {X : Type 0} (p : X → Bool) (x : X) (xs : List X) → count_by p (x ∷ xs) ≡ cond (p x) 1 0 + count_by p xs
 first_counted p x xs = omega (arith, sum_by-append (λ y. cond (p y) 1 0) (x ∷ []) xs)
 
 -- a count is not nought exactly where the test holds of some item

@@ -20,7 +20,7 @@ module _ (text : PathChange → List ℕ) where
       more_written (alike_of entry) rest changes more is one ∙ ap (λ l. l ++ flat_map text more) nothing
 
   -- the text of a change that passes, and nothing for any other
-  pub of_passing : (passes : PathChange → Bool) → PathChange → List ℕ
+  abbrev pub of_passing : (passes : PathChange → Bool) → PathChange → List ℕ
   of_passing passes change = if passes change then text change else []
 
   pub all_passing : (passes : PathChange → Bool) (changes : List PathChange)

@@ -16,6 +16,7 @@ pub mod Changed
 pub mod Report
 pub mod Entries
 pub mod Sections
+pub mod ChangeLines
 pub mod Asked
 pub mod FaultStatus
 pub mod RunFaults

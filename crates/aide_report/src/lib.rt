@@ -2,6 +2,7 @@
 #![tactic(auto)]
 
 mod change;
+mod change_lines;
 mod change_writer;
 mod comparison;
 mod count;

@@ -1,0 +1,56 @@
+-- There are as many lines of changes as entries were added, removed and changed.
+use Rattle.std.proofs.Common.{◌≡◌, ◌∙◌, ◌+◌, Bool, true, false, cond, List, [], ◌∷◌, refl, arith, length}
+use Rattle.std.specs.Prelude.{count_by, Some, None, ◌||◌}
+use Rattle.std.proofs.lemmas.List.Sums.{length-filter}
+use Rattle.aide_conf.specs.declared.options.Options.{Options}
+use Rattle.aide_db.specs.Map.{Database}
+use Rattle.aide_entry.specs.Path.{path_cmp}
+use Rattle.aide_entry.proofs.PathLaws.{path_cmp_total, path_cmp-IsAntisymmetric}
+use Rattle.aide_line_text.specs.Ends.{entry_count}
+use Rattle.aide_report.specs.ChangeLines.{listed_changes}
+use Rattle.aide_report.specs.Changed.{differ_by}
+use Rattle.aide_report.specs.Changes.{is_added, is_removed, is_changed}
+use Rattle.aide_report.specs.Compare.{changes}
+use Rattle.aide_report.specs.Entries.{PathChange}
+use Rattle.aide_report.specs.Report.{counts_of}
+use Rattle.aide_report.specs.Sections.{all_listed, is_in}
+use Rattle.aide_report.proofs.Laws.{added_count, removed_count, changed_count}
+use Rattle.aide_report.proofs.SectionLaws.{first_counted}
+
+module _ (options : Options) where
+  abbrev differs : PathChange → Bool
+  differs = is_changed (differ_by options.ignore)
+
+  -- a change that is listed is of one kind
+  one_kind : (change : PathChange) → cond (is_in options all_listed change) 1 0
+      ≡ cond (is_added change) 1 0 + (cond (is_removed change) 1 0 + cond (differs change) 1 0)
+  one_kind (path, (None, None)) = refl
+  one_kind (path, (None, Some new)) = refl
+  one_kind (path, (Some old, None)) = refl
+  one_kind (path, (Some old, Some new)) = by_differ (differ_by options.ignore old new)
+    where
+      by_differ : (b : Bool) → cond (false || (false || b)) 1 0 ≡ 0 + (0 + cond b 1 0)
+      by_differ true = refl
+      by_differ false = refl
+
+  all_kinds : (entries : List PathChange) → count_by (is_in options all_listed) entries
+      ≡ count_by is_added entries + (count_by is_removed entries + count_by differs entries)
+  all_kinds [] = refl
+  all_kinds (entry ∷ more) = omega (
+    arith,
+    one_kind entry,
+    all_kinds more,
+    first_counted (is_in options all_listed) entry more,
+    first_counted is_added entry more,
+    first_counted is_removed entry more,
+    first_counted differs entry more,
+  )
+
+  -- the number that the first line announces is the number of lines
+  pub as_many_lines_as_counted : (old new : Database)
+      → length (listed_changes options (changes old new)) ≡ entry_count (counts_of options old new)
+  as_many_lines_as_counted old new =
+      length-filter (is_in options all_listed) (changes old new) ∙ all_kinds (changes old new)
+      ∙ (λ i. added_count path_cmp path_cmp_total path_cmp-IsAntisymmetric old new i
+      + (removed_count path_cmp path_cmp_total path_cmp-IsAntisymmetric old new i
+      + changed_count path_cmp path_cmp_total (differ_by options.ignore) path_cmp-IsAntisymmetric old new i))

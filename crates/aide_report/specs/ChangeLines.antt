@@ -1,0 +1,29 @@
+-- The lines of JSON about the changes of two databases.
+use Rattle.std.specs.Prelude.{ℕ, if◌then◌else◌, List, []}
+use Rattle.std.specs.List.{flat_map, filter}
+use Rattle.aide_attr.specs.declared.level.Level.TheVariants.{AddedRemovedEntries}
+use Rattle.aide_conf.specs.declared.options.Options.{Options}
+use Rattle.aide_line_text.specs.Entry.{entry_line}
+use Rattle.aide_report.specs.Entries.{PathChange, letters_of, shows_at}
+use Rattle.aide_report.specs.Sections.{all_listed, is_in}
+
+-- the options of the report that shows most
+abbrev pub widest : Options → Options
+widest options = record options { level = AddedRemovedEntries }
+
+-- the line of a change: its summary string, and the attributes that a report of the highest level shows
+unfoldable pub change_line : Options → PathChange → List ℕ
+change_line options change =
+    entry_line change.0 (letters_of options.ignore change.1) (shows_at (widest options) change.1) change.1
+
+-- the same, and nothing for a change that the report lists nowhere
+unfoldable pub listed_line : Options → PathChange → List ℕ
+listed_line options change = if is_in options all_listed change then change_line options change else []
+
+-- the changes that have a line: the added, the removed and the changed entries
+abbrev pub listed_changes : Options → List PathChange → List PathChange
+listed_changes options changes = filter (is_in options all_listed) changes
+
+-- their lines, in their order
+unfoldable pub change_lines : Options → List PathChange → List ℕ
+change_lines options changes = flat_map (change_line options) (listed_changes options changes)
