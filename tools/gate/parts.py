@@ -22,12 +22,12 @@ def at_least(number, *words):
 
 FILES = [
     exactly(210, "tools.source.check_edits"),
-    exactly(540, "tools.source.check_docs"),
+    exactly(543, "tools.source.check_docs"),
     exactly(90, "tools.source.check_layout"),
     exactly(152, "tools.source.check_layers"),
-    exactly(564, "tools.source.check_tools"),
-    exactly(931, "tools.source.check_planted"),
-    exactly(1828, "tools.wrong_bodies.check"),
+    exactly(563, "tools.source.check_tools"),
+    exactly(926, "tools.source.check_planted"),
+    exactly(1839, "tools.wrong_bodies.check"),
 ]
 
 
