@@ -351,7 +351,7 @@ def try_pages(sandbox):
     sandbox.holds("a plain page with the host", b"File changes on " in page and b"<script" not in page, parts)
     call(sandbox, "--html", "--max-mail", "9k", "old.db", "new.db")
     sandbox.holds("a page that is too large", body(sent(sandbox)).endswith(note + b"it would be larger than --max-mail\n"))
-    edit(sandbox, "show/page", "    contents = Contents(is_plain, only)\n", "    raise KeyError('an odd report')\n")
+    sandbox.edit("lib/aide_compare/show/page.py", "    contents = Contents(is_plain, only)\n", "    raise KeyError('an odd report')\n")
     sandbox.expect("a page that fails", call(sandbox, "--html", "old.db", "new.db"), 7, b"", b"")
     want = note + b"a fault of this command: KeyError: 'an odd report'\n"
     sandbox.holds("a mail without a page", body(sent(sandbox)).endswith(want))
