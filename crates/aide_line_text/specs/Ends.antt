@@ -9,7 +9,6 @@ use Rattle.aide_json.specs.Number.{json_count}
 use Rattle.aide_json.specs.Object.{array, line, object}
 use Rattle.aide_text.specs.Overview.{differs}
 use Rattle.aide_text.specs.declared.counts.Counts.{Counts}
-use Rattle.aide_line_text.specs.declared.ends.Source.{Source}
 
 -- a member whose value is a count
 abbrev pub count_member : List ℕ → ℕ → List ℕ
@@ -40,13 +39,19 @@ is_skipped columns column = bit_at columns (column - 1) == 1
 unfoldable pub skipped_array : ℕ → List ℕ
 skipped_array columns = array (map json_count (filter (is_skipped columns) (numbers 1 64)))
 
--- what is said of one database: its configured path, the SHA-256 of its bytes, and the columns that
--- were skipped
-unfoldable pub source_object : Source → List ℕ
-source_object source =
-    object (text_member (codes "path") source.path.now
-    ∷ member (codes "sha256") (hex_string source.digest.now)
-    ∷ member (codes "skipped") (skipped_array source.skipped) ∷ [])
+-- what the first line says of one database: its configured path, the SHA-256 of its bytes, and the
+-- set of the columns that were skipped
+pub record DatabaseFacts : Type 0 where
+  pub path : List ℕ
+  pub digest : List ℕ
+  pub skipped : ℕ
+
+-- what is said of one database, as an object
+unfoldable pub facts_object : DatabaseFacts → List ℕ
+facts_object facts =
+    object (text_member (codes "path") facts.path
+    ∷ member (codes "sha256") (hex_string facts.digest)
+    ∷ member (codes "skipped") (skipped_array facts.skipped) ∷ [])
 
 -- how many lines of entries there are
 abbrev pub entry_count : Counts → ℕ
@@ -54,14 +59,14 @@ entry_count counts = counts.added + (counts.removed + counts.changed)
 
 -- the first line: the format's number, whether the databases differ, the numbers of entries and of
 -- the lines that follow before the last one, and both databases
-unfoldable pub first_line : Source → Source → Counts → List ℕ
-first_line old_source new_source counts =
+unfoldable pub first_line : (old_facts new_facts : DatabaseFacts) → Counts → List ℕ
+first_line old_facts new_facts counts =
     line (count_member (codes "format") 2
     ∷ member (codes "differences") (truth (differs counts))
     ∷ (count_members counts
     ++ (count_member (codes "entries") (entry_count counts)
-    ∷ member (codes "old") (source_object old_source)
-    ∷ member (codes "new") (source_object new_source) ∷ [])))
+    ∷ member (codes "old") (facts_object old_facts)
+    ∷ member (codes "new") (facts_object new_facts) ∷ [])))
 
 -- the last line, without which the lines were cut: the numbers of entries again, and the exit
 -- status

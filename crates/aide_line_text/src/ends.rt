@@ -1,8 +1,9 @@
 //! Writes the first and the last line.
 ghost use Rattle.std.specs.Prelude.{◌≡◌, ◌≤◌, ◌∷◌, ◌++◌, [], length, codes};
 ghost use Rattle.aide_json.specs.Object.{behind, joined};
-ghost use Rattle.aide_line_text.specs.Ends.{count_members, entry_count, first_line, last_line};
-ghost use Rattle.aide_line_text.specs.Ends.{source_object, truth};
+ghost use Rattle.aide_line_text.specs.Ends.{count_members, entry_count, facts_object, first_line};
+ghost use Rattle.aide_line_text.specs.Ends.{last_line, truth};
+ghost use Rattle.aide_line_text.specs.SourceView.{facts_in};
 ghost use Rattle.aide_text.specs.Overview.{differs};
 ghost use Rattle.aide_text.specs.PenSheet.{on_sheet};
 ghost use Rattle.aide_text.specs.Sheet.{Wrote};
@@ -47,7 +48,7 @@ fn put_counts<W: Sink>(out: &mut W, pen: &mut Pen, counts: &Counts)
 
 /// Writes what is said of one database.
 fn put_source<W: Sink>(out: &mut W, pen: &mut Pen, source: &Source<'_>)
-    ensures { Wrote (source_object source.now)
+    ensures { Wrote (facts_object (facts_in source.now))
         (on_sheet W.Sink out.old pen.old) (on_sheet W.Sink out.new pen.new) }
 {
     let path = source.path;
@@ -70,7 +71,7 @@ pub fn put_first_line<W: Sink>(
     new: &Source<'_>,
     counts: &Counts,
 )
-    ensures { Wrote (first_line old.now new.now counts.now)
+    ensures { Wrote (first_line (facts_in old.now) (facts_in new.now) counts.now)
         (on_sheet W.Sink out.old pen.old) (on_sheet W.Sink out.new pen.new) }
 {
     put(out, pen, b"{");
