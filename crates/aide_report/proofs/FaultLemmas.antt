@@ -18,10 +18,10 @@ use Rattle.aide_report.specs.Standing.{IsFaultOf}
 use Rattle.aide_report.specs.RunFaults.{IsCaused, IsFirst, IsLater, IsRight, HasPenWritten}
 use Rattle.aide_text.specs.Failures.{Rose}
 use Rattle.aide_text.specs.declared.pen.Pen.{Pen}
-use Rattle.aide_report.specs.Runs.{Report, Runs, IsRunFault, Causes, HasCause}
+use Rattle.aide_report.specs.Runs.{Report, Runs, RunsBy, report_over, IsRunFault, Causes, HasCause}
 use Rattle.aide_report.specs.declared.run_fault.RunFault.{RunFault}
 use Rattle.aide_report.specs.declared.run_fault.RunFault.TheVariants.{Open, Database, Changed, Write}
-use Rattle.aide_report.proofs.FirstFaults.{Runs-unique}
+use Rattle.aide_report.proofs.FirstFaults.{RunsBy-unique}
 
 abbrev pub HasFault : Limits → (Side → Option (List ℕ)) → DbFault → Type 0
 HasFault limits bytes_of fault = (text : List ℕ) → bytes_of fault.side ≡ Some text → IsFaultOf limits text fault
@@ -61,18 +61,25 @@ causes_of rose first Memory read inside = tt
 causes_of rose first Read read inside = read refl
 causes_of rose first kind read inside = inside refl
 
--- why a run fails
+-- why a run fails, whatever it is to write
+pub cause_by : (limits : Limits) (task : Asked) (over : List ℕ → List ℕ → Report) (bytes_of : Side → Option (List ℕ)) (sources sink : Type 0) (fault : RunFault)
+    → IsCaused sources sink fault → IsRunFault limits task bytes_of fault → IsRight limits bytes_of fault
+    → HasCause fault sources sink
+    (λ first. (old new : List ℕ) → bytes_of Old ≡ Some old → bytes_of New ≡ Some new → (r : Result Report DbFault) → RunsBy limits over old new r → r ≡ Err first)
+    (λ side. (text : List ℕ) → bytes_of side ≡ Some text → ⊥)
+cause_by limits task over bytes_of sources sink (Open side) caused answer right = caused
+cause_by limits task over bytes_of sources sink (Database fault) caused answer right =
+    causes_of sources _ fault.kind caused
+    (λ inside old new told_old told_new r runs. RunsBy-unique limits over old new r (Err fault) runs (answer old new told_old told_new inside))
+cause_by limits task over bytes_of sources sink (Changed side) caused answer right = right
+cause_by limits task over bytes_of sources sink (Write written) caused answer right = caused
+
 pub has_cause : (limits : Limits) (task : Asked) (bytes_of : Side → Option (List ℕ)) (sources sink : Type 0) (fault : RunFault)
     → IsCaused sources sink fault → IsRunFault limits task bytes_of fault → IsRight limits bytes_of fault
     → HasCause fault sources sink
     (λ first. (old new : List ℕ) → bytes_of Old ≡ Some old → bytes_of New ≡ Some new → (r : Result Report DbFault) → Runs limits task old new r → r ≡ Err first)
     (λ side. (text : List ℕ) → bytes_of side ≡ Some text → ⊥)
-has_cause limits task bytes_of sources sink (Open side) caused answer right = caused
-has_cause limits task bytes_of sources sink (Database fault) caused answer right =
-    causes_of sources _ fault.kind caused
-    (λ inside old new told_old told_new r runs. Runs-unique limits task old new r (Err fault) runs (answer old new told_old told_new inside))
-has_cause limits task bytes_of sources sink (Changed side) caused answer right = right
-has_cause limits task bytes_of sources sink (Write written) caused answer right = caused
+has_cause limits task = cause_by limits task (report_over task)
 
 -- ---- the end of a pass
 

@@ -12,7 +12,7 @@ use Rattle.aide_db.specs.declared.side.Side.{Side}
 use Rattle.aide_db.specs.declared.side.Side.TheVariants.{Old, New}
 use Rattle.aide_db.proofs.FaultExists.{sound_or_fault}
 use Rattle.aide_db.proofs.MapLaws.{first_fault_unsound}
-use Rattle.aide_report.specs.Runs.{Report, Runs, HasAnswer, IsFirstFaultOf, report_over}
+use Rattle.aide_report.specs.Runs.{Report, Runs, RunsBy, HasAnswer, IsFirstFaultOf, report_over}
 
 -- two cuts of a list at an element are one, or the first ends in the front of the second, or the other way round
 record SameCut {X : Type 0} (xs : List X) (x : X) (zs : List X) (z : X) : Type 0 where
@@ -130,18 +130,18 @@ same_fault limits side text f g a b =
     λ i. record { side = sides i; line = same.0 i; kind = same.1 i }
 
 -- a run has one right answer
-pub Runs-unique : (limits : Limits) (task : Asked) (old new : List ℕ) (r s : Result Report DbFault)
-    → Runs limits task old new r → Runs limits task old new s → r ≡ s
-Runs-unique limits task old new (Ok x) (Ok y) a b = ap Ok (a.2 ∙ sym b.2)
-Runs-unique limits task old new (Ok x) (Err g) a b = absurd (elim b [
+pub RunsBy-unique : (limits : Limits) (over : List ℕ → List ℕ → Report) (old new : List ℕ) (r s : Result Report DbFault)
+    → RunsBy limits over old new r → RunsBy limits over old new s → r ≡ s
+RunsBy-unique limits over old new (Ok x) (Ok y) a b = ap Ok (a.2 ∙ sym b.2)
+RunsBy-unique limits over old new (Ok x) (Err g) a b = absurd (elim b [
   | inl p ↦ first_fault_unsound limits old g.line g.kind p.1 a.0
   | inr p ↦ first_fault_unsound limits new g.line g.kind p.1.1 a.1
 ])
-Runs-unique limits task old new (Err f) (Ok y) a b = absurd (elim a [
+RunsBy-unique limits over old new (Err f) (Ok y) a b = absurd (elim a [
   | inl p ↦ first_fault_unsound limits old f.line f.kind p.1 b.0
   | inr p ↦ first_fault_unsound limits new f.line f.kind p.1.1 b.1
 ])
-Runs-unique limits task old new (Err f) (Err g) a b = ap Err (elim a [
+RunsBy-unique limits over old new (Err f) (Err g) a b = ap Err (elim a [
   | inl p ↦ elim b [
     | inl q ↦ same_fault limits Old old f g p q
     | inr q ↦ absurd (first_fault_unsound limits old f.line f.kind p.1 q.0)
@@ -151,6 +151,10 @@ Runs-unique limits task old new (Err f) (Err g) a b = ap Err (elim a [
     | inr q ↦ same_fault limits New new f g p.1 q.1
   ]
 ])
+
+pub Runs-unique : (limits : Limits) (task : Asked) (old new : List ℕ) (r s : Result Report DbFault)
+    → Runs limits task old new r → Runs limits task old new s → r ≡ s
+Runs-unique limits task = RunsBy-unique limits (report_over task)
 
 -- and it has one
 pub Runs-exists : (limits : Limits) (task : Asked) (old new : List ℕ) → 14 ≤ limits.line → HasAnswer limits task old new

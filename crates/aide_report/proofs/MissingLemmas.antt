@@ -13,10 +13,10 @@ use Rattle.aide_db.specs.declared.side.Side.TheVariants.{Old, New}
 use Rattle.aide_db.proofs.FaultExists.{sound_or_fault}
 use Rattle.aide_db.proofs.MapLaws.{first_fault_unsound}
 use Rattle.aide_report.specs.Asked.{Asked}
-use Rattle.aide_report.specs.Missing.{TellsSide, RunsOver, HasAnswerOver, IsHindered, SendsFront, SendsWhole, StopsFor}
+use Rattle.aide_report.specs.Missing.{TellsSide, RunsOver, RunsOverBy, HasAnswerOver, IsHindered, SendsFront, SendsWhole, StopsFor}
 use Rattle.aide_report.specs.Missing.{run_answer}
 use Rattle.aide_report.specs.RunFaults.{IsCaused, IsFirst, IsLater}
-use Rattle.aide_report.specs.Runs.{Report, Runs, EndsEarly, EndsWell, IsFirstFaultOf, Causes}
+use Rattle.aide_report.specs.Runs.{Report, Runs, RunsBy, report_over, EndsEarly, EndsWell, IsFirstFaultOf, Causes}
 use Rattle.aide_report.specs.declared.outcome.Outcome.{Outcome}
 use Rattle.aide_report.specs.declared.run_fault.RunFault.{RunFault}
 use Rattle.aide_report.specs.declared.run_fault.RunFault.TheVariants.{Open, Database, Changed, Write}
@@ -207,18 +207,28 @@ front_given (Ok report) before after early = early
 front_given (Err fault) before after early = early
 
 -- what is so of the right answer over both texts is so of that over what stands at both sides, where both are there
-over_texts : (limits : Limits) (wish : Asked) (bytes_of : Side → Option (List ℕ)) (is_missing : Side → Bool) (old new : Option (List ℕ)) (P : Result Report RunFault → Type 0)
+over_texts : (limits : Limits) (over : List ℕ → List ℕ → Report) (bytes_of : Side → Option (List ℕ)) (is_missing : Side → Bool) (old new : Option (List ℕ)) (P : Result Report RunFault → Type 0)
     → TellsSide (bytes_of Old) (is_missing Old) old → TellsSide (bytes_of New) (is_missing New) new
     → ((side : Side) → is_missing side ≡ false)
     → ((old_text new_text : List ℕ) → bytes_of Old ≡ Some old_text → bytes_of New ≡ Some new_text
-    → (run : Result Report DbFault) → Runs limits wish old_text new_text run → P (run_answer run))
-    → (r : Result Report RunFault) → RunsOver limits wish old new r → P r
-over_texts limits wish bytes_of is_missing None new P told told_new there all r runs =
+    → (run : Result Report DbFault) → RunsBy limits over old_text new_text run → P (run_answer run))
+    → (r : Result Report RunFault) → RunsOverBy limits over old new r → P r
+over_texts limits over bytes_of is_missing None new P told told_new there all r runs =
     absurd (true_false (sym told ∙ there Old))
-over_texts limits wish bytes_of is_missing (Some old) None P told told_new there all r runs =
+over_texts limits over bytes_of is_missing (Some old) None P told told_new there all r runs =
     absurd (true_false (sym told_new ∙ there New))
-over_texts limits wish bytes_of is_missing (Some old) (Some new) P told told_new there all r runs =
+over_texts limits over bytes_of is_missing (Some old) (Some new) P told told_new there all r runs =
     subst P (sym runs.2) (all old new told told_new runs.0 runs.1)
+
+pub whole_by : (limits : Limits) (over : List ℕ → List ℕ → Report) (bytes_of : Side → Option (List ℕ)) (is_missing : Side → Bool) (old new : Option (List ℕ)) (outcome : Outcome) (before after : Option (List ℕ))
+    → TellsSide (bytes_of Old) (is_missing Old) old → TellsSide (bytes_of New) (is_missing New) new
+    → ((side : Side) → is_missing side ≡ false)
+    → ((old_text new_text : List ℕ) → bytes_of Old ≡ Some old_text → bytes_of New ≡ Some new_text
+    → (run : Result Report DbFault) → RunsBy limits over old_text new_text run → EndsWell run outcome before after)
+    → (r : Result Report RunFault) → RunsOverBy limits over old new r → SendsWhole r outcome before after
+whole_by limits over bytes_of is_missing old new outcome before after told told_new there all =
+    over_texts limits over bytes_of is_missing old new (λ r. SendsWhole r outcome before after) told told_new there
+    (λ old_text new_text is_old is_new run runs. whole_given run outcome before after (all old_text new_text is_old is_new run runs))
 
 pub whole_over : (limits : Limits) (wish : Asked) (bytes_of : Side → Option (List ℕ)) (is_missing : Side → Bool) (old new : Option (List ℕ)) (outcome : Outcome) (before after : Option (List ℕ))
     → TellsSide (bytes_of Old) (is_missing Old) old → TellsSide (bytes_of New) (is_missing New) new
@@ -226,9 +236,17 @@ pub whole_over : (limits : Limits) (wish : Asked) (bytes_of : Side → Option (L
     → ((old_text new_text : List ℕ) → bytes_of Old ≡ Some old_text → bytes_of New ≡ Some new_text
     → (run : Result Report DbFault) → Runs limits wish old_text new_text run → EndsWell run outcome before after)
     → (r : Result Report RunFault) → RunsOver limits wish old new r → SendsWhole r outcome before after
-whole_over limits wish bytes_of is_missing old new outcome before after told told_new there all =
-    over_texts limits wish bytes_of is_missing old new (λ r. SendsWhole r outcome before after) told told_new there
-    (λ old_text new_text is_old is_new run runs. whole_given run outcome before after (all old_text new_text is_old is_new run runs))
+whole_over limits wish = whole_by limits (report_over wish)
+
+pub front_by : (limits : Limits) (over : List ℕ → List ℕ → Report) (bytes_of : Side → Option (List ℕ)) (is_missing : Side → Bool) (old new : Option (List ℕ)) (before after : Option (List ℕ))
+    → TellsSide (bytes_of Old) (is_missing Old) old → TellsSide (bytes_of New) (is_missing New) new
+    → ((side : Side) → is_missing side ≡ false)
+    → ((old_text new_text : List ℕ) → bytes_of Old ≡ Some old_text → bytes_of New ≡ Some new_text
+    → (run : Result Report DbFault) → RunsBy limits over old_text new_text run → EndsEarly run before after)
+    → (r : Result Report RunFault) → RunsOverBy limits over old new r → SendsFront r before after
+front_by limits over bytes_of is_missing old new before after told told_new there all =
+    over_texts limits over bytes_of is_missing old new (λ r. SendsFront r before after) told told_new there
+    (λ old_text new_text is_old is_new run runs. front_given run before after (all old_text new_text is_old is_new run runs))
 
 pub front_over : (limits : Limits) (wish : Asked) (bytes_of : Side → Option (List ℕ)) (is_missing : Side → Bool) (old new : Option (List ℕ)) (before after : Option (List ℕ))
     → TellsSide (bytes_of Old) (is_missing Old) old → TellsSide (bytes_of New) (is_missing New) new
@@ -236,9 +254,7 @@ pub front_over : (limits : Limits) (wish : Asked) (bytes_of : Side → Option (L
     → ((old_text new_text : List ℕ) → bytes_of Old ≡ Some old_text → bytes_of New ≡ Some new_text
     → (run : Result Report DbFault) → Runs limits wish old_text new_text run → EndsEarly run before after)
     → (r : Result Report RunFault) → RunsOver limits wish old new r → SendsFront r before after
-front_over limits wish bytes_of is_missing old new before after told told_new there all =
-    over_texts limits wish bytes_of is_missing old new (λ r. SendsFront r before after) told told_new there
-    (λ old_text new_text is_old is_new run runs. front_given run before after (all old_text new_text is_old is_new run runs))
+front_over limits wish = front_by limits (report_over wish)
 
 -- nothing is a front of every answer
 pub nothing_front : (r : Result Report RunFault) (bytes : Option (List ℕ)) → SendsFront r bytes bytes

@@ -21,12 +21,13 @@ use Rattle.aide_report.specs.code.Counts.{Completes}
 use Rattle.aide_report.specs.code.Merged.{merged}
 use Rattle.aide_report.specs.Entries.{is_shown_entry}
 use Rattle.aide_report.specs.code.Finding.{IsFinding, old_origin, new_origin, pass_of}
+use Rattle.aide_report.specs.declared.outcome.Outcome.{Outcome}
 use Rattle.aide_report.specs.Report.{text_of, counts_of, outcome_by, section_count}
 use Rattle.aide_report.specs.declared.finding.Finding.{Finding}
-use Rattle.aide_report.specs.Runs.{Report, report_over, sections_over, Runs, EndsWell, EndsEarly}
+use Rattle.aide_report.specs.Runs.{Report, report_over, sections_over, Runs, RunsBy, EndsWell, EndsEarly}
 use Rattle.aide_text.specs.Sent.{SendsPart}
 use Rattle.aide_text.specs.declared.counts.Counts.{Counts}
-use Rattle.aide_report.proofs.FirstFaults.{Runs-unique}
+use Rattle.aide_report.proofs.FirstFaults.{RunsBy-unique}
 use Rattle.aide_report.proofs.Laws.{added_count, removed_count, changed_count, total_count}
 use Rattle.aide_report.proofs.MergeLemmas.{changes-merged}
 
@@ -82,10 +83,26 @@ pub sections_are : (task : Task) (finding : Finding) (old new : List ℕ) → Is
 unfolding sections_over
 sections_are task finding old new is = ap (section_count task.options) is.counts
 
-right_report : (limits : Limits) (task : Task) (old new : List ℕ) → IsSound limits old → IsSound limits new
-    → (r : Result Report DbFault) → Runs limits (asked task) old new r → Ok (report_over (asked task) old new) ≡ r
-right_report limits task old new sound_old sound_new r runs =
-    Runs-unique limits (asked task) old new (Ok (report_over (asked task) old new)) r (sound_old, sound_new, refl) runs
+right_report : (limits : Limits) (over : List ℕ → List ℕ → Report) (old new : List ℕ) → IsSound limits old → IsSound limits new
+    → (r : Result Report DbFault) → RunsBy limits over old new r → Ok (over old new) ≡ r
+right_report limits over old new sound_old sound_new r runs =
+    RunsBy-unique limits over old new (Ok (over old new)) r (sound_old, sound_new, refl) runs
+
+-- what is written of two sound texts, and the outcome, are those of the right answer
+pub well_by : (limits : Limits) (over : List ℕ → List ℕ → Report) (old new : List ℕ) (before after : Option (List ℕ)) (text : List ℕ) (outcome : Outcome)
+    → IsSound limits old → IsSound limits new → (over old new).outcome ≡ outcome → text ≡ (over old new).text
+    → Appends before after text → (r : Result Report DbFault) → RunsBy limits over old new r
+    → EndsWell r outcome before after
+well_by limits over old new before after text outcome sound_old sound_new told is sent r runs =
+    subst (λ answer. EndsWell answer outcome before after) (right_report limits over old new sound_old sound_new r runs)
+    (told, subst (λ bytes. Appends before after bytes) is sent)
+
+pub early_by : (limits : Limits) (over : List ℕ → List ℕ → Report) (old new : List ℕ) (before after : Option (List ℕ)) (text : List ℕ)
+    → IsSound limits old → IsSound limits new → text ≡ (over old new).text
+    → SendsPart text before after → (r : Result Report DbFault) → RunsBy limits over old new r → EndsEarly r before after
+early_by limits over old new before after text sound_old sound_new is sent r runs =
+    subst (λ answer. EndsEarly answer before after) (right_report limits over old new sound_old sound_new r runs)
+    (subst (λ bytes. SendsPart bytes before after) is sent)
 
 pub ends_well : (limits : Limits) (task : Task) (finding : Finding) (old new : List ℕ) (before after : Option (List ℕ))
     → IsSound limits old → IsSound limits new
@@ -93,15 +110,15 @@ pub ends_well : (limits : Limits) (task : Task) (finding : Finding) (old new : L
     → Appends before after (text_of task.options (old_origin task finding) (new_origin task finding) finding.counts (pass_of old new))
     → (r : Result Report DbFault) → Runs limits (asked task) old new r
     → EndsWell r (outcome_by finding.counts finding.skipped_old finding.skipped_new) before after
-ends_well limits task finding old new before after sound_old sound_new is digests sent r runs =
-    subst (λ answer. EndsWell answer (outcome_by finding.counts finding.skipped_old finding.skipped_new) before after) (right_report limits task old new sound_old sound_new r runs)
-    (outcome_is task finding old new is, subst (λ text. Appends before after text) (text_is limits task finding old new sound_old sound_new is digests) sent)
+ends_well limits task finding old new before after sound_old sound_new is digests =
+    well_by limits (report_over (asked task)) old new before after _ _ sound_old sound_new (outcome_is task finding old new is)
+    (text_is limits task finding old new sound_old sound_new is digests)
 
 pub ends_early : (limits : Limits) (task : Task) (finding : Finding) (old new : List ℕ) (before after : Option (List ℕ))
     → IsSound limits old → IsSound limits new
     → IsFinding task.options finding old new → HasDigests finding old new
     → SendsPart (text_of task.options (old_origin task finding) (new_origin task finding) finding.counts (pass_of old new)) before after
     → (r : Result Report DbFault) → Runs limits (asked task) old new r → EndsEarly r before after
-ends_early limits task finding old new before after sound_old sound_new is digests sent r runs =
-    subst (λ answer. EndsEarly answer before after) (right_report limits task old new sound_old sound_new r runs)
-    (subst (λ text. SendsPart text before after) (text_is limits task finding old new sound_old sound_new is digests) sent)
+ends_early limits task finding old new before after sound_old sound_new is digests =
+    early_by limits (report_over (asked task)) old new before after _ sound_old sound_new
+    (text_is limits task finding old new sound_old sound_new is digests)

@@ -10,7 +10,7 @@ use Rattle.aide_db.specs.declared.limits.Limits.{Limits}
 use Rattle.aide_db.specs.declared.side.Side.{Side}
 use Rattle.aide_db.specs.declared.side.Side.TheVariants.{Old, New}
 use Rattle.aide_report.specs.Asked.{Asked}
-use Rattle.aide_report.specs.Runs.{Report, Runs, IsFirstFaultOf, Causes}
+use Rattle.aide_report.specs.Runs.{Report, RunsBy, report_over, IsFirstFaultOf, Causes}
 use Rattle.aide_report.specs.declared.outcome.Outcome.{Outcome}
 use Rattle.aide_report.specs.declared.run_fault.RunFault.{RunFault}
 use Rattle.aide_report.specs.declared.run_fault.RunFault.TheVariants.{Open, Database, Changed}
@@ -32,13 +32,18 @@ run_answer (Err fault) = Err (Database fault)
 -- If only the new side is missing and the old text is sound, the answer is that the new side cannot be opened.
 -- If only the new side is missing and the old text is not sound, the answer is the first fault of the old text.
 -- If both sides are there, the answer is the right answer over both texts.
+abbrev pub RunsOverBy : Limits → (List ℕ → List ℕ → Report) → Option (List ℕ) → Option (List ℕ)
+    → Result Report RunFault → Type 0
+RunsOverBy limits over None new r = r ≡ Err (Open Old)
+RunsOverBy limits over (Some old) None r = (IsSound limits old × (r ≡ Err (Open New)))
+    ⊎ ((fault : DbFault) × IsFirstFaultOf limits Old old fault × (r ≡ Err (Database fault)))
+RunsOverBy limits over (Some old) (Some new) r = (run : Result Report DbFault)
+    × RunsBy limits over old new run × (r ≡ run_answer run)
+
+-- the right answer, by what is at both sides, if the report is to be written
 abbrev pub RunsOver : Limits → Asked → Option (List ℕ) → Option (List ℕ) → Result Report RunFault
     → Type 0
-RunsOver limits asked None new r = r ≡ Err (Open Old)
-RunsOver limits asked (Some old) None r = (IsSound limits old × (r ≡ Err (Open New)))
-    ⊎ ((fault : DbFault) × IsFirstFaultOf limits Old old fault × (r ≡ Err (Database fault)))
-RunsOver limits asked (Some old) (Some new) r = (run : Result Report DbFault)
-    × Runs limits asked old new run × (r ≡ run_answer run)
+RunsOver limits asked old new r = RunsOverBy limits (report_over asked) old new r
 
 -- there is a right answer
 abbrev pub HasAnswerOver : Limits → Asked → Option (List ℕ) → Option (List ℕ) → Type 0

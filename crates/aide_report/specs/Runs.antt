@@ -21,7 +21,7 @@ use Rattle.aide_report.specs.declared.run_fault.RunFault.{RunFault}
 use Rattle.aide_report.specs.declared.run_fault.RunFault.TheVariants.{Open, Database, Changed}
 use Rattle.aide_report.specs.declared.run_fault.RunFault.TheVariants.{Write}
 
--- a report, and the outcome that a run returns with it
+-- what a run writes, a report or lines, and the outcome that it returns with it
 pub record Report : Type 0 where
   pub text : List ℕ
   pub outcome : Outcome
@@ -55,13 +55,18 @@ abbrev pub IsFirstFaultOf : Limits → Side → List ℕ → DbFault → Type 0
 IsFirstFaultOf limits side text fault = (fault.side ≡ side)
     × IsFirstFault limits text fault.line fault.kind
 
--- The right answer over two texts: the report if both are sound, and otherwise the first fault.
+-- The right answer over two texts: what is to be written of them if both are sound, and otherwise the first fault.
 -- A fault of the old text comes before one of the new text.
-abbrev pub Runs : Limits → Asked → List ℕ → List ℕ → Result Report DbFault → Type 0
-Runs limits asked old new (Ok report) = IsSound limits old × IsSound limits new
-    × (report ≡ report_over asked old new)
-Runs limits asked old new (Err fault) = IsFirstFaultOf limits Old old fault
+abbrev pub RunsBy : Limits → (List ℕ → List ℕ → Report) → List ℕ → List ℕ
+    → Result Report DbFault → Type 0
+RunsBy limits over old new (Ok report) = IsSound limits old × IsSound limits new
+    × (report ≡ over old new)
+RunsBy limits over old new (Err fault) = IsFirstFaultOf limits Old old fault
     ⊎ (IsSound limits old × IsFirstFaultOf limits New new fault)
+
+-- the right answer over two texts if the report is to be written
+abbrev pub Runs : Limits → Asked → List ℕ → List ℕ → Result Report DbFault → Type 0
+Runs limits asked old new r = RunsBy limits (report_over asked) old new r
 
 -- there is a right answer
 abbrev pub HasAnswer : Limits → Asked → List ℕ → List ℕ → Type 0
