@@ -20,6 +20,7 @@ pub mod BoundLemmas
 pub mod CountLemmas
 pub mod FirstFaults
 pub mod RunLemmas
+pub mod LineRunLemmas
 pub mod FaultLemmas
 pub mod OpeningLemmas
 pub mod RoomLemmas

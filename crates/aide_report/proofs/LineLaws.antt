@@ -1,5 +1,5 @@
--- There are as many lines of changes as entries were added, removed and changed.
-use Rattle.std.proofs.Common.{◌≡◌, ◌∙◌, ◌+◌, Bool, true, false, cond, List, [], ◌∷◌, refl, arith, length}
+-- What ties the lines to the report of the same task, and that there are as many lines of changes as are announced.
+use Rattle.std.proofs.Common.{◌≡◌, ◌∙◌, ℕ, ◌+◌, Bool, true, false, cond, List, [], ◌∷◌, refl, arith, length}
 use Rattle.std.specs.Prelude.{count_by, Some, None, ◌||◌}
 use Rattle.std.proofs.lemmas.List.Sums.{length-filter}
 use Rattle.aide_conf.specs.declared.options.Options.{Options}
@@ -7,13 +7,18 @@ use Rattle.aide_db.specs.Map.{Database}
 use Rattle.aide_entry.specs.Path.{path_cmp}
 use Rattle.aide_entry.proofs.PathLaws.{path_cmp_total, path_cmp-IsAntisymmetric}
 use Rattle.aide_line_text.specs.Ends.{entry_count}
-use Rattle.aide_report.specs.ChangeLines.{listed_changes}
+use Rattle.aide_report.specs.Asked.{Asked}
+use Rattle.aide_report.specs.ChangeLines.{listed_changes, widest}
 use Rattle.aide_report.specs.Changed.{differ_by}
 use Rattle.aide_report.specs.Changes.{is_added, is_removed, is_changed}
 use Rattle.aide_report.specs.Compare.{changes}
 use Rattle.aide_report.specs.Entries.{PathChange}
+use Rattle.aide_report.specs.LineRuns.{lines_over}
 use Rattle.aide_report.specs.Report.{counts_of}
+use Rattle.aide_report.specs.Runs.{report_over}
 use Rattle.aide_report.specs.Sections.{all_listed, is_in}
+use Rattle.aide_text.specs.Section.{contents_of, row, row_of}
+use Rattle.aide_text.specs.declared.section.Section.TheVariants.{AddedEntries, RemovedEntries, ChangedEntries, AllEntries}
 use Rattle.aide_report.proofs.Laws.{added_count, removed_count, changed_count}
 use Rattle.aide_report.proofs.SectionLaws.{first_counted}
 
@@ -54,3 +59,31 @@ module _ (options : Options) where
       ∙ (λ i. added_count path_cmp path_cmp_total path_cmp-IsAntisymmetric old new i
       + (removed_count path_cmp path_cmp_total path_cmp-IsAntisymmetric old new i
       + changed_count path_cmp path_cmp_total (differ_by options.ignore) path_cmp-IsAntisymmetric old new i))
+
+-- the task, with the level at which a report shows most
+abbrev pub at_widest : Asked → Asked
+at_widest wish = record wish { options = widest wish.options }
+
+-- The outcome of the lines is that of the report at that level, and so are the status and the counts.
+pub lines_have_the_outcome_of_the_report : (wish : Asked) (old new : List ℕ)
+    → (lines_over wish old new).outcome ≡ (report_over (at_widest wish) old new).outcome
+unfolding lines_over report_over
+lines_have_the_outcome_of_the_report wish old new = refl
+
+or_nothing : (b : Bool) → b ≡ (b || false)
+or_nothing true = refl
+or_nothing false = refl
+
+-- A path has a line exactly if the list of added, of removed or of changed entries of that report has it.
+pub lines_are_of_listed_entries : (options : Options) (change : PathChange) → is_in options all_listed change
+    ≡ (is_in (widest options) (contents_of AddedEntries) change
+    || (is_in (widest options) (contents_of RemovedEntries) change || is_in (widest options) (contents_of ChangedEntries) change))
+unfolding row_of row
+lines_are_of_listed_entries options change = λ i.
+    or_nothing (is_added change) i || (or_nothing (is_removed change) i || is_changed (differ_by options.ignore) change)
+
+-- The same if that report has one list of all entries.
+pub lines_are_of_all_entries : (options : Options) (change : PathChange)
+    → is_in options all_listed change ≡ is_in (widest options) (contents_of AllEntries) change
+unfolding row_of row
+lines_are_of_all_entries options change = refl

@@ -24,5 +24,7 @@ pub mod Openings
 pub mod Room
 pub mod Runs
 pub mod Agreement
+pub mod Lines
+pub mod LineRuns
 pub mod Missing
 pub mod code

@@ -13,3 +13,4 @@ pub mod Seen
 pub mod Passes
 pub mod Readings
 pub mod MergeCalls
+pub mod WrittenLines

@@ -32,7 +32,7 @@ use aide_text::Sink;
 use std::alloc::Allocator;
 
 /// Reads both databases whole, the old one first, and then counts their differences in one pass over both.
-fn compare<S: Sources, A: Allocator + Copy>(
+pub(crate) fn compare<S: Sources, A: Allocator + Copy>(
     options: &Options,
     limits: Limits,
     desk: &mut Desk<A>,

@@ -1,4 +1,4 @@
-//! Two databases compared: the report, byte by byte, and the status of a run.
+//! Two databases compared: the report or the lines of JSON, byte by byte, and the status of a run.
 #![tactic(auto)]
 
 mod change;
@@ -12,6 +12,8 @@ mod difference;
 mod digests;
 mod entries;
 mod finding;
+mod lines;
+mod lines_run;
 mod merge;
 mod outcome;
 mod pass;
@@ -22,5 +24,6 @@ mod sections;
 
 pub use aide_text::{MemorySink, Sink, WriteSink, emit, emit_path};
 pub use comparison::run;
+pub use lines_run::run_lines;
 pub use outcome::Outcome;
 pub use run_fault::RunFault;
