@@ -13,6 +13,7 @@ mod digests;
 mod growths;
 mod large;
 mod levels;
+mod lines;
 mod lists;
 mod pair;
 mod refused;

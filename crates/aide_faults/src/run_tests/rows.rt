@@ -45,7 +45,7 @@ impl<A: Allocator + Copy> CountingWriter<A> {
     }
 
     /// Whether the writer has exactly these bytes, and was flushed once, after the last of them.
-    fn is_done_with(&self, bytes: &[u8]) -> bool {
+    pub(super) fn is_done_with(&self, bytes: &[u8]) -> bool {
         self.bytes.as_slice() == bytes && self.flushes == 1 && self.flushed == bytes.len()
     }
 }
