@@ -14,11 +14,13 @@ widest options = record options { level = AddedRemovedEntries }
 -- the line of a change: its summary string, and the attributes that a report of the highest level shows
 unfoldable pub change_line : Options → PathChange → List ℕ
 change_line options change =
-    entry_line change.0 (letters_of options.ignore change.1) (shows_at (widest options) change.1) change.1
+    entry_line change.0 (letters_of options.ignore change.1)
+    (shows_at (widest options) change.1) change.1
 
 -- the same, and nothing for a change that the report lists nowhere
 unfoldable pub listed_line : Options → PathChange → List ℕ
-listed_line options change = if is_in options all_listed change then change_line options change else []
+listed_line options change =
+    if is_in options all_listed change then change_line options change else []
 
 -- the changes that have a line: the added, the removed and the changed entries
 abbrev pub listed_changes : Options → List PathChange → List PathChange
