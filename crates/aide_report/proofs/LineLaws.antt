@@ -1,9 +1,11 @@
 -- What ties the lines to the report of the same task, and that there are as many lines of changes as are announced.
-use Rattle.std.proofs.Common.{◌≡◌, ◌∙◌, ℕ, ◌+◌, Bool, true, false, cond, List, [], ◌∷◌, refl, arith, length}
-use Rattle.std.specs.Prelude.{count_by, Some, None, ◌||◌}
+use Rattle.std.proofs.Common.{◌≡◌, ◌≤◌, ◌∙◌, ℕ, ◌+◌, Bool, true, false, cond, List, [], ◌∷◌, refl, sym, ap, arith, length}
+use Rattle.std.specs.Prelude.{count_by, Option, Some, None, Result, Ok, Err, ◌||◌}
 use Rattle.std.proofs.lemmas.List.Sums.{length-filter}
 use Rattle.aide_conf.specs.declared.options.Options.{Options}
 use Rattle.aide_db.specs.Map.{Database}
+use Rattle.aide_db.specs.declared.fault.DbFault.{DbFault}
+use Rattle.aide_db.specs.declared.limits.Limits.{Limits}
 use Rattle.aide_entry.specs.Path.{path_cmp}
 use Rattle.aide_entry.proofs.PathLaws.{path_cmp_total, path_cmp-IsAntisymmetric}
 use Rattle.aide_line_text.specs.Ends.{entry_count}
@@ -14,11 +16,15 @@ use Rattle.aide_report.specs.Changes.{is_added, is_removed, is_changed}
 use Rattle.aide_report.specs.Compare.{changes}
 use Rattle.aide_report.specs.Entries.{PathChange}
 use Rattle.aide_report.specs.LineRuns.{lines_over}
+use Rattle.aide_report.specs.Missing.{RunsOverBy, run_answer}
 use Rattle.aide_report.specs.Report.{counts_of}
-use Rattle.aide_report.specs.Runs.{report_over}
+use Rattle.aide_report.specs.Runs.{Report, RunsBy, report_over}
 use Rattle.aide_report.specs.Sections.{all_listed, is_in}
 use Rattle.aide_text.specs.Section.{contents_of, row, row_of}
 use Rattle.aide_text.specs.declared.section.Section.TheVariants.{AddedEntries, RemovedEntries, ChangedEntries, AllEntries}
+use Rattle.aide_report.specs.declared.run_fault.RunFault.{RunFault}
+use Rattle.aide_report.proofs.FirstFaults.{RunsBy-unique}
+use Rattle.aide_report.proofs.MissingLemmas.{RunsOver-exists, RunsOver-unique}
 use Rattle.aide_report.proofs.Laws.{added_count, removed_count, changed_count}
 use Rattle.aide_report.proofs.SectionLaws.{first_counted}
 
@@ -87,3 +93,30 @@ pub lines_are_of_all_entries : (options : Options) (change : PathChange)
     → is_in options all_listed change ≡ is_in (widest options) (contents_of AllEntries) change
 unfolding row_of row
 lines_are_of_all_entries options change = refl
+
+-- ---- the right answer of a run that writes lines
+
+abbrev pub HasLines : Limits → Asked → Option (List ℕ) → Option (List ℕ) → Type 0
+HasLines limits wish old new = (r : Result Report RunFault) × RunsOverBy limits (lines_over wish) old new r
+
+lines_for : (limits : Limits) (wish : Asked) (old new : List ℕ) (run : Result Report DbFault)
+    → RunsBy limits (report_over wish) old new run → HasLines limits wish (Some old) (Some new)
+lines_for limits wish old new (Ok report) runs =
+    (Ok (lines_over wish old new), (Ok (lines_over wish old new), (runs.0, runs.1, refl), refl))
+lines_for limits wish old new (Err fault) runs = (run_answer (Err fault), (Err fault, runs, refl))
+
+-- Whatever is at each side, a text or nothing, there is a right answer.
+pub every_pair_has_lines : (limits : Limits) (wish : Asked) (old new : Option (List ℕ)) → 14 ≤ limits.line
+    → HasLines limits wish old new
+every_pair_has_lines limits wish None new le = RunsOver-exists limits wish None new le
+every_pair_has_lines limits wish (Some old) None le = RunsOver-exists limits wish (Some old) None le
+every_pair_has_lines limits wish (Some old) (Some new) le =
+    let answer = RunsOver-exists limits wish (Some old) (Some new) le in lines_for limits wish old new answer.1.0 answer.1.1
+
+-- There are no two.
+pub no_pair_has_two_lines : (limits : Limits) (wish : Asked) (old new : Option (List ℕ)) (r s : Result Report RunFault)
+    → RunsOverBy limits (lines_over wish) old new r → RunsOverBy limits (lines_over wish) old new s → r ≡ s
+no_pair_has_two_lines limits wish None new r s a b = RunsOver-unique limits wish None new r s a b
+no_pair_has_two_lines limits wish (Some old) None r s a b = RunsOver-unique limits wish (Some old) None r s a b
+no_pair_has_two_lines limits wish (Some old) (Some new) r s a b =
+    a.2 ∙ ap run_answer (RunsBy-unique limits (lines_over wish) old new a.0 b.0 a.1 b.1) ∙ sym b.2
