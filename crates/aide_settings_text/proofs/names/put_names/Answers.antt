@@ -1,0 +1,48 @@
+use Rattle.std.proofs.Common.{◌∙◌, sym, subst, ap, arith, true, drop, get_or, ◌+◌}
+use Rattle.std.proofs.lemmas.List.{drop_more, drop_all}
+use Rattle.aide_attr.specs.Set.{has}
+use Rattle.aide_attr.specs.declared.attr.Attr.TheVariants.{Ftype}
+use Rattle.aide_json.proofs.ItemLemmas.{items_more, items_end, item_wanted, item_unwanted}
+use Rattle.aide_json.specs.Json.{quoted}
+use Rattle.aide_json.specs.code.Items.{items_from, next_item}
+use Rattle.aide_settings_text.proofs.SettingsLemmas.{behind_wanted, behind_unwanted}
+use Rattle.aide_settings_text.specs.Settings.{attr_string}
+use Rattle.aide_text.specs.PenSheet.{on_sheet}
+use Rattle.aide_text.specs.Sheet.{Wrote}
+use Rattle.aide_text.proofs.Sheets.{writing_start, writing_more, writing_done, wrote_more, wrote_as, wrote_nothing}
+use Rattle.aide_settings_text.proofs.names.put_names.Goals.{then-has, else-has}
+use Rattle.aide_settings_text.proofs.names.put_names.Goals as goal
+
+pub loop-attr-init : goal.loop-attr-init
+loop-attr-init g c =
+    writing_start (items_from true (has c.args.set) attr_string c.args.attrs.now) (on_sheet g.W.Sink c.args.out.now c.args.pen.now)
+
+pub loop-attr-preserved : goal.loop-attr-preserved
+loop-attr-preserved g c =
+    let i = c.loop-attr.attr-index in
+    let attrs = c.args.attrs.now in
+    let attr = get_or attrs i Ftype in
+    let first = c.loop-attr.first in
+    let before = on_sheet g.W.Sink c.loop-attr.out c.loop-attr.pen in
+    let item = next_item c.has.result first (attr_string attr) in
+    elim c.if-has.branch [
+      | then-has w ↦
+          writing_more (items_more (has c.args.set) attr_string first c.has.result c.if-has.first (drop i attrs) attr (drop (i + 1) attrs)
+          (drop_more attrs i Ftype (omega arith)) c.has.ensures (w.first-is ∙ behind_wanted first c.has.result w.if-has.true)) c.loop-attr.invariant
+          (subst (λ s. Wrote item before s)
+          (sym (ap (λ out. on_sheet g.W.Sink out c.if-has.pen) w.out-is ∙ ap (λ pen. on_sheet g.W.Sink w.put_string.new.out pen) w.pen-is))
+          (wrote_as (item_wanted c.has.result first (attr_string attr) w.if-has.true) (wrote_more w.put_comma.ensures (wrote_as (ap quoted w.name.ensures) w.put_string.ensures))))
+      | else-has w ↦
+          writing_more (items_more (has c.args.set) attr_string first c.has.result c.if-has.first (drop i attrs) attr (drop (i + 1) attrs)
+          (drop_more attrs i Ftype (omega arith)) c.has.ensures (w.first-is ∙ behind_unwanted first c.has.result w.if-has.false)) c.loop-attr.invariant
+          (subst (λ s. Wrote item before s)
+          (sym (ap (λ out. on_sheet g.W.Sink out c.if-has.pen) w.out-is ∙ ap (λ pen. on_sheet g.W.Sink c.loop-attr.out pen) w.pen-is))
+          (wrote_as (item_unwanted c.has.result first (attr_string attr) w.if-has.false) (wrote_nothing before)))
+    ]
+
+pub returns : goal.returns
+returns g c =
+    let i = c.loop-attr.attr-index in
+    let attrs = c.args.attrs.now in
+    writing_done (items_end (has c.args.set) attr_string c.loop-attr.first (drop i attrs) (drop_all i attrs (omega arith)))
+    c.loop-attr.invariant

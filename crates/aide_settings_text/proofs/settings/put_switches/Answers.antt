@@ -1,0 +1,12 @@
+use Rattle.std.proofs.Common.{sym, codes}
+use Rattle.std.proofs.lemmas.List.{append-nil}
+use Rattle.aide_json.specs.Member.{member}
+use Rattle.aide_settings_text.specs.Settings.{truth}
+use Rattle.aide_text.proofs.Sheets.{wrote_more, wrote_as}
+use Rattle.aide_settings_text.proofs.settings.put_switches.Goals as goal
+
+pub returns : goal.returns
+returns g c =
+    wrote_more c.put_truth.ensures (wrote_more c.put.ensures (wrote_more c.put_truth-2.ensures (wrote_more c.put-2.ensures
+    (wrote_more c.put_truth-3.ensures (wrote_more c.put-3.ensures
+    (wrote_as (sym (append-nil (member (codes "report_quiet") (truth c.args.options.now.quiet)))) c.put_truth-4.ensures))))))
