@@ -21,19 +21,19 @@ def at_least(number, *words):
 
 
 FILES = [
-    exactly(210, "tools.source.check_edits"),
-    exactly(543, "tools.source.check_docs"),
-    exactly(90, "tools.source.check_layout"),
+    exactly(211, "tools.source.check_edits"),
+    exactly(541, "tools.source.check_docs"),
+    exactly(96, "tools.source.check_layout"),
     exactly(152, "tools.source.check_layers"),
     exactly(563, "tools.source.check_tools"),
     exactly(926, "tools.source.check_planted"),
-    exactly(1839, "tools.wrong_bodies.check"),
+    exactly(1861, "tools.wrong_bodies.check"),
 ]
 
 
 def proofs():
     """What needs the toolchain: rt ci, and one wrong body of each crate, judged anew over the libraries that it has proved."""
-    return [at_least(190, "rt", "ci"), exactly(24, "tools.wrong_bodies.sample")]
+    return [at_least(190, "rt", "ci"), exactly(26, "tools.wrong_bodies.sample")]
 
 
 def trials(program, in_memory):

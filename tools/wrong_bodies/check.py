@@ -21,6 +21,7 @@ PROVED = (
     "aide_line_text",
     "aide_report",
     "aide_session",
+    "aide_settings_text",
     "aide_text",
     "aide_words",
 )
