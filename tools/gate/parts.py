@@ -21,13 +21,13 @@ def at_least(number, *words):
 
 
 FILES = [
-    exactly(211, "tools.source.check_edits"),
-    exactly(541, "tools.source.check_docs"),
-    exactly(96, "tools.source.check_layout"),
-    exactly(152, "tools.source.check_layers"),
-    exactly(563, "tools.source.check_tools"),
-    exactly(926, "tools.source.check_planted"),
-    exactly(1861, "tools.wrong_bodies.check"),
+    exactly(210, "tools.source.check_edits"),
+    exactly(543, "tools.source.check_docs"),
+    exactly(90, "tools.source.check_layout"),
+    exactly(158, "tools.source.check_layers"),
+    exactly(576, "tools.source.check_tools"),
+    exactly(979, "tools.source.check_planted"),
+    exactly(1839, "tools.wrong_bodies.check"),
 ]
 
 

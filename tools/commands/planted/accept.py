@@ -5,12 +5,12 @@ ACCEPT, ACCEPTING, BASELINE, FOLDERS, RIGHTS, OPEN, SOUND = (
     "commands/lib/aide_compare/%s.py" % name
     for name in (
         "commands/accept",
-        "commands/accepting",
+        "commands/accept_steps",
         "compare/baseline",
         "base/folders",
         "base/rights",
         "compare/kept_open",
-        "compare/sound",
+        "compare/soundness",
     )
 )
 REPLACE = "        done.belongs = baseline.replace(source)\n"

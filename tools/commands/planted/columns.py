@@ -4,19 +4,21 @@ from .plant import seen_by
 LIB = "commands/lib/aide_compare/"
 COLUMNS, MAIL, MESSAGE = LIB + "compare/columns.py", LIB + "commands/mail.py", LIB + "mail/message.py"
 
-PLANTED = (
-    seen_by(
-        "columns.try_columns",
-        (COLUMNS, 'for side in SIDES}\n    return', 'for side in SIDES[:1]}\n    return'),
-        (COLUMNS, "if len(sides) == 1 else", "if False else"),
-        (LIB + "lines/json_members.py", '"skipped": skipped_of(self.state) if self.state else {}}', '"skipped": {}}'),
-        (LIB + "show/page_heading.py", ', *skipped(report.summary.get("skipped"))', ""),
-        (COLUMNS, "shown(name, MOST_NAME)", "name.decode()[:MOST_NAME]"),
-        (COLUMNS, "MOST_NAME = 1 << 16, 40", "MOST_NAME = 1 << 20, 40"),
-        (COLUMNS, 're.split(b"[ \\t]+", spec)', "spec.split()"),
-        (MAIL, "        if self.unknown(state):\n            return False\n", ""),
-        (MAIL, "and name not in self.known]", "]"),
-        (MAIL, "    if given is None or not given.state:\n        return None\n", "    if given is None or not given.state:\n        return set()\n"),
-        (MESSAGE, 're.sub(r"[^A-Za-z0-9._#-]", "?", name)', "name"),
-    )
+PLANTED = seen_by(
+    "columns.try_columns",
+    (COLUMNS, "for side in SIDES}\n    return", "for side in SIDES[:1]}\n    return"),
+    (COLUMNS, "if len(sides) == 1 else", "if False else"),
+    (LIB + "lines/json_members.py", '"skipped": skipped_of(self.state) if self.state else {}}', '"skipped": {}}'),
+    (LIB + "show/page_heading.py", ', *skipped(report.summary.get("skipped"))', ""),
+    (COLUMNS, "shown(name, MOST_NAME)", "name.decode()[:MOST_NAME]"),
+    (COLUMNS, "MOST_NAME = 1 << 16, 40", "MOST_NAME = 1 << 20, 40"),
+    (COLUMNS, 're.split(b"[ \\t]+", spec)', "spec.split()"),
+    (MAIL, "        if self.unknown(state):\n            return False\n", ""),
+    (MAIL, "and name not in self.known]", "]"),
+    (
+        MAIL,
+        "    if given is None or not given.state:\n        return None\n",
+        "    if given is None or not given.state:\n        return set()\n",
+    ),
+    (MESSAGE, 're.sub(r"[^A-Za-z0-9._#-]", "?", name)', "name"),
 )

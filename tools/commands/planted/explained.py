@@ -4,14 +4,14 @@ from .plant import seen_by
 EXPLAINING, BRIEF, WORDS, COUNTS, STATE, RUN, RECORDS, CHECK, MAIL, MESSAGE, WEEKLY, COMPARISON, OUTPUTS, LISTING = (
     "commands/lib/aide_compare/%s.py" % name
     for name in (
-        "show/explaining",
+        "show/explained",
         "show/brief",
         "reasons/entry_words",
         "compare/reason_counts",
         "compare/state",
-        "commands/run",
+        "commands/compare",
         "reasons/kept_records",
-        "commands/check",
+        "commands/status_nagios",
         "commands/mail",
         "mail/message",
         "mail/weekly",
@@ -55,7 +55,9 @@ PLANTED = (
         (RUN, "            self.wanted.write_nothing()\n        teller", "            pass\n        teller"),
         (OUTPUTS, "flags != os.O_RDONLY and ", ""),
     )
-    + seen_by(RUNS % "try_misuse", (RUN, "            if getattr(given, name) and not given.reasons:", "            if False:"))
+    + seen_by(
+        RUNS % "try_misuse", (RUN, "            if getattr(given, name) and not given.reasons:", "            if False:")
+    )
     + seen_by(
         RUNS % "try_places",
         (
@@ -82,11 +84,11 @@ PLANTED = (
     )
     + seen_by(
         "accept_kills.try_kills_of_records",
-        ("commands/lib/aide_compare/commands/accepting.py", 'SUFFIX if wish.keeps_records else ""', '""'),
+        ("commands/lib/aide_compare/commands/accept_steps.py", 'SUFFIX if wish.keeps_records else ""', '""'),
     )
     + seen_by(
         "without.try_left_out",
-        ("commands/lib/aide_compare/compare/without.py", '"1 entry" if self.total == 1 else ', ""),
+        ("commands/lib/aide_compare/compare/exclusions.py", '"1 entry" if self.total == 1 else ', ""),
     )
     + seen_by(READERS % "try_state", (COUNTS, "self.high + self.medium + self.low == self.unanswered", "True"))
     + seen_by(
@@ -123,7 +125,7 @@ PLANTED = (
     + seen_by(
         READERS % "try_metrics_and_log",
         (
-            "commands/lib/aide_compare/commands/log.py",
+            "commands/lib/aide_compare/commands/status_line.py",
             '"%s %s" % (state.reasons.line(), counts) if state.reasons else counts',
             "counts",
         ),

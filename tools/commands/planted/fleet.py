@@ -23,7 +23,9 @@ PLANTED = (
             "        if not found:\n            return self.host, 0, ''\n        if ended != 0:\n",
         ),
     )
-    + seen_by("fleet.try_ended", (LIB + "base/child.py", "    ctypes.CDLL(None).prctl(PR_SET_PDEATHSIG, signal.SIGKILL)\n", ""))
+    + seen_by(
+        "fleet.try_ended", (LIB + "base/child.py", "    ctypes.CDLL(None).prctl(PR_SET_PDEATHSIG, signal.SIGKILL)\n", "")
+    )
     + seen_by("fleet.try_slow", (LIB + "hosts/fetching.py", "max(seconds_left(self.deadline), 0)", "60"))
     + seen_by(
         "fleet.try_hostile",
@@ -32,21 +34,21 @@ PLANTED = (
             "        self.keep(block[: max(self.most - self.size, 0)])\n",
             "        self.keep(block)\n",
         ),
-        (LIB + "hosts/comparing.py", "max(4 * old.size, LEAST_BOUND)", "1 << 32"),
+        (LIB + "hosts/host_comparison.py", "max(4 * old.size, LEAST_BOUND)", "1 << 32"),
     )
     + seen_by(
         "fleet.try_same_for",
-        (LIB + "hosts/comparing.py", "        if stale:\n", "        if stale and not state.status:\n"),
-        (LIB + "hosts/comparing.py", "-MOST_AHEAD <= age <= seconds", "age <= seconds"),
+        (LIB + "hosts/host_comparison.py", "        if stale:\n", "        if stale and not state.status:\n"),
+        (LIB + "hosts/host_comparison.py", "-MOST_AHEAD <= age <= seconds", "age <= seconds"),
     )
     + seen_by("fleet.try_wrong", (LIB + "hosts/fleet_store.py", "NAME.fullmatch(host)", "NAME.match(host)"))
     + seen_by("fleet.try_shared", (LIB + "hosts/fleet_store.py", "    if folder.others:\n", "    if False:\n"))
     + seen_by("fleet.try_accepting", (LIB + "commands/hosts_accept.py", "required=True", "required=False"))
     + seen_by(
         "state.try_check_faults",
-        (LIB + "commands/check.py", "    except Fault as fault:\n        return answer(UNKNOWN, fault.text)\n", ""),
-        (LIB + "show/readers.py", "age < -AHEAD", "False"),
-        (LIB + "commands/check.py", '.replace("|", "!")', ""),
+        (LIB + "commands/status_nagios.py", "    except Fault as fault:\n        return answer(UNKNOWN, fault.text)\n", ""),
+        (LIB + "show/reading.py", "age < -AHEAD", "False"),
+        (LIB + "commands/status_nagios.py", '.replace("|", "!")', ""),
     )
     + seen_by(
         "state.try_own_failures",
@@ -56,7 +58,7 @@ PLANTED = (
         "state.try_links",
         # The file of the metrics is opened by its name, as a command that trusts the folder would do it.
         (
-            LIB + "commands/metrics.py",
+            LIB + "commands/status_prometheus.py",
             '    replace(given.output, data, what="the metrics")\n',
             '    with open(given.output, "wb") as file:\n        file.write(data)\n',
         ),
@@ -64,26 +66,26 @@ PLANTED = (
     + seen_by(
         "state.try_check",
         (
-            LIB + "commands/check.py",
+            LIB + "commands/status_nagios.py",
             "WARNING if state.status == 1 else CRITICAL",
             "WARNING if state.status & 1 else CRITICAL",
         ),
-        (LIB + "show/readers.py", "= max(age, 0), age", "= age, age"),
+        (LIB + "show/reading.py", "= max(age, 0), age", "= age, age"),
     )
     + seen_by(
         "state.try_metrics",
         (
-            LIB + "commands/metrics.py",
+            LIB + "commands/status_prometheus.py",
             "name, name, value) for name, words, value in values if value is not None)",
             "name, name, value or 0) for name, words, value in values)",
         ),
     )
-    + seen_by("state.try_log", (LIB + "commands/log.py", " or reading.future:", ":"))
+    + seen_by("state.try_log", (LIB + "commands/status_line.py", " or reading.future:", ":"))
     + seen_by("state.try_rules", ("contrib/logcheck/aide-compare", " changed=0$", " changed=0"))
     + seen_by(
         "age.try_readers",
         (
-            LIB + "commands/check.py",
+            LIB + "commands/status_nagios.py",
             '"no comparison, status %d: %s" % (state.status, state.error)',
             '"no comparison, status %d" % state.status',
         ),

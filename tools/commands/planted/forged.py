@@ -3,7 +3,7 @@ from .plant import seen_by
 from .reasons import ARCHIVE, DEB, DPKG, ENTRIES, GATHERED, LIB, PACKAGES, PROTECTED
 
 VOUCHED, EVIDENCE, KEPT = (LIB + name + ".py" for name in ("vouched", "evidence", "kept_records"))
-EXPLAINING = "commands/lib/aide_compare/show/explaining.py"
+EXPLAINING = "commands/lib/aide_compare/show/explained.py"
 
 PLANTED = (
     seen_by(

@@ -7,9 +7,9 @@ DEFAULTS, HANDING, RUN, MAIL, CHECK, COMPARISON, REASONS, FOLDERS, TRUSTED = (
     for name in (
         "base/defaults",
         "compare/handing",
-        "commands/run",
+        "commands/compare",
         "commands/mail",
-        "commands/check",
+        "commands/status_nagios",
         "compare/comparison",
         "commands/reasons",
         "base/folders",
@@ -81,7 +81,11 @@ PLANTED = (
     )
     + seen_by(
         "own_user.try_own_user",
-        (MAIL, "if not found or os.geteuid() == 0:", "if not found and os.geteuid() == 0:"),
+        (
+            "commands/lib/aide_compare/compare/hints.py",
+            "if not found or os.geteuid() == 0:",
+            "if not found and os.geteuid() == 0:",
+        ),
         (FOLDERS, "{found.st_uid} - {0, os.geteuid()}", "{found.st_uid} - {0}"),
         (TRUSTED, "found.st_uid not in (0, os.geteuid()) or", "found.st_uid != 0 or"),
     )

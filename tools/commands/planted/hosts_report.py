@@ -30,7 +30,7 @@ PLANTED = (
         (LIB + "hosts/host_changes.py", "self.is_old_same &= old == self.old", "pass"),
         (LIB + "hosts/host_changes.py", "self.own |= own", "pass"),
         (
-            LIB + "hosts/comparing.py",
+            LIB + "hosts/host_comparison.py",
             "filter(None, (LEVEL, given.before))",
             "filter(None, (given.before,))",
         ),
@@ -134,7 +134,7 @@ PLANTED = (
             "standing = 1 if reason is None else 0",
         ),
     )
-    + seen_by("hosts_quiet.try_idle", (LIB + "hosts/comparing.py", "            rules=explaining.rules_of(given),\n", ""))
+    + seen_by("hosts_quiet.try_idle", (LIB + "hosts/host_comparison.py", "            exclusions=exclusions_of(given),\n", ""))
     + seen_by(
         "hosts_quiet.try_records",
         (LIB + "hosts/fetching.py", "    place.remove(RECORDS)", "    pass"),

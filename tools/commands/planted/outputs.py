@@ -2,14 +2,18 @@
 from .plant import seen_by
 
 LIB = "commands/lib/aide_compare/"
-RUN, EXPLAINING, OUTPUTS = LIB + "commands/run.py", LIB + "show/explaining.py", LIB + "compare/outputs.py"
+RUN, EXPLAINING, OUTPUTS = LIB + "commands/compare.py", LIB + "show/explained.py", LIB + "compare/outputs.py"
 COLOURS, PROGRESS = LIB + "show/colours.py", LIB + "base/progress.py"
 
 PLANTED = (
     seen_by(
         "explained.try_outputs",
         (OUTPUTS, '"-": 1, ', ""),
-        (RUN, 'FORMATS, STDOUT = ("report", "brief"), ("-", "/dev/stdout", "/dev/fd/1")', 'FORMATS, STDOUT = ("report", "brief"), ("-",)'),
+        (
+            RUN,
+            'FORMATS, STDOUT = ("report", "brief"), ("-", "/dev/stdout", "/dev/fd/1")',
+            'FORMATS, STDOUT = ("report", "brief"), ("-",)',
+        ),
         (RUN, "len(taken) + (given.format is not None) > 1", "len(taken) > 1"),
         (EXPLAINING, "page(explained.lines(), None, is_plain=False)", "page(explained.lines(), None, is_plain=True)"),
         (EXPLAINING, "for output in (self.lines, self.page):", "for output in (self.lines,):"),
@@ -28,8 +32,16 @@ PLANTED = (
         (RUN, "guarded(whole)", "whole"),
         (COLOURS, 'return choice == "always"', "return True"),
         (COLOURS, ' and not os.environ.get("NO_COLOR")', ""),
-        (COLOURS, 'SEVERITY, TITLE = re.compile("^  (high|medium) ", re.M)', 'SEVERITY, TITLE = re.compile("(high|medium) ", re.M)'),
-        (LIB + "show/listing.py", "path = shown(change.path, MOST_PATHS", 'path = str(change.path, "latin-1")[:1000] or (MOST_PATHS'),
+        (
+            COLOURS,
+            'SEVERITY, TITLE = re.compile("^  (high|medium) ", re.M)',
+            'SEVERITY, TITLE = re.compile("(high|medium) ", re.M)',
+        ),
+        (
+            LIB + "show/listing.py",
+            "path = shown(change.path, MOST_PATHS",
+            'path = str(change.path, "latin-1")[:1000] or (MOST_PATHS',
+        ),
     )
     + seen_by(
         "terminal.try_progress",
@@ -40,5 +52,7 @@ PLANTED = (
         (PROGRESS, "time.monotonic() >= self.last + EVERY", "True"),
         (RUN, "    if not given.quiet:\n        progress", "    if True:\n        progress"),
     )
-    + seen_by("explained.try_no_reasons", (RUN, "            elif comparison.report is not None and", "            elif False and"))
+    + seen_by(
+        "explained.try_no_reasons", (RUN, "            elif comparison.report is not None and", "            elif False and")
+    )
 )

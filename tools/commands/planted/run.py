@@ -8,7 +8,7 @@ CONFIGURATION, HINTS, PROGRAM, COMPARISON, RUN, FILES, FOLDERS, UNPACK, TIMES, O
         "compare/hints",
         "base/program",
         "compare/comparison",
-        "commands/run",
+        "commands/compare",
         "base/files",
         "base/folders",
         "compare/unpack",
@@ -221,7 +221,7 @@ PLANTED = (
         "hints.try_misspelt",
         (CONFIGURATION, "group not in OPTIONS:", "group not in REPORT_OPTIONS:"),
         (CONFIGURATION, "found[:MOST_MISSPELT]]", "found]"),
-        (CONFIGURATION, "(reader.option(line) or (b\"\",))[0]", 'line.partition(b"=")[0].strip()'),
+        (CONFIGURATION, '(reader.option(line) or (b"",))[0]', 'line.partition(b"=")[0].strip()'),
         (COMPARISON, "*self.given.misspelt(request.configuration), ", ""),
     )
     + seen_by(
@@ -245,12 +245,22 @@ PLANTED = (
         ("commands/bin/aide-compare", "except BaseException as error:", "except ImportError as error:"),
     )
     + seen_by("run.try_state", (COMPARISON, "zip(SIDES, digests_of(", "zip(SIDES[::-1], digests_of("))
-    + seen_by("without.try_left_out", (COMPARISON, "        if not request.rules and not self.is_cut:\n", "        if not self.is_cut:\n"))
+    + seen_by(
+        "without.try_left_out",
+        (COMPARISON, "        if not request.exclusions and not self.is_cut:\n", "        if not self.is_cut:\n"),
+    )
     + seen_by(
         "base.try_reports", ("commands/lib/aide_compare/compare/reports.py", 'DIGEST % b"New" + rb"\\Z")', 'DIGEST % b"New")')
     )
     + seen_by("base.try_files", (UNPACK, "os.pread(self.fd, BLOCK, at)", "os.pread(self.fd, BLOCK, 0)"))
-    + seen_by("attacks.try_broken_off", ("commands/lib/aide_compare/base/ending.py", "if isinstance(error, MemoryError) else Fault", "if not isinstance(error, MemoryError) else Fault"))
+    + seen_by(
+        "attacks.try_broken_off",
+        (
+            "commands/lib/aide_compare/base/ending.py",
+            "if isinstance(error, MemoryError) else Fault",
+            "if not isinstance(error, MemoryError) else Fault",
+        ),
+    )
     + seen_by(
         "attacks.try_user",
         (

@@ -97,7 +97,7 @@ PLANTED = (
     )
     + seen_by(
         "viewers.try_commands",
-        (LIB + "commands/viewers.py", "REFUSED = 65", "REFUSED = 1"),
+        (LIB + "commands/streams.py", "REFUSED = 65", "REFUSED = 1"),
         (LIB + "commands/json.py", "        judge(self.summary, given.least, given.empty)\n", ""),
         (LIB + "show/page.py", '("TITLE", escape(title))', '("TITLE", title)'),
     )
@@ -187,7 +187,7 @@ PLANTED = (
     + seen_by(
         "viewers.try_program",
         (
-            LIB + "commands/viewers.py",
+            LIB + "commands/page.py",
             "page(lines, given.title, given.plain, given.only)",
             "page(lines, given.title, False, given.only)",
         ),

@@ -95,7 +95,7 @@ def try_little_memory(sandbox):
 
 def try_broken_off(sandbox):
     """What breaks a comparison off is told as what it is, by the state too."""
-    name, place = "lib/aide_compare/commands/run.py", "            comparison.run()\n"
+    name, place = "lib/aide_compare/commands/compare.py", "            comparison.run()\n"
     text = sandbox.read(name)
     for raised, status, said in (("MemoryError", 22, b"out of memory"), ("OSError(5, 'why')", 18, b"why")):
         sandbox.edit(name, place, "            raise %s\n" % raised)

@@ -128,7 +128,9 @@ def try_texts(sandbox):
     ):
         answer = call(sandbox, "old.db", "new.db", *words)
         sandbox.holds("the arguments %r" % words, answer.status == 15 and sent(sandbox) is None, answer)
-    sandbox.expect("lines for the program", call(sandbox, "--to", "x", "old.db", "new.db", "-A", "report_level=minimal"), 7, b"", b"")
+    sandbox.expect(
+        "lines for the program", call(sandbox, "--to", "x", "old.db", "new.db", "-A", "report_level=minimal"), 7, b"", b""
+    )
     message = sent(sandbox)
     sandbox.holds("the subject without counts", subject(message) == SUBJECT + "differences (added, removed, changed)", message)
     sandbox.expect("an alarm is success", call(sandbox, "old.db", "new.db", "--alarm-sent-is-success"), 0, b"", b"")
@@ -351,7 +353,7 @@ def try_pages(sandbox):
     sandbox.holds("a plain page with the host", b"File changes on " in page and b"<script" not in page, parts)
     call(sandbox, "--html", "--max-mail", "9k", "old.db", "new.db")
     sandbox.holds("a page that is too large", body(sent(sandbox)).endswith(note + b"it would be larger than --max-mail\n"))
-    sandbox.edit("lib/aide_compare/show/page.py", "    contents = Contents(is_plain, only)\n", "    raise KeyError('an odd report')\n")
+    sandbox.edit("lib/aide_compare/show/page.py", "    contents = PageEntries(is_plain, only)\n", "    raise KeyError('an odd report')\n")
     sandbox.expect("a page that fails", call(sandbox, "--html", "old.db", "new.db"), 7, b"", b"")
     want = note + b"a fault of this command: KeyError: 'an odd report'\n"
     sandbox.holds("a mail without a page", body(sent(sandbox)).endswith(want))
@@ -389,7 +391,7 @@ def try_weight(sandbox):
     for label, words, most in (
         ("a mail with a page", ["--html", "--reasons", "--queue", "queue", "old.db", "new.db"], (2, 4)),
         ("the unit's mail", [*unit, "-c", "conf"], (2, 7)),
-        ("a mail with a list of its own", ["--reasons", *unit[1:3], "old.db", "new.db", "--", "-A", "report_level=summary"], (3, 5)),
+        ("a mail with a list of its own", ["--reasons", *unit[1:3], "-A", "report_level=summary", "old.db", "new.db"], (3, 5)),
         ("a mail by sendmail", ["--reasons", "old.db", "new.db"], (3, 3)),
     ):
         found = weight_of(sandbox, *words)

@@ -16,26 +16,26 @@ SMALL_LINE, SMALL_BLOCK = 90, 64
 def try_without_random(sandbox):
     """Blocks and lines are small here, so that lines go over the end of a block, and some are longer than a line can be."""
     modules()
-    from aide_compare.compare import without
+    from aide_compare.compare import exclusions
 
-    kept = without.LINE, without.BLOCK
+    kept = exclusions.LINE, exclusions.BLOCK
     numbers, seen = random.Random(20261127), Counter()
     try:
-        without.LINE, without.BLOCK = SMALL_LINE, SMALL_BLOCK
-        wrong = [given for given in (random_case(numbers) for _ in range(4000)) if not is_alike(without, given, seen)]
+        exclusions.LINE, exclusions.BLOCK = SMALL_LINE, SMALL_BLOCK
+        wrong = [given for given in (random_case(numbers) for _ in range(4000)) if not is_alike(exclusions, given, seen)]
     finally:
-        without.LINE, without.BLOCK = kept
+        exclusions.LINE, exclusions.BLOCK = kept
     sandbox.holds("random databases and lines", not wrong, wrong[:1])
     least = {"left out": 2000, "staying": 2000, "kept": 20000}
     sandbox.holds("some of each kind", all(seen[kind] >= count for kind, count in least.items()), seen)
 
 
-def is_alike(without, given, seen):
+def is_alike(exclusions, given, seen):
     """Whether the copy, the counts by line and the number of those that stay in vain are those of the plain cut."""
     database, rules = given
-    made = without.Rules([without._rule(text, "%d" % number) for number, text in enumerate(rules)])
-    cut = without._Cut(made)
-    got = b"".join(without._cut_parts(io.BytesIO(database), cut))
+    made = exclusions.Exclusions([exclusions._exclusion(text, "%d" % number) for number, text in enumerate(rules)])
+    cut = exclusions._Cut(made)
+    got = b"".join(exclusions._cut_parts(io.BytesIO(database), cut))
     want, counts, staying = plain_cut(database, rules)
     seen.update({"left out": sum(counts.values()), "staying": staying, "kept": want.count(b"\n/")})
     return (got, {int(rule.place): count for rule, count in cut.counts.items()}, cut.staying) == (want, counts, staying)

@@ -72,9 +72,7 @@ def try_code(trial):
     own = [path for path in loaded if "/aide_compare/" in path]
     trial.holds("the tools start from byte code", len(own) > 10 and all(path.endswith(".pyc") for path in own), own)
     options = ("/__init__.", "/evidence_options.")
-    more = [
-        path for path in own if "/explaining." in path or "/reasons/" in path and not any(name in path for name in options)
-    ]
+    more = [path for path in own if "/explained." in path or "/reasons/" in path and not any(name in path for name in options)]
     trial.holds("without --reasons nothing is loaded that looks for reasons", not more, more)
     done = trial.install("--prefix", prefix, "--uninstall", source=source)
     trial.holds("byte code is removed with the modules", done[0] == 0 and not os.path.exists(prefix), done)

@@ -18,7 +18,7 @@ BLOCK, MOST_ERRORS = 1 << 18, 1 << 20
 KNOWN = tuple(range(8)) + (Status.USAGE, Status.CONFIGURATION, Status.DEVICE, Status.MEMORY, Status.DATABASE)
 
 
-class Stream:
+class Drain:
     """A pipe from the program: its first bytes go to `keep`, and all are counted."""
 
     def __init__(self, most, keep):
@@ -109,9 +109,9 @@ def _started(program, words, given, most):
             os.close(descriptor)
 
 
-def _drain(streams, tell, seconds):
-    """Reads all streams to their ends, and meanwhile tells how far the program is."""
-    waiting = {stream.reading: stream for stream in streams}
+def _drain(drains, tell, seconds):
+    """Reads all drains to their ends, and meanwhile tells how far the program is."""
+    waiting = {drain.reading: drain for drain in drains}
     while waiting:
         for reading in select.select(list(waiting), [], [], seconds)[0]:
             if not waiting[reading].take():
@@ -124,27 +124,27 @@ def run_program(program, words, given, most=None, keep=None):
     """Runs the program to its end. `given` are the descriptors of its report, 1, of the databases, 3 and 4, and of the
     configuration, 5. No file that it writes gets more than `most` bytes. With `keep` the report comes through a pipe, and its
     first `most` bytes are given to that: so a report of any size takes no more room."""
-    lines, streams, child = [], {}, None
+    lines, drains, child = [], {}, None
     try:
-        streams[2] = Stream(MOST_ERRORS, lines.append)
+        drains[2] = Drain(MOST_ERRORS, lines.append)
         if keep:
-            streams[1] = Stream(most, keep)
-        ends = {place: stream.writing for place, stream in streams.items()}
+            drains[1] = Drain(most, keep)
+        ends = {place: drain.writing for place, drain in drains.items()}
         child = _started(program, words, {**given, **ends}, most)
-        for stream in streams.values():
-            stream.writing = os.close(stream.writing)
+        for drain in drains.values():
+            drain.writing = os.close(drain.writing)
         databases = {place: given[place] for place in (OLD, NEW) if place in given}
-        _drain(streams.values(), *progress.watched(child, databases))
+        _drain(drains.values(), *progress.watched(child, databases))
         ended, child = os.waitpid(child, 0)[1], None
         progress.done("the program has run")
-        return Ended(_status_of(program, ended), b"".join(lines), streams[1].size if keep else 0)
+        return Ended(_status_of(program, ended), b"".join(lines), drains[1].size if keep else 0)
     except OSError as error:
         raise Fault(Status.DEVICE, "cannot run %s: %s" % (shown(program), reason(error)))
     finally:
         if child:
             os.kill(child, signal.SIGKILL)
             os.waitpid(child, 0)
-        for stream in streams.values():
-            for end in (stream.reading, stream.writing):
+        for drain in drains.values():
+            for end in (drain.reading, drain.writing):
                 if end is not None:
                     os.close(end)

@@ -6,7 +6,7 @@ from aide_compare.base.escapes import shown
 from aide_compare.base.options import Parser, size, some_text
 from aide_compare.base.patterns import BadPattern, Pattern
 from aide_compare.base.times import date_of
-from aide_compare.commands.accepting import MOST_BYTES, Wish, accept, digest_of_former, user_of
+from aide_compare.commands.accept_steps import MOST_BYTES, Wish, accept, digest_of_former, user_of
 from aide_compare.compare.baseline import Baseline
 from aide_compare.compare.state import read_state
 from aide_compare.reasons.evidence_options import EVIDENCE, add_evidence_options
@@ -175,7 +175,9 @@ def main(arguments):
         _print([keep_records_only(given.files[0], given.max_size)])
         return Status.OK
     state, unknown, (new, path) = None, "", given.files
-    wish = Wish(given.sha256, given.max_size, not given.no_packages, _patterns_of(given), given if given.explained_only else None)
+    wish = Wish(
+        given.sha256, given.max_size, not given.no_packages, _patterns_of(given), given if given.explained_only else None
+    )
     try:
         state = read_state(given.state or STATE)
     except Fault as fault:

@@ -5,26 +5,9 @@ import re
 from aide_compare.base.ending import Fault, Status, called, reason, write_all
 from aide_compare.base.escapes import shown
 
-# The module and the function of each subcommand. Only that of the one that is asked for is loaded.
-COMMANDS = {
-    "compare": ("commands.run", "main"),
-    "json": ("commands.json", "main"),
-    "page": ("commands.viewers", "html_main"),
-    "reasons": ("commands.reasons", "main"),
-    "mail": ("commands.mail", "main"),
-    "accept": ("commands.accept", "main"),
-    "status": ("commands.status", "main"),
-    "sort": ("commands.sort", "main"),
-    "setup": ("commands.setup", "main"),
-    "version": ("commands.version", "main"),
-}
-HOSTS = {
-    "fetch": ("hosts.fetching", "main"),
-    "compare": ("commands.hosts_compare", "main"),
-    "compare-one": ("hosts.comparing", "main"),
-    "accept": ("commands.hosts_accept", "main"),
-    "report": ("commands.hosts_report", "main"),
-}
+# Each is a module of its name, of which only the one that is asked for is loaded; those of hosts begin with hosts_.
+COMMANDS = ("compare", "json", "page", "reasons", "mail", "accept", "status", "sort", "setup", "version")
+HOSTS = ("fetch", "compare", "compare-one", "accept", "report")
 JOBS = {"-E", "-D", "--compare", "--config-check"}
 USAGE = """\
 usage: aide-compare [compare] [OPTIONS] [OLD NEW]
@@ -92,13 +75,16 @@ def is_misspelt(word, arguments):
     return len(arguments) == 1 or bool(difflib.get_close_matches(word, [*COMMANDS, "hosts", "help"], 1))
 
 
-def run(name, place, arguments):
-    """Loads a module and runs the subcommand."""
+def loaded(module):
+    """The module of a subcommand."""
     import importlib
 
+    return importlib.import_module("aide_compare.commands." + module.replace("-", "_"))
+
+
+def run(name, module, arguments):
     called(name)
-    module, function = place
-    return getattr(importlib.import_module("aide_compare." + module), function)(arguments)
+    return loaded(module).main(arguments)
 
 
 def hosts(arguments):
@@ -108,7 +94,7 @@ def hosts(arguments):
         return Status.OK
     if word not in HOSTS:
         refuse(word, HOSTS, "aide-compare hosts")
-    return run("aide-compare hosts " + word, HOSTS[word], arguments[1:])
+    return run("aide-compare hosts " + word, "hosts_" + word, arguments[1:])
 
 
 def help_of(words):
@@ -132,7 +118,7 @@ def main(arguments):
     if word == "--version":
         word, arguments = "version", ["version"] + arguments[1:]
     if word in COMMANDS:
-        return run("aide-compare" + (" " + word) * (word != "compare"), COMMANDS[word], arguments[1:])
+        return run("aide-compare" + (" " + word) * (word != "compare"), word, arguments[1:])
     if is_misspelt(word, arguments):
         refuse(word, [*COMMANDS, "hosts", "help"], "aide-compare")
-    return run("aide-compare", COMMANDS["compare"], arguments)
+    return run("aide-compare", "compare", arguments)

@@ -7,12 +7,12 @@ from aide_compare.base.files import copy_file, open_regular
 from aide_compare.base.options import Parser, size, some_text
 from aide_compare.base.program import find_front
 from aide_compare.base.times import date_of
-from aide_compare.compare.sound import refuse_unsound
+from aide_compare.compare.soundness import refuse_unsound
 from aide_compare.compare.state import read_state
 from aide_compare.compare.unpack import copy_database, digest_of, open_database
-from aide_compare.hosts.comparing import MOST_BASELINE
-from aide_compare.hosts.explaining import BASELINES, NEWEST
-from aide_compare.hosts.fetching import add_place
+from aide_compare.hosts.host_comparison import MOST_BASELINE
+from aide_compare.hosts.host_reasons import BASELINES, NEWEST
+from aide_compare.commands.hosts_options import add_place
 from aide_compare.hosts.fleet_store import BLOCK, Part, Place, check_name, no_room
 from aide_compare.reasons.kept_records import mark_of
 

@@ -10,9 +10,12 @@ from aide_compare.base.ending import Fault, Status, reason, write_all
 from aide_compare.base.escapes import guarded, shown
 from aide_compare.base.files import open_regular
 from aide_compare.base.options import Parser
-from aide_compare.hosts import comparing, fetching
+from aide_compare.commands.hosts_options import add_comparison, add_fetching, add_place
+from aide_compare.hosts.fetching import fetch
 from aide_compare.hosts.fleet_store import Place, check_name, share_of
-from aide_compare.show.readers import ALARMS
+from aide_compare.hosts.host_comparison import compare_or_say
+from aide_compare.hosts.host_reasons import exclusions_of
+from aide_compare.show.reading import ALARMS
 
 NAME = "aide-compare hosts compare"
 MOST_LIST = 16 << 20
@@ -28,8 +31,8 @@ def one_host(host, given):
         place = Place(given.store, check_name(host))
         place.lock(deadline)
         if not given.no_fetch:
-            fetching.fetch(place, given, deadline, given.jobs)
-        state = comparing.compare_or_say(place, given, given.jobs, deadline)
+            fetch(place, given, deadline, given.jobs)
+        state = compare_or_say(place, given, given.jobs, deadline)
     except Fault as fault:
         return int(fault.status), False, fault.text
     except OSError as error:
@@ -191,16 +194,16 @@ def options():
     )
     parser.add_argument("--no-fetch", action="store_true", help="compare what was fetched before")
     parser.add_argument("--one", action="store_true", help="HOSTS-FILE is the name of one host")
-    fetching.add_place(parser)
-    fetching.add_options(parser)
-    comparing.add_options(parser)
+    add_place(parser)
+    add_fetching(parser)
+    add_comparison(parser)
     parser.add_argument("file", metavar="HOSTS-FILE")
     return parser
 
 
 def main(arguments):
     given = options().parse(arguments)
-    comparing.explaining.rules_of(given)
+    exclusions_of(given)
     hosts = [given.file] if given.one else hosts_of(given.file, given.share)
     heed_signals()
     try:

@@ -16,7 +16,7 @@ from aide_compare.hosts.fleet_store import STORE, share_of
 from aide_compare.hosts.host_changes import ChangeLines, encoded, path_in, same_changes, standing_of
 from aide_compare.hosts.hosts_read import CUT, WHOLE, read_host
 from aide_compare.mail.smtp import server
-from aide_compare.show.readers import AGE, ALARMS
+from aide_compare.show.reading import AGE, ALARMS
 
 NAME = "aide-compare hosts report"
 FORMAT = 1

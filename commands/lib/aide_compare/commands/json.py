@@ -1,7 +1,7 @@
 """aide-compare json: a report of aide-compare as JSON."""
 from aide_compare.base.files import Spool
 from aide_compare.base.options import some_text
-from aide_compare.commands.viewers import BLOCK, parser_of, run
+from aide_compare.commands.streams import BLOCK, convert, parser_of
 
 NAME = "aide-compare json"
 DESCRIPTION = "Reads a report of aide-compare and writes it as JSON, one object a line."
@@ -146,4 +146,4 @@ def main(arguments):
 
     given = _options().parse(arguments)
     members(given.members)
-    return run(given.file, lambda source, target: _write(source, target, given))
+    return convert(given.file, lambda source, target: _write(source, target, given))

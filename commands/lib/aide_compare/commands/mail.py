@@ -7,7 +7,7 @@ from aide_compare.base.defaults import MAIL, RUN, defaults_for
 from aide_compare.base.ending import Fault, Status, say, why_of, write_all
 from aide_compare.base.options import Parser, duration, size, some_text, with_values
 from aide_compare.base.program import find_front
-from aide_compare.commands import run
+from aide_compare.commands import compare
 from aide_compare.compare.columns import skipped_of
 from aide_compare.compare.comparison import Comparison, Request
 from aide_compare.compare.handing import Held
@@ -18,7 +18,7 @@ from aide_compare.mail import weekly
 from aide_compare.mail.message import Result, build, clean, host, is_explained, subject, text_of
 from aide_compare.mail.sending import SECONDS, alert, deliver, way_out
 from aide_compare.mail.smtp import server
-from aide_compare.show.readers import ALARMS
+from aide_compare.show.reading import ALARMS
 from aide_compare.show.told import told_of
 
 NAME = "aide-compare mail"
@@ -78,7 +78,7 @@ def parser():
 
 def split(arguments):
     """The options of this command, and all others, for the comparison, in their order."""
-    (own_names, own_values), (_, values) = with_values(parser()), with_values(run.parser())
+    (own_names, own_values), (_, values) = with_values(parser()), with_values(compare.parser())
     own, others, rest = [], [], list(arguments)
     while rest:
         word = rest.pop(0)
@@ -101,7 +101,7 @@ def parted(words):
 
 def without_state(words):
     """The words without --state and its value: a command for reading must not overwrite the state."""
-    values, kept, words = with_values(run.parser())[1], [], list(words)
+    values, kept, words = with_values(compare.parser())[1], [], list(words)
     while words and words[0] != "--":
         word = words.pop(0)
         found = [word] + ([words.pop(0)] if word in values and words else [])
@@ -212,9 +212,7 @@ def be_quiet(given, way, state):
     """A run that raises no alarm: it is counted, and once a week a mail says so."""
     if given.weekly:
         explained = state.reasons.explained if state.reasons else 0
-        weekly.count(
-            given.run.state, given.weekly, explained, lambda *sums: send(way, simple(given, *quiet_text(*sums)))
-        )
+        weekly.count(given.run.state, given.weekly, explained, lambda *sums: send(way, simple(given, *quiet_text(*sums))))
 
 
 def compared(given, alarm):
@@ -224,7 +222,7 @@ def compared(given, alarm):
     try:
         if given.refusal:
             raise given.refusal
-        task = run.Task(given.run, with_details=given.html)
+        task = compare.Task(given.run, with_details=given.html)
         task.state, alarm.message = task.state or task.made(Held()), task.made(alarm.message)
         status, state = task.carry_out(alarm)
     except (Fault, MemoryError, OSError) as error:
@@ -281,7 +279,7 @@ def parsed(own, words):
     given = parser().parse(own)
     given.words, given.fault, given.run, given.refusal = words, "", None, None
     try:
-        given.run = run.parser().parse(words)
+        given.run = compare.parser().parse(words)
         given.run.user = given.user
     except Fault as fault:
         given.refusal = fault

@@ -3,12 +3,12 @@ import os
 
 from aide_compare.base.defaults import add_off, defaults_for
 from aide_compare.base.options import size
-from aide_compare.commands.viewers import parser_of, run as run_over
+from aide_compare.commands.streams import convert, parser_of
 from aide_compare.compare.unpack import copy_database
 from aide_compare.reasons.evidence import evidence_of
 from aide_compare.reasons.evidence_options import add_evidence_options
 from aide_compare.reasons.explainer import Explainer
-from aide_compare.reasons.lines import Lines
+from aide_compare.reasons.explained_lines import UnexplainedLines
 
 NAME = "aide-compare reasons"
 MOST_DATABASE = 4 << 30
@@ -18,7 +18,7 @@ OPTIONS = "--max-size --archive --keyring --rules --severity".split()
 
 def _write(source, target, databases, given):
     evidence = evidence_of(given)
-    lines = Lines(source)
+    lines = UnexplainedLines(source)
     explainer = Explainer(databases[0].fd, databases[1].fd, evidence)
     changes = explainer.judge(lines.entries())
     lines.write(target, changes, explainer.counts)
@@ -45,4 +45,4 @@ def main(arguments):
     copies = [copy_database(side, path, given.max_size) for side, path in zip(("old", "new"), given.databases)]
     for copy in copies:
         os.lseek(copy.fd, 0, os.SEEK_SET)
-    return run_over(given.file, lambda source, target: _write(source, target, copies, given))
+    return convert(given.file, lambda source, target: _write(source, target, copies, given))

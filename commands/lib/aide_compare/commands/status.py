@@ -5,9 +5,7 @@ import json
 from aide_compare.base.ending import Fault, Status, write_all
 from aide_compare.base.escapes import shown
 from aide_compare.compare.state import KEYS, read_state
-from aide_compare.show.readers import FORMATS, parser
-
-MODULES = {"line": "log", "prometheus": "metrics", "nagios": "check"}
+from aide_compare.show.reading import FORMATS, parser
 
 
 def format_of(arguments):
@@ -45,4 +43,4 @@ def main(arguments):
     form, words = format_of(arguments)
     if form == "json":
         return print_json(words)
-    return importlib.import_module("aide_compare.commands." + MODULES[form]).main(words)
+    return importlib.import_module("aide_compare.commands.status_" + form).main(words)

@@ -22,7 +22,7 @@ from aide_compare.compare.hints import hints_of
 from aide_compare.compare.reports import DIFFER, END_BYTES, HEAD_BYTES, SAME, counts_of, digests_of, lists_entries, status_of
 from aide_compare.compare.state import State
 from aide_compare.compare.unpack import copy_opened, open_database
-from aide_compare.compare.without import cut_copy
+from aide_compare.compare.exclusions import cut_copy
 
 CLOCKS_DIFFER, SMALL = 600, 1 << 20
 SIDES = ("old", "new")
@@ -35,11 +35,11 @@ LETTERS_LIST = ENTRIES + b"report_grouped=yes\nreport_summarize_changes=yes\n"
 
 class Request:
     """What is to be compared. `old` and `new` are paths, or None if the configuration names both. `before` and `after` are
-    the texts of -B and -A. `counts`: the counts are wanted at every level. `rules`: the Rules of the entries that are left
+    the texts of -B and -A. `counts`: the counts are wanted at every level. `exclusions`: the Exclusions of the entries that are left
     out, or None. `handing`: the Handing of a run of root's, or None. `copies`: by side the Copy of a database, if there is one
     already. `report`: a descriptor for a report that is cut after `max_report` bytes; a longer one is refused otherwise."""
 
-    old = new = configuration = before = after = rules = handing = report = None
+    old = new = configuration = before = after = exclusions = handing = report = None
     max_size, max_report, max_list, max_age, counts, copies = 1 << 40, 1 << 30, 1 << 30, 0, True, {}
 
     def __init__(self, **given):
@@ -148,12 +148,12 @@ class Comparison:
         self.copies.update(self.request.copies)
         for side in SIDES:
             self.compared[side] = self.copies[side].fd
-            if self.request.rules:
+            if self.request.exclusions:
                 self._leave_out(side)
 
     def _leave_out(self, side):
         """What is compared then is a copy of the copy; digests are of the whole database, so that it can be accepted."""
-        self.compared[side], self.left_out[side] = cut_copy(self.compared[side], self.request.rules)
+        self.compared[side], self.left_out[side] = cut_copy(self.compared[side], self.request.exclusions)
         self.notes += self.left_out[side].words(side)
 
     def _compare(self):
@@ -175,7 +175,7 @@ class Comparison:
         is_odd = self.counts and status_of(self.counts) != self.status
         if is_odd or not (head.startswith(DIFFER) if self.status else head.startswith(SAME) or not head):
             raise self._odd_answer()
-        if not request.rules and not self.is_cut:
+        if not request.exclusions and not self.is_cut:
             for side, digest in zip(SIDES, digests_of(os.pread(self.report, END_BYTES, max(self.size - END_BYTES, 0)))):
                 self.copies[side].take_digest(digest)
 

@@ -6,13 +6,10 @@ import signal
 import time
 
 from aide_compare.base.child import end_with
-from aide_compare.base.ending import Fault, Status, reason, say
+from aide_compare.base.ending import Fault, reason, say
 from aide_compare.base.escapes import shown
-from aide_compare.base.options import Parser, duration, size, some_text
-from aide_compare.hosts.fleet_store import BLOCK, STORE, Part, Place, check_name, no_room, same_bytes, seconds_left
+from aide_compare.hosts.fleet_store import BLOCK, Part, no_room, same_bytes, seconds_left
 
-NAME = "aide-compare hosts fetch"
-PATH, MOST, SECONDS = "/var/lib/aide/aide.db.new", 1 << 30, 600
 MOST_ERRORS = 65536
 STOP_SECONDS = 10
 RECORDS = "aide.db.new.packages"
@@ -166,41 +163,3 @@ def fetch(place, given, deadline, jobs=1):
             receive(place, SEND_RECORDS, RECORDS, given, deadline, jobs)
         except Fault as fault:
             say("%s; no package explains a change of it" % fault.text)
-
-
-def remote_path(text):
-    """A path that the shell of a host leaves as it is."""
-    if not re.fullmatch(r"/[A-Za-z0-9._/-]*", text):
-        raise Fault(Status.USAGE, "--path needs a path that begins with /, of letters, digits and . _ / -")
-    return text
-
-
-def add_options(parser):
-    parser.add_argument("--max-size", type=size, default=MOST, metavar="SIZE", help="the most bytes that a host may send (1G)")
-    parser.add_argument("--path", type=remote_path, default=PATH, metavar="PATH", help="the file on HOST (%s)" % PATH)
-
-
-def add_place(parser):
-    parser.add_argument(
-        "--store", type=some_text, default=STORE, metavar="DIR", help="where the databases are kept (%s)" % STORE
-    )
-    parser.add_argument("--time", type=duration, default=SECONDS, metavar="TIME", help="the most time for a host (10m)")
-
-
-def main(arguments):
-    parser = Parser(
-        NAME,
-        "Fetches the newest database of HOST by ssh into DIR/hosts/HOST/aide.db.new.",
-        epilog="The key of the caller needs one line on HOST; see the example authorized_keys.\n"
-        "Status: 0 fetched; 15 bad arguments; 18 nothing was fetched, and what was fetched before is there.",
-    )
-    add_place(parser)
-    add_options(parser)
-    parser.add_argument("--reasons", action="store_true", help="fetch dpkg's records of HOST too, as evidence")
-    parser.add_argument("host", metavar="HOST")
-    given = parser.parse(arguments)
-    deadline = time.monotonic() + given.time
-    place = Place(given.store, check_name(given.host))
-    place.lock(deadline)
-    fetch(place, given, deadline)
-    return Status.OK

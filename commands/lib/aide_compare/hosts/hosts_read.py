@@ -14,7 +14,7 @@ from aide_compare.hosts.fleet_store import Place, check_name
 from aide_compare.lines.cut_reports import KeptReport
 from aide_compare.lines.report_lines import Lines, Refused
 from aide_compare.lines.report_parts import read_report
-from aide_compare.show.readers import Reading
+from aide_compare.show.reading import Reading
 
 MEMBERS = frozenset("record kind path path_hex summary type attributes uncertain severity reason".split())
 WHOLE, CUT, NO_LIST, UNREADABLE = "whole", "cut", "no list", "unreadable"

@@ -25,9 +25,9 @@ ADDED_BY_COUNTS = ["explained", "not_verified", "unexplained"] + SEVERITIES
 # An entry; `names` are the pieces of its path, `name` is the path as it is shown, `size` the length of the line. A row is
 # [place of its label, old value, new value, old note, new note, old doubt, new doubt], where the last four may be missing.
 # `digests` are the rows of digests, the strongest first. `severity` is a place in SEVERITIES, or None; `reason` is None or a
-# Reason.
+# ShownReason.
 Entry = namedtuple("Entry", "kind doubtful path names name letters rows digests severity reason size")
-Reason = namedtuple("Reason", "text verified grade")
+ShownReason = namedtuple("Reason", "text verified grade")
 
 
 class Malformed(Exception):
@@ -113,7 +113,7 @@ def rows_of(attributes, usual):
 @lru_cache(maxsize=1024, typed=True)
 def reason_of(text, verified, grade):
     demand(type(verified) is bool and grade in GRADES, "a reason has another form")
-    return Reason(shown_note(text), verified, grade)
+    return ShownReason(shown_note(text), verified, grade)
 
 
 def entry_of(fields, line):

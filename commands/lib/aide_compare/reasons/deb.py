@@ -76,7 +76,7 @@ class _Tar:
 Head = namedtuple("Head", "mode owner")
 
 
-class Contents:
+class DebContents:
     """What a package has at the paths that are asked for: digests of files, targets of symbolic links, and of these and of
     folders the `heads`, each with the mode, the type in it, and the numbers of user and group."""
 
@@ -106,7 +106,7 @@ def _read_part(name, tar, wants, columns, found):
 
 def read_deb(descriptor, wants, columns):
     """The contents of a package at the paths for which `wants` is true."""
-    found = Contents()
+    found = DebContents()
     os.lseek(descriptor, 0, os.SEEK_SET)
     for name, kind, packed in _parts(descriptor):
         try:

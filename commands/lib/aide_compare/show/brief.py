@@ -17,7 +17,7 @@ def group_of(reason):
     return reason.text.partition(", ")[0] if reason.name == "package" else TOGETHER.get(reason.name, reason.text)
 
 
-class Reasons:
+class ReasonTally:
     """How many changes each reason explains. Files with the content of before are counted for each folder."""
 
     def __init__(self):
@@ -61,7 +61,7 @@ def brief(changes, counts, read):
     """The text. `read` gives what both databases say of a change. Entries that are unexplained are listed, and of those whose
     reason is not verified the ones of high severity; the others are counted by their reasons."""
     unexplained, unverified = Listing(SEVERITIES), Listing(SEVERITIES[:1])
-    reasons, unverified_reasons = Reasons(), Reasons()
+    reasons, unverified_reasons = ReasonTally(), ReasonTally()
     for change in changes:
         if change.reason is None:
             unexplained.add(change)

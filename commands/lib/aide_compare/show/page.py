@@ -10,7 +10,7 @@ from aide_compare.lines.json_lines import KINDS, LABELS, Report
 from aide_compare.show.page_heading import OUTCOMES, counts, databases, facts, remarks, title_of
 from aide_compare.show.page_items import GRADES, entries, number
 from aide_compare.show.page_lists import FolderLists, ReasonLists
-from aide_compare.show.page_reasons import Reasons, standing_of
+from aide_compare.show.page_reasons import ReasonGroups, standing_of
 from aide_compare.show.page_streams import Stream, attributes_of, growth_of
 from aide_compare.show.page_view import ATTRIBUTES, Seen, View
 
@@ -55,11 +55,11 @@ def seen_of(entry, place, group):
     )
 
 
-class Contents:
+class PageEntries:
     """The entries of a report, in the forms that its page needs."""
 
     def __init__(self, is_plain, only):
-        self.reasons, self.lists, self.count, self.is_plain, self.only = Reasons(), None, 0, is_plain, only
+        self.reasons, self.lists, self.count, self.is_plain, self.only = ReasonGroups(), None, 0, is_plain, only
         self.view = View(only)
         self.streams = [] if is_plain else [Stream(MOST), Stream(MOST)]
 
@@ -196,7 +196,7 @@ def packed_parts(streams):
 
 def page(lines, title, is_plain, only=""):
     """Yields the page of a report, when all of its lines have been read and are good."""
-    contents = Contents(is_plain, only)
+    contents = PageEntries(is_plain, only)
     report = Report(lines, contents.take, contents.reasons.begin)
     contents.end(report.summary)
     title, has_script = title_of(os.fsencode(title or ""), report.summary), not is_plain and report.count > 0

@@ -3,7 +3,7 @@ from collections import Counter
 
 from aide_compare.lines.json_lines import SEVERITIES
 
-# Reasons after so many different ones are counted together.
+# ReasonGroups after so many different ones are counted together.
 MOST_GROUPS, OTHERS = 1000, "other reasons"
 
 
@@ -21,7 +21,7 @@ class Group:
         return "%s: %s" % (self.grade, self.text)
 
 
-class Reasons:
+class ReasonGroups:
     """Counts of the entries by their standing, their severity and their reason."""
 
     def __init__(self):

@@ -3,20 +3,16 @@ import os
 import signal
 import time
 
-from aide_compare.base.ending import Fault, Status, say, write_all
-from aide_compare.base.files import open_regular
-from aide_compare.base.options import Parser, add_texts, duration, size
+from aide_compare.base.ending import Fault, Status
 from aide_compare.compare.comparison import SIDES, Comparison, Request
 from aide_compare.compare.state import State
 from aide_compare.compare.unpack import copy_database
-from aide_compare.hosts import explaining
-from aide_compare.hosts.fetching import add_place
-from aide_compare.hosts.fleet_store import BLOCK, Part, Place, check_name, no_room, seconds_left
+from aide_compare.hosts.fleet_store import Part, no_room, seconds_left
+from aide_compare.hosts.host_reasons import exclusions_of, explain_host, most_lines
 from aide_compare.lines.cut_reports import CUT_WORDS
 from aide_compare.show.told import told_of
 
-NAME = "aide-compare hosts compare-one"
-MOST_BASELINE, LEAST_BOUND, MOST_REPORT, SAME_FOR = 4 << 30, 64 << 20, 4 << 20, 50 * 3600
+MOST_BASELINE, LEAST_BOUND = 4 << 30, 64 << 20
 MOST_AHEAD = 600
 # The level at which an added file has its values, so that the report can tell whether it is the same one on two hosts.
 LEVEL = "report_level=added_removed_entries"
@@ -52,10 +48,10 @@ def compared(place, given, part, jobs):
             before="\n".join(filter(None, (LEVEL, given.before))),
             after=given.after,
             copies=dict(zip(SIDES, copied(place, given))),
-            rules=explaining.rules_of(given),
+            exclusions=exclusions_of(given),
             report=part.fd,
             max_report=most,
-            max_list=explaining.most_lines(place, jobs),
+            max_list=most_lines(place, jobs),
         )
     ).run()
     part.size = os.fstat(part.fd).st_size
@@ -98,7 +94,7 @@ def compare(place, given, jobs=1):
         comparison = compared(place, given, part, jobs)
         place.remove("lines")
         if given.reasons and comparison.differs:
-            explaining.explain(place, given, comparison, jobs)
+            explain_host(place, given, comparison, jobs)
         state = comparison.state()
         stale = stale_text(place, given.same_for)
         if stale:
@@ -126,60 +122,3 @@ def compare_or_say(place, given, jobs, deadline):
         raise
     finally:
         signal.setitimer(signal.ITIMER_REAL, 0)
-
-
-def add_options(parser):
-    parser.add_argument("-c", "--config", metavar="CONF", help="a configuration of this machine (none)")
-    add_texts(parser)
-    parser.add_argument(
-        "--max-unpacked",
-        type=size,
-        default=0,
-        metavar="SIZE",
-        help="the most bytes of the unpacked database (4 times the baseline, at least 64M)",
-    )
-    parser.add_argument(
-        "--max-report",
-        type=size,
-        default=MOST_REPORT,
-        metavar="SIZE",
-        help="the most bytes of a report that are kept; what is cut is said (4M)",
-    )
-    parser.add_argument(
-        "--same-for",
-        type=duration,
-        default=SAME_FOR,
-        metavar="TIME",
-        help="how long a host may send the same bytes (50h; 0: no limit)",
-    )
-    explaining.add_options(parser)
-
-
-def print_file(path, target):
-    descriptor = open_regular(path)
-    for block in iter(lambda: os.read(descriptor, BLOCK), b""):
-        write_all(target, block)
-    os.close(descriptor)
-
-
-def main(arguments):
-    parser = Parser(
-        NAME,
-        "Compares the database that was fetched from HOST with its baseline, prints the report and keeps it.",
-        epilog="Status: that of aide-compare. 18 also means that there is no baseline\n"
-        "yet, or that AIDE has written no new database on HOST for too long.",
-    )
-    add_place(parser)
-    add_options(parser)
-    parser.add_argument("host", metavar="HOST")
-    given = parser.parse(arguments)
-    explaining.rules_of(given)
-    deadline = time.monotonic() + given.time
-    place = Place(given.store, check_name(given.host))
-    place.lock(deadline)
-    state = compare_or_say(place, given, 1, deadline)
-    print_file(place.file("errors"), 2)
-    print_file(place.file("report"), 1)
-    if 0 < state.status <= 7:
-        say("to accept it: aide-compare hosts accept --sha256 %s %s" % (state.new_sha256, place.host))
-    return state.status

@@ -17,7 +17,7 @@ def with_members(line, members):
     return line[:end] + b"," + ENCODE(members)[1:-1].encode() + line[end:]
 
 
-class Lines:
+class UnexplainedLines:
     """The lines of a report, kept in a private file. `entries` yields the objects of the entries while they are read."""
 
     def __init__(self, source):
@@ -45,7 +45,7 @@ class Lines:
         return fields
 
     def entries(self):
-        """Yields the objects of the entries. Lines that are missing, or are none of aide-compare json, are refused."""
+        """Yields the objects of the entries. UnexplainedLines that are missing, or are none of aide-compare json, are refused."""
         for fields in iter(self._next, None):
             if fields.get("record") == "entry" and not self.databases:
                 self._judge(fields)

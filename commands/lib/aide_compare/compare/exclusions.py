@@ -28,7 +28,7 @@ MEASURES_CAPABILITIES = 1 << 37  # A bit of the column `attr`.
 STAYING = "a program, a set-ID bit, capabilities, a device, or no mode"
 
 
-class Rule:
+class Exclusion:
     """A line that leaves entries out: its pattern, where it stands, and why it means programs too; "" if it does not."""
 
     def __init__(self, pattern, place, why=""):
@@ -39,26 +39,26 @@ class Rule:
         return "%s (%s%s)" % (shown(self.pattern.text, 200), self.place, why)
 
 
-def _rule(text, place):
+def _exclusion(text, place):
     programs = PROGRAMS.fullmatch(text)
     why, pattern = (shown(programs.group(1).strip(), 100), programs.group(2)) if programs else ("", text)
     try:
-        return Rule(Pattern(pattern), place, why)
+        return Exclusion(Pattern(pattern), place, why)
     except BadPattern as fault:
         raise Fault(Status.USAGE, "%s: %s: %s" % (place, fault, shown(text, 200)))
 
 
-def read_rules(files, patterns):
+def read_exclusions(files, patterns):
     """The rules of --exclude-from FILE and of --exclude PATTERN, in the order of the command line. Empty lines of a file and
     those that begin with # are passed over; blanks at the ends of a line do not count."""
-    rules = [_rule(*line) for path in files for line in lines_of(path, "the file of --exclude-from")]
-    rules += [_rule(os.fsencode(text), "--exclude") for text in patterns]
+    rules = [_exclusion(*line) for path in files for line in lines_of(path, "the file of --exclude-from")]
+    rules += [_exclusion(os.fsencode(text), "--exclude") for text in patterns]
     if len(rules) > MOST_LINES:
         raise Fault(Status.USAGE, "more than %d lines leave entries out" % MOST_LINES)
     return rules
 
 
-class Rules:
+class Exclusions:
     """Rules, looked up by the pieces that their patterns begin with."""
 
     def __init__(self, rules):

@@ -7,7 +7,7 @@ from aide_compare.base.ending import Done, Fault, reason
 from aide_compare.base.escapes import guarded, shown
 from aide_compare.base.times import age_in_words, date_of
 from aide_compare.compare.reason_counts import SEVERITIES
-from aide_compare.show.readers import ALARMS, Reading, parser, write_line
+from aide_compare.show.reading import ALARMS, Reading, parser, write_line
 
 NAME = "check_aide_compare"
 OK, WARNING, CRITICAL, UNKNOWN = range(4)

@@ -13,10 +13,10 @@ from aide_compare.base.rights import become
 from aide_compare.compare.baseline import Baseline
 from aide_compare.compare.comparison import SIDES, Comparison, Request
 from aide_compare.compare.kept_open import Listed, Patterns, keep_open
-from aide_compare.compare.sound import refuse_unsound
+from aide_compare.compare.soundness import refuse_unsound
 from aide_compare.compare.unpack import GZIP, Copy, Opened, copy_opened, copy_packed, digest_of, open_database
 from aide_compare.reasons.kept_records import SUFFIX, Records
-from aide_compare.show.explaining import Sources, explain
+from aide_compare.show.explained import Sources, explain
 from aide_compare.show.told import told_of
 
 MOST_BYTES = 1 << 40
@@ -25,7 +25,7 @@ DIGITS = "0123456789abcdef"
 BLOCK, SECONDS_FOR_REASONS = 1 << 18, 6 * 3600
 
 
-class Wanted:
+class GivenDigest:
     """The digest on the command line: all 64 hexadecimal digits, or the first of them."""
 
     def __init__(self, text):
@@ -78,7 +78,7 @@ class Wish:
     `patterns` and the options that name evidence, or None, say what stays open."""
 
     def __init__(self, digest, most=MOST_BYTES, keeps_records=True, patterns=(), evidence=None):
-        self.digest, self.most, self.keeps_records = Wanted(digest), most, keeps_records
+        self.digest, self.most, self.keeps_records = GivenDigest(digest), most, keeps_records
         self.patterns, self.evidence = list(patterns), evidence
 
     def is_partial(self):

@@ -3,13 +3,11 @@ import os
 from argparse import Namespace
 
 from aide_compare.base.ending import Fault, Status
-from aide_compare.base.options import some_text
-from aide_compare.compare.without import Rules, read_rules
+from aide_compare.compare.exclusions import Exclusions, read_exclusions
 from aide_compare.hosts.fetching import RECORDS as NEWEST
 from aide_compare.hosts.fleet_store import BLOCK, Part
 from aide_compare.reasons.kept_records import SUFFIX
-from aide_compare.show import explaining as explanation
-from aide_compare.show.explaining import Sources
+from aide_compare.show.explained import Sources, explain
 
 BASELINES = "aide.db" + SUFFIX
 # Of so many changes each takes some hundred bytes of memory. A host that sends more has other questions to answer.
@@ -17,24 +15,12 @@ MOST_LINES, MOST_CHANGES = 256 << 20, 200000
 VALUES = ("archive", "keyring", "rules", "severity")
 
 
-def add_options(parser):
-    """What is left out of the comparison of every host, and whether its changes are explained. The files are the collector's."""
-    add = parser.add_argument
-    add("--exclude-from", metavar="FILE", action="append", default=[], type=some_text, help="leave out the paths of FILE")
-    add("--exclude", metavar="PATTERN", action="append", default=[], type=some_text, help="the same for one line")
-    add("--reasons", action="store_true", help="say which changes packages, logs and rules explain; see aide-compare")
-    for name in VALUES[:2]:
-        add("--" + name, metavar="FILE", action="append", default=[], type=some_text, help="with --reasons: as there")
-    for name in VALUES[2:]:
-        add("--" + name, metavar="FILE", type=some_text, help="with --reasons: as there")
-
-
-def rules_of(given):
-    """The Rules of what is left out, or None. A Fault for options that mean nothing without --reasons."""
+def exclusions_of(given):
+    """The Exclusions of what is left out, or None. A Fault for options that mean nothing without --reasons."""
     unused = [name for name in VALUES if getattr(given, name) and not given.reasons]
     if unused:
         raise Fault(Status.USAGE, "--%s needs --reasons" % unused[0])
-    return Rules(read_rules(given.exclude_from, given.exclude)) if given.exclude_from or given.exclude else None
+    return Exclusions(read_exclusions(given.exclude_from, given.exclude)) if given.exclude_from or given.exclude else None
 
 
 def most_lines(place, jobs):
@@ -61,13 +47,13 @@ def _bounded(lines, most):
         yield line
 
 
-def explain(place, given, comparison, jobs):
+def explain_host(place, given, comparison, jobs):
     """Finds out what explains the changes, and keeps their lines. Without reasons every change is an alarm."""
     part = Part(place.fd)
     try:
         if not comparison.counts or sum(comparison.counts) > MOST_CHANGES:
             raise Fault(Status.DEVICE, "there are more than %d changes" % MOST_CHANGES)
-        explained = explanation.explain(comparison, _sources(place, given, comparison), with_details=True)
+        explained = explain(comparison, _sources(place, given, comparison), with_details=True)
         if explained:
             with open(os.dup(part.fd), "wb", BLOCK) as file:
                 file.writelines(_bounded(explained.lines(), most_lines(place, jobs)))

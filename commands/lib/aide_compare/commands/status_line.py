@@ -2,7 +2,7 @@
 from aide_compare.base.ending import Fault
 from aide_compare.base.escapes import guarded, shown
 from aide_compare.base.times import date_of
-from aide_compare.show.readers import Reading, parser, write_line
+from aide_compare.show.reading import Reading, parser, write_line
 
 NAME = "aide-compare status"
 MOST = 8000

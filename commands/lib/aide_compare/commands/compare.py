@@ -12,7 +12,7 @@ from aide_compare.base.rights import give_up
 from aide_compare.base.times import date_of
 from aide_compare.compare.comparison import SIDES, Comparison, Request
 from aide_compare.compare.handing import Handed, Handing
-from aide_compare.compare.without import Rules, read_rules
+from aide_compare.compare.exclusions import Exclusions, read_exclusions
 from aide_compare.reasons.evidence_options import EVIDENCE, add_evidence_options
 from aide_compare.show.colours import CHOICES, are_wanted, coloured
 
@@ -46,7 +46,13 @@ def parser():
     )
     add_texts(made)
     add("--state", metavar="FILE", type=some_text, help="write the status, the time, the counts and both SHA-256 to FILE")
-    add("--max-size", metavar="BYTES", type=size, default=Request.max_size, help="refuse a database that has more bytes unpacked")
+    add(
+        "--max-size",
+        metavar="BYTES",
+        type=size,
+        default=Request.max_size,
+        help="refuse a database that has more bytes unpacked",
+    )
     add("--max-report", metavar="BYTES", type=size, default=Request.max_report, help="refuse a longer report (1G)")
     add(
         "--max-age",
@@ -78,11 +84,11 @@ def parser():
     return made
 
 
-def rules_of(given):
+def exclusions_of(given):
     """What --exclude-from and --exclude leave out, or None. Without --exclude-from it is what the administrator's file names."""
     usual = None if given.exclude_from or given.no_defaults else place_of("without")
     files = [usual] if usual else given.exclude_from
-    return Rules(read_rules(files, given.exclude)) if files or given.exclude else None
+    return Exclusions(read_exclusions(files, given.exclude)) if files or given.exclude else None
 
 
 class Task:
@@ -97,7 +103,7 @@ class Task:
         self.request, self.wanted = self._request(given, weighs), None
         if given.reasons or given.json or given.page or with_details or weighs:
             # The modules for it are more than all others together.
-            from aide_compare.show.explaining import Wanted
+            from aide_compare.show.explained import Wanted
 
             self.wanted = Wanted(given, self.made, with_details, weighs)
         self.state = self.made(Replacement(given.state, what="the state file").begin()) if given.state else None
@@ -129,7 +135,7 @@ class Task:
             max_report=given.max_report,
             max_list=given.max_report,
             counts=given.state is not None or given.reasons or weighs,
-            rules=rules_of(given),
+            exclusions=exclusions_of(given),
             handing=self.handing,
         )
 

@@ -3,7 +3,7 @@ from aide_compare.base.ending import Status, write_all
 from aide_compare.base.files import replace
 from aide_compare.compare.reason_counts import GRADE_KEYS, GRADES
 from aide_compare.compare.state import read_state
-from aide_compare.show.readers import parser
+from aide_compare.show.reading import parser
 
 NAME = "aide-compare status"
 GAUGES = (
