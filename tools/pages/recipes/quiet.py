@@ -226,7 +226,7 @@ def try_lines(trial, page):
         lines = ["%s 36 100644 %d\n" % pair for pair in sizes.items()]
         trial.write("/tmp/%s.db.gz" % name, gzip.compress((HEAD + "".join(sorted(lines)) + "@@end_db\n").encode()))
     done = page.run("lines")
-    trial.holds("lines", done[0] == 0 and "unexplained" in done[2], done)
+    trial.holds("lines", done[0] == 7 and "unexplained" in done[2], done)
     trial.holds(
         "lines: what was left out, and the page",
         '"left_out":{"old":3,"new":4}' in trial.read("/tmp/lines") and "</html>" in trial.read("/tmp/page.html"),
