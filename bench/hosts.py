@@ -149,7 +149,7 @@ def main():
         )
         for jobs in map(int, asked.jobs.split(",")):
             compare(root, jobs, asked.hosts)
-        for form in ([], ["--json"]):
+        for form in ([], ["--format=json"]):
             report(root, form, asked.hosts)
         print("load %.1f" % os.getloadavg()[0])
     finally:

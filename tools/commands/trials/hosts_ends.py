@@ -45,7 +45,7 @@ def try_many_hosts(sandbox):
     sizes = []
     for count in (30, 300):
         hosts.copies("first", ["h%d-%d" % (count, number) for number in range(count)])
-        words = hosts.words("aide-compare hosts report", "--json", sandbox.path("hosts"))
+        words = hosts.words("aide-compare hosts report", "--format=json", sandbox.path("hosts"))
         run = hosts.start(["sh", "-c", 'ulimit -n 40; exec "$@"', "sh", sys.executable, "-c", MEASURE] + words)
         output, errors = run.communicate()
         sizes.append(int(errors.split()[-1]))

@@ -31,7 +31,7 @@ def try_values(sandbox):
     hosts = four_hosts(sandbox)
     with open(sandbox.path("hosts"), "a") as file:
         file.write("never\n")
-    status, page, errors = hosts.report("--html", "--max-hosts", "2")
+    status, page, errors = hosts.report("--format=page", "--max-hosts", "2")
     sandbox.holds("the page", status == 18 and not errors and page.startswith("<!doctype html>"), (status, errors))
     title = "aide on 6 hosts: 4 differ, 1 not compared"
     sandbox.holds("its heading", page.count(title) == 2 and "5 different changes, those on the fewest" in page, page[-3000:])
@@ -52,7 +52,7 @@ def try_values(sandbox):
     various = [each for each in items if "/etc/p</code>" in each]
     good = len(various) == 1 and '<td class="none">various<td title="0600">-rw-------' in various[0]
     sandbox.holds("old values that are not the same", good, various)
-    common = items_of(hosts.report("--html", "--order", "common")[1])
+    common = items_of(hosts.report("--format=page", "--order", "common")[1])
     sandbox.holds("another order", len(common) == 5 and "on 1 of 6 hosts" in common[-1], common)
 
 
@@ -61,7 +61,7 @@ def try_removed(sandbox):
     hosts = Hosts(sandbox)
     texts = {"good%d" % number: (database(line(b"/gone", b"x" * number), line(b"/same")), database()) for number in (1, 2)}
     hosts.compared(texts)
-    heads = [each.partition("</summary>")[0] for each in items_of(hosts.report("--html")[1])]
+    heads = [each.partition("</summary>")[0] for each in items_of(hosts.report("--format=page")[1])]
     found = {re.search("<code>(.*?)</code>", head).group(1): re.search("<i>(.*?)</i>", head).group(1) for head in heads}
     wanted = {"/gone": "various", "/same": "-rw-r--r--  0:0  0 bytes"}
     sandbox.holds("the lines of files that went", found == wanted, found)
@@ -72,7 +72,7 @@ def try_markup(sandbox):
     hosts = Hosts(sandbox)
     lines = [line(path, path) for path in HOSTILE + MARKUP]
     hosts.compared({"good1": (database(), database(*lines))})
-    page = hosts.start(hosts.words("aide-compare hosts report", "--html", sandbox.path("hosts"))).communicate()[0]
+    page = hosts.start(hosts.words("aide-compare hosts report", "--format=page", sandbox.path("hosts"))).communicate()[0]
     text = page.decode()
     found = set(re.findall("<([a-z0-9]+)", text.partition("</style>")[2])) - TAGS
     sandbox.holds("no tag of a name", not found and "onerror=alert(1)&gt;" in text, found)
@@ -94,7 +94,7 @@ def try_room(sandbox):
         "-c",
         SMALL,
         sandbox.path("lib"),
-        "--html",
+        "--format=page",
         "--store",
         sandbox.path("store"),
         sandbox.path("hosts"),
@@ -108,5 +108,5 @@ def try_room(sandbox):
     sandbox.holds("a host that crowds out no other", any("on 1 of 3 hosts: good3" in each for each in items), items[-1:])
     command = re.search("This command prints all: <code>(.*?)</code>", page)
     sandbox.holds("its command", command and sandbox.path("store") in html.unescape(command.group(1)), command)
-    whole = hosts.report("--html")[1]
+    whole = hosts.report("--format=page")[1]
     sandbox.holds("a page with room", len(items_of(whole)) == 301 and "no room" not in whole, len(items_of(whole)))

@@ -66,7 +66,7 @@ def try_idle(sandbox):
     sandbox.holds(
         "an idle night", done[0] == 4 and done[1].endswith("20 hosts: 0 without differences, 20 with, 0 not compared\n"), done
     )
-    done = compare(fleet, "--quiet", "--exclude-from", sandbox.path("without"))
+    done = compare(fleet, "-q", "--exclude-from", sandbox.path("without"))
     sandbox.holds("an idle night with what is left out", done == (0, "", ""), done)
     sandbox.holds("how many entries were left out", "left_out_new=1\n" in fleet.state("h07"), fleet.state("h07"))
     digest = sha256(idle(9))
@@ -110,11 +110,11 @@ def try_reports(sandbox):
     parts += ["    low, not verified: grew", "Explained:\n  gone, as its rule allows (ARF): 1 different change\n"]
     places = [text.find(part) for part in parts]
     sandbox.holds("the order of a report", status == 7 and -1 not in places and places == sorted(places), (places, text))
-    objects = [json.loads(line) for line in fleet.call("aide-compare hosts report", "--json", hosts)[1].splitlines()]
+    objects = [json.loads(line) for line in fleet.call("aide-compare hosts report", "--format=json", hosts)[1].splitlines()]
     gone = [fields for fields in objects if fields.get("path") == "/etc/gone"]
     good = len(gone) == 1 and gone[0]["hosts"] == 20 and gone[0]["reason"]["verified"] and "host" not in gone[0]
     sandbox.holds("the object of an explained change", good, gone)
-    page = fleet.call("aide-compare hosts report", "--html", hosts)[1]
+    page = fleet.call("aide-compare hosts report", "--format=page", hosts)[1]
     sandbox.holds("the page", "high, unexplained" in page and "explained: gone, as its rule allows (ARF)" in page, page[-900:])
     sandbox.stub("sendmail", "cat > %s" % sandbox.path("mailed"))
     for new, mails in ((explained.GONE, False), (explained.NEW, True)):

@@ -70,7 +70,7 @@ class Hosts(Fleet):
 
     def objects(self, *words):
         """The objects of a report in JSON: the summary, the hosts by their names, and the changes."""
-        status, output, errors = self.report("--json", *words)
+        status, output, errors = self.report("--format=json", *words)
         found = [json.loads(each) for each in output.splitlines()]
         good = (
             bool(found)
@@ -171,7 +171,7 @@ def try_orders(sandbox):
         ["--order", "x"],
         ["--only-path", "x"],
         ["--max-age", "31d"],
-        ["--json", "--to", "root"],
+        ["--format=json", "--to", "root"],
         ["--max-mail", "1k"],
         ["--smtp", "mail.example:0"],
         ["--to", "-x"],

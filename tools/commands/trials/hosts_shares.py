@@ -55,7 +55,7 @@ def start(fleet, worker, workers):
 
 def reported(fleet, stores, *words):
     """The status of aide-compare hosts report, its summary, the hosts by their names, and the changes."""
-    command = fleet.sandbox.command("aide-compare hosts report", "--json", *words, fleet.sandbox.path("hosts"))
+    command = fleet.sandbox.command("aide-compare hosts report", "--format=json", *words, fleet.sandbox.path("hosts"))
     for store in stores:
         command += ["--store", fleet.sandbox.path(store)]
     run = fleet.start(command)

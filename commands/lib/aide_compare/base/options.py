@@ -54,6 +54,11 @@ class Once(argparse.Action):
         setattr(given, self.dest, value)
 
 
+def add_quiet(parser, text):
+    """The word of all commands for saying less."""
+    parser.add_argument("-q", "--quiet", action="store_true", help=text)
+
+
 def add_texts(parser):
     """The lines of configuration that the command line has beside a file."""
     add = parser.add_argument

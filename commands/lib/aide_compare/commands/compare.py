@@ -7,7 +7,7 @@ from aide_compare.base.defaults import RUN, add_off, defaults_for, place_of
 from aide_compare.base.ending import Fault, Status, reason, say, write_all
 from aide_compare.base.escapes import guarded, shown, shown_lines
 from aide_compare.base.files import Replacement, copy_file
-from aide_compare.base.options import Parser, add_texts, duration, size, some_text
+from aide_compare.base.options import Parser, add_quiet, add_texts, duration, size, some_text
 from aide_compare.base.rights import give_up
 from aide_compare.base.times import date_of
 from aide_compare.compare.comparison import SIDES, Comparison, Request
@@ -76,7 +76,7 @@ def parser():
     add("--json", metavar="FILE", type=some_text, help="write the changes to FILE as aide-compare json does, with the reasons")
     add("--page", metavar="FILE", type=some_text, help="write them to FILE as a page for a browser")
     add("--color", choices=CHOICES, default=CHOICES[0], help="colours in what people read first (on a terminal)")
-    add("-q", "--quiet", action="store_true", help="print neither report nor notes: only why nothing was compared")
+    add_quiet(made, "print neither report nor notes: only why nothing was compared")
     add("-v", "--verbose", action="store_true", help="say which step is done, and how long it took")
     add_evidence_options(made)
     add("--user", metavar="NAME", type=some_text, help="drop privileges to this user first")

@@ -9,7 +9,7 @@ from aide_compare.base.child import end_with
 from aide_compare.base.ending import Fault, Status, reason, write_all
 from aide_compare.base.escapes import guarded, shown
 from aide_compare.base.files import open_regular
-from aide_compare.base.options import Parser
+from aide_compare.base.options import Parser, add_quiet
 from aide_compare.commands.hosts_options import add_comparison, add_fetching, add_place
 from aide_compare.hosts.fetching import fetch
 from aide_compare.hosts.fleet_store import Place, check_name, share_of
@@ -186,9 +186,7 @@ def options():
     )
     parser.add_argument("--jobs", type=jobs, default=8, metavar="N", help="how many hosts at a time (8)")
     parser.add_argument("--share", type=share, default=(1, 1), metavar="K/N", help="only the hosts of the Kth of N shares")
-    parser.add_argument(
-        "--quiet", action="store_true", help="only hosts whose status is not 0, and a summary if there are any"
-    )
+    add_quiet(parser, "only hosts whose status is not 0, and a summary if there are any")
     parser.add_argument(
         "--alarm", choices=ALARMS, default=ALARMS[0], help="with --quiet and --reasons: unexplained: not those all explained"
     )

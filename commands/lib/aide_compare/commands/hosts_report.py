@@ -19,6 +19,7 @@ from aide_compare.mail.smtp import server
 from aide_compare.show.reading import AGE, ALARMS
 
 NAME = "aide-compare hosts report"
+FORMATS = ("text", "json", "page")
 FORMAT = 1
 BLOCK = 1 << 18
 MOST_NAMES = 100000
@@ -206,8 +207,7 @@ def options():
         "--time", type=duration, default=600, metavar="TIME", help="how long to wait for a run over a host (10m)"
     )
     form = parser.add_mutually_exclusive_group()
-    form.add_argument("--json", action="store_true", help="write JSON, one object a line")
-    form.add_argument("--html", action="store_true", help="write one page for a browser, without a script")
+    form.add_argument("--format", choices=FORMATS, help="text (the default), json: one object a line, or page: for a browser")
     form.add_argument("--to", type=address, metavar="ADDRESS", help="mail the text, if a host differs or was not compared")
     parser.add_argument(
         "--alarm", choices=ALARMS, default=ALARMS[0], help="with --to: unexplained: no mail if all changes are explained"
@@ -221,7 +221,7 @@ def options():
 
 def main(arguments):
     given = options().parse(arguments)
-    given.order = given.order or ("path" if given.json else "rare")
+    given.order = given.order or ("path" if given.format == "json" else "rare")
     if given.max_mail < LEAST_MAIL:
         raise Fault(Status.USAGE, "--max-mail needs at least %d bytes" % LEAST_MAIL)
     names = hosts_of(given.file, (1, 1))
@@ -233,10 +233,10 @@ def main(arguments):
         report = HostsReport(names, given)
         if given.to:
             report.mail(given, shlex.join(words_of(given)))
-        elif given.html:
+        elif given.format == "page":
             report.write_html(shlex.join(words_of(given)))
         else:
-            (report.write_json if given.json else report.write_text)()
+            (report.write_json if given.format == "json" else report.write_text)()
         return report.worst
 
     return stoppable(work)
