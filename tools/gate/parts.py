@@ -24,10 +24,10 @@ FILES = [
     exactly(210, "tools.source.check_edits"),
     exactly(543, "tools.source.check_docs"),
     exactly(90, "tools.source.check_layout"),
-    exactly(158, "tools.source.check_layers"),
-    exactly(576, "tools.source.check_tools"),
-    exactly(979, "tools.source.check_planted"),
-    exactly(1839, "tools.wrong_bodies.check"),
+    exactly(154, "tools.source.check_layers"),
+    exactly(571, "tools.source.check_tools"),
+    exactly(977, "tools.source.check_planted"),
+    exactly(1828, "tools.wrong_bodies.check"),
 ]
 
 

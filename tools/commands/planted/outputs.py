@@ -22,6 +22,7 @@ PLANTED = (
         "explained.try_forms",
         (EXPLAINING, "self.explainer.judge if sources else self.explainer.weigh", "self.explainer.judge"),
         (RUN, "(self.form and not comparison.differs)", "False"),
+        (LIB + "reasons/entry_words.py", 'TIMES_IN_ORDER = ("mtime", "ctime", "atime")', 'TIMES_IN_ORDER = ("ctime", "atime")'),
         (RUN, "(lambda text: None) if given.quiet else say", "say"),
         (RUN, "None if taken or given.quiet else", "None if taken else"),
     )

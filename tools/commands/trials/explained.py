@@ -202,6 +202,12 @@ def try_forms(sandbox):
     answer = sandbox.call(TOOL, "--brief", "o.db", "n.db")
     sandbox.expect("without reasons", answer, 7, None, b"new database: n.db")
     sandbox.holds("the text without reasons", answer.output.decode() == UNJUDGED and b"unexplained" not in answer.errors, answer)
+    for name, seconds in (("t1.db", b"1700000000"), ("t2.db", b"-1")):
+        text = b"@@begin_db\n@@db_spec name attr perm mtime ctime\n/t 388 100644 %s %s\n" % (seconds, seconds) + END
+        sandbox.write(name, text)
+    answer = sandbox.call(TOOL, "--brief", "t1.db", "t2.db")
+    told = b"changed  /t: mtime 2023-11-14T22:13:20Z -> 1969-12-31T23:59:59Z\n"
+    sandbox.expect("times as dates", answer, 4, told)
     sandbox.expect("no difference", sandbox.call(TOOL, "--brief", "o.db", "o.db"), 0, b"AIDE found NO differences", b"")
     answer = run(sandbox, "-q", "--state", "state", "--exclude", "/etc/*", "o.db", "n.db")
     sandbox.expect("quiet", answer, 5, b"", b"")

@@ -289,7 +289,7 @@ ROWS = [
     Shown(README, "On a Debian with `aide-compare setup`, ...", expectations.is_first_mail),
     Commands(README, "aide-compare --help", [0], expectations.prints("usage: aide-compare ")),
     Commands(README, "aide-compare --version", [0], expectations.prints("aide-compare ")),
-    Commands(README, "aide-compare OLD NEW | aide-compare json | aide-compare page > page.html", [0], expectations.has_page),
+    Commands(README, "aide-compare --page page.html OLD NEW", [7], expectations.is_page),
     Commands(
         README,
         "man aide-compare",
