@@ -29,6 +29,12 @@ def date_of(seconds):
         return "@%d" % seconds
 
 
+def minute_of(seconds):
+    """The same for people, such as "2026-11-25 12:00 UTC"."""
+    date = date_of(seconds)
+    return date if date[:1] == "@" else date.replace("T", " ")[: -len(":00Z")] + " UTC"
+
+
 def age_in_words(seconds):
     for name, unit, most in (("seconds", 1, 120), ("minutes", 60, 120), ("hours", 3600, 72)):
         if seconds < unit * most:

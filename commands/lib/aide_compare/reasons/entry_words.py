@@ -1,7 +1,7 @@
 """What is new or has changed of an entry, in a few words, by what the databases say of it."""
 import stat
 
-from aide_compare.base.times import date_of
+from aide_compare.base.times import date_of, minute_of
 from aide_compare.reasons.entries import DIGESTS, differences
 
 KINDS = {
@@ -70,20 +70,31 @@ def _times(old, new, differ):
     """The first of the times that differ, as in "mtime 2026-11-24T06:00:00Z -> 2026-11-25T06:00:00Z"."""
     for column in (column for column in TIMES_IN_ORDER if column in differ):
         dates = [entry.time(column) for entry in (old, new)]
-        return ["%s %s -> %s" % (column, *("none" if date is None else date_of(date) for date in dates))]
+        return "%s %s -> %s" % (column, *("none" if date is None else date_of(date) for date in dates))
+    return ""
+
+
+def _when(old, new):
+    """When an entry came or changed. The time of its inode comes first, since anybody can set the other one back."""
+    for column in ("ctime", "mtime"):
+        seconds = new.time(column)
+        if seconds is not None and (old is None or old.time(column) != seconds):
+            return [minute_of(seconds)]
     return []
 
 
 def words_of_both(old, new):
-    """What has changed of an entry, as in "content, mode -rwxr-xr-x -> -rwsr-xr-x"."""
+    """What has changed of an entry, as in "content, mode -rwxr-xr-x -> -rwsr-xr-x, 2026-11-25 06:00 UTC"."""
     differ = differences(old, new)
     words = ["content"] if differ & DIGESTS else []
     words += list(_pairs(old, new, differ)) + [word for column, word in OTHERS if column in differ]
-    if not words:
-        words += ["another inode"] if "inode" in differ else list(_times(old, new, differ))
-    return ", ".join(words)
+    words = words or (["another inode"] if "inode" in differ else [])
+    return ", ".join(words + _when(old, new)) if words else _times(old, new, differ)
 
 
 def words_of(old, new):
     """The words for an entry that one or both databases have; the other one is None."""
-    return words_of_both(old, new) if old and new else words_of_one(old or new)
+    if old and new:
+        return words_of_both(old, new)
+    words = words_of_one(old or new)
+    return ", ".join(([words] if words else []) + (_when(None, new) if new else []))
