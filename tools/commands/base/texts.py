@@ -13,7 +13,7 @@ from aide_compare import VERSION
 from aide_compare.base import ending, escapes, options, times
 from aide_compare.compare import configuration, reports, state
 from aide_compare.lines import report_values
-from aide_compare.reasons import entries
+from aide_compare.reasons import entries, entry_words
 
 ESCAPED = (
     (b"a b", "a b"),
@@ -42,7 +42,7 @@ NO_TIMES = ("", "x", "h", "1h2", "1.5h", "-1", "+1", " 1", "1 ", "1_0", "\u0663"
 
 
 def try_texts(tally, folder):
-    for part in (try_escapes, try_times, try_options, try_state, try_reports, try_ends, try_tables):
+    for part in (try_escapes, try_times, try_words, try_options, try_state, try_reports, try_ends, try_tables):
         part(tally, folder)
 
 
@@ -77,6 +77,8 @@ def try_times(tally, _):
         expect_fault(tally, "the time %r" % text, outcome(times.seconds_of, text), 15)
     expect(tally, "a date", times.date_of(1795602777), "2026-11-25T10:32:57Z")
     expect(tally, "no date", times.date_of(1 << 62), "@%d" % (1 << 62))
+    expect(tally, "a minute", times.minute_of(1795602777), "2026-11-25 10:32 UTC")
+    expect(tally, "no minute", times.minute_of(1 << 62), "@%d" % (1 << 62))
     for seconds, want in (
         (119, "119 seconds"),
         (120, "2 minutes"),
@@ -86,6 +88,29 @@ def try_times(tally, _):
         (259200, "3 days"),
     ):
         expect(tally, "the age %d" % seconds, times.age_in_words(seconds), want)
+
+
+def try_words(tally, _):
+    """When an entry came or changed: the time of its inode, then its own, if it is another one than before."""
+    columns = ("perm", "uid", "gid", "size", "mtime", "ctime")
+    places = {name: place for place, name in enumerate(columns)}
+    old, kept, back, gone = (
+        entries.Entry([b"100644", b"0", b"0", *fields], places)
+        for fields in (
+            (b"5", b"1795600000", b"1795600000"),
+            (b"6", b"1795600000", b"1795600000"),
+            (b"6", b"1795600000", b"1795602777"),
+            (b"6", b"1795602777", b"0"),
+        )
+    )
+    for label, pair, want in (
+        ("came", (None, back), "-rw-r--r-- root:root 6 bytes, 2026-11-25 10:32 UTC"),
+        ("went", (back, None), "-rw-r--r-- root:root 6 bytes"),
+        ("changed, its time set back", (old, back), "size 5 -> 6, 2026-11-25 10:32 UTC"),
+        ("changed, without the time of its inode", (old, gone), "size 5 -> 6, 2026-11-25 10:32 UTC"),
+        ("changed with the times of before", (old, kept), "size 5 -> 6"),
+    ):
+        expect(tally, "what %s, and when" % label, entry_words.words_of(*pair), want)
 
 
 def try_options(tally, _):
