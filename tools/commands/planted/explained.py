@@ -66,7 +66,7 @@ PLANTED = (
             "for key, count in ()",
         ),
         (BRIEF, "        if change.reason is None:", '        if change.reason is None and change.severity != "high":'),
-        (WORDS, "words_of_both(old, new) if old and new else", "words_of_both(old, old) if old and new else"),
+        (WORDS, "return words_of_both(old, new)", "return words_of_both(old, old)"),
         (OUTPUTS, "PRIVATE = 0o600", "PRIVATE = 0o644"),
     )
     + seen_by("run.try_counts", (COMPARISON, "self.texts.config == self.given.config or", "True or"))
