@@ -158,10 +158,10 @@ def try_orders(sandbox):
     good = output.startswith("aide on 5 hosts: 4 differ, 0 not compared, 1 without differences\n") and status == 7
     sandbox.holds("the text", good and not errors, (status, output, errors))
     parts = (
-        "added on 3 of 5 hosts: File /usr/.x\n    on www1, www2 and 1 more\n    Size 4, Perm 4755 rwsr-xr-x, UID 0",
+        "added on 3 of 5 hosts: File /usr/.x\n    on www1, www2 and 1 more\n    Size 4, Perm -rwsr-xr-x, UID 0",
         "added on 1 of 5 hosts: File /usr/.x\n    on www4\n",
         "changed on 4 of 5 hosts: File /etc/p\n",
-        "\n    Perm (various) -> 0600 rw-------, ",
+        "\n    Perm (various) -> -rw-------, ",
         "\n  www4: added 1, removed 1, changed 2\n",
     )
     for part in parts:

@@ -136,7 +136,7 @@ def try_report(trial, page):
     first = "aide on %d hosts: 2 differ, %d not compared, 2 without differences\n" % (len(WANTED), len(WANTED) - 4)
     trial.holds("aide-compare hosts report: how many", done[0] == 24 and done[1].startswith(first), done)
     parts = [
-        "added on 2 of %d hosts: File /a é\n    on other, user@other.example-1\n    Size 5, Perm 0644" % len(WANTED),
+        "added on 2 of %d hosts: File /a é\n    on other, user@other.example-1\n    Size 5, Perm -rw-r--r--" % len(WANTED),
         "changed on 2 of %d hosts: File /c\n" % len(WANTED),
         "\n  forged: ",
         "\n  down: ssh: connect to host down port 22: No route to host",

@@ -2,10 +2,10 @@
 from collections import Counter
 
 from aide_compare.base.escapes import guarded, shown
-from aide_compare.base.shown_text import letters_of
 from aide_compare.compare.reason_counts import counted
 from aide_compare.hosts.host_changes import is_explained
 from aide_compare.hosts.hosts_read import CUT, NO_LIST, UNREADABLE
+from aide_compare.lines.decoded import decoded
 from aide_compare.lines.report_values import STRENGTH
 
 MOST_VALUE, MOST_REASONS = 200, 100
@@ -62,20 +62,20 @@ def reason_words(fields):
     return "%s, %s" % (fields["severity"], "not verified: " + shown(reason["text"], MOST_VALUE) if reason else "unexplained")
 
 
-def value_of(both, side, label):
-    """A value for people, or None if the entry has none or it is not the same on all hosts."""
+def value_of(both, side, label, kind):
+    """A value for people, or None if the entry has none or it is not the same on all hosts. `kind` is the type of the file."""
     value = both.get(side)
     if value is None:
         return None
-    if both.get(side + "_text"):
-        return guarded(str(both[side + "_text"])[:MOST_VALUE])
+    value = bytes.fromhex(both[side + "_hex"]) if side + "_hex" in both else value
+    text = both.get(side + "_text") or decoded(label, value, kind)
+    if text:
+        return guarded(str(text)[:MOST_VALUE])
     if both.get(side + "_time"):
         return guarded(str(both[side + "_time"]))
     if isinstance(value, int):
         return str(value)
-    if label == "Perm":
-        return "%s %s" % (shown(value, 8), letters_of(value))
-    return shown(bytes.fromhex(both[side + "_hex"]) if side + "_hex" in both else value, MOST_VALUE)
+    return shown(value, MOST_VALUE)
 
 
 def values(fields):
@@ -85,7 +85,7 @@ def values(fields):
     for label, both in attributes.items():
         if label == "Type" and fields["kind"] != "changed" or label in STRENGTH and label != digest:
             continue
-        old, new = (value_of(both, side, label) for side in ("old", "new"))
+        old, new = (value_of(both, side, label, fields.get("type")) for side in ("old", "new"))
         if fields["kind"] == "changed":
             yield "%s %s -> %s" % (label, "none" if old is None and "old" in both else old or "(various)", new or "none")
         else:
