@@ -23,10 +23,10 @@ def at_least(number, *words):
 FILES = [
     exactly(212, "tools.source.check_edits"),
     exactly(543, "tools.source.check_docs"),
-    exactly(96, "tools.source.check_layout"),
-    exactly(158, "tools.source.check_layers"),
-    exactly(576, "tools.source.check_tools"),
-    exactly(977, "tools.source.check_planted"),
+    exactly(90, "tools.source.check_layout"),
+    exactly(154, "tools.source.check_layers"),
+    exactly(571, "tools.source.check_tools"),
+    exactly(978, "tools.source.check_planted"),
     exactly(1828, "tools.wrong_bodies.check"),
 ]
 

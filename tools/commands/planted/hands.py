@@ -48,6 +48,7 @@ PLANTED = (
         (MAIL, "parsed(added + own, others + words), refusal", "parsed(own, others + words), refusal"),
         (MAIL, '    if not any(word.partition("=")[0] == "--state" for word in parted(words)[0]):', "    if False:"),
         (MAIL, "without_state(given.words)", "given.words"),
+        (MAIL, '"--format", "report", ', ""),
         (DEFAULTS, " if name in options]", "]"),
         (DEFAULTS, '{OFF, "--help"', '{"--help"'),
     )

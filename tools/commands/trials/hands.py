@@ -105,7 +105,8 @@ def try_defaults(sandbox):
     sandbox.write("long.db", b"".join([explained.HEAD, *long_lines(), b"@@end_db\n"]))
     sandbox.expect("a mail that is cut", mail.call(sandbox, "--state", "of.state", "o.db", "long.db"), 3, b"", b"")
     command = mail.body(mail.sent(sandbox)).decode().partition("prints the whole report:\n    ")[2].partition("\n")[0]
-    sandbox.holds("the command of a mail has no state", command and "--state" not in command, command)
+    good = "--state" not in command and " --format report " in command
+    sandbox.holds("the command of a mail has no state, and prints the report on a terminal too", good, command)
     counts = " ".join(
         "%s=%s" % (name, sandbox.state("of.state")[name]) for name in ("unexplained", "not_verified", "explained")
     )

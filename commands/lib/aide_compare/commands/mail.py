@@ -154,7 +154,8 @@ class Alarm:
 
     def _message_of(self, result, explained):
         given = self.given
-        text, page = text_of(result, given.max_mail, shlex.join([find_front()] + without_state(given.words))), None
+        command = shlex.join([find_front(), "--format", "report", *without_state(given.words)])
+        text, page = text_of(result, given.max_mail, command), None
         if given.html and result.size:
             page, why = page_of(explained, given.max_mail)
             text += clean(("\n%s: there is no page: %s\n" % (NAME, why)).encode()) if page is None else b""
