@@ -21,7 +21,7 @@ def at_least(number, *words):
 
 
 FILES = [
-    exactly(212, "tools.source.check_edits"),
+    exactly(214, "tools.source.check_edits"),
     exactly(543, "tools.source.check_docs"),
     exactly(90, "tools.source.check_layout"),
     exactly(154, "tools.source.check_layers"),
