@@ -34,7 +34,7 @@ EXCHANGE = """        if exchange(self.folder, self.part, self.name):
 # For a moment the baseline has no name; or the new file has that of the former one's copy before it is the baseline.
 NO_NAME = """        if True:
             self._link(self.name, self.spare)
-            self._unlink(self.name)
+            unlink(self.name, self.folder)
             self._rename(self.part, self.name)
 """
 COPY_FIRST = """        self._rename(self.part, self.previous)

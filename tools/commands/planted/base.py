@@ -41,7 +41,7 @@ from .plant import seen_by
 PLANTED = (
     seen_by(
         "base.try_escapes",
-        (ESCAPES, "    (0x2028, 0x202E),\n", "    (0x202A, 0x202E),\n"),
+        (ESCAPES, " 2028-202E ", " 202A-202E "),
         (ESCAPES, "text[: 4 * most + 4]", "text[: most + 4]"),
     )
     + seen_by("base.try_times", (TIMES, "if seconds < unit * most:", "if seconds <= unit * most:"))
@@ -74,7 +74,11 @@ PLANTED = (
     + seen_by(
         "base.try_files",
         (FOLDERS, "self._passed_on = owners if is_sticky else self.others", "self._passed_on = self.others"),
-        (FILES, "    os.unlink(name, dir_fd=folder)\n    return descriptor\n", "    return descriptor\n"),
+        (
+            FILES,
+            "                os.unlink(name, dir_fd=folder)\n            return descriptor\n",
+            "                pass\n            return descriptor\n",
+        ),
         (RIGHTS, "    os.setgroups(groups)\n", ""),
         (CHILD, "        _close_all_but(set(keep) | {writing})\n", ""),
         (CHILD, "        left = limit - time.monotonic()\n", "        left = 60\n"),
@@ -87,7 +91,7 @@ PLANTED = (
         "bounded.try_no_end",
         (ENDING, "        if empty == MOST_EMPTY:\n", "        if False:\n"),
         (ENDING, "empty = 0 if count else empty + 1", "empty += not count"),
-        (FETCHING, "        if seconds_left(deadline) <= 0:\n            return None\n", ""),
+        (CHILD, "        if time.monotonic() >= deadline:\n            return None\n", ""),
     )
     + seen_by("bounded.try_name_taken", (FILES, "            return False\n", "            raise\n"))
     + seen_by("bounded.try_group_bit", (ROOM, "& ~stat.S_ISGID == 0o700", "== 0o700"))

@@ -112,8 +112,8 @@ PLANTED = (
         "attacks.try_devices",
         (
             FILES,
-            "        self._refuse_other_kinds()\n        part, name = self._part()\n",
-            "        part, name = self._part()\n",
+            "        self._refuse_other_kinds()\n        part, name = new_file(",
+            "        part, name = new_file(",
         ),
     )
     + seen_by(
@@ -162,7 +162,7 @@ PLANTED = (
         "attacks.try_each_moment",
         (
             FILES,
-            "        self._refuse_other_kinds()\n        part, name = self._part()\n        os.close(part)\n",
+            "        self._refuse_other_kinds()\n        part, name = new_file(self.folder.fd, random_name())\n        os.close(part)\n",
             EMPTIED,
         ),
     )
@@ -205,8 +205,8 @@ PLANTED = (
         "faults.try_secrecy",
         (
             FILES,
-            "os.O_TMPFILE | os.O_EXCL | os.O_RDWR | os.O_CLOEXEC, 0o600, dir_fd=folder",
-            "os.O_TMPFILE | os.O_EXCL | os.O_RDWR | os.O_CLOEXEC, 0o666, dir_fd=folder",
+            "os.O_CLOEXEC | more, 0o600, dir_fd=folder",
+            "os.O_CLOEXEC | more, 0o666, dir_fd=folder",
         ),
     )
     + seen_by(

@@ -151,7 +151,9 @@ def try_explained_only(sandbox):
     sandbox.expect("no reasons, no baseline", done, 18, b"", b"refused: nothing is explained: cannot open the rules missing")
     shutil.rmtree(sandbox.path("dpkg"))
     sandbox.edit(
-        "lib/aide_compare/show/explained.py", "        self.changes = self.explainer.judge(self.entries)\n", "        1 / 0\n"
+        "lib/aide_compare/show/explained.py",
+        "        self.changes = (self.explainer.judge if sources else self.explainer.weigh)(self.entries)\n",
+        "        1 / 0\n",
     )
     done = accept(sandbox, sha256(explained.NEW), "--explained-only")
     sandbox.expect(

@@ -65,12 +65,15 @@ def _answer_of(reading, limit):
     return None
 
 
-def _ended(child, seconds):
-    """Waits for the child, but not for ever: a child in a call that does not return cannot be ended."""
-    limit = time.monotonic() + seconds
-    while os.waitpid(child, os.WNOHANG) == (0, 0):
-        if time.monotonic() > limit:
-            return
+def ended(child, deadline):
+    """The wait status with which a child ends; None if it has not ended by then: one in a call that does not return cannot be
+    ended."""
+    while True:
+        found, status = os.waitpid(child, os.WNOHANG)
+        if found:
+            return status
+        if time.monotonic() >= deadline:
+            return None
         time.sleep(0.01)
 
 
@@ -93,7 +96,7 @@ def in_child(what, work, seconds, keep=(), beside=""):
             os.kill(child, signal.SIGKILL)
         except ProcessLookupError:
             pass
-        _ended(child, 5)
+        ended(child, time.monotonic() + 5)
     if answer is None:
         raise Fault(Status.DEVICE, "%s took more than %d seconds" % (what, seconds))
     if answer[:1] == b"=":

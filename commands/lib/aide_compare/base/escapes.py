@@ -7,25 +7,8 @@ to U+009F, the separators of lines and paragraphs, and all format controls, such
 
 # The characters of the category Cf (Unicode 15), with the two separators of the categories Zl and Zp.
 _FORMAT_CONTROLS = (
-    (0xAD, 0xAD),
-    (0x600, 0x605),
-    (0x61C, 0x61C),
-    (0x6DD, 0x6DD),
-    (0x70F, 0x70F),
-    (0x890, 0x891),
-    (0x8E2, 0x8E2),
-    (0x180E, 0x180E),
-    (0x200B, 0x200F),
-    (0x2028, 0x202E),
-    (0x2060, 0x206F),
-    (0xFEFF, 0xFEFF),
-    (0xFFF0, 0xFFFB),
-    (0x110BD, 0x110BD),
-    (0x110CD, 0x110CD),
-    (0x13430, 0x1343F),
-    (0x1BCA0, 0x1BCA3),
-    (0x1D173, 0x1D17A),
-    (0xE0000, 0xE007F),
+    "AD 600-605 61C 6DD 70F 890-891 8E2 180E 200B-200F 2028-202E 2060-206F FEFF FFF0-FFFB 110BD 110CD 13430-1343F "
+    "1BCA0-1BCA3 1D173-1D17A E0000-E007F"
 )
 
 
@@ -37,7 +20,8 @@ def _table():
     """What stands in place of each character that is escaped. Bytes that are no UTF-8 are U+DC80 to U+DCFF."""
     table = {code: _escaped(bytes([code])) for code in list(range(32)) + [92, 127]}
     table.update((0xDC00 + byte, _escaped(bytes([byte]))) for byte in range(128, 256))
-    for first, last in ((0x80, 0x9F),) + _FORMAT_CONTROLS:
+    for span in ("80-9F " + _FORMAT_CONTROLS).split():
+        first, last = (int(code, 16) for code in (span.split("-") * 2)[:2])
         table.update((code, _escaped(chr(code).encode())) for code in range(first, last + 1))
     return table
 

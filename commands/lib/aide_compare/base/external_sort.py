@@ -2,6 +2,7 @@
 import os
 import shutil
 import signal
+import subprocess
 
 from aide_compare.base.ending import Fault, Status
 from aide_compare.base.escapes import shown
@@ -15,32 +16,19 @@ GNU = b"sort (GNU coreutils)"
 BLOCK = 1 << 16
 
 
-def _pipe_from(program, words):
-    """The first bytes that a program writes."""
-    reading, writing = os.pipe()
-    with open("/dev/null", "r+b", buffering=0) as null:
-        actions = [
-            (os.POSIX_SPAWN_DUP2, null.fileno(), 0),
-            (os.POSIX_SPAWN_DUP2, null.fileno(), 2),
-            (os.POSIX_SPAWN_DUP2, writing, 1),
-        ]
-        try:
-            child = os.posix_spawn(program, words, {"LC_ALL": "C"}, file_actions=actions)
-        except OSError:
-            return b""
-        finally:
-            os.close(writing)
-    with open(reading, "rb") as file:
-        text = file.read(4096)
-    os.waitpid(child, 0)
-    return text
+def _version_of(program):
+    try:
+        done = subprocess.run([program, "--version"], stdin=-3, stdout=-1, stderr=-3, timeout=60, env={"LC_ALL": "C"})
+    except (OSError, subprocess.TimeoutExpired):
+        return b""
+    return done.stdout
 
 
 def find_sort():
     """The path of the sort that sorts on disk. Another one, such as that of busybox, may hold all lines in memory."""
     found = [path for path in map(shutil.which, NAMES) if path]
     for path in found:
-        if _pipe_from(path, [path, "--version"]).startswith(GNU):
+        if _version_of(path).startswith(GNU):
             return path
     raise Fault(
         Status.DEVICE,

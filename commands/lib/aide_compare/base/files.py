@@ -80,16 +80,23 @@ def private_folder():
     return os.environ.get("TMPDIR") or "/var/tmp"
 
 
-def _nameless_in(folder):
+def new_file(folder, name, more=0):
+    """A new file in an open folder, of the caller only, and the name that it has: none where the file system knows files
+    without one. `more` are flags for that."""
     try:
-        return os.open(".", os.O_TMPFILE | os.O_EXCL | os.O_RDWR | os.O_CLOEXEC, 0o600, dir_fd=folder)
+        return os.open(".", os.O_TMPFILE | os.O_RDWR | os.O_CLOEXEC | more, 0o600, dir_fd=folder), None
     except OSError as error:
         if error.errno not in NO_TMPFILE:
             raise
-    name = random_name()
-    descriptor = os.open(name, NEW_FILE, 0o600, dir_fd=folder)
-    os.unlink(name, dir_fd=folder)
-    return descriptor
+    return os.open(name, NEW_FILE, 0o600, dir_fd=folder), name
+
+
+def unlink(name, folder):
+    """Removes a name, if it is there, in an open folder."""
+    try:
+        os.unlink(name, dir_fd=folder)
+    except FileNotFoundError:
+        pass
 
 
 def nameless(room=None):
@@ -98,7 +105,10 @@ def nameless(room=None):
     try:
         folder = os.open(room, os.O_PATH | os.O_DIRECTORY | os.O_CLOEXEC)
         try:
-            return _nameless_in(folder)
+            descriptor, name = new_file(folder, random_name(), os.O_EXCL)
+            if name:
+                os.unlink(name, dir_fd=folder)
+            return descriptor
         finally:
             os.close(folder)
     except OSError as error:
@@ -198,20 +208,10 @@ class Replacement:
 
     def _try(self):
         self._refuse_other_kinds()
-        part, name = self._part()
+        part, name = new_file(self.folder.fd, random_name())
         os.close(part)
         if name:
             os.unlink(name, dir_fd=self.folder.fd)
-
-    def _part(self):
-        """A new file in the folder, and its name: none where the file system knows files without one."""
-        try:
-            return os.open(".", os.O_TMPFILE | os.O_RDWR | os.O_CLOEXEC, 0o600, dir_fd=self.folder.fd), None
-        except OSError as error:
-            if error.errno not in NO_TMPFILE:
-                raise
-        name = random_name()
-        return os.open(name, NEW_FILE, 0o600, dir_fd=self.folder.fd), name
 
     def _put(self, fill):
         """Of several commands at once each makes its file anew until it was put in place: each time that one has to, another
@@ -223,7 +223,7 @@ class Replacement:
 
     def _was_put(self, fill):
         """Makes the file and puts it in place; False if another command took its name away meanwhile."""
-        part, name = self._part()
+        part, name = new_file(self.folder.fd, random_name())
         try:
             fill(part)
             os.fchmod(part, self.mode)
@@ -237,7 +237,7 @@ class Replacement:
         finally:
             os.close(part)
             if name:
-                self._unlink(name)
+                unlink(name, self.folder.fd)
 
     def _was_linked(self, part):
         """Gives the file its name. A name cannot be linked over, so an old file is replaced by way of a fixed second name: what
@@ -249,7 +249,7 @@ class Replacement:
                 os.link(source, second, dst_dir_fd=self.folder.fd)
                 break
             except FileExistsError:
-                self._unlink(second)
+                unlink(second, self.folder.fd)
         else:
             raise failure(errno.EEXIST)
         try:
@@ -257,12 +257,6 @@ class Replacement:
             return True
         except FileNotFoundError:
             return False
-
-    def _unlink(self, name):
-        try:
-            os.unlink(name, dir_fd=self.folder.fd)
-        except FileNotFoundError:
-            pass
 
     def _rename(self, name):
         os.rename(name, self.name, src_dir_fd=self.folder.fd, dst_dir_fd=self.folder.fd)

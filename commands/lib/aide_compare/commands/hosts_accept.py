@@ -5,15 +5,15 @@ import time
 from aide_compare.base.ending import Fault, Status, write_all
 from aide_compare.base.files import copy_file, open_regular
 from aide_compare.base.options import Parser, size, some_text
-from aide_compare.base.program import find_front
 from aide_compare.base.times import date_of
 from aide_compare.compare.soundness import refuse_unsound
 from aide_compare.compare.state import read_state
 from aide_compare.compare.unpack import copy_database, digest_of, open_database
 from aide_compare.hosts.host_comparison import MOST_BASELINE
 from aide_compare.hosts.host_reasons import BASELINES, NEWEST
+from aide_compare.commands.accept import main as accept_database
 from aide_compare.commands.hosts_options import add_place
-from aide_compare.hosts.fleet_store import BLOCK, Part, Place, check_name, no_room
+from aide_compare.hosts.fleet_store import Part, Place, check_name, no_room
 from aide_compare.reasons.kept_records import mark_of
 
 NAME = "aide-compare hosts accept"
@@ -28,8 +28,7 @@ def accept_first(place, most):
     try:
         copy = copy_database("new", place.file("aide.db.new"), most)
         refuse_unsound(copy)
-        for block in iter(lambda: os.read(source, BLOCK), b""):
-            part.write(block)
+        copy_file(source, part.fd)
         part.keep("aide.db", replace=False)
     except FileExistsError:
         raise refused
@@ -75,16 +74,13 @@ def keep_records(place):
 
 def accept(place, given):
     """The command aide-compare accept does the work."""
-    program = find_front()
     say_what(place, given.sha256)
-    words = [program, "accept", "--no-packages", "--sha256", given.sha256]
-    for pattern in given.keep_open:
-        words += ["--keep-open", pattern]
-    child = os.posix_spawn(program, words + [place.file("aide.db.new"), place.file("aide.db")], os.environ)
-    status = os.waitstatus_to_exitcode(os.waitpid(child, 0)[1])
-    if status == 0:
+    words = ["--keep-open=" + pattern for pattern in given.keep_open]
+    names = [place.file("aide.db.new"), place.file("aide.db")]
+    status = accept_database(["--no-packages", "--sha256=" + given.sha256, *words, *names])
+    if status == Status.OK:
         keep_records(place)
-    return status if status in (0, 15, 18, 22, 24) else Status.DEVICE
+    return status
 
 
 def main(arguments):

@@ -9,12 +9,11 @@ import os
 import stat
 import time
 
-from aide_compare.base.ending import Fault, Status, reason, write_all
+from aide_compare.base.ending import Fault, Status, reason
 from aide_compare.base.escapes import shown
 from aide_compare.base.exchange import exchange
-from aide_compare.base.files import ANYBODY, NEW_FILE, NO_TMPFILE, failure, kind_of, open_folder, reopened
+from aide_compare.base.files import ANYBODY, copy_file, failure, kind_of, new_file, open_folder, reopened, unlink
 
-BLOCK = 1 << 20
 FILE_MODES = 0o666
 PLAIN_FILE = os.O_RDONLY | os.O_NOFOLLOW | os.O_NONBLOCK | os.O_NOCTTY | os.O_CLOEXEC
 FIRST_MODE = 0o600
@@ -132,7 +131,7 @@ class Baseline:
         return None
 
     def _put(self, source, name, part):
-        self._unlink(part)
+        unlink(part, self.folder)
         self._named_copy(source, part)
         self._rename(part, name)
         os.fsync(self.folder)
@@ -182,13 +181,13 @@ class Baseline:
         for name in (self.part, self.spare):
             if is_done and self._identity(name) not in (None, self._identity(self.name)):
                 self._rename(name, self.previous)
-            self._unlink(name)
+            unlink(name, self.folder)
         if self.away and self._identity(self.away):
             if is_done or self._identity(self.beside):
-                self._unlink(self.away)
+                unlink(self.away, self.folder)
             else:
                 self._rename(self.away, self.beside)
-        self._unlink(self.mark)
+        unlink(self.mark, self.folder)
 
     def _identity(self, name):
         try:
@@ -198,34 +197,19 @@ class Baseline:
 
     def _named_copy(self, source, part):
         """Copies an open file, on the disk before it gets a name. Returns what fstat says of it."""
-        new, has_name = self._new_file(part)
+        new, name = new_file(self.folder, part)
         try:
             self._copy(source, new)
             os.fsync(new)
-            if not has_name:
+            if not name:
                 os.link("/proc/self/fd/%d" % new, part, dst_dir_fd=self.folder)
             return os.fstat(new)
         finally:
             os.close(new)
 
-    def _new_file(self, part):
-        """A new file in the folder, and whether it has the name of the part: not where it can be made without one."""
-        try:
-            return os.open(".", os.O_TMPFILE | os.O_RDWR | os.O_CLOEXEC, 0o600, dir_fd=self.folder), False
-        except OSError as error:
-            if error.errno not in NO_TMPFILE:
-                raise
-        return os.open(part, NEW_FILE, 0o600, dir_fd=self.folder), True
-
     def _copy(self, source, new):
         """Copies the bytes, then the owner where the caller can give it, then the mode."""
-        place = 0
-        while True:
-            block = os.pread(source, BLOCK, place)
-            if not block:
-                break
-            write_all(new, block)
-            place += len(block)
+        copy_file(source, new)
         if self.former and self.owner is None:
             self._give(new, self.former.st_uid if os.geteuid() == 0 else -1, self.former.st_gid)
         os.fchmod(new, self.former.st_mode & FILE_MODES if self.former else FIRST_MODE)
@@ -269,9 +253,3 @@ class Baseline:
 
     def _rename(self, name, other):
         os.rename(name, other, src_dir_fd=self.folder, dst_dir_fd=self.folder)
-
-    def _unlink(self, name):
-        try:
-            os.unlink(name, dir_fd=self.folder)
-        except FileNotFoundError:
-            pass

@@ -5,7 +5,7 @@ import select
 import signal
 import time
 
-from aide_compare.base.child import end_with
+from aide_compare.base.child import end_with, ended
 from aide_compare.base.ending import Fault, reason, say
 from aide_compare.base.escapes import shown
 from aide_compare.hosts.fleet_store import BLOCK, Part, no_room, same_bytes, seconds_left
@@ -50,17 +50,6 @@ def stop(child):
         except ProcessLookupError:
             pass
     return ended(child, time.monotonic() + STOP_SECONDS)
-
-
-def ended(child, deadline):
-    """The status with which a child ends; None if it has not ended by then."""
-    while True:
-        found, status = os.waitpid(child, os.WNOHANG)
-        if found:
-            return status
-        if seconds_left(deadline) <= 0:
-            return None
-        time.sleep(0.01)
 
 
 class Transfer:

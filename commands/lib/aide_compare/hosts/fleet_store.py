@@ -7,7 +7,7 @@ import re
 import time
 
 from aide_compare.base.ending import Fault, Status, reason, say, write_all
-from aide_compare.base.files import NEW_FILE, NO_TMPFILE, open_regular, replace
+from aide_compare.base.files import new_file, open_regular, replace, unlink
 from aide_compare.base.folders import open_folder
 from aide_compare.compare.state import State
 
@@ -58,25 +58,13 @@ class Part:
     """A new file in the folder of a host, without a name until it is kept, so that nothing is left of one that is not."""
 
     def __init__(self, folder):
-        self.folder, self.size, self.name = folder, 0, None
-        try:
-            self.fd = os.open(".", os.O_TMPFILE | os.O_RDWR | os.O_CLOEXEC, 0o600, dir_fd=folder)
-        except OSError as error:
-            if error.errno not in NO_TMPFILE:
-                raise
-            self.name = ".part"
-            self._unlink(self.name)
-            self.fd = os.open(self.name, NEW_FILE, 0o600, dir_fd=folder)
+        self.folder, self.size = folder, 0
+        unlink(".part", folder)
+        self.fd, self.name = new_file(folder, ".part")
 
     def write(self, data):
         write_all(self.fd, data)
         self.size += len(data)
-
-    def _unlink(self, name):
-        try:
-            os.unlink(name, dir_fd=self.folder)
-        except FileNotFoundError:
-            pass
 
     def keep(self, name, replace=True):
         """Gives the file its name, in the place of a former one; without `replace` a former one is a FileExistsError."""
@@ -84,7 +72,7 @@ class Part:
         first = self.name or ".linked" if replace else name
         if not self.name:
             if replace:
-                self._unlink(first)
+                unlink(first, self.folder)
             os.link("/proc/self/fd/%d" % self.fd, first, dst_dir_fd=self.folder)
         elif not replace:
             os.link(self.name, name, src_dir_fd=self.folder, dst_dir_fd=self.folder)
@@ -95,7 +83,7 @@ class Part:
     def close(self):
         os.close(self.fd)
         if self.name:
-            self._unlink(self.name)
+            unlink(self.name, self.folder)
 
 
 class Place:
@@ -146,10 +134,7 @@ class Place:
             return False
 
     def remove(self, name):
-        try:
-            os.unlink(name, dir_fd=self.fd)
-        except FileNotFoundError:
-            pass
+        unlink(name, self.fd)
 
     def room(self, jobs):
         """The most bytes that this host may take now: with so many others at work, something is left for each of them."""

@@ -5,6 +5,7 @@ import signal
 import socket
 import time
 
+from aide_compare.base.child import ended
 from aide_compare.base.ending import Fault, Status, reason
 from aide_compare.base.escapes import shown
 from aide_compare.mail.message import shortened
@@ -72,15 +73,10 @@ _statuses = {}
 
 def _ended(child, limit=0.0):
     """The status with which a child has ended (128 and its signal), or None if it still runs when the time is over."""
-    while child not in _statuses:
-        found, status = os.waitpid(child, os.WNOHANG)
-        if found:
-            _statuses[child] = os.WEXITSTATUS(status) if os.WIFEXITED(status) else 128 + os.WTERMSIG(status)
-        elif time.monotonic() > limit:
-            return None
-        else:
-            time.sleep(0.02)
-    return _statuses[child]
+    status = _statuses.get(child)
+    if status is None:
+        status = _statuses[child] = ended(child, limit)
+    return None if status is None else os.WEXITSTATUS(status) if os.WIFEXITED(status) else 128 + os.WTERMSIG(status)
 
 
 def _exchange(message, writing, reading, limit, is_over):
