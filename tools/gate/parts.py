@@ -24,9 +24,9 @@ FILES = [
     exactly(214, "tools.source.check_edits"),
     exactly(543, "tools.source.check_docs"),
     exactly(90, "tools.source.check_layout"),
-    exactly(154, "tools.source.check_layers"),
-    exactly(571, "tools.source.check_tools"),
-    exactly(978, "tools.source.check_planted"),
+    exactly(159, "tools.source.check_layers"),
+    exactly(577, "tools.source.check_tools"),
+    exactly(981, "tools.source.check_planted"),
     exactly(1828, "tools.wrong_bodies.check"),
 ]
 

@@ -12,8 +12,8 @@ from tools.oracle.configuration import BOOL_OPTIONS, SET_OPTIONS
 from aide_compare import VERSION
 from aide_compare.base import ending, escapes, options, times
 from aide_compare.compare import configuration, reports, state
-from aide_compare.lines import report_values
-from aide_compare.reasons import entries, entry_words
+from aide_compare.lines import attributes
+from aide_compare.reasons import entry_words
 
 ESCAPED = (
     (b"a b", "a b"),
@@ -49,13 +49,13 @@ def try_texts(tally, folder):
 def try_tables(tally, _):
     """The tables of attributes say the same: each digest is in the order of strength, in the reasons and in the schema. The
     options that report_url=stdout fixes are those of the definitions."""
-    labels = [label for label, form in report_values.FORMS.items() if isinstance(form, tuple)]
+    labels = [label for label, form in attributes.FORMS.items() if isinstance(form, tuple)]
     columns = sorted(label.lower().replace("-", "_").replace("/", "_") for label in labels)
     with open(os.path.join(TOP, "contrib", "json", "aide-compare-lines.schema.json"), encoding="utf-8") as file:
         schema = json.load(file)
-    expect(tally, "digests by strength", sorted(report_values.STRENGTH), sorted(labels))
-    expect(tally, "digests of the reasons", sorted(entries.DIGESTS), columns)
-    expect(tally, "attributes of the schema", list(schema["$defs"]["attributes"]["properties"]), list(report_values.FORMS))
+    expect(tally, "digests by strength", sorted(attributes.STRENGTH), sorted(labels))
+    expect(tally, "digests of the reasons", sorted(attributes.DIGEST_COLUMNS), columns)
+    expect(tally, "attributes of the schema", list(schema["$defs"]["attributes"]["properties"]), list(attributes.FORMS))
     names = sorted(name.encode() for name in ["report_level"] + BOOL_OPTIONS + SET_OPTIONS)
     expect(tally, "options of the report", sorted(configuration.REPORT_OPTIONS), names)
 

@@ -21,9 +21,8 @@ GROWING, MOVES, ENTRIES, PACKAGES, MADE, PARENTS, PROTECTED, RULES, SEVERITY, DP
         "archive",
     )
 )
-CONTENT, RECORDS, LINES, EXPLAINER, PACKED, TABLE, LINKS, MERGED = (
-    LIB + name + ".py"
-    for name in ("content", "records", "explained_lines", "explainer", "packed", "table", "hard_links", "merged")
+CONTENT, RECORDS, LINES, EXPLAINER, PACKED, LINKS, MERGED = (
+    LIB + name + ".py" for name in ("content", "records", "explained_lines", "explainer", "packed", "hard_links", "merged")
 )
 TRUSTED, SEVERITIES = "commands/lib/aide_compare/base/trusted.py", "commands/share/severity.conf"
 

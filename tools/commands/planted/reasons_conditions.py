@@ -67,8 +67,8 @@ PLANTED = (
             'DIGESTS | {"size", "bcount", "mtime", "ctime", "atime"}',
             'DIGESTS | {"size", "bcount", "mtime", "ctime", "atime", "inode"}',
         ),
-        (RULES, '"perm": {"perm"}', '"perm": {"perm", "uid"}'),
-        (RULES, '"uid": {"uid"}', '"uid": {"uid", "gid"}'),
+        (RULES, '    "caps": {"cap', '    "perm": {"perm", "uid"},\n    "caps": {"cap'),
+        (RULES, '    "caps": {"cap', '    "uid": {"uid", "gid"},\n    "caps": {"cap'),
         (RULES, '"caps": {"capabilities"}', '"caps": {"caps"}'),
         (RULES, '"digests": DIGESTS', '"digests": DIGESTS | {"size"}'),
     )

@@ -111,8 +111,8 @@ PLANTED = (
         (LIB + "lines/decoded_caps.py", "key=lambda state: (known.count(state), -state)", "key=lambda state: -state"),
         (
             LIB + "lines/decoded_flags.py",
-            '    ("i", 0x10),\n    ("a", 0x20),\n',
-            '    ("i", 0x20),\n    ("a", 0x10),\n',
+            "i=10 a=20",
+            "i=20 a=10",
         ),
         (LIB + "lines/decoded_flags.py", '" +0x%x" % (flags & ~KNOWN) if flags & ~KNOWN else ""', '""'),
         (LIB + "lines/decoded_xattrs.py", 'QUOTED_ESCAPES = {34: "\\\\042"}', "QUOTED_ESCAPES = {}"),

@@ -11,14 +11,13 @@ from functools import lru_cache
 from aide_compare.base.ending import Fault, Status, reason, write_all
 from aide_compare.base.escapes import shown
 from aide_compare.base.files import nameless
-from aide_compare.base.patterns import BadPattern, Pattern
+from aide_compare.base.path_keys import decoded
+from aide_compare.base.table import Table, pattern_of
 from aide_compare.base.trusted import lines_of
 
 MOST_LINES = 10000
-MOST_PATH = 4096  # PATH_MAX of Linux: no path of a file is longer, so a longer one is never left out.
 LINE = (1 << 20) + 1  # The longest line of a database, with its newline. aide-compare refuses a longer one.
 FIELDS = re.compile(rb"[^ \t]+")
-ESCAPE = re.compile(rb"%([0-9A-Fa-f]{2})")
 FOLDERS = re.compile(rb"/[^%\s]*/")  # As far as nothing of a path is escaped: a / may be.
 # A line that also leaves out programs begins so: the reason is between the brackets.
 PROGRAMS = re.compile(rb"programs\(([^()]*[^() \t][^()]*)\)[ \t]+(/.*)")
@@ -42,10 +41,7 @@ class Exclusion:
 def _exclusion(text, place):
     programs = PROGRAMS.fullmatch(text)
     why, pattern = (shown(programs.group(1).strip(), 100), programs.group(2)) if programs else ("", text)
-    try:
-        return Exclusion(Pattern(pattern), place, why)
-    except BadPattern as fault:
-        raise Fault(Status.USAGE, "%s: %s: %s" % (place, fault, shown(text, 200)))
+    return Exclusion(pattern_of(pattern, place), place, why)
 
 
 def read_exclusions(files, patterns):
@@ -58,14 +54,11 @@ def read_exclusions(files, patterns):
     return rules
 
 
-class Exclusions:
-    """Rules, looked up by the pieces that their patterns begin with."""
+class Exclusions(Table):
+    """The lines that leave entries out, looked up by the pieces that their patterns begin with."""
 
-    def __init__(self, rules):
-        self.by_start = {}
-        for number, rule in enumerate(rules):
-            self.by_start.setdefault(rule.pattern.fixed, []).append((number, rule))
-        self.longest = max((len(start) for start in self.by_start), default=0)
+    def __init__(self, lines):
+        super().__init__(lines)
         self.open = {start[:size] for start in self.by_start for size in range(len(start))}
 
     def depth_of(self, pieces):
@@ -78,21 +71,9 @@ class Exclusions:
                 return size
         return 0
 
-    def of(self, path, is_meant=lambda rule: True):
-        """The first rule that means a path, of those that `is_meant` lets pass, or None."""
-        if not path.startswith(b"/") or len(path) > MOST_PATH:
-            return None
-        pieces = path[1:].split(b"/")
-        found = []
-        for size in range(min(len(pieces), self.longest) + 1):
-            found += self.by_start.get(tuple(pieces[:size]), ())
-        rules = (rule for _, rule in sorted(found, key=lambda pair: pair[0]) if is_meant(rule))
-        return next((rule for rule in rules if rule.pattern.matches(pieces)), None)
-
-
-def decoded(field):
-    """The path that a field of a database means; a % without two digits of base 16 stands for itself."""
-    return ESCAPE.sub(lambda found: bytes([int(found.group(1), 16)]), field) if b"%" in field else field
+    def of(self, path, is_meant=None):
+        """The first line that means a path, of those that `is_meant` lets pass, or None."""
+        return next(self.rows(path, is_meant), None) if path.startswith(b"/") else None
 
 
 class _Found:

@@ -8,7 +8,7 @@ import json
 
 from aide_compare.base.path_keys import key_of
 from aide_compare.compare.reason_counts import SEVERITIES
-from aide_compare.lines.report_values import FORMS
+from aide_compare.lines.attributes import FORMS
 
 OWN = frozenset(["Bcount", "Atime", "Mtime", "Ctime", "Inode", "Linkcount"])
 LABELS = list(FORMS)

@@ -5,8 +5,8 @@ from aide_compare.base.escapes import guarded, shown
 from aide_compare.compare.reason_counts import counted
 from aide_compare.hosts.host_changes import is_explained
 from aide_compare.hosts.hosts_read import CUT, NO_LIST, UNREADABLE
+from aide_compare.lines.attributes import STRENGTH
 from aide_compare.lines.decoded import decoded
-from aide_compare.lines.report_values import STRENGTH
 
 MOST_VALUE, MOST_REASONS = 200, 100
 WHY = {

@@ -1,30 +1,13 @@
 """The flags of ext2 and of the file systems that have them too, as lsattr prints them."""
 
 # The bits of linux/fs.h in the order of lsattr (e2fsprogs 1.47) and of AIDE 0.18.
-LETTERS = (
-    ("s", 0x1),
-    ("u", 0x2),
-    ("S", 0x8),
-    ("D", 0x10000),
-    ("i", 0x10),
-    ("a", 0x20),
-    ("d", 0x40),
-    ("A", 0x80),
-    ("c", 0x4),
-    ("E", 0x800),
-    ("j", 0x4000),
-    ("I", 0x1000),
-    ("t", 0x8000),
-    ("T", 0x20000),
-    ("e", 0x80000),
-    ("C", 0x800000),
-    ("x", 0x2000000),
-    ("F", 0x40000000),
-    ("N", 0x10000000),
-    ("P", 0x20000000),
-    ("V", 0x100000),
-    ("m", 0x400),
-)
+LETTERS = [
+    (pair[0], int(pair[2:], 16))
+    for pair in (
+        "s=1 u=2 S=8 D=10000 i=10 a=20 d=40 A=80 c=4 E=800 j=4000 I=1000 t=8000 T=20000 e=80000 C=800000 x=2000000 "
+        "F=40000000 N=10000000 P=20000000 V=100000 m=400"
+    ).split()
+]
 KNOWN = sum(bit for _, bit in LETTERS)
 
 

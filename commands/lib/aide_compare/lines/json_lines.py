@@ -6,7 +6,7 @@ from functools import lru_cache
 
 from aide_compare.base.shown_text import PLAIN, notes_of, shown, shown_note, shown_path
 from aide_compare.lines.report_lines import Refused
-from aide_compare.lines.report_values import FORMS, STRENGTH
+from aide_compare.lines.attributes import FORMS, STRENGTH
 
 # An entry has at most the bytes of two lines of databases, and six times as many in JSON, some of them in base 16 too.
 LINE_LIMIT = 2**25

@@ -3,7 +3,8 @@ import re
 from collections import namedtuple
 
 from aide_compare.lines.report_lines import LINE_LIMIT, RULE, Refused, unprinted
-from aide_compare.lines.report_values import FORMS, PIECE, TYPES, Block
+from aide_compare.lines.attributes import FORMS
+from aide_compare.lines.report_values import PIECE, TYPES, Block
 
 INDENT = b" " * 14
 NAMES = {label.ljust(10).encode(): label for label in FORMS}

@@ -2,7 +2,8 @@
 import re
 from operator import itemgetter
 
-from aide_compare.lines.report_values import FORMS, PIECE, sides_of
+from aide_compare.lines.attributes import FORMS
+from aide_compare.lines.report_values import PIECE, sides_of
 
 NUMBER = rb"(0|-?[1-9][0-9]{0,17})"
 SHORT_NUMBER = re.compile(NUMBER)

@@ -12,7 +12,8 @@ from operator import ne
 from aide_compare.lines.report_lines import Lines, Refused, unprinted
 from aide_compare.lines.report_marks import misfit
 from aide_compare.lines.report_pieces import Piece, picker
-from aide_compare.lines.report_values import FORMS, TYPES
+from aide_compare.lines.attributes import FORMS
+from aide_compare.lines.report_values import TYPES
 
 # A shape has to come so often before it gets a pattern. So many of the same attributes are tried at an entry, and no further
 # shapes are counted after so many.

@@ -5,6 +5,7 @@ import re
 from collections import namedtuple
 from datetime import datetime, timedelta
 
+from aide_compare.lines.attributes import FORMS
 from aide_compare.lines.report_lines import Refused, put_bytes, unprinted
 
 PIECE = 32
@@ -18,62 +19,6 @@ TYPES = {
     b"s": b"Socket",
     b"?": b"Entry",
 }
-# The attributes in the order of the details, with the form of their values; of a digest its least and greatest length.
-FORMS = {
-    "Type": "type",
-    "Lname": "link",
-    "Size": "number",
-    "Bcount": "number",
-    "Perm": "perm",
-    "UID": "number",
-    "GID": "number",
-    "Atime": "time",
-    "Mtime": "time",
-    "Ctime": "time",
-    "Inode": "number",
-    "Linkcount": "number",
-    "MD5": (16, 16),
-    "SHA1": (20, 20),
-    "SHA256": (32, 32),
-    "SHA512": (64, 64),
-    "RMD160": (20, 20),
-    "TIGER": (1, 64),
-    "CRC32": (1, 64),
-    "CRC32B": (1, 64),
-    "HAVAL": (1, 64),
-    "GOST": (1, 64),
-    "WHIRLPOOL": (64, 64),
-    "STRIBOG256": (32, 32),
-    "STRIBOG512": (64, 64),
-    "SHA512/256": (32, 32),
-    "SHA3-256": (32, 32),
-    "SHA3-512": (64, 64),
-    "ACL": "bytes",
-    "XAttrs": "bytes",
-    "SELinux": "bytes",
-    "E2FSAttrs": "bytes",
-    "Caps": "bytes",
-}
-# The digest that people look at first, if an entry has it, and so on.
-STRENGTH = (
-    "SHA256",
-    "SHA512",
-    "SHA3-256",
-    "SHA3-512",
-    "SHA512/256",
-    "STRIBOG256",
-    "STRIBOG512",
-    "WHIRLPOOL",
-    "RMD160",
-    "SHA1",
-    "GOST",
-    "TIGER",
-    "HAVAL",
-    "MD5",
-    "CRC32",
-    "CRC32B",
-)
-
 EPOCH = datetime(1970, 1, 1)
 NUMBER = re.compile(rb"0|-?[1-9][0-9]{0,19}")
 

@@ -5,6 +5,7 @@ import re
 import stat
 
 from aide_compare.base.path_keys import decoded
+from aide_compare.lines.attributes import DIGEST_COLUMNS as DIGESTS
 
 FIELDS = re.compile(rb"[^ \t]+")
 ODD_BLANKS = re.compile(rb"[\x0b\x0c\r]")
@@ -16,26 +17,6 @@ USER, GROUP = 1 << 3, 1 << 4
 OWNER = USER | GROUP
 SPECIAL = SIZE_ONLY_GROWS | SAME_INODE | NEW_FILES | REMOVED_FILES | GROWING | COMPRESSED
 
-DIGESTS = frozenset(
-    (
-        "md5",
-        "sha1",
-        "sha256",
-        "sha512",
-        "rmd160",
-        "tiger",
-        "crc32",
-        "crc32b",
-        "haval",
-        "gost",
-        "whirlpool",
-        "stribog256",
-        "stribog512",
-        "sha512_256",
-        "sha3_256",
-        "sha3_512",
-    )
-)
 TIMES = frozenset(("mtime", "ctime", "atime"))
 # What a file gets anew when the same or other content is written under its name.
 CONTENT = DIGESTS | TIMES | {"size", "bcount", "inode"}

@@ -6,7 +6,7 @@ from aide_compare.reasons.compiled import source_of
 from aide_compare.reasons.entries import CONTENT
 from aide_compare.reasons.protected import takes_no_pattern
 from aide_compare.reasons.reason import Reason
-from aide_compare.reasons.table import Table, pattern_of
+from aide_compare.base.table import Table, pattern_of
 
 ANY = b"/"
 # What is made, and which path a package has that has it made. A row counts only if a package with such a path changed.

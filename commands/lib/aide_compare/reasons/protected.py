@@ -1,7 +1,7 @@
 """Places where a reason would hide too much, each with the why."""
 from aide_compare.base.patterns import Pattern
 from aide_compare.reasons.severity import gains_set_id, is_open, set_id
-from aide_compare.reasons.table import Table
+from aide_compare.base.table import Table
 
 # Nothing ever explains a change here: no package has such a file, and one line in it gives root away.
 NEVER = (

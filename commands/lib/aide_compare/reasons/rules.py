@@ -8,29 +8,16 @@ from aide_compare.reasons.entries import DIGESTS
 from aide_compare.reasons.growing import has_grown
 from aide_compare.reasons.protected import takes_no_pattern
 from aide_compare.reasons.reason import Reason
-from aide_compare.reasons.table import Table, pattern_of
+from aide_compare.base.table import Table, pattern_of
 from aide_compare.base.trusted import lines_of
 
 MOST_TEXT = 200
 # The columns that each word stands for, beside `added` and `removed`.
 COLUMNS = {
-    "size": {"size"},
-    "bcount": {"bcount"},
-    "mtime": {"mtime"},
-    "ctime": {"ctime"},
-    "atime": {"atime"},
-    "inode": {"inode"},
+    **{name: {name} for name in "size bcount mtime ctime atime inode lname perm uid gid acl xattrs selinux e2fsattrs".split()},
     "linkcount": {"lcount"},
-    "lname": {"lname"},
-    "digests": DIGESTS,
-    "perm": {"perm"},
-    "uid": {"uid"},
-    "gid": {"gid"},
-    "acl": {"acl"},
-    "xattrs": {"xattrs"},
-    "selinux": {"selinux"},
-    "e2fsattrs": {"e2fsattrs"},
     "caps": {"capabilities"},
+    "digests": DIGESTS,
     "times": {"mtime", "ctime", "atime"},
     "content": DIGESTS | {"size", "bcount", "mtime", "ctime", "atime"},
 }

@@ -6,7 +6,7 @@ from collections import namedtuple
 from aide_compare.base.ending import Fault, Status
 from aide_compare.base.escapes import shown
 from aide_compare.reasons.reason import LEVELS
-from aide_compare.reasons.table import Table, pattern_of
+from aide_compare.base.table import Table, pattern_of
 from aide_compare.base.trusted import lines_of
 
 HERE = os.path.dirname(os.path.abspath(__file__))

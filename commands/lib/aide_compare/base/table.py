@@ -6,7 +6,7 @@ from aide_compare.base.ending import Fault, Status
 from aide_compare.base.escapes import shown
 from aide_compare.base.patterns import BadPattern, Pattern
 
-MOST_PATH = 4096  # PATH_MAX of Linux.
+MOST_PATH = 4096  # PATH_MAX of Linux: no path of a file is longer, so no row means a longer one.
 WILD = re.compile(rb"[*?\[\\]")
 
 
