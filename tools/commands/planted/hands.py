@@ -46,7 +46,7 @@ PLANTED = (
         (CHECK, "defaults_for(CHECK, arguments) + ", ""),
         (MAIL, "parsed(added + own, others + words), refusal", "parsed(added + own, words), refusal"),
         (MAIL, "parsed(added + own, others + words), refusal", "parsed(own, others + words), refusal"),
-        (MAIL, '    if not any(word.partition("=")[0] == "--state" for word in parted(words)[0]):', "    if False:"),
+        (MAIL, '    if not any(word.partition("=")[0] == "--state" for word in options):', "    if False:"),
         (MAIL, "without_state(given.words)", "given.words"),
         (MAIL, '"--format", "report", ', ""),
         (DEFAULTS, " if name in options]", "]"),

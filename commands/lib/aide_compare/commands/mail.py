@@ -93,12 +93,6 @@ def split(arguments):
     return own, others
 
 
-def parted(words):
-    """The words before -- and those behind it."""
-    cut = words.index("--") if "--" in words else len(words)
-    return words[:cut], words[cut + 1 :]
-
-
 def without_state(words):
     """The words without --state and its value: a command for reading must not overwrite the state."""
     values, kept, words = with_values(compare.parser())[1], [], list(words)
@@ -298,10 +292,11 @@ def with_defaults(own, words):
     """The options with the administrator's defaults before them. A fault in the defaults costs no mail, and the mail says it."""
     added, others, refusal = [], [], None
     try:
-        added, others = split(defaults_for({**RUN, **MAIL}, own + parted(words)[0]))
+        added, others = split(defaults_for({**RUN, **MAIL}, own + words))
     except Fault as fault:
         refusal = fault
-    if not any(word.partition("=")[0] == "--state" for word in parted(words)[0]):
+    options = words[: words.index("--")] if "--" in words else words
+    if not any(word.partition("=")[0] == "--state" for word in options):
         # A command by hand keeps no number of quiet runs.
         added = [word for word in added if word.partition("=")[0] != "--weekly"]
     try:
