@@ -20,6 +20,8 @@ PLANTED = (
     )
     + seen_by(
         "explained.try_forms",
+        (EXPLAINING, "(comparison.counts or ()) <= MOST_WEIGHED", "(comparison.counts or ()) < MOST_WEIGHED"),
+        (EXPLAINING, "(comparison.counts or ()) <= MOST_WEIGHED", "(comparison.counts or ()) >= 0"),
         (EXPLAINING, "self.explainer.judge if sources else self.explainer.weigh", "self.explainer.judge"),
         (RUN, "(self.form and not comparison.differs)", "False"),
         (LIB + "reasons/entry_words.py", 'TIMES_IN_ORDER = ("mtime", "ctime", "atime")', 'TIMES_IN_ORDER = ("ctime", "atime")'),

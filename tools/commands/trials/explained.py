@@ -205,6 +205,14 @@ def try_forms(sandbox):
     for name, seconds in (("t1.db", b"1700000000"), ("t2.db", b"-1")):
         text = b"@@begin_db\n@@db_spec name attr perm mtime ctime\n/t 388 100644 %s %s\n" % (seconds, seconds) + END
         sandbox.write(name, text)
+    report = sandbox.call(TOOL, "o.db", "n.db").output
+    name, line = "lib/aide_compare/show/explained.py", "MOST_WEIGHED = 200000"
+    for most, is_brief in ((3, False), (4, True)):
+        sandbox.edit(name, line, "MOST_WEIGHED = %d" % most)
+        answer = sandbox.call(TOOL, "--brief", "o.db", "n.db")
+        sandbox.holds("more changes than are weighed: %d" % most, answer.output == (UNJUDGED.encode() if is_brief else report), answer)
+        line = "MOST_WEIGHED = %d" % most
+    sandbox.edit(name, line, "MOST_WEIGHED = 200000")
     answer = sandbox.call(TOOL, "--brief", "t1.db", "t2.db")
     told = b"changed  /t: mtime 2023-11-14T22:13:20Z -> 1969-12-31T23:59:59Z\n"
     sandbox.expect("times as dates", answer, 4, told)

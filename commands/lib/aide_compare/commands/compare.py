@@ -212,8 +212,8 @@ class Printer:
     def _print(self, comparison, explained=None):
         """Prints the report, or what people read first of the changes."""
         try:
-            if explained:
-                text = explained.brief()
+            text = explained.brief() if explained else b""
+            if text:
                 write_all(1, coloured(text) if self.has_colours else text)
                 write_all(1, self.more.encode("utf-8", "backslashreplace"))
             elif comparison.report is not None and comparison.status <= 7:

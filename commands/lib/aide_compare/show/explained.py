@@ -21,6 +21,7 @@ from aide_compare.show.brief import brief, unjudged
 
 BLOCK = 1 << 18
 MOST_CAME = 20
+MOST_WEIGHED = 200000  # Each takes half a kilobyte of memory. Of more the report is printed, which takes none.
 ENCODE = json.JSONEncoder(separators=(",", ":")).encode
 
 
@@ -75,7 +76,10 @@ class Wanted:
 
     def explain(self, comparison):
         """Explains a comparison and writes what is wanted. Returns the Explained, None if the changes are not explained."""
-        explained = explain(comparison, self.sources, self.with_details, self.weighs)
+        weighs = self.weighs and sum(comparison.counts or ()) <= MOST_WEIGHED
+        if not (weighs or self.sources or self.with_details):
+            return None
+        explained = explain(comparison, self.sources, self.with_details, weighs)
         if explained is None:
             self.write_nothing()
             return None
