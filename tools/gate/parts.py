@@ -21,12 +21,12 @@ def at_least(number, *words):
 
 
 FILES = [
-    exactly(214, "tools.source.check_edits"),
-    exactly(543, "tools.source.check_docs"),
+    exactly(210, "tools.source.check_edits"),
+    exactly(541, "tools.source.check_docs"),
     exactly(90, "tools.source.check_layout"),
-    exactly(159, "tools.source.check_layers"),
-    exactly(577, "tools.source.check_tools"),
-    exactly(981, "tools.source.check_planted"),
+    exactly(152, "tools.source.check_layers"),
+    exactly(565, "tools.source.check_tools"),
+    exactly(936, "tools.source.check_planted"),
     exactly(1828, "tools.wrong_bodies.check"),
 ]
 
@@ -40,8 +40,8 @@ def trials(program, in_memory):
     """The trials of the built program and of the commands."""
     return [
         at_least(2600, "tools.program.end_to_end", program),
-        at_least(3550, "tools.program.try_configurations", program),
-        exactly(341, "tools.program.try_fields", program),
+        at_least(4378, "tools.program.try_configurations", program),
+        exactly(732, "tools.program.try_fields", program),
         exactly(804, "tools.program.try_line_definitions"),
         at_least(1600, "tools.program.failed_allocations", program, "--in-memory", in_memory),
         at_least(310, "tools.program.failed_calls", program),
@@ -59,7 +59,7 @@ def quick_trials(program):
     """Those that take seconds. The others prove something, let each allocation fail, install, or wait for processes."""
     return [
         at_least(970, "tools.program.end_to_end", program, "--quick", "--sessions", "50"),
-        exactly(341, "tools.program.try_fields", program),
+        exactly(732, "tools.program.try_fields", program),
         exactly(564, "tools.program.try_line_definitions", "--count", "60"),
         at_least(310, "tools.program.failed_calls", program),
         at_least(735, "tools.pages.try_manual", program),

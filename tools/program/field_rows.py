@@ -25,18 +25,18 @@ NUMBERS = [
     (b"mtime", b"MDAxMA==", "Mtime", "10"),
 ]
 
-# Modes, and the type that each gives. `None` stands for an entry without a type.
+# Modes, and the type and its letter that each gives. `None` stands for an entry without a type.
 TYPES = [
-    (b"100644", "File"),
-    (b"40755", "Directory"),
-    (b"120777", "Link"),
-    (b"20600", "Character device"),
-    (b"60600", "Block device"),
-    (b"10600", "FIFO"),
-    (b"140755", "Socket"),
-    (b"37777777777", "Other"),
-    (b"110000", "Other"),
-    (b"0644", None),
+    (b"100644", "File", "f"),
+    (b"40755", "Directory", "d"),
+    (b"120777", "Link", "l"),
+    (b"20600", "Character device", "c"),
+    (b"60600", "Block device", "b"),
+    (b"10600", "FIFO", "p"),
+    (b"140755", "Socket", "s"),
+    (b"37777777777", "Other", "?"),
+    (b"110000", "Other", "?"),
+    (b"0644", None, "?"),
 ]
 
 # Names of links: the field, and the name.

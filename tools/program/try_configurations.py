@@ -11,7 +11,7 @@ import random
 import re
 
 from tools.lib.arguments import parser_of
-from tools.program.configurations import accepted, limits, refused
+from tools.program.configurations import accepted, limits, names, refused
 from tools.program.configurations.random_blocks import random_texts
 from tools.oracle.attributes import ATTRIBUTES
 from tools.oracle.session import CONFIGURATION_WORDS, Answer
@@ -26,7 +26,7 @@ ACCEPTED = Answer(b"", b"", 0)
 OWNED = b"@@begin_db\n@@db_spec name attr perm size uid\n/c 44 100644 10 %d\n@@end_db\n"
 FORCED_LINES = {"Perm": b"  Perm      : 0644 ", "Size": b"  Size      : 10 "}
 
-# An entry that has every attribute, and in which nothing but the owner changes.
+# Fields of an entry that has every attribute.
 DETAIL = re.compile(rb"^  (\S+?) *: ", re.M)
 VALUES = {"type": b"120644", "perm": b"120644", "number": b"7", "time": base64.b64encode(b"7"), "link": b"x", "opaque": b"x"}
 
@@ -56,13 +56,13 @@ def refusal(said):
     return Answer(b"", b"aide: %s\n" % said.encode(), 17)
 
 
-def with_all(owner):
-    """A database of one entry with all attributes."""
+def with_all(**more):
+    """A database of one entry with all attributes, and these other fields."""
     fields = {
         each.column: VALUES[each.form] if each.form in VALUES else base64.b64encode(bytes(each.form[0])) for each in ATTRIBUTES
     }
     bits = sum(1 << each.bit for each in ATTRIBUTES if each.bit)
-    fields.update(name=b"/c", attr=b"%d" % bits, uid=b"%d" % owner)
+    fields.update({"name": b"/c", "attr": b"%d" % bits, **more})
     lines = (b"@@begin_db", b"@@db_spec " + " ".join(fields).encode(), b" ".join(fields.values()), b"@@end_db")
     return b"".join(line + b"\n" for line in lines)
 
@@ -80,7 +80,11 @@ class Trials:
     def check(self, label, words, want):
         """The program and the definitions answer what is wanted."""
         self.tally.check(label, run(self.program, words), want)
-        self.tally.add("the definitions at " + label, difference(wanted(words), want))
+        self.agree(label, words, want)
+
+    def agree(self, label, words, answer):
+        """The definitions give this answer."""
+        self.tally.add("the definitions at " + label, difference(wanted(words), answer))
 
     def compared(self, text, before=b"", after=b""):
         """The words that compare the databases of the folder."""
@@ -124,7 +128,7 @@ def quiet_texts():
 def try_accepted(trials):
     trials.pair(OLD, NEW)
     usual = run(trials.program, trials.compared(b""))
-    trials.check("a configuration of no lines", trials.compared(b""), usual)
+    trials.agree("a configuration of no lines", trials.compared(b""), usual)
     for texts in quiet_texts():
         trials.sets(shown(texts[1]), texts, usual, ACCEPTED)
     for text in accepted.MINIMAL:
@@ -138,19 +142,57 @@ def try_forced(trials):
         answer = run(trials.program, words)
         forced = [other for other, line in FORCED_LINES.items() if line in answer.output]
         trials.tally.add(shown(text), [] if forced == [name] else ["forced are %r" % forced])
-        trials.check(shown(text), words, answer)
+        trials.agree(shown(text), words, answer)
+
+
+def try_forms(trials):
+    """Which names a variable and a group may have, and what each is in an expression."""
+    for name, is_variable, is_group, fault in names.NAMES:
+        for line, is_good in ((b"@@undef " + name, is_variable), (name + b" = p", is_group)):
+            if is_good is not None:
+                trials.check(shown(line), trials.words(b"-D", line), ACCEPTED if is_good else refusal("config:1: bad name"))
+        line = b"my = " + name
+        trials.check(shown(line), trials.words(b"-D", line), refusal("config:1: " + fault) if fault else ACCEPTED)
+
+
+def detail_names(answer):
+    """The names in the details of a report."""
+    details = answer.output.partition(b"Detailed information")[2].partition(b"The attributes of the databases")[0]
+    return {name.decode() for name in DETAIL.findall(details)}
 
 
 def try_names(trials):
-    """What each predefined name stands for."""
-    trials.pair(with_all(0), with_all(1))
-    for text, names in accepted.NAMES:
-        words = trials.compared(b"report_force_attrs=" + text)
+    """What predefined names and expressions force: what is shown whether the owner or the group has changed."""
+    for before, rows in ((b"", accepted.NAMES), (accepted.OWN_GROUPS, accepted.EXPRESSIONS)):
+        for text, names_shown in rows:
+            words = trials.compared(before + b"report_force_attrs=" + text)
+            shown_of = []
+            for changed in ("uid", "gid"):
+                trials.pair(with_all(), with_all(**{changed: b"1"}))
+                answer = run(trials.program, words)
+                trials.agree(shown(text), words, answer)
+                shown_of.append(detail_names(answer))
+            got = shown_of[0] & shown_of[1]
+            trials.tally.add(shown(text), [] if got == set(names_shown) else ["forced are %r" % sorted(got)])
+
+
+def try_levels(trials):
+    """Whether a report of each level has lists and details."""
+    trials.pair(OLD, NEW)
+    for level, has_lists, has_details in accepted.LEVELS:
+        words = trials.compared(b"report_level=" + level)
         answer = run(trials.program, words)
-        details = answer.output.partition(b"Detailed information")[2].partition(b"The attributes of the databases")[0]
-        got = {name.decode() for name in DETAIL.findall(details)}
-        trials.tally.add(shown(text), [] if got == {"UID"} | set(names) else ["forced are %r" % sorted(got)])
-        trials.check(shown(text), words, answer)
+        got = b"\nf < p             : /c\n" in answer.output, b"\nDetailed information" in answer.output
+        trials.tally.add(shown(level), [] if got == (has_lists, has_details) else ["lists and details: %r" % (got,)])
+        trials.agree(shown(level), words, answer)
+
+
+def try_paths(trials):
+    """Which paths the databases have: one that is not there is named."""
+    trials.pair(OLD, NEW)
+    for before, text, side, path in accepted.PATHS:
+        said = b"aide: cannot open the %s database %s\n" % (side, path)
+        trials.check(shown(text), trials.compared(text, before), Answer(b"", said, 18))
 
 
 def try_random(trials, seed, count):
@@ -185,7 +227,10 @@ def main():
         try_limits(trials)
         try_accepted(trials)
         try_forced(trials)
+        try_forms(trials)
         try_names(trials)
+        try_levels(trials)
+        try_paths(trials)
         try_random(trials, given.seed, given.count)
     trials.tally.end()
 

@@ -1,4 +1,5 @@
 """Configurations without a fault, by what they set."""
+from tools.program.configurations.limits import GROUPS
 
 # They use blocks and variables to set `report_quiet`, and nothing else.
 QUIET = [
@@ -117,6 +118,7 @@ FORCED = [
     ("Size", b"my = s\nreport_force_attrs=my\n@@define A x\n@@ifdef A\nmy = p\n@@endif"),
     ("Perm", b"report_force_attrs=p-p+p"),
     ("Size", b"my = s-p+p\nreport_force_attrs=p-s-my+my-p"),
+    ("Size", GROUPS + b"v0007 = E\nreport_force_attrs=v0008-v0007-p"),
 ]
 
 # The predefined names, and the details of an entry with all attributes that each of them forces.
@@ -140,4 +142,48 @@ NAMES = [
     (b"R-H", INODE + ["Size", "Mtime", "Ctime"] + RIGHTS),
     (b"H-R+compressed", DIGESTS[1:]),
     (b"X+L-X+growing", INODE),
+]
+
+# Groups: one defined by itself, one in the place of a predefined name, one with the name of a column.
+OWN_GROUPS = b"my = p+s\nmy = my+u\n> = my\nsize = E\n"
+
+# What expressions over these groups force.
+EXPRESSIONS = [
+    (b"p+s-s+s", ["Perm", "Size"]),
+    (b"p-s+s", ["Perm", "Size"]),
+    (b"p+s-s", ["Perm"]),
+    (b" p\t+ s ", ["Perm", "Size"]),
+    (b"p+S-growing", ["Perm"]),
+    (b"E", []),
+    (b"E-p+p", ["Perm"]),
+    (b"my", ["Perm", "Size", "UID"]),
+    (b">", ["Perm", "Size", "UID"]),
+    (b">-p", ["Size", "UID"]),
+    (b"X", RIGHTS),
+    (b"size", []),
+    (b"L", INODE + RIGHTS),
+    (b"L-X", INODE),
+    (b"R-L", ["Size", "Mtime", "Ctime", "MD5"]),
+    (b"H-sha3_256-sha1", [name for name in DIGESTS if name not in ("SHA1", "SHA3-256")]),
+    (b"a+m+c+b", ["Atime", "Mtime", "Ctime", "Bcount"]),
+]
+
+# The levels, and whether a report has lists of entries and details of changed attributes.
+LEVELS = [
+    (b"minimal", False, False),
+    (b"summary", False, False),
+    (b"database_attributes", False, False),
+    (b"list_entries", True, False),
+    (b"changed_attributes", True, True),
+    (b"added_removed_attributes", True, True),
+    (b"added_removed_entries", True, True),
+]
+
+# A text before the file and the file, by which a database is looked for that is not there: the side and the path.
+PATHS = [
+    (b"", b"database_in=file:///none/old\ndatabase=file:/none/older\ndatabase_new=file:/none/new", b"old", b"/none/older"),
+    (b"", b"database_in=file:///none/old\ndatabase_new=file:////none/new", b"old", b"/none/old"),
+    (b"", b"database_new=file:////none/new", b"new", b"//none/new"),
+    (b"@@define DIR /none/lib\n", b"database_in=file:@@{DIR}/old.db", b"old", b"/none/lib/old.db"),
+    (b"@@define DIR /none/lib\n", b"database_new=file:@@{DIR}/new.db", b"new", b"/none/lib/new.db"),
 ]

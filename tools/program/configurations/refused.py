@@ -121,6 +121,7 @@ VALUES = [
     (1, "bad value", b"report_force_attrs="),
     (1, "bad value", b"report_quiet=YES"),
     (1, "bad value", b"report_level=loud"),
+    (1, "bad value", b"report_level=none"),
     (1, "bad value", b"report_format=xml"),
     (1, "bad value", b"database_in="),
     (1, "bad value", b"grouped="),

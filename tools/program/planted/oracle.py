@@ -12,6 +12,7 @@ PLANTED = (
         (ATTRIBUTES, "return min(faults)[2]", "return max(faults)[2]"),
         (ATTRIBUTES, '"s", "m", "c", "md5"]', '"s", "m", "c"]'),
         (ATTRIBUTES, ', "growing", "compressed"]', ', "growing"]'),
+        (ATTRIBUTES, '"L": frozenset(["p", "ftype", "i", "l", "n", "u",', '"L": frozenset(["p", "ftype", "i", "l", "n",'),
         (ATTRIBUTES, 'signs[-1] != b"-"', 'b"-" not in signs'),
         (
             CONFIGURATION,
@@ -22,6 +23,10 @@ PLANTED = (
         (CONFIGURATION, "4096, 1024, 32", "4095, 1024, 32"),
         (CONFIGURATION, "4096, 1024, 32", "4096, 1024, 33"),
         (CONFIGURATION, "[A-Za-z0-9_]{1,64}", "[A-Za-z0-9_]{1,65}"),
+        (CONFIGURATION, '(WORD.fullmatch(name) or name == b">")', "WORD.fullmatch(name)"),
+        (CONFIGURATION, "text in NAMES or text in EMPTY_NAMES", "text in EMPTY_NAMES"),
+        (CONFIGURATION, '"database": "database_in"', '"database": "database_new"'),
+        (CONFIGURATION, '"list_entries",\n    "changed_attributes"', '"changed_attributes",\n    "list_entries"'),
         (CONFIGURATION, 'return rest, word == b"ifdef"', 'return rest, word == b"ifndef"'),
         (CONFIGURATION, "if not around or around[-1][1]:", "if not around:"),
         (CONFIGURATION, 'return judge_word(word) if word.startswith(b"if") else None', "return None"),
@@ -64,6 +69,11 @@ PLANTED = (
     )
     + seen_by(
         "try_fields",
+        (ATTRIBUTES, '"lcount", 11, "n"', '"lcount", 12, "n"'),
+        (ATTRIBUTES, '"haval", None, "H", (1, 64)', '"haval", None, "H", (1, 63)'),
+        (ATTRIBUTES, '"caps", "Caps", "capabilities", None, "C"', '"caps", "Caps", "capabilities", None, "E"'),
+        (COMPARISON, '    if changed or added or removed:\n        return ":"', '    if changed:\n        return ":"'),
+        (FIELDS, '0o01: ("p", "FIFO")', '0o01: ("f", "FIFO")'),
         (FIELDS, "LEAST, GREATEST, DIGITS = -(2**63), 2**64 - 1,", "LEAST, GREATEST, DIGITS = -(2**63), 2**63 - 1,"),
         (FIELDS, "LEAST, GREATEST, DIGITS = -(2**63),", "LEAST, GREATEST, DIGITS = -(2**63) + 1,"),
         (FIELDS, "int(field, 8) > 2**32 - 1", "int(field, 8) > 2**32"),
