@@ -1,37 +1,10 @@
-//! Attributes: names, expressions and changes. Groups: failed allocations, and the greatest number of groups.
+//! Groups: failed allocations, and what no report shows of attributes and groups.
 use crate::Refusing;
 use aide_attr::{Attr, AttrSet, GroupFault, Groups};
 use std::alloc::{Allocator, Global};
 use std::process::Abort;
-use std::test::Fail;
 
-mod changes;
-mod expressions;
-mod names;
-mod table;
-
-/// Whether the name is one of these names, which are separated by blanks.
-fn is_listed(name: &[u8], names: &[u8]) -> bool {
-    names.split(|byte| *byte == b' ').any(|n| n == name)
-}
-
-/// Whether the set has exactly these attributes.
-fn has_exactly(set: AttrSet, names: &[u8]) -> bool {
-    Attr::ALL
-        .iter()
-        .all(|attr| set.has(*attr) == is_listed(attr.name(), names))
-}
-
-/// The set of these attributes.
-fn set_named(names: &[u8]) -> AttrSet {
-    let mut set = AttrSet::empty();
-    for attr in &Attr::ALL {
-        if is_listed(attr.name(), names) {
-            set = set.union(AttrSet::of(*attr));
-        }
-    }
-    set
-}
+mod unseen;
 
 /// A name for each number below 10,000.
 fn name_of(number: u32) -> [u8; 5] {
@@ -120,19 +93,4 @@ fn growths(rt: &impl Abort, alloc: Global) -> u64 {
 fn each_growth_refused_in_turn(rt: HostRuntime) {
     let growths = growths(&rt, rt.alloc());
     assert!(rt; growths > 100 && growths < 1000, "{growths}");
-}
-
-#[test]
-fn a_full_table(rt: HostRuntime) -> Result<(), Fail> {
-    let mut groups = Groups::new(rt.alloc());
-    for number in 0..1024 {
-        assert!(rt; groups.define(&name_of(number), set_of(number)) == Ok(()));
-    }
-    let refused = groups.define(&name_of(1024), AttrSet::empty());
-    assert!(rt; refused == Err(GroupFault::Full));
-    assert!(rt; groups.look(&name_of(1024)) == None);
-    assert!(rt; groups.define(&name_of(7), AttrSet::empty()) == Ok(()));
-    assert!(rt; groups.look(&name_of(7)) == Some(AttrSet::empty()));
-    assert!(rt; groups.look(&name_of(8)) == Some(set_of(8)));
-    Ok(())
 }
