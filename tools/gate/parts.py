@@ -22,8 +22,8 @@ def at_least(number, *words):
 
 FILES = [
     exactly(210, "tools.source.check_edits"),
-    exactly(541, "tools.source.check_docs"),
-    exactly(90, "tools.source.check_layout"),
+    exactly(542, "tools.source.check_docs"),
+    exactly(96, "tools.source.check_layout"),
     exactly(152, "tools.source.check_layers"),
     exactly(565, "tools.source.check_tools"),
     exactly(936, "tools.source.check_planted"),

@@ -26,15 +26,15 @@ MEMORY = [
         Tool("failed_allocations"),
         GATE,
     ),
-    Row("the same inside the crates, at each level", "`aide_faults`, `aide_in_memory`", EACH, GATE),
+    Row("the same inside the crates, at each level", "`aide_report_runs`, `aide_in_memory`", EACH, GATE),
     Row("the same by the toolchain", "`rt try --fail-alloc N`", "12 numbers", HAND),
     Row("little memory, in steps of 4 kB", "program/end_to_end.py", Tool("end_to_end"), GATE),
     Row("64 kB of stack; 48 kB are right, 44 kB failed 4 of 12", "program/end_to_end.py", PART, BOTH),
 ]
 DEVICES = [
-    Row("each opening, read, byte of the report and flush fails", "`aide_faults`, `aide_runs`", EACH, GATE),
+    Row("each opening, read, byte of the report and flush fails", "`aide_report_runs`, `aide_runs`", EACH, GATE),
     Row("each call of the program on a file fails or moves half", "program/failed_calls.py", Tool("failed_calls"), GATE),
-    Row("databases replaced, cut or damaged from each opening on", "`aide_faults`", "each byte", GATE),
+    Row("databases replaced, cut or damaged from each opening on", "`aide_report_runs`", "each byte", GATE),
     Row("devices, FIFOs, closed pipes, full disks, 2 GB in a line", "program/end_to_end.py", PART, GATE),
     Row("files that change during the run; limits on the output", "program/hostile.py", "1,900", HAND),
 ]
@@ -57,7 +57,7 @@ TEXTS = [
     Row("odd paths, arguments and missing files", "program/end_to_end.py", PART, GATE),
     Row("a database cut at each byte", "`aide_faults`, program/end_to_end.py", EACH, GATE),
     Row("a database with each byte changed, taken out, put in", "program/hostile.py", "14,000", HAND),
-    Row("digests beside those of the crate `sha2`", "`aide_faults`", "20", GATE),
+    Row("digests beside those of the crate `sha2`", "`aide_report_runs`", "20", GATE),
     Row("a configuration of 4 MB: one minute at the most", "not kept", "16 forms", HAND),
 ]
 PAGES = [

@@ -11,7 +11,7 @@ from tools.lib.arguments import parser_of
 from tools.source.check_docs import read_text, tracked
 from tools.source.checker import below, libraries
 
-TESTS = ("aide_faults", "aide_in_memory", "aide_runs")
+TESTS = ("aide_faults", "aide_in_memory", "aide_report_runs", "aide_runs")
 KINDS = (
     ("Definitions and what they stand for in code", r"crates/[^/]+/specs/"),
     ("Code", r"crates/[^/]+/src/"),

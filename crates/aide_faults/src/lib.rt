@@ -7,19 +7,15 @@ mod cursor_tests;
 mod group_tests;
 mod noted;
 mod pace;
-#[cfg(test)]
-mod pieces;
 mod reels;
 mod refusing;
-#[cfg(test)]
-mod run_tests;
 #[cfg(test)]
 mod settings_tests;
 mod sinks;
 mod sources;
 
 pub use noted::{Journal, NotedReel, NotedSources};
-pub use pace::Pace;
+pub use pace::{PACES, Pace};
 pub use reels::{EndlessReel, PlannedReel};
 pub use refusing::Refusing;
 pub use sinks::PlannedSink;

@@ -4,13 +4,12 @@ ghost use Rattle.std.specs.Prelude.{◌≡◌, ◌<◌, ◌≤◌};
 /// The most bytes that one read or write moves, at least one.
 #[derive(Clone, Copy, Debug)]
 pub struct Pace {
-    most: usize,
+    pub most: usize,
     ghost some: { 0 < most },
 }
 
 /// A few bytes at a time, and numbers of bytes near the size of a chunk.
-#[cfg(test)]
-pub(crate) const PACES: [Pace; 5] = [
+pub const PACES: [Pace; 5] = [
     Pace { most: 1 },
     Pace { most: 7 },
     Pace { most: 4095 },

@@ -1,8 +1,8 @@
 //! Databases that are unsound, cannot be opened or read, or change between two openings.
 use super::trial::{Trial, Wrong, assert_stops, database, line_at};
 use super::{DIFFERENT, NEW, OLD, REPORT, SAME, options_of};
-use crate::{Broken, Change, SidePlan};
 use aide_db::{DbFaultKind as Kind, Side};
+use aide_faults::{Broken, Change, SidePlan};
 use aide_report::RunFault;
 use std::alloc::Global;
 use std::process::Abort;

@@ -1,9 +1,8 @@
 //! 200,000 entries on each side, and two runs over one desk.
 use super::{SAME, assert_answer, assert_well, options_of, run_over};
-use crate::pace::PACES;
-use crate::{PlannedSources, SidePlan};
 use aide_conf::Task;
 use aide_db::{Desk, Limits, MemorySources, Side};
+use aide_faults::{PACES, PlannedSources, SidePlan};
 use aide_report::{MemorySink, Outcome, run};
 use std::alloc::{AllocError, Global};
 use std::test::Fail;

@@ -2,7 +2,7 @@
 use std::alloc::{AllocError, Allocator};
 
 /// These pieces, one after another.
-pub(crate) fn joined<A: Allocator + Copy>(
+pub(super) fn joined<A: Allocator + Copy>(
     alloc: A,
     pieces: &[&[u8]],
 ) -> Result<Vec<u8, A>, AllocError> {

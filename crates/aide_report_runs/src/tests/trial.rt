@@ -1,9 +1,9 @@
 //! A run over two databases in which something fails or changes, and then a good run over the same desk.
 use super::reported::overview_of;
 use super::{assert_answer, assert_openings, assert_well, run_over};
-use crate::{Pace, PlannedSink, PlannedSources, SidePlan};
 use aide_conf::Options;
 use aide_db::{DbFault, DbFaultKind, Desk, Side};
+use aide_faults::{Pace, PlannedSink, PlannedSources, SidePlan};
 use aide_report::{MemorySink, RunFault};
 use std::alloc::{Allocator, Global};
 use std::process::Abort;

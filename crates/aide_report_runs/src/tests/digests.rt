@@ -1,6 +1,6 @@
 //! The digests of the databases in a report, beside those that the crate `sha2` computes of the same bytes.
+use super::pieces::joined;
 use super::{assert_well, options_of, run_over};
-use crate::pieces::joined;
 use aide_db::{Desk, MemorySources};
 use aide_report::MemorySink;
 use base64::engine::general_purpose::STANDARD;

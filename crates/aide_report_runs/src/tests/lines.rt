@@ -1,10 +1,9 @@
 //! Runs that write lines of JSON. The lines are those of the plain program in `tools/oracle`.
 use super::rows::CountingWriter;
 use super::{OLD, assert_openings, options_of};
-use crate::pace::PACES;
-use crate::{Pace, PlannedSources, SidePlan};
 use aide_conf::{Options, Task};
 use aide_db::{Desk, Limits, Sources};
+use aide_faults::{PACES, Pace, PlannedSources, SidePlan};
 use aide_report::{Outcome, RunFault, Sink, WriteSink, run_lines};
 use std::alloc::{Allocator, Global};
 use std::process::Abort;

@@ -3,9 +3,9 @@ ghost use Rattle.std.specs.Prelude.{◌≤◌};
 
 use super::trial::database;
 use super::{DIFFERENT, SAME, assert_well, options_of, pair, run_into};
-use crate::{Pace, PlannedSources, Refusing, SidePlan};
 use aide_conf::{Options, Task};
 use aide_db::{DbFaultKind, Desk, DeskFault, Limits, Side, Sources};
+use aide_faults::{Pace, PlannedSources, Refusing, SidePlan};
 use aide_report::{Outcome, RunFault, Sink, WriteSink, run};
 use arrayvec::ArrayVec;
 use std::alloc::{Allocator, Global};

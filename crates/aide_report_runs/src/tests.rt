@@ -1,7 +1,7 @@
 //! Runs over devices that fail, change or move few bytes at a time, and on desks whose allocations fail.
-use crate::{Pace, PlannedSources, SidePlan};
 use aide_conf::{Need, Options, Settings, Task};
 use aide_db::{Desk, Limits, Side, Sources};
+use aide_faults::{Pace, PlannedSources, SidePlan};
 use aide_report::{Outcome, RunFault, Sink, WriteSink, run};
 use arrayvec::ArrayVec;
 use std::alloc::{Allocator, Global};
@@ -16,6 +16,7 @@ mod levels;
 mod lines;
 mod lists;
 mod pair;
+mod pieces;
 mod refused;
 mod reported;
 mod room;

@@ -1,9 +1,8 @@
 //! A run over two sound databases, and its right answer.
 use super::trial::Trial;
 use super::{assert_answer, assert_openings, options_of, run_over};
-use crate::pace::PACES;
-use crate::{Pace, PlannedSources, SidePlan};
 use aide_db::Desk;
+use aide_faults::{PACES, Pace, PlannedSources, SidePlan};
 use aide_report::{Outcome, RunFault, WriteSink};
 use std::alloc::{Allocator, Global};
 use std::io::{self, Error, ErrorKind, Write};
@@ -52,7 +51,7 @@ impl<A: Allocator + Copy> CountingWriter<A> {
 
 impl<A: Allocator + Copy> Write for CountingWriter<A> {
     fn write(&mut self, buf: &[u8]) -> io::Result<usize> {
-        let count = self.pace.before(buf.len() as u64);
+        let count = self.pace.most.min(buf.len());
         match self.bytes.extend_from_slice(&buf[..count]) {
             Ok(()) => Ok(count),
             Err(_) => Err(Error::from(ErrorKind::OutOfMemory)),

@@ -3,8 +3,8 @@ use super::refused::whole_trial;
 use super::reported::Titles;
 use super::trial::Trial;
 use super::{assert_answer, assert_openings, run_over};
-use crate::{Pace, PlannedSources, SidePlan};
 use aide_db::Desk;
+use aide_faults::{Pace, PlannedSources, SidePlan};
 use aide_report::{RunFault, WriteSink};
 use std::alloc::{Allocator, Global};
 use std::io::{self, Error, ErrorKind, Write};
@@ -67,7 +67,8 @@ impl<A: Allocator + Copy> Write for StumblingWriter<A> {
                 Stumble::TakesNothing => Ok(0),
             };
         }
-        let count = self.pace.before(self.most()).min(buf.len());
+        let most = self.most().min(self.pace.most as u64) as usize;
+        let count = most.min(buf.len());
         self.sound = self.sound.saturating_sub(count as u64);
         match self.bytes.extend_from_slice(&buf[..count]) {
             Ok(()) => Ok(count),

@@ -1,9 +1,9 @@
 //! Runs in which each allocation fails in turn.
 use super::trial::{Trial, assert_serves, database, line_at};
 use super::{NEW, OLD, REPORT, SAME, assert_answer, assert_well, options_of, pair, run_over};
-use crate::{Journal, NotedSources, Pace, PlannedSources, Refusing, SidePlan};
 use aide_conf::Options;
 use aide_db::{DbFaultKind, Desk, Side};
+use aide_faults::{Journal, NotedSources, Pace, PlannedSources, Refusing, SidePlan};
 use aide_report::{MemorySink, Outcome, RunFault};
 use std::alloc::{AllocError, Allocator, Global};
 use std::process::Abort;

@@ -1,5 +1,5 @@
 //! A pair of databases with every form of field, and its report at each level.
-use crate::pieces::joined;
+use super::pieces::joined;
 use std::alloc::{AllocError, Allocator};
 
 pub(super) const OLD: &[u8] = b"@@begin_db\n\
