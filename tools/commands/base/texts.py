@@ -13,7 +13,7 @@ from aide_compare import VERSION
 from aide_compare.base import ending, escapes, options, times
 from aide_compare.compare import configuration, reports, state
 from aide_compare.lines import attributes
-from aide_compare.reasons import entry_words
+from aide_compare.reasons import entries, entry_words
 
 ESCAPED = (
     (b"a b", "a b"),

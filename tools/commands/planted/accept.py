@@ -73,7 +73,7 @@ PLANTED = (
     )
     + seen_by(
         "accept.try_at_once",
-        (BASELINE, "return fcntl.flock(self.folder, fcntl.LOCK_EX | fcntl.LOCK_NB)", "return None"),
+        ("commands/lib/aide_compare/base/files.py", "            fcntl.flock(descriptor, how | fcntl.LOCK_NB)\n", ""),
     )
     + seen_by("accept.try_places", (BASELINE, "        if not stat.S_ISREG(found.st_mode):", "        if False:"))
     + seen_by(

@@ -93,7 +93,14 @@ PLANTED = (
         (ENDING, "empty = 0 if count else empty + 1", "empty += not count"),
         (CHILD, "        if time.monotonic() >= deadline:\n            return None\n", ""),
     )
-    + seen_by("bounded.try_name_taken", (FILES, "            return False\n", "            raise\n"))
+    + seen_by(
+        "bounded.try_name_taken",
+        (
+            FILES,
+            "        except FileNotFoundError:\n            return False\n",
+            "        except FileNotFoundError:\n            raise\n",
+        ),
+    )
     + seen_by("bounded.try_group_bit", (ROOM, "& ~stat.S_ISGID == 0o700", "== 0o700"))
     + seen_by(
         "bounded.try_odd_room",

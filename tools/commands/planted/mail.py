@@ -3,7 +3,18 @@ from .plant import seen_by
 
 MAIL, MESSAGE, SENDING, SMTP, CHILD, QUEUE, WEEKLY, HINTS, COMPARISON, FILES = (
     "commands/lib/aide_compare/%s.py" % name
-    for name in ("commands/mail", "mail/message", "mail/sending", "mail/smtp", "base/child", "mail/queue", "mail/weekly", "compare/hints", "compare/comparison", "base/files")
+    for name in (
+        "commands/mail",
+        "mail/message",
+        "mail/sending",
+        "mail/smtp",
+        "base/child",
+        "mail/queue",
+        "mail/weekly",
+        "compare/hints",
+        "compare/comparison",
+        "base/files",
+    )
 )
 PLANTED = (
     seen_by(
@@ -23,7 +34,11 @@ PLANTED = (
     + seen_by(
         "mail.try_hint",
         (HINTS, '"cannot open the (old|new) database', '"cannot open the (old) database'),
-        (HINTS, "    except KeyError:\n        user", "    except IndexError:\n        user"),
+        (
+            "commands/lib/aide_compare/base/rights.py",
+            "    except KeyError:\n        return str",
+            "    except IndexError:\n        return str",
+        ),
     )
     + seen_by(
         "mail.try_bounds",
@@ -75,7 +90,11 @@ PLANTED = (
     + seen_by(
         "mail.try_pages",
         (MAIL, "host(), is_plain=True)", "host(), is_plain=False)"),
-        (MAIL, "    except Exception as error:\n        return None, why_of(error)\n", "    except Fault as error:\n        return None, why_of(error)\n"),
+        (
+            MAIL,
+            "    except Exception as error:\n        return None, why_of(error)\n",
+            "    except Fault as error:\n        return None, why_of(error)\n",
+        ),
         (MAIL, "            if room < 0:\n", "            if False:\n"),
     )
     + seen_by(

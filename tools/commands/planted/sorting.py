@@ -25,7 +25,7 @@ PLANTED = (
         (LIB + "base/external_sort.py", '"-s", "-S", "32M"', '"-s", "-S", "200M"'),
         (
             LIB + "base/private_room.py",
-            "            if _locked(descriptor):\n                self._remove(name, descriptor)\n",
+            "            if is_locked(descriptor):\n                self._remove(name, descriptor)\n",
             "",
         ),
     )

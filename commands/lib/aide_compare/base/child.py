@@ -65,6 +65,15 @@ def _answer_of(reading, limit):
     return None
 
 
+def kill_group(child):
+    """Kills a child with its group."""
+    for kill in (os.killpg, os.kill):
+        try:
+            kill(child, signal.SIGKILL)
+        except ProcessLookupError:
+            pass
+
+
 def ended(child, deadline):
     """The wait status with which a child ends; None if it has not ended by then: one in a call that does not return cannot be
     ended."""

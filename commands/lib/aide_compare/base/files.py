@@ -1,9 +1,11 @@
 """Files that are opened without trust: read, made without a name, or replaced in one step. How a path is followed is in
 folders.py."""
 import errno
+import fcntl
 import io
 import os
 import stat
+import time
 
 from aide_compare.base.ending import Fault, Status, reason, write_all
 from aide_compare.base.escapes import shown
@@ -15,7 +17,7 @@ from aide_compare.base.folders import (
     walked,
 )  # noqa: F401 (for those who use this module)
 
-COPIED, HELD = 1 << 18, 1 << 20
+COPIED, HELD = 1 << 18, 1 << 18
 MOST_TRIES = 100
 NO_TMPFILE = (errno.EOPNOTSUPP, errno.EISDIR, errno.EINVAL)
 NEW_FILE = os.O_CREAT | os.O_EXCL | os.O_RDWR | os.O_NOFOLLOW | os.O_CLOEXEC
@@ -267,6 +269,18 @@ class Replacement:
             os.fsync(folder)
         finally:
             os.close(folder)
+
+
+def is_locked(descriptor, deadline=0.0, how=fcntl.LOCK_EX):
+    """Whether this process has the lock of a file by then. It does not wait for ever: another user could keep the lock."""
+    while True:
+        try:
+            fcntl.flock(descriptor, how | fcntl.LOCK_NB)
+            return True
+        except BlockingIOError:
+            if time.monotonic() >= deadline:
+                return False
+            time.sleep(0.02)
 
 
 def replace(path, data, mode=0o644, what="the file"):

@@ -5,7 +5,6 @@ command that was killed: the next one removes it.
 """
 import contextlib
 import errno
-import fcntl
 import os
 import re
 import signal
@@ -14,7 +13,7 @@ import time
 
 from aide_compare.base.ending import Fault, Status, reason
 from aide_compare.base.escapes import shown
-from aide_compare.base.files import failure, open_folder, private_folder, reopened
+from aide_compare.base.files import failure, is_locked, open_folder, private_folder, reopened
 
 SIGNALS = (signal.SIGHUP, signal.SIGINT, signal.SIGQUIT, signal.SIGTERM)
 AGAIN = 2
@@ -69,15 +68,6 @@ def stoppable(work):
         raise
 
 
-def _locked(descriptor):
-    """Whether this process has the lock of the folder now."""
-    try:
-        fcntl.flock(descriptor, fcntl.LOCK_EX | fcntl.LOCK_NB)
-        return True
-    except BlockingIOError:
-        return False
-
-
 class PrivateRoom:
     """A folder `.NAME-..` in $TMPDIR or /var/tmp; only files whose names `pattern` fits are ever removed in it."""
 
@@ -120,7 +110,7 @@ class PrivateRoom:
         name = self.beginning + os.urandom(12).hex()
         os.mkdir(name, 0o700, dir_fd=self.parent)
         descriptor = self._opened(name)
-        if descriptor is not None and _locked(descriptor) and self._is_named(name, descriptor):
+        if descriptor is not None and is_locked(descriptor) and self._is_named(name, descriptor):
             self.name, self.fd = name, descriptor
             return True
         if descriptor is not None:
@@ -161,7 +151,7 @@ class PrivateRoom:
     def _sweep_one(self, name):
         descriptor = self._opened(name)
         if descriptor is not None:
-            if _locked(descriptor):
+            if is_locked(descriptor):
                 self._remove(name, descriptor)
             os.close(descriptor)
 

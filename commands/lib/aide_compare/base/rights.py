@@ -6,13 +6,20 @@ from aide_compare.base.ending import Fault, Status, reason
 from aide_compare.base.escapes import shown
 
 
-def name_of(uid):
+def user_of(uid):
+    """The name of a user, or the number."""
     import pwd
 
     try:
-        return "%s" % shown(pwd.getpwuid(uid).pw_name, 100)
+        return pwd.getpwuid(uid).pw_name
     except KeyError:
-        return "the user %d" % uid
+        return str(uid)
+
+
+def name_of(uid):
+    """The same for people."""
+    user = user_of(uid)
+    return "the user %d" % uid if user == str(uid) else shown(user, 100)
 
 
 def _group_of(uid):

@@ -4,9 +4,10 @@ import os
 from aide_compare.base.ending import Fault, Status, say, write_all
 from aide_compare.base.escapes import shown
 from aide_compare.base.options import Parser, size, some_text
+from aide_compare.base.rights import user_of
 from aide_compare.base.patterns import BadPattern, Pattern
 from aide_compare.base.times import date_of
-from aide_compare.commands.accept_steps import MOST_BYTES, Wish, accept, digest_of_former, user_of
+from aide_compare.commands.accept_steps import MOST_BYTES, Wish, accept, digest_of_former
 from aide_compare.compare.baseline import Baseline
 from aide_compare.compare.state import read_state
 from aide_compare.reasons.evidence_options import EVIDENCE, add_evidence_options

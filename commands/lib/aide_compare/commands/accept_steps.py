@@ -95,16 +95,6 @@ class Accepted:
         self.belongs, self.belonged, self.is_replaced, self.records = None, None, False, ""
 
 
-def user_of(uid):
-    """The name of a user, or the number."""
-    import pwd
-
-    try:
-        return pwd.getpwuid(uid).pw_name
-    except KeyError:
-        return str(uid)
-
-
 def digest_of_former(baseline, most):
     descriptor = baseline.reading()
     if descriptor is None:

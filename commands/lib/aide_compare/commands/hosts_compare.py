@@ -5,7 +5,7 @@ import select
 import signal
 import time
 
-from aide_compare.base.child import end_with
+from aide_compare.base.child import end_with, kill_group
 from aide_compare.base.ending import Fault, Status, reason, write_all
 from aide_compare.base.escapes import guarded, shown
 from aide_compare.base.files import open_regular
@@ -71,13 +71,6 @@ class Worker:
                 os._exit(0)
         os.close(writing)
 
-    def stop(self):
-        for kill in (os.killpg, os.kill):
-            try:
-                kill(self.child, signal.SIGKILL)
-            except ProcessLookupError:
-                pass
-
     def result(self):
         """The line of the host: its name, its status, whether all its changes are explained, and what the status says."""
         os.close(self.fd)
@@ -123,10 +116,10 @@ def results(hosts, given):
                     yield workers.pop(descriptor).result()
             for worker in workers.values():
                 if worker.deadline < time.monotonic():
-                    worker.stop()
+                    kill_group(worker.child)
     finally:
         for worker in workers.values():
-            worker.stop()
+            kill_group(worker.child)
 
 
 def hosts_of(path, share):

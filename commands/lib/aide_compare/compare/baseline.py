@@ -4,7 +4,6 @@ The folder is opened once and locked against other runs. Where another user can 
 is made with the rights of that user, who gains nothing then from what he puts there meanwhile.
 """
 import errno
-import fcntl
 import os
 import stat
 import time
@@ -12,7 +11,7 @@ import time
 from aide_compare.base.ending import Fault, Status, reason
 from aide_compare.base.escapes import shown
 from aide_compare.base.exchange import exchange
-from aide_compare.base.files import ANYBODY, copy_file, failure, kind_of, new_file, open_folder, reopened, unlink
+from aide_compare.base.files import ANYBODY, copy_file, failure, is_locked, kind_of, new_file, open_folder, reopened, unlink
 
 FILE_MODES = 0o666
 PLAIN_FILE = os.O_RDONLY | os.O_NOFOLLOW | os.O_NONBLOCK | os.O_NOCTTY | os.O_CLOEXEC
@@ -66,17 +65,12 @@ class Baseline:
             raise self.fault("its directory cannot be read: %s" % reason(error))
 
     def _lock(self):
-        """Waits for another run, but not for ever: the owner of the folder could keep the lock."""
-        limit = time.monotonic() + SECONDS_FOR_LOCK
-        while True:
-            try:
-                return fcntl.flock(self.folder, fcntl.LOCK_EX | fcntl.LOCK_NB)
-            except BlockingIOError:
-                if time.monotonic() > limit:
-                    raise self.fault("its directory has been locked by another process for %d seconds" % SECONDS_FOR_LOCK)
-                time.sleep(0.02)
-            except OSError as error:
-                raise self.fault("its directory cannot be locked: %s" % reason(error))
+        """Waits for another run."""
+        try:
+            if not is_locked(self.folder, time.monotonic() + SECONDS_FOR_LOCK):
+                raise self.fault("its directory has been locked by another process for %d seconds" % SECONDS_FOR_LOCK)
+        except OSError as error:
+            raise self.fault("its directory cannot be locked: %s" % reason(error))
 
     def _find(self):
         try:

@@ -3,6 +3,7 @@ import os
 import re
 
 from aide_compare.base.escapes import shown
+from aide_compare.base.rights import user_of
 
 LINE = re.compile(rb"aide: (old database|new database|config|before|after):(\d+): (.*)")
 OPENING = re.compile(rb"aide: (?:cannot open the (old|new) database|the (old|new) database changed)")
@@ -121,11 +122,6 @@ def hint_for_owner(text):
     found = re.search(r"cannot open the (old|new) database ([\w/.+-]+): Permission denied", text, re.ASCII)
     if not found or os.geteuid() == 0:
         return
-    import pwd
-
-    try:
-        user = pwd.getpwuid(os.geteuid()).pw_name
-    except KeyError:
-        user = str(os.geteuid())
     what = "baseline" if found.group(1) == "old" else "new database"
-    yield "the %s is not readable for this user, as aideinit leaves it. As root: chown %s: %s" % (what, user, found.group(2))
+    words = what, user_of(os.geteuid()), found.group(2)
+    yield "the %s is not readable for this user, as aideinit leaves it. As root: chown %s: %s" % words

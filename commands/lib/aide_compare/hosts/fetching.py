@@ -5,7 +5,7 @@ import select
 import signal
 import time
 
-from aide_compare.base.child import end_with, ended
+from aide_compare.base.child import end_with, ended, kill_group
 from aide_compare.base.ending import Fault, reason, say
 from aide_compare.base.escapes import shown
 from aide_compare.hosts.fleet_store import BLOCK, Part, no_room, same_bytes, seconds_left
@@ -44,11 +44,7 @@ def start(words, output, errors):
 
 def stop(child):
     """Kills a child with its group. One that waits for a device does not end by that, and is left to itself in the end."""
-    for kill in (os.killpg, os.kill):
-        try:
-            kill(child, signal.SIGKILL)
-        except ProcessLookupError:
-            pass
+    kill_group(child)
     return ended(child, time.monotonic() + STOP_SECONDS)
 
 

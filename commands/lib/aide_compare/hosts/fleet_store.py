@@ -7,7 +7,7 @@ import re
 import time
 
 from aide_compare.base.ending import Fault, Status, reason, say, write_all
-from aide_compare.base.files import new_file, open_regular, replace, unlink
+from aide_compare.base.files import is_locked, new_file, open_regular, replace, unlink
 from aide_compare.base.folders import open_folder
 from aide_compare.compare.state import State
 
@@ -105,13 +105,8 @@ class Place:
         """Waits for the other runs over this host, but not for ever."""
         flags = os.O_RDWR | os.O_CREAT | os.O_NOFOLLOW | os.O_CLOEXEC
         self._locked = os.open("lock", flags, 0o600, dir_fd=self.fd)
-        while True:
-            try:
-                return fcntl.flock(self._locked, how | fcntl.LOCK_NB)
-            except BlockingIOError:
-                if seconds_left(deadline) <= 0:
-                    raise self.fault("another run is at work on it")
-            time.sleep(0.05)
+        if not is_locked(self._locked, deadline, how):
+            raise self.fault("another run is at work on it")
 
     def close(self):
         """Ends the work here, and the lock. Only who goes on to other hosts needs this."""
