@@ -92,15 +92,16 @@ def try_times(tally, _):
 
 def try_words(tally, _):
     """When an entry came or changed: the time of its inode, then its own, if it is another one than before."""
-    columns = ("perm", "uid", "gid", "size", "mtime", "ctime")
+    columns = ("perm", "uid", "gid", "size", "mtime", "ctime", "bcount")
     places = {name: place for place, name in enumerate(columns)}
-    old, kept, back, gone = (
+    old, kept, back, gone, moved = (
         entries.Entry([b"100644", b"0", b"0", *fields], places)
         for fields in (
-            (b"5", b"1795600000", b"1795600000"),
-            (b"6", b"1795600000", b"1795600000"),
-            (b"6", b"1795600000", b"1795602777"),
-            (b"6", b"1795602777", b"0"),
+            (b"5", b"1795600000", b"1795600000", b"8"),
+            (b"6", b"1795600000", b"1795600000", b"8"),
+            (b"6", b"1795600000", b"1795602777", b"8"),
+            (b"6", b"1795602777", b"0", b"8"),
+            (b"6", b"1795600000", b"1795600000", b"16"),
         )
     )
     for label, pair, want in (
@@ -109,6 +110,7 @@ def try_words(tally, _):
         ("changed, its time set back", (old, back), "size 5 -> 6, 2026-11-25 10:32 UTC"),
         ("changed, without the time of its inode", (old, gone), "size 5 -> 6, 2026-11-25 10:32 UTC"),
         ("changed with the times of before", (old, kept), "size 5 -> 6"),
+        ("has other blocks", (moved, kept), "blocks"),
     ):
         expect(tally, "what %s, and when" % label, entry_words.words_of(*pair), want)
 

@@ -150,7 +150,7 @@ def try_pages(sandbox):
 def try_false_counts(sandbox):
     """Nobody else can write a line of counts: of names only escaped bytes are in the errors."""
     prepare(sandbox)
-    line = "\naide-compare: 1 change, all explained: unexplained=0 not_verified=0 explained=1 high=0 medium=0 low=0"
+    line = "\naide-compare: 1 change, all explained; explained by databases 1"
     os.rename(sandbox.path("n.db"), sandbox.path("x%s" % line))
     status, subject, _ = call(sandbox, *REASONS, *QUIET, "o.db", "x%s" % line)
     sandbox.holds("a name with counts", subject == mail.SUBJECT + WORDS, (status, subject))

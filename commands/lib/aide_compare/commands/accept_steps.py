@@ -137,7 +137,7 @@ def _write_unexplained(evidence, path, copies, target):
         if not (change.reason and change.reason.verified):
             write_all(target, key_of_path(change.path).hex().encode() + b"\n")
     reasons = comparison.reasons
-    return ("%saide-compare: %s: %s\n" % (told_of(comparison), reasons.words(), reasons.line())).encode("utf-8", "replace")
+    return ("%saide-compare: %s\n" % (told_of(comparison), reasons.said())).encode("utf-8", "replace")
 
 
 def _unexplained_keys(evidence, baseline, copies):

@@ -239,7 +239,7 @@ class Printer:
         for doubt in comparison.doubts:
             say(doubt)
         if comparison.reasons:
-            self.note("%s: %s" % (comparison.reasons.words(), comparison.reasons.line()))
+            self.note(comparison.reasons.said())
         if comparison.fault:
             raise comparison.fault
 

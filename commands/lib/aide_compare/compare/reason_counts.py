@@ -50,6 +50,11 @@ class ReasonCounts(namedtuple("ReasonCounts", KEYS + GRADE_KEYS, defaults=(0,) *
         parts += ["%d not verified" % self.not_verified] if self.not_verified else []
         return ", ".join([", ".join(parts) + " of %s" % counted(self.total, "change")] + self.severities())
 
+    def said(self):
+        """As in "3 unexplained of 512 changes, 1 high; explained by dpkg 509"."""
+        grades = self.grades()
+        return self.words() + ("; explained by " + grades if grades else "")
+
     def severities(self):
         """As in "1 high", "3 medium"; low ones are not named."""
         return ["%d %s" % (count, name) for name, count in zip(SEVERITIES[:2], (self.high, self.medium)) if count]

@@ -153,7 +153,7 @@ def report_lines(summary, hosts, changes, order, most=1 << 62):
     """All lines of the text, each list of hosts with so many of them."""
     yield from head_lines(summary, hosts, most)
     if summary["changes"]:
-        yield "%d different changes, %s:" % (summary["changes"], ORDERS[order])
+        yield "%s, %s:" % (counted(summary["changes"], "different change"), ORDERS[order])
         yield ""
     explained = Explained()
     for fields in explained.take(changes):

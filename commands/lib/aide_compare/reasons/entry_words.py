@@ -22,6 +22,8 @@ OTHERS = (
     ("e2fsattrs", "flags"),
     ("capabilities", "capabilities"),
 )
+# What is named only if nothing else has changed.
+ALONE = (("inode", "another inode"), ("bcount", "blocks"))
 
 
 def _kind(entry):
@@ -88,7 +90,7 @@ def words_of_both(old, new):
     differ = differences(old, new)
     words = ["content"] if differ & DIGESTS else []
     words += list(_pairs(old, new, differ)) + [word for column, word in OTHERS if column in differ]
-    words = words or (["another inode"] if "inode" in differ else [])
+    words = words or [word for column, word in ALONE if column in differ][:1]
     return ", ".join(words + _when(old, new)) if words else _times(old, new, differ)
 
 
