@@ -99,8 +99,8 @@ COMMANDS = [
     Row("bugs planted in definitions and in a manual page", "program/plant.py", Bugs(("oracle", "pages")), HAND),
 ]
 MACHINES = [
-    Row("reasons on 17 pairs of nights, before records were measured", "aide-compare reasons", "once", by_hand("2026-11-25")),
-    Row("nights of a booted Debian 12: idle, rotation, upgrade, intruder", "the units as shipped", "4", by_hand("2026-11-25")),
+    Row("README and RECIPES to the letter, on a booted Debian 12", "the package", "each command", by_hand("2026-11-26")),
+    Row("README to the letter, from a fresh clone", "the proved program", "each command", by_hand("2026-11-26")),
     Row("mails by Postfix 3.7, Exim 4.96 and dma; 12,289 changes", "the units as shipped", "once", by_hand("2026-11-25")),
     Row(
         "14 odd states: links, FIFOs, full disks, killed three times",
