@@ -1,4 +1,3 @@
-#!/usr/bin/env python3
 """Plants small mistakes in modules of the commands, drawn at random, and tells which of them no trial sees.
 
 A mistake is a comparison or condition turned round, another number, a flag, argument or statement left out. For each one the

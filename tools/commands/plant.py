@@ -1,4 +1,3 @@
-#!/usr/bin/env python3
 """Plants each bug of the lists in planted/ into a copy, one at a time, and runs the trial that is to see it.
 
 A list is a module with PLANTED, a list of Plant. NAME is the name of a list, or of one bug as LIST:NUMBER from 1. A

@@ -1,4 +1,3 @@
-#!/usr/bin/env python3
 """Tries the page of aide-compare page in a real browser, a headless Chromium. Run it by hand: the gate has no browser.
 
 It tries the table of views (viewers/views.json), filters, orders, folders, the address, the keyboard, printing, pages

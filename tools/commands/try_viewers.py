@@ -1,4 +1,3 @@
-#!/usr/bin/env python3
 """Tries aide-compare json and aide-compare page: what they say of reports, and what they refuse.
 
 The definitions compute from the two databases what the JSON of a report has to say. The seed is printed. The last line is

@@ -1,4 +1,3 @@
-#!/usr/bin/env python3
 """Compares the built program with AIDE itself, over pairs of databases made by real changes of files.
 
 AIDE reads a tree of files, random operations change the tree, and AIDE reads it again. Then both programs compare the two

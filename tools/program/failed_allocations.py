@@ -1,4 +1,3 @@
-#!/usr/bin/env python3
 """Makes each allocation of the built program fail in turn, over whole sessions.
 
 The program asks the C library for memory, by malloc and realloc. A library that is loaded before the C library (fail_allocation.c)

@@ -1,4 +1,3 @@
-#!/usr/bin/env python3
 """Plants each bug of the lists in planted/ into a copy, one at a time, and runs the trial that is to see it.
 
 A list is a module with PLANTED: bugs of the definitions (oracle), of a manual page (pages) and of what the

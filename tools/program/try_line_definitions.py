@@ -1,4 +1,3 @@
-#!/usr/bin/env python3
 """Tries the definitions of the lines (tools/oracle/lines.py) by what is written by hand and by other readers.
 
 Members and whole answers come from the tables in line_rows.py, and the characters that need an escape from Python's table

@@ -1,4 +1,3 @@
-#!/usr/bin/env python3
 """Checks what the pages of this repository name: links, files, code that was copied in, clauses, tables of files.
 
 - Each link of a page leads to a file of the repository.

@@ -1,4 +1,3 @@
-#!/usr/bin/env python3
 """Compares the must-fail edits with the public functions: each public function has an edit in its own code.
 
 A public function is one that a crate's lib.rt exports, or a method of an exported type, its own or of a trait of this

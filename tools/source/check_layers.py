@@ -1,4 +1,3 @@
-#!/usr/bin/env python3
 """Checks that the modules of the commands import downwards only.
 
 commands/lib/aide_compare has a folder for each layer, from base to commands. A module imports only from its own folder and

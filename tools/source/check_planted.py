@@ -1,4 +1,3 @@
-#!/usr/bin/env python3
 """Checks the lists of planted bugs against the sources: the text of each stands there once, and its trial is there.
 
 A list that no longer fits its sources would plant nothing. Whether its trial sees a bug, tools/commands/plant.py and

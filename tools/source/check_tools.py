@@ -1,4 +1,3 @@
-#!/usr/bin/env python3
 """Checks each script in Python of this repository: its language, its imports, its --help, and that it does nothing before it
 has read its arguments.
 

@@ -1,4 +1,3 @@
-#!/usr/bin/env python3
 """Compares what the public calls promise at two revisions, clause by clause.
 
 NEW is the working tree if it is left out. The calls are those of the traits and impls of public types and the public functions

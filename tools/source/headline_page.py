@@ -1,4 +1,3 @@
-#!/usr/bin/env python3
 """Prints docs/HEADLINE.md: the headline, and each definition that it rests on, with the sentence over it.
 
 From the contracts of `aide_headline` this follows each name to its definition, and from there to the definitions that it

@@ -1,4 +1,3 @@
-#!/usr/bin/env python3
 """Proves a crate from nothing, with one job, and prints how long the proof of each function took.
 
 The libraries below the crate have to be built: run `rt check` in its folder first. A proof consists of parts, and the check

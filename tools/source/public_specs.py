@@ -1,4 +1,3 @@
-#!/usr/bin/env python3
 """Finds the files of specs/ that say what the public calls promise.
 
 From the contracts of all public functions and traits this follows each name to its definition, and from there to the

@@ -1,4 +1,3 @@
-#!/usr/bin/env python3
 """Prints the files that have a text, by kind, in the order in which a change goes through them.
 
 Give it the texts of something that is like the new thing: `report_quiet options.quiet` for another option of the

@@ -1,4 +1,3 @@
-#!/usr/bin/env python3
 """Lists the definitions of specs/ and the lemmas of proofs/ that nothing needs.
 
 Needed are: what the code names, what an answer of a function names, laws and examples (files whose names end so), what a page

@@ -1,4 +1,3 @@
-#!/usr/bin/env python3
 """Judges a change of one crate in minutes: proves it and what stands on it, and tries the must-fail edits that it touches.
 
 First `rt check` runs in the folder of the crate and in `crates/aide`, which stands on all crates of the program. Then those
