@@ -196,7 +196,8 @@ class Printer:
     def begin(self, comparison):
         """Passes on what the program wrote, and what explains it."""
         progress.clear()
-        for note in comparison.notes:
+        # Of a run that failed its cause is enough.
+        for note in () if comparison.fault else comparison.notes:
             self.note(note)
         if self.form == "report" or (self.form and not comparison.differs):
             self._print(comparison)
