@@ -221,6 +221,10 @@ def try_forged(sandbox):
     for label, more in forged.items():
         write_archive(sandbox, "forged", **more)
         expect(sandbox, "forged " + label, HINTED, "--archive", "forged", "--keyring", "archive.gpg")
+    write_archive(sandbox, "anew", **another)
+    sandbox.write("anew/Packages.gz", gzip.compress(another["index"]))
+    os.remove(sandbox.path("anew/Packages"))
+    expect(sandbox, "forged, in a form that is not signed", HINTED, "--archive", "anew", "--keyring", "archive.gpg")
     write_archive(sandbox, "archive")
     expect(sandbox, "another key", HINTED, "--archive", "archive", "--keyring", "other.gpg")
     expect(sandbox, "no archive", HINTED)
