@@ -20,6 +20,7 @@ from tools.commands import planted
 from tools.commands.trials.sandbox import HERE, PYTHON, Sandbox, after
 from tools.lib import signals
 from tools.lib.apart import apart, has_own_mounts
+from tools.lib.byte_code import compile_modules
 from tools.lib.tally import Tally, program_of
 
 FAILED = re.compile("[0-9]+ passed, [1-9][0-9]* failed")
@@ -50,6 +51,7 @@ def one_trial(trial, program):
     """Runs a trial. If it breaks off, that is a failure, as in try_tools.py."""
     tally = Tally()
     has_own_mounts()
+    compile_modules(HERE)
     sandbox = Sandbox(program, tally)
     module, function = trial.rsplit(".", 1)
     try:

@@ -12,6 +12,7 @@ import traceback
 
 from tools.lib.arguments import parser_of
 from tools.lib import apart, signals
+from tools.lib.byte_code import compile_modules
 from tools.commands.trials.accept import try_accept
 from tools.commands.trials.accept_attacks import try_accept_attacks
 from tools.commands.trials.accept_kills import try_accept_kills
@@ -41,7 +42,7 @@ from tools.commands.trials.mail import try_mail
 from tools.commands.trials.others_modules import try_others_modules
 from tools.commands.trials.own_user import try_own_user
 from tools.commands.trials.reasons import try_reasons, try_reasons_archive, try_reasons_lines, try_reasons_packages
-from tools.commands.trials.sandbox import Sandbox
+from tools.commands.trials.sandbox import HERE, Sandbox
 from tools.commands.trials.setup import try_setup
 from tools.commands.trials.run import try_run
 from tools.commands.trials.smtp import try_smtp
@@ -141,6 +142,7 @@ def main():
     wanted = parser.parse_args()
     signals.heed()
     apart.has_own_mounts()
+    compile_modules(HERE)
     program, tally = program_of(wanted.program), Tally()
     for trial in BASE:
         if wanted.only in (None, trial.__name__):

@@ -11,13 +11,14 @@ import shutil
 import tempfile
 
 from tools.lib.arguments import parser_of
+from tools.lib.byte_code import compile_modules
 from tools.oracle.attributes import NAMES as ATTRIBUTES
 from tools.oracle.configuration import BOOL_OPTIONS, DEFAULTS, LEVELS, SET_OPTIONS
 from tools.oracle.database import database_of, first_fault
 from tools.oracle.report import report_of
 from tools.program.random_texts.databases import random_pair
 from tools.lib.tally import Tally, program_of
-from tools.commands.viewers import HTML, JSON, hostile, looks
+from tools.commands.viewers import COMMANDS, HTML, JSON, hostile, looks
 from tools.commands.viewers.aide_form import try_aide_form
 from tools.commands.viewers.expected import faults_of
 from tools.commands.viewers.deep import try_deep, try_script, try_times
@@ -321,6 +322,7 @@ def main():
     parser.add_argument("--large", type=int, metavar="CHANGES", help="measure so many changes instead")
     given = parser.parse_args()
     program, tally = program_of(given.program), Tally()
+    compile_modules(os.path.dirname(COMMANDS))
     if given.large:
         try_large(program, given.large, tally)
         tally.end()

@@ -3,6 +3,7 @@ import os
 import shutil
 
 from tools.commands import plant
+from tools.lib.byte_code import compile_modules
 
 from .sandbox import AS_NOBODY
 
@@ -25,6 +26,7 @@ def try_own_user(sandbox):
         return print("skipped: trials as another user than root (all of them run so)")
     folder = sandbox.path("repository")
     plant.copied(folder)
+    compile_modules(folder)
     program = shutil.copy(sandbox.program, sandbox.path("program"))
     for trial in TRIALS:
         status, output = plant.run_trial(folder, trial, program, AS_NOBODY)

@@ -77,9 +77,7 @@ class Sandbox:
             for name in os.listdir(os.path.join(HERE, "commands", folder)):
                 shutil.copy(os.path.join(HERE, "commands", folder, name), self.path("bin/" + name))
         for folder in ("lib", "share"):
-            shutil.copytree(
-                os.path.join(HERE, "commands", folder), self.path(folder), ignore=shutil.ignore_patterns("__pycache__")
-            )
+            shutil.copytree(os.path.join(HERE, "commands", folder), self.path(folder))
         self.edit("lib/aide_compare/reasons/records.py", 'DPKG = "/var/lib/dpkg"', "DPKG = %r" % self.path("dpkg"))
         self.point_defaults()
         for name, text in (("old", OLD), ("new", NEW)):
