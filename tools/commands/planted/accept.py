@@ -1,13 +1,12 @@
 """Bugs of aide-compare accept."""
 from .plant import seen_by
 
-ACCEPT, ACCEPTING, BASELINE, FOLDERS, RIGHTS, OPEN, SOUND = (
+ACCEPT, ACCEPTING, BASELINE, RIGHTS, OPEN, SOUND = (
     "commands/lib/aide_compare/%s.py" % name
     for name in (
         "commands/accept",
         "commands/accept_steps",
         "compare/baseline",
-        "base/folders",
         "base/rights",
         "compare/kept_open",
         "compare/soundness",
@@ -124,11 +123,6 @@ PLANTED = (
     + seen_by("accept_attacks.try_moved_folder", (BASELINE, "            self._check_place(answer)\n", ""))
     + seen_by(
         "accept.try_told",
-        (
-            ACCEPTING,
-            '    except Fault:\n        return ""\n    finally:',
-            "    except Fault:\n        return None\n    finally:",
-        ),
         (ACCEPTING, 'return None if baseline.former is None else ""', "return None"),
     )
 )

@@ -14,7 +14,6 @@ from .plant import seen_by
     RIGHTS,
     CHILD,
     UNPACK,
-    PROGRAM,
     ROOM,
     FETCHING,
 ) = (
@@ -32,7 +31,6 @@ from .plant import seen_by
         "base/rights",
         "base/child",
         "compare/unpack",
-        "base/program",
         "base/private_room",
         "hosts/fetching",
     )
@@ -89,7 +87,6 @@ PLANTED = (
     )
     + seen_by(
         "bounded.try_no_end",
-        (ENDING, "        if empty == MOST_EMPTY:\n", "        if False:\n"),
         (ENDING, "empty = 0 if count else empty + 1", "empty += not count"),
         (CHILD, "        if time.monotonic() >= deadline:\n            return None\n", ""),
     )
@@ -113,7 +110,6 @@ PLANTED = (
     + seen_by(
         "base.try_files",
         (FILES, "            os.fsync(part)\n", ""),
-        (FILES, "            os.fsync(folder)\n", "            pass\n"),
         (UNPACK, "            break\n    return first", "            continue\n    return first"),
     )
 )

@@ -1,18 +1,16 @@
 """Bugs of reasons in aide-compare and in all that reads its result."""
 from .plant import seen_by
 
-EXPLAINING, BRIEF, WORDS, COUNTS, STATE, RUN, RECORDS, CHECK, MAIL, MESSAGE, WEEKLY, COMPARISON, OUTPUTS, LISTING = (
+EXPLAINING, BRIEF, WORDS, COUNTS, RUN, RECORDS, CHECK, MESSAGE, WEEKLY, COMPARISON, OUTPUTS, LISTING = (
     "commands/lib/aide_compare/%s.py" % name
     for name in (
         "show/explained",
         "show/brief",
         "reasons/entry_words",
         "compare/reason_counts",
-        "compare/state",
         "commands/compare",
         "reasons/kept_records",
         "commands/status_nagios",
-        "commands/mail",
         "mail/message",
         "mail/weekly",
         "compare/comparison",

@@ -1,9 +1,9 @@
 """Bugs of what people read first: its order, its shares, and the files that have the content of before."""
 from .plant import seen_by
 
-LISTING, BRIEF, MESSAGE, EXPLAINER, SAME, ENTRIES = (
+LISTING, MESSAGE, EXPLAINER, SAME, ENTRIES = (
     "commands/lib/aide_compare/%s.py" % name
-    for name in ("show/listing", "show/brief", "mail/message", "reasons/explainer", "reasons/same_content", "reasons/entries")
+    for name in ("show/listing", "mail/message", "reasons/explainer", "reasons/same_content", "reasons/entries")
 )
 PLANTED = (
     seen_by(
@@ -16,20 +16,13 @@ PLANTED = (
         (
             LISTING,
             "FOLDER_SHARE, OWNER_SHARE, MOST_FOLDERS = 20, 50, 10",
-            "FOLDER_SHARE, OWNER_SHARE, MOST_FOLDERS = 21, 50, 10",
-        ),
-        (
-            LISTING,
-            "FOLDER_SHARE, OWNER_SHARE, MOST_FOLDERS = 20, 50, 10",
             "FOLDER_SHARE, OWNER_SHARE, MOST_FOLDERS = 20, 99, 10",
         ),
-        (LISTING, 'self.severity == "high" and change.owner == ROOT', "False"),
         (
             LISTING,
             'self.severity == "high" and change.owner == ROOT',
             'self.severity == "high" and change.owner in (None, ROOT)',
         ),
-        (LISTING, "            rest.add(change)\n", "            pass\n"),
         (ENTRIES, 'self.bits & USER and "uid" in self.places', '"uid" in self.places'),
         (EXPLAINER, "        change.owner = least_owner(old, new)\n", ""),
     )
@@ -63,7 +56,6 @@ PLANTED = (
         "floods.try_same_content",
         (SAME, "LEAST_BYTES = 32", "LEAST_BYTES = 16"),
         (SAME, 'DIFFERS = TIMES | {"inode"}', 'DIFFERS = TIMES | {"inode", "perm"}'),
-        (SAME, 'DIFFERS = TIMES | {"inode"}', 'DIFFERS = {"inode"}'),
         (SAME, "not differ <= DIFFERS", "differ & {'perm', 'uid', 'gid'}"),
         (SAME, "not differ or not differ <= DIFFERS", "not differ - {'sha256'} <= DIFFERS"),
         (SAME, "    if stat.S_ISSOCK(new.mode) or stat.S_ISFIFO(new.mode):\n        return EMPTY\n", ""),

@@ -10,8 +10,6 @@ PLANTED = (
         "forged.try_records",
         # The databases vouch for what is read, by a strong digest; what they do not vouch for is doubted.
         (VOUCHED, "        return digests.get(digest[0]) == digest[1]\n", "        return True\n"),
-        (VOUCHED, "        if not digest:\n            return False\n", "        if not digest:\n            return True\n"),
-        (VOUCHED, "            self.doubted.append(name)\n", "            pass\n"),
         (VOUCHED, 'STRONG = ("sha256",', 'STRONG = ("md5", "sha256",'),
         # Each of the records on which a reason rests.
         (DPKG, 'names = ("diversions",) + tuple', "names = tuple"),
@@ -43,8 +41,6 @@ PLANTED = (
         (ENTRIES, " and (self.is_link() or not self.mode & OTHERS_WRITE)", ""),
         (ENTRIES, "OTHERS_WRITE = 0o022", "OTHERS_WRITE = 0o002"),
         (ENTRIES, " if self.bits & OWNER == OWNER else None", ""),
-        (ENTRIES, "OWNER = USER | GROUP", "OWNER = USER"),
-        (PACKAGES, "if self._takes_none(change, owners):", "if False:"),
         (PACKAGES, "return None if reason and self._starts_strangers(change, new) else reason", "return reason"),
         (PROTECTED, '    (b"/**/.ssh/authorized_keys*", "', '    (b"/home/*/.ssh/authorized_keys*", "'),
         (PROTECTED, '    (b"/**/.ssh/authorized_keys*/**", "', '    (b"/home/*/.ssh/authorized_keys*/**", "'),
@@ -85,21 +81,18 @@ PLANTED = (
     + seen_by(
         "forged.try_keys",
         (PACKAGES, "self.known.are_versions_sure() and not self.doubted_keys", "self.known.are_versions_sure()"),
-        (LIB + "indexes.py", "if any(night.digests.get(path) for night in nights):", "if True:"),
         (LIB + "indexes.py", "if any(night.digests.get(path) for", "if all(night.digests.get(path) for"),
         (PACKAGES, "index.doubt(explainer.old, explainer.new)", "index.doubt(explainer.new)"),
         (PACKAGES, "index.doubt(explainer.old, explainer.new)", "index.doubt(explainer.old)"),
     )
     + seen_by(
         "forged.try_between",
-        (VOUCHED, "                if self.vouched.has(path, texts[-1]):\n", "                if True:\n"),
         (VOUCHED, "            self.doubted.append(name)\n", "            pass\n"),
         (EVIDENCE, "Packages([old], beside + [new], Archive", "Packages([old], [new], Archive"),
         (KEPT, "if digest_in(descriptor) != accepted:", "if True:"),
     )
     + seen_by(
         "forged.try_new_packages",
-        (EXPLAINING, " if counts.grades() else []", " if False else []"),
         (EXPLAINING, "came = sorted(came, key=lambda pair: pair[1] is not False)", "came = list(reversed(came))"),
         (PACKAGES, "if package and package.key in self.known.fresh]", "if package]"),
         (ARCHIVE, "        self.listed.update(found)\n", "        self.listed.update(keys)\n"),

@@ -8,7 +8,6 @@ PROGRAM = 'find_installed("libexec/aide-compare/aide")'
 PLANTED = (
     seen_by(
         "front.try_program",
-        (FRONT, "signal.signal(number, signal.SIG_DFL)", "pass"),
         (FRONT, 'if word.startswith("-") and JOBS & set(arguments):', "if JOBS & set(arguments):"),
         (FRONT, "[program] + arguments)", "[program] + [word for word in arguments if word != '--'])"),
     )

@@ -2,7 +2,7 @@
 another user than root meets."""
 from .plant import seen_by
 
-DEFAULTS, HANDING, RUN, MAIL, CHECK, COMPARISON, REASONS, FOLDERS, TRUSTED = (
+DEFAULTS, HANDING, RUN, MAIL, CHECK, REASONS, FOLDERS, TRUSTED = (
     "commands/lib/aide_compare/%s.py" % name
     for name in (
         "base/defaults",
@@ -10,7 +10,6 @@ DEFAULTS, HANDING, RUN, MAIL, CHECK, COMPARISON, REASONS, FOLDERS, TRUSTED = (
         "commands/compare",
         "commands/mail",
         "commands/status_nagios",
-        "compare/comparison",
         "commands/reasons",
         "base/folders",
         "base/trusted",
@@ -32,14 +31,10 @@ PLANTED = (
     + seen_by(
         "hands.try_failed_unit",
         (UNIT, " --unit-failed aide-compare.service", ""),
-        (MAIL, '    return (given.unit_failed, "") if given.unit_failed else None\n', "    return None\n"),
-        (MAIL, '    if result != "success":', "    if False:"),
         (MAIL, "    if not UNIT.fullmatch(text):\n", "    if not text:\n"),
-        (MAIL, "given.unit_failed and not given.send_queue", "False"),
     )
     + seen_by(
         "hands.try_defaults",
-        (RUN, "given.exclude_from or given.no_defaults", "True"),
         (RUN, "given.exclude_from or given.no_defaults", "given.no_defaults"),
         (RUN, "given.exclude_from or given.no_defaults", "given.exclude_from"),
         (RUN, "defaults_for(RUN, arguments) + ", ""),
@@ -62,7 +57,6 @@ PLANTED = (
     + seen_by(
         "hands.try_bad_lines",
         (DEFAULTS, "if name not in ALL:", "if not name:"),
-        (DEFAULTS, "ALL[name] != PERHAPS and ", "ALL[name] == PERHAPS and "),
         (MAIL, "given.fault, given.refusal = why.text, ", "given.refusal = "),
         (MAIL, "        say(why.text)\n", ""),
     )
@@ -72,13 +66,11 @@ PLANTED = (
         (HANDING, "        owner = owner_of(baseline)\n", "        owner = None\n"),
         (HANDING, "            output.is_childs = True\n", "            pass\n"),
         (RUN, "os.geteuid() == 0 and not given.user", "os.geteuid() == 0"),
-        (RUN, "            output.put()\n", "            pass\n"),
         (RUN, "            self.wanted.write_nothing()\n        teller", "            pass\n        teller"),
     )
     + seen_by(
         "hands.try_lost_child",
         (HANDING, "        if not end_with(parent):\n", "        if False:\n"),
-        (HANDING, "        if status not in KNOWN:\n", "        if False:\n"),
     )
     + seen_by(
         "own_user.try_own_user",

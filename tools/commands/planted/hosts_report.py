@@ -12,7 +12,6 @@ PLANTED = (
             "given.store[share_of(name, len(given.store)) - 1]",
             "given.store[place % len(given.store)]",
         ),
-        (LIB + "hosts/hosts_read.py", "if age and reading.age > age:", "if False:"),
         (LIB + "hosts/hosts_read.py", "        if not os.path.isdir(store):\n", "        if False:\n"),
     )
     + seen_by(

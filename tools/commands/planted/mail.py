@@ -43,7 +43,6 @@ PLANTED = (
     + seen_by(
         "mail.try_bounds",
         (MESSAGE, "MOST_COLUMNS = 1000, 3", "MOST_COLUMNS = 10**9, 3"),
-        (MESSAGE, "if not text or len(text) > room:", "if False:"),
         (MESSAGE, "            self.left_out += 1\n", ""),
     )
     + seen_by(

@@ -88,11 +88,6 @@ PLANTED = (
         (PACKAGES, "(old is None and not new.is_closed())", "False"),
         (MOVES, "change.reason is None and change.is_replaced", "change.is_replaced"),
         (ENTRIES, "self.user_and_group() == (0, 0) and self.is_plain()", "self.is_plain()"),
-        (
-            ENTRIES,
-            'return (self.number("uid"), self.number("gid")) if self.bits & OWNER == OWNER',
-            'return (self.number("uid"), self.number("gid")) if True',
-        ),
         (PROTECTED, "is_open(new) and not is_open(old)", "is_open(new)"),
         (ENTRIES, "not self.is_link() and (has_more or has_list)", "not self.is_link() and has_more"),
         (ENTRIES, "not self.is_link() and (has_more or has_list)", "not self.is_link() and has_list"),
@@ -171,7 +166,6 @@ PLANTED = (
     )
     + seen_by(
         "reasons_made.try_made_links",
-        (MADE, 'return differ <= CONTENT | {"lname"}', "return differ <= CONTENT"),
         (MADE, "        if not target:\n            return None\n", ""),
         (MADE, '(": " + why if why else "")', '(": " + why)'),
         (MADE, '(": " + why if why else "")', '""'),
@@ -184,7 +178,6 @@ PLANTED = (
         (PARENTS, "return None not in flags and flags[0]", "return flags[0]"),
         (PARENTS, "change.new_at is None or (names", "(names"),
         (PARENTS, "if change.reason is None and not change.is_never:", "if change.reason is None:"),
-        (PARENTS, "            if change.is_replaced:\n", "            if True:\n"),
         (PARENTS, "return ANEW_NOT_VERIFIED if names.unverified else ANEW", "return NOT_VERIFIED"),
         (PARENTS, "if not names or not has_other", "if not has_other"),
         (PARENTS, 'not names or not has_other_names(old, new, differ - {"inode"})', "not names"),

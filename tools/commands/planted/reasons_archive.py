@@ -27,7 +27,6 @@ PLANTED = (
         "reasons_archive.try_forged",
         (ARCHIVE, "if digest == wanted.sha256:", "if True:"),
         (INDEXES, "if is_signed or plain_digest == sha256:", "if True:"),
-        (INDEXES, "if is_signed and digest != sha256:", "if False:"),
         (INDEXES, "return done.stdout if is_good and done.returncode in (0, 2) else None", "return done.stdout"),
         (
             INDEXES,

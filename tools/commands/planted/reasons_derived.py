@@ -12,7 +12,6 @@ PLANTED = (
         (COMPILED, "text[HEAD:] == code or is_same(text[HEAD:], code)", "True"),
         (COMPILED, "text[HEAD:] == code or is_same(text[HEAD:], code)", "text[HEAD:] == code"),
         (COMPILED, "    if text[:HEAD] != _head(source, seconds, text[4:8]):\n        return False\n", ""),
-        (COMPILED, "    if kind in BY_SUM:\n", "    if False:\n"),
         (COMPILED, 'int(found.group(4) or b"0")', "0"),
         (COMPILED, "source.reason and source.reason.verified and change", "change"),
         (COMPILED, "pair.change.is_never = True", "pass"),
@@ -85,7 +84,6 @@ PLANTED = (
         (MADE, "if target in self.alternatives and", "if target.startswith(ALTERNATIVES) and"),
         (MADE, ' and path.startswith(b"/usr/") and not path.startswith(b"/usr/local/"):', ":"),
         (MADE, ' and not path.startswith(b"/usr/local/"):', ":"),
-        (MADE, "            self.alternatives.add(change.path)\n", "            pass\n"),
     )
     + seen_by(
         "reasons_made.try_new_folders",

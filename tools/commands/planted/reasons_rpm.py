@@ -2,7 +2,7 @@
 from .plant import seen_by
 from .reasons import CONTENT, ENTRIES, LIB, RECORDS
 
-RPM, NIGHT, PACKAGES, EVIDENCE = (LIB + name + ".py" for name in ("rpm", "rpm_night", "rpm_packages", "evidence"))
+RPM, NIGHT, PACKAGES = (LIB + name + ".py" for name in ("rpm", "rpm_night", "rpm_packages"))
 
 PLANTED = (
     seen_by(
@@ -78,8 +78,6 @@ PLANTED = (
     + seen_by(
         "reasons_rpm_records.try_program",
         (RPM, '"--dbpath", folder, "-qa"', '"-qa"'),
-        (RPM, "stderr=subprocess.DEVNULL, env=settings", "stderr=subprocess.DEVNULL"),
-        (RPM, "            if status:\n", "            if False:\n"),
         (
             RPM,
             "            timer.start()\n",
