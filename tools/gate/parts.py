@@ -25,8 +25,8 @@ FILES = [
     exactly(554, "tools.source.check_docs"),
     exactly(102, "tools.source.check_layout"),
     exactly(159, "tools.source.check_layers"),
-    exactly(579, "tools.source.check_tools"),
-    exactly(993, "tools.source.check_planted"),
+    exactly(580, "tools.source.check_tools"),
+    exactly(961, "tools.source.check_planted"),
     exactly(1897, "tools.wrong_bodies.check"),
 ]
 

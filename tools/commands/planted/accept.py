@@ -13,7 +13,6 @@ ACCEPT, ACCEPTING, BASELINE, RIGHTS, OPEN, SOUND = (
     )
 )
 REPLACE = "        done.belongs = baseline.replace(source)\n"
-LINK_RULE = "        if owner not in (0, os.geteuid()) or not self.folder.is_safe():"
 # The baseline is written by its name, so a link there is followed; or a new file takes its place in a folder that is
 # opened anew by its name.
 THROUGH_A_LINK = """        with open(baseline.path, "r+b") as file:
