@@ -24,9 +24,9 @@ FILES = [
     exactly(214, "tools.source.check_edits"),
     exactly(554, "tools.source.check_docs"),
     exactly(102, "tools.source.check_layout"),
-    exactly(159, "tools.source.check_layers"),
+    exactly(160, "tools.source.check_layers"),
     exactly(580, "tools.source.check_tools"),
-    exactly(961, "tools.source.check_planted"),
+    exactly(993, "tools.source.check_planted"),
     exactly(1897, "tools.wrong_bodies.check"),
 ]
 

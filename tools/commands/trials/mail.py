@@ -168,7 +168,7 @@ def try_bounds(sandbox):
     sandbox.holds("the counts of a cut mail", b"Added entries:           60000" in text and "60000 added" in subject(message))
     sandbox.holds("the paths of a cut mail", text.count(b": /d0") == 1000, text.count(b": /d0"))
     sandbox.holds("what was cut", b"1000 paths are listed, 59000 are left out" in text, text[-500:])
-    command = sandbox.path("bin/aide-compare").encode() + b" empty.db large.db\n"
+    command = sandbox.path("bin/aide-compare").encode() + b" --format report empty.db large.db\n"
     sandbox.holds("the command for the rest", command in text, text[-500:])
     sandbox.expect("a small bound", call(sandbox, "empty.db", "large.db", "--max-mail", "8k"), 1, b"", b"")
     size = os.stat(sandbox.path("sent")).st_size if os.path.exists(sandbox.path("sent")) else 0
@@ -353,7 +353,11 @@ def try_pages(sandbox):
     sandbox.holds("a plain page with the host", b"File changes on " in page and b"<script" not in page, parts)
     call(sandbox, "--html", "--max-mail", "9k", "old.db", "new.db")
     sandbox.holds("a page that is too large", body(sent(sandbox)).endswith(note + b"it would be larger than --max-mail\n"))
-    sandbox.edit("lib/aide_compare/show/page.py", "    contents = PageEntries(is_plain, only)\n", "    raise KeyError('an odd report')\n")
+    sandbox.edit(
+        "lib/aide_compare/show/page.py",
+        "    contents = PageEntries(is_plain, only)\n",
+        "    raise KeyError('an odd report')\n",
+    )
     sandbox.expect("a page that fails", call(sandbox, "--html", "old.db", "new.db"), 7, b"", b"")
     want = note + b"a fault of this command: KeyError: 'an odd report'\n"
     sandbox.holds("a mail without a page", body(sent(sandbox)).endswith(want))

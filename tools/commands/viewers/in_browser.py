@@ -6,7 +6,7 @@ import time
 from tools.commands.viewers.looks import cases
 from tools.commands.viewers.samples import DEMO
 
-from aide_compare.lines.json_lines import KINDS, SEVERITIES
+from aide_compare.base.names import KINDS, SEVERITIES
 from aide_compare.show.page import part_of
 from aide_compare.show.page_view import STANDINGS
 

@@ -12,7 +12,8 @@ from tools.commands.viewers.pages import page_faults
 from tools.commands.viewers.refused import rich_report
 
 from aide_compare.base.escapes import shown as escaped
-from aide_compare.lines.json_lines import GRADES, KINDS, SEVERITIES
+from aide_compare.base.names import KINDS, SEVERITIES
+from aide_compare.lines.json_lines import GRADES
 from aide_compare.lines.report_lines import Refused
 from aide_compare.show.page import page
 from aide_compare.show.page_view import CHOICES, STANDINGS, Seen, View

@@ -3,6 +3,7 @@ import os
 
 from aide_compare.base.ending import Fault, Status, say, write_all
 from aide_compare.base.escapes import shown
+from aide_compare.base.names import KINDS
 from aide_compare.base.options import Parser, size, some_text
 from aide_compare.base.rights import user_of
 from aide_compare.base.patterns import BadPattern, Pattern
@@ -15,7 +16,6 @@ from aide_compare.reasons.kept_records import Records
 
 NAME = "aide-compare accept"
 STATE = "/var/lib/aide-compare/daily/state"
-KINDS = ("added", "removed", "changed")
 DESCRIPTION = (
     "Makes NEW the baseline, if the SHA-256 of its unpacked bytes is DIGEST. The former baseline is kept "
     "as BASELINE.previous."

@@ -8,10 +8,11 @@ from aide_compare.base.child import in_child
 from aide_compare.base.ending import Fault, Status, write_all
 from aide_compare.base.escapes import shown
 from aide_compare.base.files import copy_file, nameless, reopened
+from aide_compare.base.names import SIDES
 from aide_compare.base.path_keys import key_of_path
 from aide_compare.base.rights import become
 from aide_compare.compare.baseline import Baseline
-from aide_compare.compare.comparison import SIDES, Comparison, Request
+from aide_compare.compare.comparison import Comparison, Request
 from aide_compare.compare.kept_open import Listed, Patterns, keep_open
 from aide_compare.compare.soundness import refuse_unsound
 from aide_compare.compare.unpack import GZIP, Copy, Opened, copy_opened, copy_packed, digest_of, open_database

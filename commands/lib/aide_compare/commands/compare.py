@@ -7,10 +7,11 @@ from aide_compare.base.defaults import RUN, add_off, defaults_for, place_of
 from aide_compare.base.ending import Fault, Status, reason, say, write_all
 from aide_compare.base.escapes import guarded, shown, shown_lines
 from aide_compare.base.files import Replacement, copy_file
+from aide_compare.base.names import SIDES
 from aide_compare.base.options import Parser, add_quiet, add_texts, duration, size, some_text
 from aide_compare.base.rights import give_up
 from aide_compare.base.times import date_of
-from aide_compare.compare.comparison import SIDES, Comparison, Request
+from aide_compare.compare.comparison import Comparison, Request
 from aide_compare.compare.handing import Handed, Handing
 from aide_compare.compare.exclusions import Exclusions, read_exclusions
 from aide_compare.reasons.evidence_options import EVIDENCE, add_evidence_options

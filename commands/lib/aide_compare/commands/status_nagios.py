@@ -5,8 +5,8 @@ import os
 from aide_compare.base.defaults import CHECK, add_off, defaults_for
 from aide_compare.base.ending import Done, Fault, reason
 from aide_compare.base.escapes import guarded, shown
+from aide_compare.base.names import SEVERITIES
 from aide_compare.base.times import age_in_words, date_of
-from aide_compare.compare.reason_counts import SEVERITIES
 from aide_compare.show.reading import ALARMS, Reading, parser, write_line
 
 NAME = "check_aide_compare"

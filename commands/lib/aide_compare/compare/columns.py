@@ -3,10 +3,10 @@ import os
 import re
 
 from aide_compare.base.escapes import shown
+from aide_compare.base.names import SIDES
 
 SKIPPED = re.compile(rb"^aide: (old|new) database: column ([0-9]{1,2}) skipped$", re.M)
 MOST_HEAD, MOST_NAME = 1 << 16, 40
-SIDES = ("old", "new")
 
 
 def names_of(descriptor):

@@ -7,6 +7,7 @@ import time
 from aide_compare.base.ending import Fault, Status, fault_of, write_all
 from aide_compare.base.escapes import shown, shown_lines
 from aide_compare.base.files import nameless
+from aide_compare.base.names import SIDES
 from aide_compare.base.program import CONFIGURATION, DATABASES, NEW, OLD, find_program, run_program
 from aide_compare.base.times import age_in_words
 from aide_compare.compare.columns import skipped_in, texts_for_state, words_of
@@ -25,7 +26,6 @@ from aide_compare.compare.unpack import copy_opened, open_database
 from aide_compare.compare.exclusions import cut_copy
 
 CLOCKS_DIFFER, SMALL = 600, 1 << 20
-SIDES = ("old", "new")
 SUMMARY = b"\nreport_level=summary\nreport_quiet=no\n"
 ENTRIES = b"\nreport_level=list_entries\nreport_quiet=no\n"
 # One list with a word for each entry is read from the databases most cheaply; two lists with letters say more.

@@ -1,7 +1,8 @@
 """How many changes of a comparison something explains, how many not, and how severe those are: in numbers and in words."""
 from collections import namedtuple
 
-SEVERITIES = ("high", "medium", "low")
+from aide_compare.base.names import SEVERITIES
+
 KEYS = ("explained", "not_verified", "unexplained") + SEVERITIES
 # The grades of evidence by which changes are explained, the strongest first, and the keys of their counts.
 GRADES = ("archive", "databases", "dpkg", "rpm")

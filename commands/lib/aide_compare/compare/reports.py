@@ -5,7 +5,7 @@ import re
 DIFFER = b"AIDE found differences between the two databases.\n"
 SAME = b"AIDE found NO differences between the two databases.\n"
 HEAD_BYTES = 1000
-COUNTS = re.compile(
+SUMMARY = re.compile(
     rb"\n\nSummary:\n  Total number of entries: +\d+\n  Added entries: +(\d+)\n  Removed entries: +(\d+)\n"
     rb"  Changed entries: +(\d+)\n"
 )
@@ -19,13 +19,13 @@ IN_BASE_16 = re.compile(rb"[0-9a-f]{64}")
 
 def counts_of(head):
     """How many entries were added, removed and changed, by the first HEAD_BYTES of a report; None at the level minimal."""
-    found = COUNTS.match(head, len(DIFFER) - 1) if head.startswith(DIFFER) else None
+    found = SUMMARY.match(head, len(DIFFER) - 1) if head.startswith(DIFFER) else None
     return tuple(map(int, found.groups())) if found else None
 
 
 def lists_entries(head):
     """Whether a report lists the entries that differ, by its first HEAD_BYTES."""
-    found = COUNTS.match(head, len(DIFFER) - 1) if head.startswith(DIFFER) else None
+    found = SUMMARY.match(head, len(DIFFER) - 1) if head.startswith(DIFFER) else None
     return found is not None and LISTS.match(head, found.end()) is not None
 
 

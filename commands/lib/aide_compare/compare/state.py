@@ -4,14 +4,14 @@ import os
 from aide_compare.base.ending import Fault, Status
 from aide_compare.base.escapes import guarded, shown
 from aide_compare.base.files import open_regular
+from aide_compare.base.names import KINDS
 from aide_compare.base.times import date_of
 from aide_compare.compare.reason_counts import counts_of_keys
 from aide_compare.compare.reports import status_of
 
 MOST_BYTES = 65536
-COUNTS = ("added", "removed", "changed")
-NUMBERS = ("status", "time") + COUNTS + ("old_written", "new_written")
-KEYS = ("status", "time") + COUNTS + ("old_sha256", "new_sha256", "old", "new", "old_written", "new_written", "error")
+NUMBERS = ("status", "time") + KINDS + ("old_written", "new_written")
+KEYS = ("status", "time") + KINDS + ("old_sha256", "new_sha256", "old", "new", "old_written", "new_written", "error")
 
 
 class State:

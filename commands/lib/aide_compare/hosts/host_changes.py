@@ -6,8 +6,8 @@ count: times, inodes, and what the file system makes of a file.
 import hashlib
 import json
 
+from aide_compare.base.names import SEVERITIES
 from aide_compare.base.path_keys import key_of
-from aide_compare.compare.reason_counts import SEVERITIES
 from aide_compare.lines.attributes import FORMS
 
 OWN = frozenset(["Bcount", "Atime", "Mtime", "Ctime", "Inode", "Linkcount"])

@@ -4,7 +4,8 @@ import signal
 import time
 
 from aide_compare.base.ending import Fault, Status
-from aide_compare.compare.comparison import SIDES, Comparison, Request
+from aide_compare.base.names import SIDES
+from aide_compare.compare.comparison import Comparison, Request
 from aide_compare.compare.state import State
 from aide_compare.compare.unpack import copy_database
 from aide_compare.hosts.fleet_store import Part, no_room, seconds_left

@@ -2,11 +2,12 @@
 from html import escape
 
 from aide_compare.base.files import Spool
+from aide_compare.base.names import KINDS
 from aide_compare.base.shown_text import shown_note, shown_path
 from aide_compare.hosts.host_changes import is_explained, path_in
 from aide_compare.hosts.hosts_text import ORDERS, WHY, counts_text, headline, not_listed, reason_words
 from aide_compare.lines.decoded import decoded
-from aide_compare.lines.json_lines import KINDS, LABELS, Entry, rows_of
+from aide_compare.lines.json_lines import LABELS, Entry, rows_of
 from aide_compare.show.page import POLICY, blocks_of, digest_of, filled, part_of
 from aide_compare.show.page_heading import card
 from aide_compare.show.page_items import head_of, number, table

@@ -4,13 +4,13 @@ import json
 import re
 
 from aide_compare.base.files import Spool
+from aide_compare.base.names import KINDS
 from aide_compare.lines.decoded import decoded
 from aide_compare.lines.decoded_acl import acl_lists
 from aide_compare.lines.decoded_base import exact_bytes
 from aide_compare.lines.decoded_xattrs import attributes_of
 
 BLOCK = 1 << 18
-KINDS = ("added", "removed", "changed")
 OUTLINES = {
     True: "AIDE found differences between the two databases!!",
     False: "AIDE found NO differences between the two databases. Looks okay!!",

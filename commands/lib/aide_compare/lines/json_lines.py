@@ -4,14 +4,14 @@ import re
 from collections import namedtuple
 from functools import lru_cache
 
+from aide_compare.base.names import KINDS, SEVERITIES
 from aide_compare.base.shown_text import PLAIN, notes_of, shown, shown_note, shown_path
 from aide_compare.lines.report_lines import Refused
+from aide_compare.compare.reason_counts import KEYS
 from aide_compare.lines.attributes import FORMS, STRENGTH
 
 # An entry has at most the bytes of two lines of databases, and six times as many in JSON, some of them in base 16 too.
 LINE_LIMIT = 2**25
-KINDS = ["added", "removed", "changed"]
-SEVERITIES = ["high", "medium", "low"]
 GRADES = ["databases", "dpkg", "rpm", "archive", "rules"]
 LABELS = list(FORMS)
 PLACES = {label: place for place, label in enumerate(LABELS)}
@@ -20,7 +20,6 @@ NOTED = frozenset(place for label, place in PLACES.items() if FORMS[label] != "n
 LETTERS, PERMISSIONS = re.compile("[A-Za-z?!<>=:.+ -]{18}"), re.compile("[0-7]{4}")
 DATE = re.compile("[0-9]{4}-[0-9]{2}-[0-9]{2}T[0-9]{2}:[0-9]{2}:[0-9]{2}Z")
 TEXTS = frozenset((str, type(None)))
-ADDED_BY_COUNTS = ["explained", "not_verified", "unexplained"] + SEVERITIES
 
 # An entry; `names` are the pieces of its path, `name` is the path as it is shown, `size` the length of the line. A row is
 # [place of its label, old value, new value, old note, new note, old doubt, new doubt], where the last four may be missing.
@@ -142,10 +141,10 @@ def entry_of(fields, line):
 def judge_summary(fields):
     demand(fields["record"] == "summary" and fields["format"] == 1, "the first object is the summary, of format 1")
     demand(type(fields["differences"]) is bool and type(fields["lines"]) is int, "the summary has other values")
-    for name in ["total"] + KINDS:
+    for name in ("total",) + KINDS:
         demand(fields[name] is None or type(fields[name]) is int, "a count is a number")
     if "reasons" in fields:
-        demand(all(type(fields["reasons"][name]) is int for name in ADDED_BY_COUNTS), "a count of reasons is a number")
+        demand(all(type(fields["reasons"][name]) is int for name in KEYS), "a count of reasons is a number")
 
 
 def judge_database(fields, side):

@@ -6,6 +6,7 @@ import time
 
 from aide_compare.base.ending import Fault, Status
 from aide_compare.base.escapes import shown
+from aide_compare.base.names import KINDS, SIDES
 from aide_compare.base.times import date_of
 from aide_compare.compare.columns import skipped_of
 from aide_compare.compare.reports import status_of
@@ -21,7 +22,6 @@ TAKEN = frozenset(
     "differences total added removed changed levels grouped summarized base16 lines left_out skipped".split()
 )
 DIGITS = 16
-COUNTS, SIDES = ("added", "removed", "changed"), ("old", "new")
 
 
 def member(text):
@@ -48,7 +48,7 @@ def members(pairs):
 
 def _status_of(summary):
     """The status that the counts of a report mean, None if it has no counts."""
-    counts = tuple(summary[kind] for kind in COUNTS)
+    counts = tuple(summary[kind] for kind in KINDS)
     return None if None in counts else status_of(counts)
 
 
@@ -72,7 +72,7 @@ class Occasion:
         state = self.state
         if not state:
             return
-        counts = tuple(summary[kind] for kind in COUNTS)
+        counts = tuple(summary[kind] for kind in KINDS)
         digests = {fields["side"]: fields["sha256"] for fields in databases}
         cut = self.left_out()  # Of a database from which entries were left out, the report has another digest.
         others = [side for side in digests if not cut.get(side) and getattr(state, side + "_sha256") != digests[side]]

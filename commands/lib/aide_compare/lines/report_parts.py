@@ -4,6 +4,7 @@ import re
 from collections import namedtuple
 
 from aide_compare.base.files import Spool
+from aide_compare.base.names import KINDS
 from aide_compare.lines.report_details import read_details
 from aide_compare.lines.report_lines import Refused, put_bytes, unprinted
 from aide_compare.lines.report_objects import Making, objects_of
@@ -37,7 +38,6 @@ COUNTS = {
     "removed": b"Removed entries:",
     "changed": b"Changed entries:",
 }
-KINDS = ["added", "removed", "changed"]
 TOGETHER, DETAILS, DATABASES = (
     b"Added, removed and changed entries:",
     b"Detailed information about changes:",

@@ -2,13 +2,13 @@
 import json
 from functools import lru_cache
 
+from aide_compare.base.names import SIDES
 from aide_compare.lines.decoded import decoded, name_text
 from aide_compare.lines.decoded_times import date_of, time_text
 from aide_compare.lines.report_values import Block, Digests, attribute_of
 
 # What is kept of values that come again: so many, of at most so many bytes.
 MOST_KEPT, LONGEST_KEPT = 4000, 600
-SIDES = ("old", "new")
 encode = json.JSONEncoder(separators=(",", ":")).encode
 
 

@@ -2,7 +2,8 @@
 import json
 
 from aide_compare.base.files import Spool
-from aide_compare.lines.json_lines import KINDS, LINE_LIMIT
+from aide_compare.base.names import KINDS
+from aide_compare.lines.json_lines import LINE_LIMIT
 from aide_compare.lines.report_lines import Refused
 from aide_compare.reasons.explainer import members_of, path_of
 

@@ -1,6 +1,7 @@
 """Explains the entries of a report by the two databases and by evidence. Nothing is taken out, and nothing else changes."""
 from aide_compare.base.ending import Fault, Status
 from aide_compare.base.escapes import shown
+from aide_compare.base.names import SEVERITIES
 from aide_compare.base.path_keys import key_of_path
 from aide_compare.reasons.certificates import Certificates
 from aide_compare.reasons.change import Change
@@ -12,11 +13,11 @@ from aide_compare.reasons.merged import Merged
 from aide_compare.reasons.moves import Moves
 from aide_compare.reasons.parents import Parents
 from aide_compare.reasons.protected import is_never_explained
-from aide_compare.reasons.reason import LEVELS, Tally
+from aide_compare.reasons.reason import Tally
 from aide_compare.reasons.same_content import SAME, explain_same
 from aide_compare.reasons.sums import Sums
 
-LOW = LEVELS[-1]
+LOW = SEVERITIES[-1]
 PRESENT = {"added": (False, True), "removed": (True, False), "changed": (True, True)}
 
 

@@ -5,7 +5,6 @@ from aide_compare.compare.reason_counts import ReasonCounts
 
 # What explains an entry: its class, a text for people, whether the content is verified, and where the evidence is from.
 Reason = namedtuple("Reason", "name text verified grade")
-LEVELS = ("high", "medium", "low")
 
 
 class Tally:

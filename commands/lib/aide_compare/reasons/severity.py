@@ -5,7 +5,7 @@ from collections import namedtuple
 
 from aide_compare.base.ending import Fault, Status
 from aide_compare.base.escapes import shown
-from aide_compare.reasons.reason import LEVELS
+from aide_compare.base.names import SEVERITIES
 from aide_compare.base.table import Table, pattern_of
 from aide_compare.base.trusted import lines_of
 
@@ -60,7 +60,7 @@ def shipped():
 
 def _row(line, place):
     parts = line.split(None, 2)
-    if len(parts) != 3 or parts[0].decode("ascii", "replace") not in LEVELS:
+    if len(parts) != 3 or parts[0].decode("ascii", "replace") not in SEVERITIES:
         raise Fault(Status.USAGE, "%s: a line is high, medium or low, then tests, then a pattern" % place)
     tests = parts[1].decode("ascii", "replace").split(",")
     unknown = [test for test in tests if test not in TESTS]

@@ -2,7 +2,8 @@
 from collections import Counter
 
 from aide_compare.base.escapes import guarded, shown
-from aide_compare.compare.reason_counts import SEVERITIES, counted
+from aide_compare.base.names import SEVERITIES
+from aide_compare.compare.reason_counts import counted
 from aide_compare.show.listing import Listing
 
 MOST_REASONS, MOST_FOLDERS = 40, 10

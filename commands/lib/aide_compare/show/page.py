@@ -6,7 +6,8 @@ import os
 from html import escape
 
 from aide_compare.base.files import Spool
-from aide_compare.lines.json_lines import KINDS, LABELS, Report
+from aide_compare.base.names import KINDS
+from aide_compare.lines.json_lines import LABELS, Report
 from aide_compare.show.page_heading import OUTCOMES, counts, databases, facts, remarks, title_of
 from aide_compare.show.page_items import GRADES, entries, number
 from aide_compare.show.page_lists import FolderLists, ReasonLists

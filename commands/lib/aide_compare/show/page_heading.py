@@ -1,8 +1,9 @@
 """What stands over the entries of a page: of which host and which databases it is, the counts, and what is missing."""
 from html import escape
 
+from aide_compare.base.names import KINDS, SEVERITIES
 from aide_compare.base.shown_text import date_of, shown, shown_note
-from aide_compare.lines.json_lines import DATE, KINDS, SEVERITIES, bytes_of
+from aide_compare.lines.json_lines import DATE, bytes_of
 from aide_compare.show.page_items import entries, number
 
 OUTCOMES = {True: "The two databases differ", False: "No differences between the two databases"}

@@ -1,7 +1,8 @@
 """The entries of the plain lists, which need no script: an item of a list, with its values in a table."""
 from html import escape
 
-from aide_compare.lines.json_lines import KINDS, LABELS, SEVERITIES
+from aide_compare.base.names import KINDS, SEVERITIES
+from aide_compare.lines.json_lines import LABELS
 from aide_compare.show.page_streams import VARIOUS, facts_of
 from aide_compare.show.page_view import DIGESTS_NAME
 

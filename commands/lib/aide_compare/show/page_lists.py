@@ -3,8 +3,8 @@ from array import array
 from html import escape
 
 from aide_compare.base.files import Spool
+from aide_compare.base.names import KINDS, SEVERITIES
 from aide_compare.base.shown_text import shown
-from aide_compare.lines.json_lines import KINDS, SEVERITIES
 from aide_compare.show.page_items import GRADES, Room, bar, counted, entries, files
 from aide_compare.show.page_view import STANDINGS
 

@@ -1,7 +1,8 @@
 """The reasons of a report: how many entries each explains, and how many nothing explains."""
 from collections import Counter
 
-from aide_compare.lines.json_lines import SEVERITIES
+from aide_compare.base.names import SEVERITIES
+
 
 # ReasonGroups after so many different ones are counted together.
 MOST_GROUPS, OTHERS = 1000, "other reasons"

@@ -5,7 +5,8 @@ page_logic.js has the same functions for the script. One table of cases is tried
 from collections import namedtuple
 from urllib.parse import parse_qsl, quote_plus
 
-from aide_compare.lines.json_lines import DIGESTS, KINDS, LABELS, SEVERITIES
+from aide_compare.base.names import KINDS, SEVERITIES
+from aide_compare.lines.json_lines import DIGESTS, LABELS
 
 # How an entry stands: nothing explains it, something does that was not verified, or something does.
 STANDINGS = ["unexplained", "not_verified", "explained"]
