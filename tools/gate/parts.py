@@ -21,13 +21,13 @@ def at_least(number, *words):
 
 
 FILES = [
-    exactly(214, "tools.source.check_edits"),
-    exactly(554, "tools.source.check_docs"),
-    exactly(102, "tools.source.check_layout"),
-    exactly(160, "tools.source.check_layers"),
-    exactly(580, "tools.source.check_tools"),
-    exactly(993, "tools.source.check_planted"),
-    exactly(1897, "tools.wrong_bodies.check"),
+    exactly(210, "tools.source.check_edits"),
+    exactly(540, "tools.source.check_docs"),
+    exactly(90, "tools.source.check_layout"),
+    exactly(152, "tools.source.check_layers"),
+    exactly(566, "tools.source.check_tools"),
+    exactly(896, "tools.source.check_planted"),
+    exactly(1828, "tools.wrong_bodies.check"),
 ]
 
 

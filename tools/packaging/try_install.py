@@ -6,7 +6,6 @@ The trials need sh, Python, coreutils, find, sed, grep, tar and gzip. Some need 
 systemd-analyze, zsh, fish): they are tried if this is installed, and otherwise named as skipped. Prints what fails and, at
 the end, `N passed, M failed`.
 """
-import shutil
 import sys
 
 from tools.lib.arguments import add_program, parser_of
@@ -50,7 +49,7 @@ def main():
             if trial.passed + trial.failed == before:
                 print("skipped: nothing was tried by", part.__name__)
     finally:
-        shutil.rmtree(trial.root, ignore_errors=True)
+        trial.remove()
     return trial.status()
 
 

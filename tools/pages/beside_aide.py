@@ -11,10 +11,10 @@ import shutil
 import socket
 import subprocess
 import sys
-import tempfile
 from urllib.parse import unquote_to_bytes
 
 from tools.lib.arguments import add_program, parser_of
+from tools.lib.scratch import Scratch
 from tools.lib.tally import Tally
 
 AIDE = shutil.which("aide")
@@ -432,23 +432,18 @@ WORDS = [
 ]
 
 
-class Trial(Tally):
+class Trial(Scratch, Tally):
     """A folder of its own, and the counts."""
 
     def __init__(self, program):
-        super().__init__()
-        self.program, self.folder = os.path.abspath(program), tempfile.mkdtemp(prefix="beside-aide-")
-
-    def write(self, name, text):
-        path = os.path.join(self.folder, name)
-        with open(path, "wb") as file:
-            file.write(text if isinstance(text, bytes) else text.encode())
-        return path
+        Scratch.__init__(self, "beside-aide-")
+        Tally.__init__(self)
+        self.program = os.path.abspath(program)
 
     def run(self, program, words, **more):
         done = subprocess.run(
             [program, *words],
-            cwd=self.folder,
+            cwd=self.root,
             stdin=subprocess.DEVNULL,
             stderr=subprocess.PIPE,
             **dict({"stdout": subprocess.PIPE}, **more),
@@ -457,7 +452,7 @@ class Trial(Tally):
 
     def put(self, case):
         """Writes a case's files, and gives its words."""
-        places = {"OLD": self.write("old", case.old), "NEW": self.write("new", case.new), "DIR": self.folder}
+        places = {"OLD": self.write("old", case.old), "NEW": self.write("new", case.new), "DIR": self.root}
         filled = lambda text: re.sub("OLD|NEW|DIR", lambda found: places[found.group(0)], text)
         for name, text in case.files.items():
             self.write(name, text)
@@ -479,16 +474,16 @@ class Trial(Tally):
 
 def scan(trial, rule, out):
     """Has AIDE write a database of the folder `tree`."""
-    conf = trial.write("init.conf", "database_out=file:%s/%s\n%s/tree %s\n" % (trial.folder, out, trial.folder, rule))
+    conf = trial.write("init.conf", "database_out=file:%s/%s\n%s/tree %s\n" % (trial.root, out, trial.root, rule))
     status, _, errors = trial.run(AIDE, ["--init", "-c", conf])
     trial.holds("aide --init", status == 0, errors)
-    with open(os.path.join(trial.folder, out), "rb") as file:
+    with open(os.path.join(trial.root, out), "rb") as file:
         return [line for line in file.read().split(b"\n") if line.startswith(b"/")]
 
 
 def try_order(trial):
     """AIDE writes path order, for names with all kinds of bytes, however many workers it has."""
-    tree = os.path.join(trial.folder, "tree").encode()
+    tree = os.path.join(trial.root, "tree").encode()
     for name in (
         b"a/b/c",
         b"a/b.c",
@@ -520,11 +515,11 @@ def try_order(trial):
 
 def try_bits(trial):
     """The eleven bits of the column attr are AIDE's."""
-    open(os.path.join(trial.folder, "tree", "file"), "w").close()
-    os.symlink("file", os.path.join(trial.folder, "tree", "link"))
+    open(os.path.join(trial.root, "tree", "file"), "w").close()
+    os.symlink("file", os.path.join(trial.root, "tree", "link"))
     for name, bit in BITS.items():
         entries = scan(trial, name, "bits.db")
-        with open(os.path.join(trial.folder, "bits.db"), "rb") as file:
+        with open(os.path.join(trial.root, "bits.db"), "rb") as file:
             columns = re.search(rb"^@@db_spec (.*)$", file.read(), re.M).group(1).split()
         link = [line for line in entries if line.split(b" ")[0].endswith(b"/link")][0].split()
         attr = int(link[columns.index(b"attr")])
@@ -552,7 +547,7 @@ def try_fields(trial):
         "capabilities": 37,
     }
     entries = scan(trial, "R+H+b+a", "fields.db")
-    with open(os.path.join(trial.folder, "fields.db"), "rb") as file:
+    with open(os.path.join(trial.root, "fields.db"), "rb") as file:
         columns = re.search(rb"^@@db_spec (.*)$", file.read(), re.M).group(1).decode().split()
     rows = [dict(zip(columns, entry.decode(errors="replace").split())) for entry in entries]
     alone = [
@@ -570,7 +565,7 @@ def try_fields(trial):
 
 def try_real_pair(trial):
     """A pair of databases of AIDE's own: the program reads them and finds the same entries added, removed and changed."""
-    path = lambda name: os.path.join(trial.folder, "tree", name)
+    path = lambda name: os.path.join(trial.root, "tree", name)
     scan(trial, "R+sha256", "old")
     with open(path("file"), "w") as file:
         file.write("changed")
@@ -581,7 +576,7 @@ def try_real_pair(trial):
     conf = trial.write(
         "conf",
         "%s%s/tree R\ndatabase_attrs=E\nreport_level=list_entries\n"
-        % (PAIR.replace("OLD", trial.folder + "/old").replace("NEW", trial.folder + "/new"), trial.folder),
+        % (PAIR.replace("OLD", trial.root + "/old").replace("NEW", trial.root + "/new"), trial.root),
     )
     answers = [trial.run(program, ["-E", "-c", conf]) for program in (AIDE, trial.program)]
     listed = [[line[20:] for line in output.split("\n") if line[18:20] == ": "] for _, output, _ in answers]
@@ -604,13 +599,13 @@ def try_devices(trial):
         got = trial.run(program, words, stdout=writer)
         os.close(writer)
         trial.holds("a reader that has gone: " + program, got[0] == status, got)
-    trial.write("conf", (PAIR + RULES).replace("OLD", "/dev/stdin").replace("NEW", trial.folder + "/new"))
+    trial.write("conf", (PAIR + RULES).replace("OLD", "/dev/stdin").replace("NEW", trial.root + "/new"))
     for program, status in ((AIDE, 4), (trial.program, 18)):
         done = subprocess.run([program, *words], input=A.encode(), capture_output=True)
         trial.holds("a pipe as database: " + program, done.returncode == status, done)
-    fifo = os.path.join(trial.folder, "fifo")
+    fifo = os.path.join(trial.root, "fifo")
     os.mkfifo(fifo)
-    trial.write("conf", (PAIR + RULES).replace("OLD", fifo).replace("NEW", trial.folder + "/new"))
+    trial.write("conf", (PAIR + RULES).replace("OLD", fifo).replace("NEW", trial.root + "/new"))
     for program, waits in ((AIDE, False), (trial.program, True)):
         writer = subprocess.Popen(["cp", trial.write("plain", A), fifo])
         try:
@@ -659,7 +654,7 @@ def main():
         try_fields(trial)
         try_real_pair(trial)
     finally:
-        shutil.rmtree(trial.folder)
+        trial.remove()
     return trial.status()
 
 

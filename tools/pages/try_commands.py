@@ -60,7 +60,7 @@ def main():
         try_messages(sandbox.holds)
         try_options(sandbox.holds)
     finally:
-        sandbox.trial.close()
+        sandbox.trial.remove()
     return sandbox.trial.status()
 
 

@@ -12,15 +12,14 @@ import re
 import shutil
 import subprocess
 import sys
-import tempfile
 
 from tools.lib.arguments import add_program, parser_of
+from tools.lib.scratch import TOP as HERE, Scratch
 from tools.lib.tally import Tally
 from tools.oracle.attributes import ATTRIBUTES
 from tools.oracle.configuration import LEVELS, OLDER_OPTIONS, OPTIONS, WITHOUT_EFFECT
 from tools.oracle.session import CONFIGURATION_WORDS, DATABASE_WORDS
 
-HERE = os.path.dirname(os.path.dirname(os.path.dirname(os.path.abspath(__file__))))
 PAGE = os.path.join(HERE, "man", "aide-compare-program.8")
 CONF_PAGE = os.path.join(HERE, "man", "aide-compare.conf.5")
 SLOTS = "YlZbpugamcinHAXSEC"
@@ -52,22 +51,13 @@ OTHER_PAGES = [
 ]
 
 
-class Trial(Tally):
+class Trial(Scratch, Tally):
     """The program, a folder of its own, and the counts."""
 
     def __init__(self, program):
-        super().__init__()
+        Scratch.__init__(self, "try-manual-")
+        Tally.__init__(self)
         self.program = os.path.abspath(program)
-        self.folder = tempfile.mkdtemp(prefix="try-manual-")
-
-    def path(self, name):
-        return os.path.join(self.folder, name)
-
-    def write(self, name, text):
-        data = text if isinstance(text, bytes) else text.encode()
-        with open(self.path(name), "wb") as file:
-            file.write(data)
-        return self.path(name)
 
     def run(self, *words, stdout=subprocess.PIPE):
         done = subprocess.run([self.program, *words], stdin=subprocess.DEVNULL, stdout=stdout, stderr=subprocess.PIPE)
@@ -326,7 +316,7 @@ def try_reports(trial, page):
         shown[slot] = parts[level]
         wanted = "".join(shown.get(part, "") for part in order)
         status, output, errors = trial.compare(*PAIR, options="report_level=%s\n" % level)
-        got = "".join(line.rstrip() + "\n" for line in output.replace(trial.folder, "/var/lib/aide").splitlines())
+        got = "".join(line.rstrip() + "\n" for line in output.replace(trial.root, "/var/lib/aide").splitlines())
         trial.holds("report at " + level, (status, got, errors) == (7, wanted, ""), "\n" + got)
     status, output, errors = trial.compare(PAIR[0], PAIR[0], options="report_level=minimal\n")
     trial.holds("no differences", (status, output) == (0, "AIDE found NO differences between the two databases.\n"), output)
@@ -461,8 +451,8 @@ def try_lines(trial, page):
         done,
     )
     trial.holds("no configuration", trial.run("-D", "-c", "/nope") == (18, "", "aide: cannot read the configuration /nope\n"))
-    got = trial.run("-D", "-c", trial.folder)
-    trial.holds("a folder", got == (18, "", "aide: cannot read the configuration %s\n" % trial.folder), got)
+    got = trial.run("-D", "-c", trial.root)
+    trial.holds("a folder", got == (18, "", "aide: cannot read the configuration %s\n" % trial.root), got)
     trial.holds("the file -", trial.run("-D", "-c", "-") == (18, "", "aide: cannot read the configuration -\n"))
     trial.holds(
         "a long configuration",
@@ -624,7 +614,7 @@ def main():
         try_texts(trial, page)
         try_limits(trial, page)
     finally:
-        shutil.rmtree(trial.folder)
+        trial.remove()
     return trial.status()
 
 

@@ -63,7 +63,7 @@ def main():
         if asked.only is None:
             page.check_all_tried(asked.with_packages)
     finally:
-        trial.close()
+        trial.remove()
     if trial.passed + trial.failed < 2:
         trial.holds("nothing was tried", False)
     return trial.status()

@@ -6,11 +6,10 @@ import os
 import shutil
 import subprocess
 import sys
-import tempfile
 
 from tools.lib.apart import has_own_mounts
+from tools.lib.scratch import TOP as HERE, Scratch
 
-HERE = os.path.dirname(os.path.dirname(os.path.dirname(os.path.dirname(os.path.abspath(__file__)))))
 # Only for a tool that hangs: on a machine with much other work a run may take minutes.
 TIME_LIMIT = 300
 NOBODY = 65534
@@ -60,13 +59,12 @@ class Answer:
         return "status %d, output %.400r, errors %.600r" % (self.status, self.output, self.errors)
 
 
-class Sandbox:
+class Sandbox(Scratch):
     """The tools beside the program, a folder for what is unpacked, and the databases OLD and NEW in two forms."""
 
     def __init__(self, program, tally):
+        super().__init__("try-tools-")
         self.tally = tally
-        self.root = tempfile.mkdtemp(prefix="try-tools-")
-        os.chmod(self.root, 0o755)
         self.room = self.path("room")
         for name in ("bin", "stubs", "room", "empty"):
             os.mkdir(self.path(name))
@@ -83,18 +81,6 @@ class Sandbox:
         for name, text in (("old", OLD), ("new", NEW)):
             self.write(name + ".db", text)
             self.write(name + ".db.gz", gzip.compress(text))
-
-    def path(self, name):
-        return os.path.join(self.root, name)
-
-    def write(self, name, text, mode=0o644):
-        """Writes a file. A link that a trial has left there is not followed: root would write a file of the machine."""
-        path = self.path(name)
-        os.makedirs(os.path.dirname(path), exist_ok=True)
-        with open(path, "wb", opener=lambda path, flags: os.open(path, flags | os.O_NOFOLLOW, 0o644)) as file:
-            file.write(text if isinstance(text, bytes) else text.encode())
-        os.chmod(path, mode)
-        return path
 
     def read(self, name):
         with open(self.path(name), "rb") as file:
@@ -121,10 +107,6 @@ class Sandbox:
         finally:
             if is_there:
                 subprocess.call(["umount", path])
-
-    def stub(self, name, body, folder="stubs"):
-        """A command of the trials, found before that of the machine."""
-        return self.write(os.path.join(folder, name), "#!/bin/sh\n%s\n" % body, 0o755)
 
     def command(self, tool, *words):
         """The words of a tool, such as aide-compare json, and those that follow."""
@@ -174,6 +156,3 @@ class Sandbox:
             return {}
         lines = self.read(name).decode("utf-8", "surrogateescape").split("\n")
         return dict(line.split("=", 1) for line in lines if "=" in line)
-
-    def remove(self):
-        shutil.rmtree(self.root, ignore_errors=True)

@@ -3,11 +3,10 @@ import os
 import shutil
 import stat
 import subprocess
-import tempfile
 
+from tools.lib.scratch import TOP as HERE, Scratch
 from tools.lib.tally import Tally
 
-HERE = os.path.dirname(os.path.dirname(os.path.dirname(os.path.dirname(os.path.abspath(__file__)))))
 PARTS = [
     "commands",
     "contrib",
@@ -26,13 +25,12 @@ NEEDED = """[ awk basename cat chmod cmp comm cp cut date dirname env find grep 
 python3 readlink rm rmdir sed sh sha256sum sort tail tar touch tr uniq wc xargs""".split()
 
 
-class Trial(Tally):
+class Trial(Scratch, Tally):
     """Each trial installs below a folder of its own from a copy that it may change."""
 
     def __init__(self, program):
-        super().__init__()
-        self.root = tempfile.mkdtemp(prefix="try-install-")
-        os.chmod(self.root, 0o755)
+        Scratch.__init__(self, "try-install-")
+        Tally.__init__(self)
         self.program = shutil.copy(program, self.path("program"))
         self.source = self.copy("source")
         with open(os.path.join(self.source, "VERSION")) as file:
@@ -61,17 +59,6 @@ class Trial(Tally):
             if found:
                 os.symlink(found, os.path.join(folder, name))
         return folder
-
-    def path(self, *names):
-        return os.path.join(self.root, *names)
-
-    def write(self, name, text, mode=0o644):
-        path = self.path(name)
-        os.makedirs(os.path.dirname(path), exist_ok=True)
-        with open(path, "w") as file:
-            file.write(text)
-        os.chmod(path, mode)
-        return path
 
     def skip(self, what):
         print("skipped:", what)

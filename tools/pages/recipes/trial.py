@@ -1,14 +1,12 @@
 """A folder into which the program is installed with its tools, and the counts of what was tried there."""
 import os
 import re
-import shutil
 import subprocess
 import sys
-import tempfile
 
+from tools.lib.scratch import TOP as HERE, Scratch
 from tools.lib.tally import Tally
 
-HERE = os.path.dirname(os.path.dirname(os.path.dirname(os.path.dirname(os.path.abspath(__file__)))))
 # The folders that recipes and tools name; in a trial they lie below its root.
 FOLDERS = [
     "/etc/aide",
@@ -36,20 +34,16 @@ NOBODY = 65534
 SECONDS = 600
 
 
-class Trial(Tally):
+class Trial(Scratch, Tally):
     def __init__(self, program, shell):
-        super().__init__()
+        Scratch.__init__(self, "try-recipes-")
+        Tally.__init__(self)
         self.program, self.interpreter = os.path.abspath(program), shell
-        self.root = tempfile.mkdtemp(prefix="try-recipes-")
-        os.chmod(self.root, 0o755)
         for folder in FOLDERS + ["/stubs", "/tmp"]:
             os.makedirs(self.root + folder, exist_ok=True)
         os.chmod(self.root + "/var/lib/aide", 0o700)
         for folder in ("/tmp", "/var/tmp"):
             os.chmod(self.root + folder, 0o1777)
-
-    def close(self):
-        shutil.rmtree(self.root, ignore_errors=True)
 
     def below(self, text):
         """A text with the folders that it names put below the root."""
@@ -60,15 +54,8 @@ class Trial(Tally):
         return text.replace(self.root, "")
 
     def path(self, name):
-        return self.root + name
-
-    def write(self, name, text, mode=0o644):
-        path = self.root + name
-        os.makedirs(os.path.dirname(path), exist_ok=True)
-        with open(path, "wb") as file:
-            file.write(text if isinstance(text, bytes) else text.encode())
-        os.chmod(path, mode)
-        return path
+        """Where a name of the machine lies below the root."""
+        return os.path.join(self.root, name.lstrip("/"))
 
     def read(self, name):
         """The text of a file; nothing if there is none, so that one missing file fails one trial and not all."""
@@ -77,9 +64,6 @@ class Trial(Tally):
                 return file.read()
         except FileNotFoundError:
             return ""
-
-    def stub(self, name, body):
-        self.write("/stubs/" + name, "#!/bin/sh\n%s\n" % body, 0o755)
 
     def environment(self):
         places = ["/stubs", "/usr/local/sbin", "/usr/local/bin"]
