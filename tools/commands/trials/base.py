@@ -4,35 +4,18 @@ import os
 from tools.commands.base import files, texts
 
 
-def try_escapes(sandbox):
-    texts.try_escapes(sandbox.tally, sandbox.root)
+def in_sandbox(part):
+    """A trial that takes a sandbox, from one that takes a tally and an empty folder."""
+
+    def trial(sandbox):
+        folder = sandbox.path("base")
+        os.mkdir(folder)
+        part(sandbox.tally, folder)
+
+    return trial
 
 
-def try_times(sandbox):
-    texts.try_times(sandbox.tally, sandbox.root)
-
-
-def try_options(sandbox):
-    texts.try_options(sandbox.tally, sandbox.root)
-
-
-def try_state(sandbox):
-    texts.try_state(sandbox.tally, sandbox.root)
-
-
-def try_reports(sandbox):
-    texts.try_reports(sandbox.tally, sandbox.root)
-
-
-def try_ends(sandbox):
-    texts.try_ends(sandbox.tally, sandbox.root)
-
-
-def try_tables(sandbox):
-    texts.try_tables(sandbox.tally, sandbox.root)
-
-
-def try_files(sandbox):
-    folder = sandbox.path("base")
-    os.mkdir(folder)
-    files.try_files(sandbox.tally, folder)
+try_files = in_sandbox(files.try_files)
+try_escapes, try_times, try_options = map(in_sandbox, (texts.try_escapes, texts.try_times, texts.try_options))
+try_state, try_reports, try_ends = map(in_sandbox, (texts.try_state, texts.try_reports, texts.try_ends))
+try_tables = in_sandbox(texts.try_tables)

@@ -1,102 +1,30 @@
 """Parts of try_viewers by name, for the bugs that are planted against them."""
+import inspect
+
 from tools.commands import try_viewers
 from tools.commands.viewers import aide_form, deep, looks, occasion, shapes, texts
 from aide_compare.show.page import script_of
 
-SEED, REPORTS = 20261125, 80
+SEED = 20261125
+COUNTS = {"try_hostile": 80, "try_shapes": 40, "try_program": 20}
+PARTS = (
+    *(deep.try_times, deep.try_work, deep.try_memory, deep.try_sizes, deep.try_script),
+    *(looks.try_heading, looks.try_blank_ends, looks.try_reasons, looks.try_views, looks.try_only),
+    *(try_viewers.try_levels, try_viewers.try_doubt, try_viewers.try_installed, try_viewers.try_cuts, try_viewers.try_edits),
+    *(try_viewers.try_shown, try_viewers.try_commands, try_viewers.try_hostile, try_viewers.try_program),
+    *(texts.try_table, texts.try_zones, shapes.try_shapes, aide_form.try_aide_form, occasion.try_occasion),
+)
 
 
-def try_times(sandbox):
-    deep.try_times(sandbox.tally)
+def in_sandbox(part):
+    """A trial that takes a sandbox, from one that takes some of these values, by their names."""
+
+    def trial(sandbox):
+        count, tally, program = COUNTS.get(part.__name__), sandbox.tally, sandbox.program
+        values = {"tally": tally, "program": program, "seed": SEED, "count": count, "script": script_of()}
+        part(**{name: values[name] for name in inspect.signature(part).parameters})
+
+    return trial
 
 
-def try_work(sandbox):
-    deep.try_work(sandbox.tally)
-
-
-def try_memory(sandbox):
-    deep.try_memory(sandbox.tally)
-
-
-def try_sizes(sandbox):
-    deep.try_sizes(sandbox.tally)
-
-
-def try_script(sandbox):
-    deep.try_script(script_of(), sandbox.tally)
-
-
-def try_heading(sandbox):
-    looks.try_heading(sandbox.tally)
-
-
-def try_blank_ends(sandbox):
-    looks.try_blank_ends(sandbox.tally)
-
-
-def try_reasons(sandbox):
-    looks.try_reasons(SEED, sandbox.tally)
-
-
-def try_views(sandbox):
-    looks.try_views(sandbox.tally)
-
-
-def try_only(sandbox):
-    looks.try_only(sandbox.tally)
-
-
-def try_levels(sandbox):
-    try_viewers.try_levels(sandbox.tally)
-
-
-def try_doubt(sandbox):
-    try_viewers.try_doubt(sandbox.tally)
-
-
-def try_installed(sandbox):
-    try_viewers.try_installed(sandbox.tally)
-
-
-def try_cuts(sandbox):
-    try_viewers.try_cuts(sandbox.tally)
-
-
-def try_edits(sandbox):
-    try_viewers.try_edits(sandbox.tally)
-
-
-def try_shown(sandbox):
-    try_viewers.try_shown(SEED, sandbox.tally)
-
-
-def try_commands(sandbox):
-    try_viewers.try_commands(sandbox.tally)
-
-
-def try_hostile(sandbox):
-    try_viewers.try_hostile(SEED, REPORTS, sandbox.tally)
-
-
-def try_program(sandbox):
-    try_viewers.try_program(sandbox.program, SEED, REPORTS // 4, sandbox.tally)
-
-
-def try_table(sandbox):
-    texts.try_table(sandbox.tally)
-
-
-def try_zones(sandbox):
-    texts.try_zones(SEED, sandbox.tally)
-
-
-def try_shapes(sandbox):
-    shapes.try_shapes(SEED, REPORTS // 2, sandbox.tally)
-
-
-def try_aide_form(sandbox):
-    aide_form.try_aide_form(sandbox.program, sandbox.tally)
-
-
-def try_occasion(sandbox):
-    occasion.try_occasion(sandbox.program, sandbox.tally)
+globals().update((part.__name__, in_sandbox(part)) for part in PARTS)
