@@ -21,11 +21,11 @@ def at_least(number, *words):
 
 
 FILES = [
+    exactly(566, "tools.source.check_tools"),
     exactly(210, "tools.source.check_edits"),
     exactly(540, "tools.source.check_docs"),
     exactly(90, "tools.source.check_layout"),
     exactly(152, "tools.source.check_layers"),
-    exactly(566, "tools.source.check_tools"),
     exactly(896, "tools.source.check_planted"),
     exactly(1828, "tools.wrong_bodies.check"),
 ]
@@ -47,7 +47,7 @@ def trials(program, in_memory):
         at_least(310, "tools.program.failed_calls", program),
         at_least(735, "tools.pages.try_manual", program),
         at_least(1500, "tools.packaging.try_install", program),
-        at_least(2000, "tools.commands.try_tools", program),
+        at_least(3700, "tools.commands.try_tools", program),
         at_least(900, "tools.commands.try_viewers", program, "--count", "40"),
         at_least(450, "tools.pages.try_recipes", program),
         at_least(360, "tools.pages.try_commands", program),
@@ -56,14 +56,15 @@ def trials(program, in_memory):
 
 
 def quick_trials(program):
-    """Those that take seconds. The others prove something, let each allocation fail, install, or wait for processes."""
+    """Those that take seconds, the longest first. The others prove something, let each allocation fail, install, or wait for
+    processes."""
     return [
-        at_least(970, "tools.program.end_to_end", program, "--quick", "--sessions", "50"),
-        exactly(732, "tools.program.try_fields", program),
-        exactly(564, "tools.program.try_line_definitions", "--count", "60"),
-        at_least(310, "tools.program.failed_calls", program),
-        at_least(735, "tools.pages.try_manual", program),
-        at_least(900, "tools.commands.try_tools", program, "--quick"),
-        at_least(600, "tools.commands.try_viewers", program, "--count", "20"),
+        at_least(3700, "tools.commands.try_tools", program, "--quick"),
+        at_least(900, "tools.commands.try_viewers", program, "--count", "20"),
         at_least(360, "tools.pages.try_commands", program),
+        exactly(564, "tools.program.try_line_definitions", "--count", "60"),
+        at_least(970, "tools.program.end_to_end", program, "--quick", "--sessions", "50"),
+        at_least(735, "tools.pages.try_manual", program),
+        at_least(310, "tools.program.failed_calls", program),
+        exactly(341, "tools.program.try_fields", program),
     ]
