@@ -21,13 +21,13 @@ def at_least(number, *words):
 
 
 FILES = [
-    exactly(566, "tools.source.check_tools"),
-    exactly(210, "tools.source.check_edits"),
-    exactly(540, "tools.source.check_docs"),
-    exactly(90, "tools.source.check_layout"),
-    exactly(152, "tools.source.check_layers"),
-    exactly(896, "tools.source.check_planted"),
-    exactly(1828, "tools.wrong_bodies.check"),
+    exactly(582, "tools.source.check_tools"),
+    exactly(214, "tools.source.check_edits"),
+    exactly(554, "tools.source.check_docs"),
+    exactly(102, "tools.source.check_layout"),
+    exactly(160, "tools.source.check_layers"),
+    exactly(961, "tools.source.check_planted"),
+    exactly(1897, "tools.wrong_bodies.check"),
 ]
 
 
@@ -66,5 +66,5 @@ def quick_trials(program):
         at_least(970, "tools.program.end_to_end", program, "--quick", "--sessions", "50"),
         at_least(735, "tools.pages.try_manual", program),
         at_least(310, "tools.program.failed_calls", program),
-        exactly(341, "tools.program.try_fields", program),
+        exactly(732, "tools.program.try_fields", program),
     ]
