@@ -226,7 +226,6 @@ def try_same_content(sandbox):
 
 
 def counted(sandbox, *databases):
-    """The counts of reasons that a run says."""
-    answer = sandbox.call(TOOL, "--reasons", *databases)
-    line = re.search(rb"unexplained=.*", answer.errors)
-    return {name: int(number) for name, number in (word.split("=") for word in line.group().decode().split())} if line else {}
+    """The counts of reasons in the state of a run."""
+    sandbox.call(TOOL, "--reasons", "--state", "counted.state", *databases)
+    return {name: int(value) for name, value in sandbox.state("counted.state").items() if value.isdigit()}
