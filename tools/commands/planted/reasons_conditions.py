@@ -44,7 +44,7 @@ PLANTED = (
         (ENTRIES, "(8, 32, 40, 48, 64, 96, 128)", "(8, 32, 40, 48, 96, 128)"),
         (ENTRIES, "(8, 32, 40, 48, 64, 96, 128)", "(8, 32, 40, 48, 64, 96)"),
         (ENTRIES, 'b"" if field == b"0-" else ', ""),
-        (ENTRIES, 'decoded(field[1:] if field.startswith(b"00") else field)', "decoded(field)"),
+        (ENTRIES, 'unescaped(field[1:] if field.startswith(b"00") else field)', "decoded(field)"),
     )
     + seen_by(
         "reasons_entries.try_plain",

@@ -5,7 +5,7 @@ WITHOUT, PATTERNS, TRUSTED = (
     "commands/lib/aide_compare/%s.py" % name for name in ("compare/exclusions", "base/patterns", "base/trusted")
 )
 PLANTED = (
-    seen_by("without.try_names", (WITHOUT, 'decoded(fields[self.columns["name"]])', 'fields[self.columns["name"]]'))
+    seen_by("without.try_names", (WITHOUT, 'unescaped(fields[self.columns["name"]])', 'fields[self.columns["name"]]'))
     + seen_by(
         "without.try_damage",
         (WITHOUT, 'self.keeps(lines[at:end]) else b"\\n"', 'self.keeps(lines[at:end]) else b""'),

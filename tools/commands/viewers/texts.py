@@ -199,7 +199,7 @@ def try_zones(seed, tally):
         around = [seconds + step for seconds in changes for step in range(-22000, 22000, 450)]
         faults = [
             "%d is %r" % (seconds, given(seconds))
-            for given, wanted in ((decoded_times.time_text, local_text), (decoded_times.date_of, utc_date))
+            for given, wanted in ((decoded_times.time_text, local_text), (decoded_times.utc_text, utc_date))
             for seconds in times + around
             if given(seconds) != wanted(seconds)
         ]

@@ -31,7 +31,7 @@ KINDS = (
 )
 
 
-def kind_of(mode):
+def file_kind(mode):
     return next((name for test, name in KINDS if test(mode)), "a file")
 
 
@@ -54,7 +54,7 @@ def open_regular(path, what=""):
         try:
             mode = os.fstat(file).st_mode
             if not stat.S_ISREG(mode):
-                raise failure(errno.EINVAL, "it is %s, not a regular file" % kind_of(mode))
+                raise failure(errno.EINVAL, "it is %s, not a regular file" % file_kind(mode))
             return reopened(file, os.O_RDONLY | os.O_NONBLOCK | os.O_NOCTTY)
         finally:
             os.close(file)
@@ -206,7 +206,7 @@ class Replacement:
         except FileNotFoundError:
             return
         if not stat.S_ISREG(mode):
-            raise failure(errno.EINVAL, "it is %s, not a regular file" % kind_of(mode))
+            raise failure(errno.EINVAL, "it is %s, not a regular file" % file_kind(mode))
 
     def _try(self):
         self._refuse_other_kinds()

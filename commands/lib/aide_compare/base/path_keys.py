@@ -17,7 +17,7 @@ _BACK = {form: byte for byte, form in _FORMS.items()}
 _FORM = re.compile(rb"\x02.|\x01", re.S)
 
 
-def decoded(field):
+def unescaped(field):
     """A path with its escapes decoded; `%` without two hexadecimal digits stands for itself."""
     return _ENCODED.sub(lambda found: bytes([int(found.group(1), 16)]), field)
 
@@ -26,7 +26,7 @@ def key_of(field):
     """The key of a path that is written as a field of a database."""
     if not _UNUSUAL.search(field):
         return field.replace(b"/", b"\x01")
-    return _MAPPED.sub(lambda found: _FORMS[found.group()], decoded(field))
+    return _MAPPED.sub(lambda found: _FORMS[found.group()], unescaped(field))
 
 
 def key_of_path(path):

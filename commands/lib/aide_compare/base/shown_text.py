@@ -63,7 +63,7 @@ def shown_note(text, most=200):
     return guarded[:most] + "..." if len(guarded) > most else guarded
 
 
-def date_of(date):
+def shown_date(date):
     """A time as JSON has it, such as 2026-11-24T06:00:00Z, as people read it."""
     return date.replace("T", " ").replace("Z", " UTC")
 
@@ -80,7 +80,7 @@ def note_of(label, fields, side, usual):
         return text if usual and len(text) <= NOTE_LIMIT else shown_note(text, NOTE_LIMIT)
     if type(value) is int:
         date = fields.get(side + "_time")
-        return date_of(date) if date else ""
+        return shown_date(date) if date else ""
     return letters_of(value) if label == "Perm" else ""
 
 

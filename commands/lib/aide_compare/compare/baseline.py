@@ -11,7 +11,7 @@ import time
 from aide_compare.base.ending import Fault, Status, reason
 from aide_compare.base.escapes import shown
 from aide_compare.base.exchange import exchange
-from aide_compare.base.files import ANYBODY, copy_file, failure, is_locked, kind_of, new_file, open_folder, reopened, unlink
+from aide_compare.base.files import ANYBODY, copy_file, failure, file_kind, is_locked, new_file, open_folder, reopened, unlink
 
 FILE_MODES = 0o666
 PLAIN_FILE = os.O_RDONLY | os.O_NOFOLLOW | os.O_NONBLOCK | os.O_NOCTTY | os.O_CLOEXEC
@@ -82,7 +82,7 @@ class Baseline:
         found = os.fstat(descriptor)
         if not stat.S_ISREG(found.st_mode):
             hint = ", which is not followed: name the file itself" if stat.S_ISLNK(found.st_mode) else ""
-            raise self.fault("it is %s, not a regular file%s" % (kind_of(found.st_mode), hint))
+            raise self.fault("it is %s, not a regular file%s" % (file_kind(found.st_mode), hint))
         return descriptor, found
 
     def reading(self):

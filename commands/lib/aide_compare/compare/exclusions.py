@@ -11,7 +11,7 @@ from functools import lru_cache
 from aide_compare.base.ending import Fault, Status, reason, write_all
 from aide_compare.base.escapes import shown
 from aide_compare.base.files import nameless
-from aide_compare.base.path_keys import decoded
+from aide_compare.base.path_keys import unescaped
 from aide_compare.base.table import Table, pattern_of
 from aide_compare.base.trusted import lines_of
 
@@ -157,7 +157,7 @@ class _Cut:
         return self._keeps_entry(fields)
 
     def _keeps_entry(self, fields):
-        path = decoded(fields[self.columns["name"]])
+        path = unescaped(fields[self.columns["name"]])
         rule = self.rules.of(path)
         if rule is None:
             return True

@@ -8,7 +8,7 @@ from hashlib import sha256
 from aide_compare.base import progress
 from aide_compare.base.ending import Fault, Status, reason, write_all
 from aide_compare.base.escapes import shown
-from aide_compare.base.files import kind_of, nameless, open_regular, private_folder
+from aide_compare.base.files import file_kind, nameless, open_regular, private_folder
 
 BLOCK, LEAST = 1 << 18, 64
 GZIP, COMPRESS = b"\x1f\x8b", b"\x1f\x9d"
@@ -66,7 +66,7 @@ def open_database(side, path):
             raise OSError(0, "the caller has not opened it")
         mode = os.fstat(given).st_mode
         if not (stat.S_ISREG(mode) or stat.S_ISFIFO(mode) or stat.S_ISSOCK(mode)):
-            raise OSError(0, "it is %s" % kind_of(mode))
+            raise OSError(0, "it is %s" % file_kind(mode))
         return Opened(side, path, fcntl.fcntl(given, fcntl.F_DUPFD_CLOEXEC, 0))
     except OSError as error:
         raise Fault(Status.DEVICE, "cannot open the %s database %s: %s" % (side, shown(path), reason(error)))

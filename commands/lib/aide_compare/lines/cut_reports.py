@@ -22,7 +22,7 @@ END = b"\n".join([RULE, DATABASES, RULE, b""])
 HEAD_LINES = 7
 
 
-def kind_of(line, title):
+def kind_in_line(line, title):
     """Whether a line of a list is of an added, a removed or a changed entry."""
     if title in TITLES:
         return TITLES[title]
@@ -42,7 +42,7 @@ class Whole:
         """A line of a part of the report, and the place where it ends."""
         if self.title in TITLES or self.title == TOGETHER:
             if line != b"\n":
-                self.counts[kind_of(line, self.title)] += 1
+                self.counts[kind_in_line(line, self.title)] += 1
                 self.kept = place
         elif self.title == DETAILS:
             self.counts = None

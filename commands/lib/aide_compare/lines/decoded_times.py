@@ -37,7 +37,7 @@ def _local_quarter(number):
     return LOCAL % first[:4], first.tm_min, _zone(first.tm_gmtoff)
 
 
-def date_of(seconds):
+def utc_text(seconds):
     """A time in UTC: 2026-11-25T06:00:00Z, None outside of the years 1 to 9999."""
     if not FIRST <= seconds <= LAST:
         return None

@@ -4,7 +4,7 @@ from functools import lru_cache
 
 from aide_compare.base.names import SIDES
 from aide_compare.lines.decoded import decoded, name_text
-from aide_compare.lines.decoded_times import date_of, time_text
+from aide_compare.lines.decoded_times import time_text, utc_text
 from aide_compare.lines.report_values import Block, Digests, attribute_of
 
 # What is kept of values that come again: so many, of at most so many bytes.
@@ -14,7 +14,7 @@ encode = json.JSONEncoder(separators=(",", ":")).encode
 
 def time_members(side, seconds):
     """The members of one side of a time."""
-    date = date_of(seconds)
+    date = utc_text(seconds)
     return '"%s":%d' % (side, seconds) if date is None else '"%s":%d,"%s_time":"%s"' % (side, seconds, side, date)
 
 

@@ -11,7 +11,7 @@ from collections import Counter
 
 from aide_compare.base.escapes import shown_lines
 from aide_compare.base.times import date_of
-from aide_compare.lines.cut_reports import KINDS, TITLES, TOGETHER, kind_of
+from aide_compare.lines.cut_reports import KINDS, TITLES, TOGETHER, kind_in_line
 from aide_compare.lines.report_lines import RULE
 
 MOST_PATHS, MOST_COLUMNS = 1000, 3
@@ -135,7 +135,7 @@ class CutReport:
             elif title is None:
                 self.head.append(line)
             elif line != b"\n":
-                self.lists[kind_of(line, title)].add(line)
+                self.lists[kind_in_line(line, title)].add(line)
 
     def _lines(self, file):
         """Each line, or its first bytes if it is long: a line may have 12 MB."""

@@ -4,7 +4,7 @@ import binascii
 import re
 import stat
 
-from aide_compare.base.path_keys import decoded
+from aide_compare.base.path_keys import unescaped
 from aide_compare.lines.attributes import DIGEST_COLUMNS as DIGESTS
 
 FIELDS = re.compile(rb"[^ \t]+")
@@ -88,7 +88,7 @@ class Entry:
         field = self.field("lname")
         if field == ABSENT or not stat.S_ISLNK(self.mode):
             return None
-        return b"" if field == b"0-" else decoded(field[1:] if field.startswith(b"00") else field)
+        return b"" if field == b"0-" else unescaped(field[1:] if field.startswith(b"00") else field)
 
     def capabilities(self):
         """The text of its capabilities; empty if there are none, and None if it cannot be read."""

@@ -2,7 +2,7 @@
 from html import escape
 
 from aide_compare.base.names import KINDS, SEVERITIES
-from aide_compare.base.shown_text import date_of, shown, shown_note
+from aide_compare.base.shown_text import shown, shown_date, shown_note
 from aide_compare.lines.json_lines import DATE, bytes_of
 from aide_compare.show.page_items import entries, number
 
@@ -23,7 +23,7 @@ def member(summary, name):
     value = summary.get(name)
     if not isinstance(value, str):
         return ""
-    return date_of(value) if DATE.fullmatch(value) else shown_note(value)
+    return shown_date(value) if DATE.fullmatch(value) else shown_note(value)
 
 
 def title_of(title, summary):
