@@ -91,11 +91,11 @@ def try_colours(sandbox):
 
 def try_hostile(sandbox):
     """No byte of a name is obeyed, also not of one on the command line."""
-    name = b"/usr/%1b[31m%0a  high    x"
+    name = b"/usr/%1b[31m%0a%20%20high%20%20x"
     sandbox.write("h\033[2J.db", explained.NEW.replace(b"/usr/.x%20y", name))
-    text = on_terminal(sandbox, *explained.REASONS, "o.db", "h\033[2J.db")[1]
+    status, text = on_terminal(sandbox, *explained.REASONS, "o.db", "h\033[2J.db")
     ours = re.sub(rb"\033\[(1|1;31|33|0)m", b"", text)
-    sandbox.holds("only our own colours", b"\033" not in ours and b"h\\033[2J.db" in ours and b"\n  high    x" not in ours, text)
+    sandbox.holds("only our own colours", status == 7 and b"\033" not in ours and b"h\\033[2J.db" in ours and b"\n  high  x" not in ours, text)
 
 
 def slow(sandbox, seconds):
