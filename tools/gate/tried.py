@@ -99,7 +99,7 @@ COMMANDS = [
     Row("bugs planted in definitions and in a manual page", "program/plant.py", Bugs(("oracle", "pages")), HAND),
 ]
 MACHINES = [
-    Row("README and RECIPES to the letter, on a booted Debian 12", "the package", "each command", by_hand("2026-11-26")),
+    Row("README and RECIPES on a booted Debian 12, but for one path", "the package", "each command", by_hand("2026-11-26")),
     Row("README to the letter, from a fresh clone", "the proved program", "each command", by_hand("2026-11-26")),
     Row("mails by Postfix 3.7, Exim 4.96 and dma; 12,289 changes", "the units as shipped", "once", by_hand("2026-11-25")),
     Row(

@@ -9,6 +9,7 @@ import time
 from bisect import bisect_left
 
 from tools.commands.trials.sandbox import HERE
+from tools.lib.waiting import until
 
 COMMAND = [os.path.join(HERE, "commands", "bin", "aide-compare"), "sort"]
 BEGIN, END = b"# c\n@@begin_db\n@@db_spec attr name size\n", b"@@end_db\nrest\n\nmore"
