@@ -31,8 +31,9 @@ def manual_pages():
 
 
 def plain(line):
-    """A line of a manual page without its macro and its escapes."""
-    line = re.sub(r"^\.[A-Z][a-z] ?", "", line)
+    """A line of a manual page without its macro, the `No` after which words go on as text, and its escapes."""
+    if re.match(r"\.[A-Z][a-z]\b", line):
+        line = line[4:].replace(" No ", " ")
     for escape, letters in ESCAPES:
         line = line.replace(escape, letters)
     return line

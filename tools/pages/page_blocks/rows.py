@@ -104,7 +104,12 @@ LEVELS = [
 ]
 ROWS = [
     Commands(FRONT, "What differs between two databases, plain or compressed by gzip:", [7], expectations.has_summary),
-    Commands(FRONT, "The same, with what packages, logs and rules explain, and as a page:", [7], expectations.is_page),
+    Commands(
+        FRONT,
+        "The same, with what packages, logs and rules explain, and as a page:",
+        [7],
+        expectations.has_page_of_reasons,
+    ),
     Elsewhere(
         FRONT,
         "A comparison each day on this machine, with a mail:",
@@ -197,13 +202,6 @@ ROWS = [
     Commands(RUN, "Show the difference, but not that of access times and inodes:", [7], expectations.lists("/a", "/b", "/c")),
     Commands(
         RUN,
-        "Leave out what changes on every quiet day of a Debian with AIDE's stock rules. ...",
-        [0, 0, 4],
-        expectations.leaves_out("/var/log/syslog", 2, "/etc/aide-compare/without, line "),
-        prepare=expectations.put_logs,
-    ),
-    Commands(
-        RUN,
         "Leave out one directory with all that lies below:",
         [4],
         expectations.leaves_out("/srv/mail", 3, "--exclude"),
@@ -215,7 +213,6 @@ ROWS = [
         [7],
         expectations.has_brief,
     ),
-    Commands(RUN, "Make a page that says which changes are explained, ...", [7], expectations.has_page_of_reasons),
     Commands(RUN, "Compare a database that comes from another host, of at most one gibibyte:", [7], expectations.has_summary),
     Commands("man/aide-compare-sort.1", "Sort a database and compare it with the baseline:", [0, 7], expectations.has_summary),
     Commands(
