@@ -67,8 +67,8 @@ PLANTED = (
         (ARCHIVE, " and not new.has_more_rights()", ""),
         (
             DEB,
-            '        if name == "data" and (member.issym() or member.isdir() or',
-            '        if name == "data" and (member.issym() or',
+            "if is_data and (member.issym() or member.isdir() or is_file):",
+            "if is_data and (member.issym() or is_file):",
         ),
         # Which version there is, status says.
         (

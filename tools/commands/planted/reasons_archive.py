@@ -15,7 +15,7 @@ PLANTED = (
             "            return self._reason(\"dpkg's records as",
             "            return None\n        if not control:\n            return self._reason(\"dpkg's records as",
         ),
-        (DEB, 'self.found.get(b"/" + (target[2:]', 'self.found.get(b"//" + (target[2:]'),
+        (DEB, "else _path_of_name(member.linkname))", 'else b"/" + _path_of_name(member.linkname))'),
         (ARCHIVE, 'part.replace(b":", b"%3a")', "part"),
         (INDEXES, 'path.replace("/", slash)', "path"),
     )
@@ -25,13 +25,13 @@ PLANTED = (
     )
     + seen_by(
         "reasons_archive.try_forged",
-        (ARCHIVE, "if digest == wanted.sha256:", "if True:"),
+        (ARCHIVE, "if digest == listed.sha256:", "if True:"),
         (INDEXES, "if is_signed or plain_digest == sha256:", "if True:"),
         (INDEXES, "return done.stdout if is_good and done.returncode in (0, 2) else None", "return done.stdout"),
         (
             INDEXES,
-            "            text = signed_text(copy, self.keyrings)\n",
-            "            text = signed_text(copy, self.keyrings) and os.pread(copy, MOST_RELEASE, 0)\n",
+            "text = signed_text(copy.fileno(), self.keyrings)\n",
+            "text = signed_text(copy.fileno(), self.keyrings) and os.pread(copy.fileno(), MOST_RELEASE, 0)\n",
         ),
     )
     + seen_by(
@@ -66,7 +66,7 @@ PLANTED = (
     )
     + seen_by(
         "reasons_indexes.try_wanted",
-        (ARCHIVE, "copied(descriptor, wanted.size, MOST_PACKAGE)", "copied(descriptor, None, MOST_PACKAGE)"),
+        (ARCHIVE, "copied(descriptor, listed.size, MOST_PACKAGE)", "copied(descriptor, None, MOST_PACKAGE)"),
     )
     + seen_by(
         "reasons_indexes.try_odd_files",
@@ -87,8 +87,8 @@ PLANTED = (
         (DEB, "begin + size + size % 2", "begin + size"),
         (
             PACKED,
-            '        block = os.read(source, BLOCK)\n        if not block:\n            raise Refuted("cut short")\n',
-            "        block = os.read(source, BLOCK)\n        if not block:\n            return\n",
+            '            if not block:\n                raise Refuted("cut short")\n        yield decoder',
+            "            if not block:\n                return\n        yield decoder",
         ),
     )
 )

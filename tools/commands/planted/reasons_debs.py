@@ -21,18 +21,18 @@ PLANTED = (
         "reasons_debs.try_paths",
         (DEB, '(path[2:] if path.startswith(b"./") else path.lstrip(b"/"))', 'path.lstrip(b"./")'),
         (DEB, '(path[2:] if path.startswith(b"./") else path.lstrip(b"/"))', '(path[2:] if path.startswith(b"./") else path)'),
-        (DEB, '(target[2:] if target.startswith(b"./") else target.lstrip(b"/"))', "target[2:]"),
-        (DEB, "elif member.isreg() or member.islnk():", "elif not member.isdir():"),
+        (DEB, "else _path_of_name(member.linkname))", 'else b"/" + os.fsencode(member.linkname)[2:])'),
+        (DEB, "elif is_file:", "elif not member.isdir():"),
         (DEB, "min(BLOCK, left)", "BLOCK"),
     )
     + seen_by(
         "reasons_debs.try_hard_links",
         (
             DEB,
-            '        if place is None:\n            raise Refuted("a hard link to nothing")\n',
-            "        if not place:\n            return {}\n",
+            '    if place is None:\n        raise Refuted("a hard link to nothing")\n',
+            "    if not place:\n        return {}\n",
         ),
-        (DEB, 'tar.each(wants if name == "data" else lambda path: path != b"/")', "tar.each(wants)"),
+        (DEB, 'wants(path) if is_data else path != b"/"', "wants(path)"),
     )
     + seen_by(
         "reasons_debs.try_programs",
@@ -54,12 +54,12 @@ PLANTED = (
     )
     + seen_by(
         "reasons_packed.try_copies",
-        (PACKED, "most + 1 if size is None else size", "most if size is None else size"),
-        (PACKED, "            if not block and size is None:\n                break\n", ""),
+        (PACKED, "if left < 0:", "if left <= 0:"),
+        (PACKED, "        if not block and size is None:\n            return\n", ""),
         (
             PACKED,
-            '            if not block:\n                raise Refuted("cut short")\n',
-            "            if not block:\n                break\n",
+            '            raise Refuted("cut short")\n        left -= ',
+            "            return\n        left -= ",
         ),
     )
     + seen_by(

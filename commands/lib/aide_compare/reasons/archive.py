@@ -1,6 +1,6 @@
 """Evidence from packages of a signed archive, which root on the host cannot forge."""
-import os
 from collections import namedtuple
+from contextlib import suppress
 
 from aide_compare.reasons.deb import read_deb
 from aide_compare.reasons.indexes import ArchiveFolder, Index
@@ -13,6 +13,8 @@ DPKGS_OWN = (b"list", b"md5sums")
 
 # What a package has at a path: the mode with the type, the numbers of user and group, digests of a file, the target of a link.
 Member = namedtuple("Member", "package mode owner digests link")
+# The paths that are asked for, how a path is written in the database, and which digests are asked for.
+Asked = namedtuple("Asked", "paths usr columns")
 
 
 def has_rights_of(member, new):
@@ -21,11 +23,10 @@ def has_rights_of(member, new):
     return (new.is_link() or new.mode == member.mode) and new.user_and_group() == member.owner and not new.has_more_rights()
 
 
-class Asked:
-    """The paths that are asked for, how a path is written in the database, and which digests are asked for."""
-
-    def __init__(self, paths, usr, columns):
-        self.paths, self.usr, self.columns = paths, usr, columns
+def _names(key, filename):
+    """Where a package may be: as the index says, beside it, or as apt names it in its cache."""
+    cached = b"_".join(part.replace(b":", b"%3a") for part in key).decode("utf-8", "replace") + ".deb"
+    return [name for name in dict.fromkeys((filename, filename.rpartition("/")[2], cached)) if name]
 
 
 class Archive:
@@ -44,36 +45,19 @@ class Archive:
         keys = {package.key: package for package in packages}
         found = self.index.find(keys)
         self.listed.update(found)
-        for key, wanted in found.items():
-            package = keys[key]
-            for name in self._names(key, wanted.name):
-                if self._read(name, wanted, package, asked):
-                    self.covered.add(key)
-                    break
+        for key, listed in found.items():
+            if any(self._read(name, listed, keys[key], asked) for name in _names(key, listed.name)):
+                self.covered.add(key)
 
-    @staticmethod
-    def _names(key, filename):
-        """Where a package may be: as the index says, beside it, or as apt names it in its cache."""
-        cached = b"_".join(part.replace(b":", b"%3a") for part in key).decode("utf-8", "replace") + ".deb"
-        return [name for name in dict.fromkeys((filename, filename.rpartition("/")[2], cached)) if name]
-
-    def _read(self, name, wanted, package, asked):
+    def _read(self, name, listed, package, asked):
         for folder in self.folders:
-            descriptor = folder.open(name)
-            if descriptor is None:
-                continue
-            try:
-                copy, digest = copied(descriptor, wanted.size, MOST_PACKAGE)
-                try:
-                    if digest == wanted.sha256:
-                        self._take(copy, package, asked)
-                        return True
-                finally:
-                    os.close(copy)
-            except Refuted:
-                continue
-            finally:
-                os.close(descriptor)
+            with folder.opened(name) as descriptor, suppress(Refuted):
+                if descriptor is not None:
+                    copy, digest = copied(descriptor, listed.size, MOST_PACKAGE)
+                    with open(copy, "rb"):
+                        if digest == listed.sha256:
+                            self._take(copy, package, asked)
+                            return True
         return False
 
     def _take(self, copy, package, asked):

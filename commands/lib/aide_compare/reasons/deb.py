@@ -6,14 +6,17 @@ import tarfile
 from collections import namedtuple
 
 from aide_compare.reasons.content import Hashes
-from aide_compare.reasons.packed import Bounded, Refuted, copied, members, unpacked
+from aide_compare.reasons.packed import BLOCK, Bounded, Refuted, copied, members, unpacked
 
 MAGIC = b"!<arch>\n"
 HEAD = re.compile(rb"(.{16})[0-9 ]{12}[0-9 ]{6}[0-9 ]{6}[0-7 ]{8}([0-9]{1,10}) *`\n", re.S)
 PART = re.compile(r"(control|data)\.tar(?:\.(gz|xz|zst|bz2|lzma))?")
 HEAD_SIZE, MOST_PARTS = 60, 10
 MOST_MEMBERS, MOST_PACKED, MOST_UNPACKED, MOST_HEAD = 200000, 2 << 30, 4 << 30, 1 << 20
-BLOCK = 1 << 18
+
+# What a package has at the paths that are asked for: digests of files, targets of symbolic links, and of these and of folders
+# the `heads`, each the mode with the type in it, and the numbers of user and group; and digests of dpkg's files about it.
+DebContents = namedtuple("DebContents", "digests links control heads")
 
 
 def _parts(descriptor):
@@ -34,71 +37,47 @@ def _parts(descriptor):
         os.lseek(descriptor, begin + size + size % 2, os.SEEK_SET)
 
 
-class _Tar:
-    """One part of a package, unpacked. A path is given as it is after the dot of its name."""
+def _path_of_name(name):
+    """The path that a name in a package means."""
+    path = os.fsencode(name)
+    return b"/" + (path[2:] if path.startswith(b"./") else path.lstrip(b"/"))
 
-    def __init__(self, descriptor):
-        self.file, self.found = Bounded(descriptor, MOST_HEAD), {}
 
-    def each(self, wants):
-        """Yields each member that is wanted by its path, with where its content is, and None for a link."""
-        for member in members(self.file, MOST_MEMBERS):
-            path = os.fsencode(member.name)
-            path = b"/" + (path[2:] if path.startswith(b"./") else path.lstrip(b"/"))
-            if member.isreg():
-                self.found[path] = (member.offset_data, member.size)
-            if wants(path):
-                yield path, member
+def _digests(file, place, columns):
+    """The digests of the content of a member."""
+    if place is None:
+        raise Refuted("a hard link to nothing")
+    before, (offset, left), hashes = file.tell(), place, Hashes(columns)
+    file.seek(offset)
+    while left > 0:
+        block = file.read(min(BLOCK, left))
+        if not block:
+            raise Refuted("cut short")
+        hashes.update(block)
+        left -= len(block)
+    file.seek(before)
+    return hashes.digests()
 
-    def content_of(self, member):
-        """Where the content of a member is: of a hard link, that of the file it links to."""
+
+def _read_part(name, file, wants, columns, found):
+    """A hard link is the file that it links to, which comes before it, and has the mode and the content of it."""
+    places, is_data = {}, name == "data"
+    for member in members(file, MOST_MEMBERS):
+        path = _path_of_name(member.name)
+        is_file = member.isreg() or member.islnk()
         if member.isreg():
-            return member.offset_data, member.size
-        target = os.fsencode(member.linkname)
-        return self.found.get(b"/" + (target[2:] if target.startswith(b"./") else target.lstrip(b"/")))
-
-    def digests(self, member, columns):
-        place = self.content_of(member)
-        if place is None:
-            raise Refuted("a hard link to nothing")
-        before, (offset, left), hashes = self.file.tell(), place, Hashes(columns)
-        self.file.seek(offset)
-        while left > 0:
-            block = self.file.read(min(BLOCK, left))
-            if not block:
-                raise Refuted("cut short")
-            hashes.update(block)
-            left -= len(block)
-        self.file.seek(before)
-        return hashes.digests()
-
-
-Head = namedtuple("Head", "mode owner")
-
-
-class DebContents:
-    """What a package has at the paths that are asked for: digests of files, targets of symbolic links, and of these and of
-    folders the `heads`, each with the mode, the type in it, and the numbers of user and group."""
-
-    def __init__(self):
-        self.digests, self.links, self.control, self.heads = {}, {}, {}, {}
-
-
-def _head(member):
-    """The Head of a member. A hard link is the file that it links to, and has the mode of it."""
-    kind = stat.S_IFDIR if member.isdir() else stat.S_IFLNK if member.issym() else stat.S_IFREG
-    return Head(kind | (member.mode & 0o7777), (member.uid, member.gid))
-
-
-def _read_part(name, tar, wants, columns, found):
-    for path, member in tar.each(wants if name == "data" else lambda path: path != b"/"):
-        if name == "data" and (member.issym() or member.isdir() or member.isreg() or member.islnk()):
-            found.heads[path] = _head(member)
+            places[path] = (member.offset_data, member.size)
+        if not (wants(path) if is_data else path != b"/"):
+            continue
+        if is_data and (member.issym() or member.isdir() or is_file):
+            kind = stat.S_IFDIR if member.isdir() else stat.S_IFLNK if member.issym() else stat.S_IFREG
+            found.heads[path] = kind | (member.mode & 0o7777), (member.uid, member.gid)
         if member.issym():
             found.links[path] = os.fsencode(member.linkname)
-        elif member.isreg() or member.islnk():
-            digests = tar.digests(member, columns)
-            if name == "data":
+        elif is_file:
+            place = places.get(path if member.isreg() else _path_of_name(member.linkname))
+            digests = _digests(file, place, columns)
+            if is_data:
                 found.digests[path] = digests
             else:
                 found.control[path[1:]] = digests
@@ -106,18 +85,14 @@ def _read_part(name, tar, wants, columns, found):
 
 def read_deb(descriptor, wants, columns):
     """The contents of a package at the paths for which `wants` is true."""
-    found = DebContents()
+    found = DebContents({}, {}, {}, {})
     os.lseek(descriptor, 0, os.SEEK_SET)
     for name, kind, packed in _parts(descriptor):
-        try:
-            plain = unpacked(packed, kind, MOST_UNPACKED)[0]
-        finally:
-            os.close(packed)
-        tar = _Tar(plain)
-        try:
-            _read_part(name, tar, wants, columns, found)
-        except (tarfile.TarError, ValueError, EOFError) as error:
-            raise Refuted("damaged: %s" % error) from None
-        finally:
-            tar.file.close()
+        with open(packed, "rb") as file:
+            plain = unpacked(file.fileno(), kind, MOST_UNPACKED)[0]
+        with Bounded(plain, MOST_HEAD) as file:
+            try:
+                _read_part(name, file, wants, columns, found)
+            except (tarfile.TarError, ValueError, EOFError) as error:
+                raise Refuted("damaged: %s" % error) from None
     return found

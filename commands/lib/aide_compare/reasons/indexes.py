@@ -5,13 +5,13 @@ import shutil
 import stat
 import subprocess
 from collections import namedtuple
+from contextlib import contextmanager, suppress
 
-from aide_compare.base.ending import Fault, Status, reason
-from aide_compare.base.escapes import shown
+from aide_compare.base.ending import Fault, Status
 from aide_compare.base.files import reopened
 from aide_compare.base.folders import open_folder
-from aide_compare.reasons.packed import Refuted, copied, unpacked
 from aide_compare.base.trusted import open_trusted
+from aide_compare.reasons.packed import Refuted, copied, unpacked
 from aide_compare.reasons.vouched import Vouched
 
 LISTED = re.compile(rb"^ ([0-9a-f]{64}) +([0-9]+) +(\S+)$", re.M)
@@ -22,7 +22,8 @@ MOST_KEYRING = 64 << 20
 MOST_RELEASE, MOST_INDEX, MOST_NAMES, SECONDS = 8 << 20, 1 << 30, 100000, 60
 PIECE = os.O_RDONLY | os.O_NOFOLLOW | os.O_NONBLOCK | os.O_NOCTTY | os.O_CLOEXEC
 
-Wanted = namedtuple("Wanted", "sha256 size name")
+# What an index says of a package: the digest and the size of its file, and where that is.
+Listed = namedtuple("Listed", "sha256 size name")
 
 
 class ArchiveFolder:
@@ -33,8 +34,17 @@ class ArchiveFolder:
         with open_folder(path) as folder:
             self.fd = reopened(folder.fd, os.O_RDONLY | os.O_DIRECTORY)
 
-    def open(self, name):
-        """A descriptor of a regular file by its path in the folder, or None."""
+    @contextmanager
+    def opened(self, name):
+        """A descriptor of a regular file by its path in the folder, or None; for a block."""
+        descriptor = self._open(name)
+        try:
+            yield descriptor if descriptor is not None and stat.S_ISREG(os.fstat(descriptor).st_mode) else None
+        finally:
+            if descriptor is not None:
+                os.close(descriptor)
+
+    def _open(self, name):
         folder = os.dup(self.fd)
         try:
             *above, last = name.split("/")
@@ -42,15 +52,11 @@ class ArchiveFolder:
                 inner = os.open(piece, PIECE | os.O_DIRECTORY, dir_fd=folder)
                 os.close(folder)
                 folder = inner
-            descriptor = os.open(last, PIECE, dir_fd=folder)
+            return os.open(last, PIECE, dir_fd=folder)
         except (OSError, ValueError):
             return None
         finally:
             os.close(folder)
-        if not stat.S_ISREG(os.fstat(descriptor).st_mode):
-            os.close(descriptor)
-            return None
-        return descriptor
 
     def releases(self):
         """The signed files: of a mirror, of apt's lists, or of a folder of packages. Each with what its indexes' names begin
@@ -133,20 +139,12 @@ class Index:
 
     def _listed(self, folder, name):
         """The indexes that a signed file lists: their digests by path and ending."""
-        descriptor = folder.open(name)
-        if descriptor is None:
-            return {}
-        try:
-            copy = copied(descriptor, None, MOST_RELEASE)[0]
-        except Refuted:
-            return {}
-        finally:
-            os.close(descriptor)
-        try:
-            text = signed_text(copy, self.keyrings)
-        finally:
-            os.close(copy)
-        listed, section = {}, SECTION.search(text or b"")
+        text, listed = None, {}
+        with folder.opened(name) as descriptor, suppress(Refuted):
+            if descriptor is not None:
+                with open(copied(descriptor, None, MOST_RELEASE)[0], "rb") as copy:
+                    text = signed_text(copy.fileno(), self.keyrings)
+        section = SECTION.search(text or b"")
         for digest, size, path in LISTED.findall(section.group(1) if section else b""):
             path, _, ending = path.decode("utf-8", "replace").partition("Packages")
             if (not path or path.endswith("/")) and (not ending or "." + ending[1:] in SUFFIXES) and ".." not in path:
@@ -157,19 +155,13 @@ class Index:
     def _read(folder, path, digests, keys, found):
         """Reads an index if it is there in some form, and has the digest that was signed."""
         for ending in SUFFIXES:
-            descriptor = folder.open(path + ending)
-            if descriptor is None:
-                continue
-            try:
-                file = _signed(descriptor, ending, digests)
-                if file:
-                    with file:
-                        found.update(_paragraphs(file, keys))
+            with folder.opened(path + ending) as descriptor, suppress(Refuted):
+                if descriptor is not None:
+                    file = _signed(descriptor, ending, digests)
+                    if file:
+                        with file:
+                            found.update(_paragraphs(file, keys))
                     return
-            except Refuted:
-                continue
-            finally:
-                os.close(descriptor)
 
 
 def _signed(descriptor, ending, digests):
@@ -180,15 +172,14 @@ def _signed(descriptor, ending, digests):
     if sha256 is None:
         return None
     packed, digest = copied(descriptor, None, size if is_signed else MOST_INDEX)
-    try:
+    with open(packed, "rb"):
         if is_signed and digest != sha256:
             return None
         plain, plain_digest = unpacked(packed, ending[1:], digests.get("", (None, MOST_INDEX))[1] if is_signed else size)
-    finally:
-        os.close(packed)
+    file = open(plain, "rb")
     if is_signed or plain_digest == sha256:
-        return open(plain, "rb")
-    os.close(plain)
+        return file
+    file.close()
     return None
 
 
@@ -211,8 +202,4 @@ def _wanted(fields, keys):
     key = tuple(fields.get(name, b"") for name in (b"Package", b"Version", b"Architecture"))
     digest, size, name = (fields.get(name, b"") for name in (b"SHA256", b"Size", b"Filename"))
     if key in keys and re.fullmatch(rb"[0-9a-f]{64}", digest) and size.isdigit():
-        yield key, Wanted(digest.decode(), int(size), name.decode("utf-8", "replace"))
-
-
-def unreadable(error):
-    return Fault(Status.DEVICE, "cannot read an archive of packages: %s" % shown(reason(error)))
+        yield key, Listed(digest.decode(), int(size), name.decode("utf-8", "replace"))

@@ -3,9 +3,9 @@ import bz2
 import hashlib
 import io
 import lzma
+import math
 import os
 import shutil
-import signal
 import subprocess
 import tarfile
 import zlib
@@ -22,23 +22,16 @@ class Refuted(Exception):
     """Why something is no evidence: it is damaged, too large, or not what its index says."""
 
 
-def copied(source, size, most):
-    """A private copy of the next bytes of an open file, and its SHA-256. `size` may be None for all that follow."""
-    target, digest, left = nameless(), hashlib.sha256(), most + 1 if size is None else size
+def _kept(blocks, most, too_large):
+    """A private copy of blocks, and its SHA-256."""
+    target, digest, left = nameless(), hashlib.sha256(), most
     try:
-        if size is not None and size > most:
-            raise Refuted("too large")
-        while left > 0:
-            block = os.read(source, min(BLOCK, left))
-            if not block and size is None:
-                break
-            if not block:
-                raise Refuted("cut short")
+        for block in blocks:
+            left -= len(block)
+            if left < 0:
+                raise Refuted(too_large)
             digest.update(block)
             write_all(target, block)
-            left -= len(block)
-        if size is None and left <= 0:
-            raise Refuted("too large")
         os.lseek(target, 0, os.SEEK_SET)
         return target, digest.hexdigest()
     except BaseException:
@@ -46,28 +39,42 @@ def copied(source, size, most):
         raise
 
 
-class _Zlib:
-    """gzip by zlib, with the interface of the other two."""
+def _next_blocks(source, size):
+    left = math.inf if size is None else size
+    while left > 0:
+        block = os.read(source, min(BLOCK, left))
+        if not block and size is None:
+            return
+        if not block:
+            raise Refuted("cut short")
+        left -= len(block)
+        yield block
+
+
+def copied(source, size, most):
+    """A private copy of the next bytes of an open file, and its SHA-256. `size` may be None for all that follow."""
+    if size is not None and size > most:
+        raise Refuted("too large")
+    return _kept(_next_blocks(source, size), most, "too large")
+
+
+class _Gzip:
+    """zlib's decoder, used as those of bz2 and lzma are."""
 
     def __init__(self):
-        self.inner = zlib.decompressobj(31)
+        self.decoder, self.rest = zlib.decompressobj(31), b""
+
+    eof = property(lambda self: self.decoder.eof)
+    needs_input = property(lambda self: not self.rest)
 
     def decompress(self, data, most):
-        text = self.inner.decompress(data, most)
-        self.rest = self.inner.unconsumed_tail
+        text = self.decoder.decompress(data or self.rest, most)
+        self.rest = self.decoder.unconsumed_tail
         return text
-
-    @property
-    def eof(self):
-        return self.inner.eof
-
-    @property
-    def needs_input(self):
-        return not self.rest
 
 
 DECODERS = {
-    "gz": _Zlib,
+    "gz": _Gzip,
     "bz2": bz2.BZ2Decompressor,
     "xz": lambda: lzma.LZMADecompressor(memlimit=MOST_MEMORY),
     "lzma": lambda: lzma.LZMADecompressor(memlimit=MOST_MEMORY),
@@ -76,15 +83,14 @@ DECODERS = {
 
 def _decoded(source, kind):
     """The unpacked bytes of an open file, in blocks."""
-    decoder = DECODERS[kind]()
+    decoder, block = DECODERS[kind](), b""
     while not decoder.eof:
-        block = os.read(source, BLOCK)
-        if not block:
-            raise Refuted("cut short")
+        if decoder.needs_input:
+            block = os.read(source, BLOCK)
+            if not block:
+                raise Refuted("cut short")
         yield decoder.decompress(block, BLOCK)
-        while not decoder.eof and not decoder.needs_input:
-            rest = decoder.rest if kind == "gz" else b""
-            yield decoder.decompress(rest, BLOCK)
+        block = b""
 
 
 def _by_program(source, kind):
@@ -101,59 +107,31 @@ def _by_program(source, kind):
             if process.wait():
                 raise Refuted("damaged")
         finally:
-            if process.poll() is None:
-                process.send_signal(signal.SIGKILL)
+            process.kill()
 
 
 def unpacked(source, kind, most):
     """A private copy of what an open file has unpacked, and its SHA-256. `kind` is the end of its name, "" for plain."""
     if not kind:
         return copied(source, None, most)
-    target, digest, left = nameless(), hashlib.sha256(), most
     try:
-        for block in _by_program(source, kind) if kind in PROGRAMS else _decoded(source, kind):
-            left -= len(block)
-            if left < 0:
-                raise Refuted("too large unpacked")
-            digest.update(block)
-            write_all(target, block)
-        os.lseek(target, 0, os.SEEK_SET)
-        return target, digest.hexdigest()
+        blocks = _by_program(source, kind) if kind in PROGRAMS else _decoded(source, kind)
+        return _kept(blocks, most, "too large unpacked")
     except (lzma.LZMAError, zlib.error, OSError, EOFError) as error:
-        os.close(target)
         raise Refuted("damaged: %s" % error) from None
-    except BaseException:
-        os.close(target)
-        raise
 
 
-class Bounded(io.RawIOBase):
+class Bounded(io.BufferedReader):
     """A file of which no more is read at once than is allowed, whatever an archive says of its sizes."""
 
     def __init__(self, descriptor, most):
-        super().__init__()
-        self.file, self.most = open(descriptor, "rb", buffering=1 << 16), most
-
-    def readable(self):
-        return True
-
-    def seekable(self):
-        return True
-
-    def seek(self, offset, whence=os.SEEK_SET):
-        return self.file.seek(offset, whence)
-
-    def tell(self):
-        return self.file.tell()
+        super().__init__(io.FileIO(descriptor), 1 << 16)
+        self.most = most
 
     def read(self, size=-1):
         if not 0 <= size <= self.most:
             raise tarfile.ReadError("a member is too large")
-        return self.file.read(size)
-
-    def close(self):
-        self.file.close()
-        super().close()
+        return super().read(size)
 
 
 def members(file, most):
