@@ -11,14 +11,14 @@ PLANTED = seen_by(
     (LIB + "lines/json_members.py", '"skipped": skipped_of(self.state) if self.state else {}}', '"skipped": {}}'),
     (LIB + "show/page_heading.py", ', *skipped(report.summary.get("skipped"))', ""),
     (COLUMNS, "shown(name, MOST_NAME)", "name.decode()[:MOST_NAME]"),
-    (COLUMNS, "MOST_NAME = 1 << 16, 40", "MOST_NAME = 1 << 20, 40"),
+    (COLUMNS, "MOST_NAME, MOST_TOLD = 1 << 16, 40", "MOST_NAME, MOST_TOLD = 1 << 20, 40"),
     (COLUMNS, 're.split(b"[ \\t]+", spec)', "spec.split()"),
     (MAIL, "        if self.unknown(state):\n            return False\n", ""),
     (MAIL, "and name not in self.known]", "]"),
     (
         MAIL,
-        "    if given is None or not given.state:\n        return None\n",
-        "    if given is None or not given.state:\n        return set()\n",
+        "self.known = given, Held(), None",
+        "self.known = given, Held(), []",
     ),
     (MESSAGE, 're.sub(r"[^A-Za-z0-9._#-]", "?", name)', "name"),
 )

@@ -10,7 +10,7 @@ EXPLAINING, BRIEF, WORDS, COUNTS, RUN, RECORDS, CHECK, MESSAGE, WEEKLY, COMPARIS
         "compare/reason_counts",
         "commands/compare",
         "reasons/kept_records",
-        "commands/status_nagios",
+        "commands/status",
         "mail/message",
         "mail/weekly",
         "compare/comparison",
@@ -54,7 +54,7 @@ PLANTED = (
         (OUTPUTS, "flags != os.O_RDONLY and ", ""),
     )
     + seen_by(
-        RUNS % "try_misuse", (RUN, "            if getattr(given, name) and not given.reasons:", "            if False:")
+        RUNS % "try_misuse", (RUN, "        if evidence_of(given) and not given.reasons:", "        if False:")
     )
     + seen_by(
         RUNS % "try_places",
@@ -123,7 +123,7 @@ PLANTED = (
     + seen_by(
         READERS % "try_metrics_and_log",
         (
-            "commands/lib/aide_compare/commands/status_line.py",
+            "commands/lib/aide_compare/commands/status.py",
             '"%s %s" % (state.reasons.line(), counts) if state.reasons else counts',
             "counts",
         ),

@@ -11,7 +11,7 @@ PLANTED = (
             "if self.part.size > 4 * self.most:",
         ),
     )
-    + seen_by("fleet.try_small_store", (LIB + "hosts/fetching.py", "min(given.max_size, place.room(jobs))", "given.max_size"))
+    + seen_by("fleet.try_small_store", (LIB + "hosts/fetching.py", "min(given.max_sent, place.room(jobs))", "given.max_sent"))
     + seen_by(
         "fleet.try_told",
         (LIB + "hosts/fetching.py", 'rb"[\\r\\n]+"', 'rb"\\n"'),
@@ -43,12 +43,12 @@ PLANTED = (
     )
     + seen_by("fleet.try_wrong", (LIB + "hosts/fleet_store.py", "NAME.fullmatch(host)", "NAME.match(host)"))
     + seen_by("fleet.try_shared", (LIB + "hosts/fleet_store.py", "    if folder.others:\n", "    if False:\n"))
-    + seen_by("fleet.try_accepting", (LIB + "commands/hosts_accept.py", "required=True", "required=False"))
+    + seen_by("fleet.try_accepting", (LIB + "commands/hosts.py", "required=True", "required=False"))
     + seen_by(
         "state.try_check_faults",
-        (LIB + "commands/status_nagios.py", "    except Fault as fault:\n        return answer(UNKNOWN, fault.text)\n", ""),
+        (LIB + "commands/status.py", "    except Fault as fault:\n        return answer(UNKNOWN, fault.text)\n", ""),
         (LIB + "show/reading.py", "age < -AHEAD", "False"),
-        (LIB + "commands/status_nagios.py", '.replace("|", "!")', ""),
+        (LIB + "commands/status.py", '.replace("|", "!")', ""),
     )
     + seen_by(
         "state.try_own_failures",
@@ -58,15 +58,15 @@ PLANTED = (
         "state.try_links",
         # The file of the metrics is opened by its name, as a command that trusts the folder would do it.
         (
-            LIB + "commands/status_prometheus.py",
-            '    replace(given.output, data, what="the metrics")\n',
-            '    with open(given.output, "wb") as file:\n        file.write(data)\n',
+            LIB + "commands/status.py",
+            '    replace(given.output, text.encode(), what="the metrics")\n',
+            '    with open(given.output, "wb") as file:\n        file.write(text.encode())\n',
         ),
     )
     + seen_by(
         "state.try_check",
         (
-            LIB + "commands/status_nagios.py",
+            LIB + "commands/status.py",
             "WARNING if state.status == 1 else CRITICAL",
             "WARNING if state.status & 1 else CRITICAL",
         ),
@@ -75,17 +75,17 @@ PLANTED = (
     + seen_by(
         "state.try_metrics",
         (
-            LIB + "commands/status_prometheus.py",
+            LIB + "commands/status.py",
             "name, name, value) for name, words, value in values if value is not None)",
             "name, name, value or 0) for name, words, value in values)",
         ),
     )
-    + seen_by("state.try_log", (LIB + "commands/status_line.py", " or reading.future:", ":"))
+    + seen_by("state.try_log", (LIB + "commands/status.py", " or reading.future:", ":"))
     + seen_by("state.try_rules", ("contrib/logcheck/aide-compare", " changed=0$", " changed=0"))
     + seen_by(
         "age.try_readers",
         (
-            LIB + "commands/status_nagios.py",
+            LIB + "commands/status.py",
             '"no comparison, status %d: %s" % (state.status, state.error)',
             '"no comparison, status %d" % state.status',
         ),

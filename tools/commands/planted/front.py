@@ -17,7 +17,7 @@ PLANTED = (
         (FRONT, "len(arguments) == 1 or bool(", "bool("),
         (FRONT, "near = difflib.get_close_matches(word, names, 1)", "near = sorted(names)"),
     )
-    + seen_by("front.try_help", (FRONT, '"hosts_" + word, arguments[1:]', '"hosts_" + HOSTS[0], arguments[1:]'))
+    + seen_by("front.try_help", (FRONT, "(*HOSTS[word])(", '(*HOSTS["fetch"])('))
     + seen_by(
         "front.try_version",
         (VERSION, 'record.get("sha256") != digest', "not digest"),
@@ -26,7 +26,7 @@ PLANTED = (
     + seen_by(
         "front.try_forms",
         (STATUS, "found = value if equals or not rest", "found = value if equals"),
-        (STATUS, '"aide_compare.commands.status_" + form', '"aide_compare.commands.status_line"'),
+        (STATUS, '"json": write_json}[form]', '"json": write_json}["line"]'),
     )
     + seen_by(
         "faults.try_programs",

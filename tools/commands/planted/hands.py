@@ -9,7 +9,7 @@ DEFAULTS, HANDING, RUN, MAIL, CHECK, REASONS, FOLDERS, TRUSTED = (
         "compare/handing",
         "commands/compare",
         "commands/mail",
-        "commands/status_nagios",
+        "commands/status",
         "commands/reasons",
         "base/folders",
         "base/trusted",
@@ -31,7 +31,7 @@ PLANTED = (
     + seen_by(
         "hands.try_failed_unit",
         (UNIT, " --unit-failed aide-compare.service", ""),
-        (MAIL, "    if not UNIT.fullmatch(text):\n", "    if not text:\n"),
+        (MAIL, 'matching(UNIT, "the', 'matching(".+", "the'),
     )
     + seen_by(
         "hands.try_defaults",
@@ -39,9 +39,9 @@ PLANTED = (
         (RUN, "given.exclude_from or given.no_defaults", "given.exclude_from"),
         (RUN, "defaults_for(RUN, arguments) + ", ""),
         (CHECK, "defaults_for(CHECK, arguments) + ", ""),
-        (MAIL, "parsed(added + own, others + words), refusal", "parsed(added + own, words), refusal"),
-        (MAIL, "parsed(added + own, others + words), refusal", "parsed(own, others + words), refusal"),
-        (MAIL, '    if not any(word.partition("=")[0] == "--state" for word in options):', "    if False:"),
+        (MAIL, "parsed(own + runs + words), refusal", "parsed(own + words), refusal"),
+        (MAIL, "parsed(own + runs + words), refusal", "parsed(runs + words), refusal"),
+        (MAIL, '    if not any(word.partition("=")[0] == "--state" for word in words[: cut_of(words)]):', "    if False:"),
         (MAIL, "without_state(given.words)", "given.words"),
         (MAIL, '"--format", "report", ', ""),
         (DEFAULTS, " if name in options]", "]"),
@@ -52,7 +52,7 @@ PLANTED = (
         "hands.try_faulty_defaults",
         (DEFAULTS, 'lines_of(path, "the defaults")] if path', "[]] if path"),
         (DEFAULTS, "        os.lstat(path)\n", "        os.stat(path)\n"),
-        (MAIL, "        given, why = parsed(own, others + words), fault\n", "        raise\n"),
+        (MAIL, "        given, why = parsed(runs + words), fault\n", "        raise\n"),
     )
     + seen_by(
         "hands.try_bad_lines",

@@ -37,7 +37,7 @@ PLANTED = (
     + seen_by(
         "hosts_report.try_mail",
         (LIB + "commands/hosts_report.py", "in given.only_path:", "in given.only_path[:1]:"),
-        (LIB + "commands/hosts_report.py", "else self.worst):\n", "else False):\n"),
+        (LIB + "commands/hosts_report.py", "else report.worst\n", "else False\n"),
     )
     + seen_by(
         "hosts_page.try_removed",
@@ -60,7 +60,7 @@ PLANTED = (
         "hosts_report.try_orders",
         (LIB + "commands/hosts_report.py", 'if order == "rare" else GREATEST - fields["hosts"]', ""),
         (LIB + "commands/hosts_report.py", "return not patterns or any(", "return not patterns or all(not "),
-        (LIB + "commands/hosts_report.py", '"--smtp", type=server', '"--smtp", type=some_text'),
+        (LIB + "commands/mail.py", 'metavar="HOST[:PORT]", type=server', 'metavar="HOST[:PORT]", type=some_text'),
     )
     + seen_by(
         "cut_reports.try_every_cut",
@@ -126,7 +126,7 @@ PLANTED = (
     )
     + seen_by(
         "hosts_quiet.try_reports",
-        (LIB + "commands/hosts_report.py", 'self.is_alarm if given.alarm == "unexplained" else ', ""),
+        (LIB + "commands/hosts_report.py", 'report.is_alarm if given.alarm == "unexplained" else ', ""),
         (
             LIB + "hosts/host_changes.py",
             "standing = 0 if reason is None else 1",
@@ -137,7 +137,7 @@ PLANTED = (
     + seen_by(
         "hosts_quiet.try_records",
         (LIB + "hosts/fetching.py", "    place.remove(RECORDS)", "    pass"),
-        (LIB + "commands/hosts_accept.py", "        part.write(mark_of(digest, digest))\n", ""),
+        (LIB + "commands/hosts.py", "        part.write(mark_of(digest, digest))\n", ""),
     )
     + seen_by(
         "hosts_quiet.try_reasons",

@@ -42,7 +42,7 @@ PLANTED = (
     )
     + seen_by(
         "mail.try_bounds",
-        (MESSAGE, "MOST_COLUMNS = 1000, 3", "MOST_COLUMNS = 10**9, 3"),
+        (MESSAGE, "MOST_PATHS = 1000", "MOST_PATHS = 10**9"),
         (MESSAGE, "            self.left_out += 1\n", ""),
     )
     + seen_by(

@@ -15,8 +15,8 @@ PLANTED = (
         (LIB + "base/path_keys.py", "LAST_ESCAPED = 1, 2, 32, 10", "LAST_ESCAPED = 1, 2, 32, 1"),
         (
             LIB + "commands/sort.py",
-            "    for block in database.lines_after():\n        output.put(block)\n",
-            '    output.put(b"@@end_db\\n")\n',
+            "    yield from database.lines_after()\n",
+            '    yield b"@@end_db\\n"\n',
         ),
         (LIB + "commands/sort.py", "where = bisect_left(self.ends, place)", "where = len(self.ends)"),
     )

@@ -71,7 +71,7 @@ def try_code(trial):
     loaded = re.findall(r"^# code object from '?(\S*?)'?$", done[2], re.M)
     own = [path for path in loaded if "/aide_compare/" in path]
     trial.holds("the tools start from byte code", len(own) > 10 and all(path.endswith(".pyc") for path in own), own)
-    options = ("/__init__.", "/evidence_options.")
+    options = ("/__init__.",)
     more = [path for path in own if "/explained." in path or "/reasons/" in path and not any(name in path for name in options)]
     trial.holds("without --reasons nothing is loaded that looks for reasons", not more, more)
     done = trial.install("--prefix", prefix, "--uninstall", source=source)

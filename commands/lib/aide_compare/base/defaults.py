@@ -54,7 +54,3 @@ def defaults_for(options, words):
     path = None if {OFF, "--help", "-h", "--version"} & set(words) else place_of("defaults")
     lines = [_word(*line) for line in lines_of(path, "the defaults")] if path else []
     return [word for name, word in lines if name in options]
-
-
-def add_off(parser):
-    parser.add_argument(OFF, action="store_true", help="read neither %s/defaults nor %s/without" % (FOLDER, FOLDER))

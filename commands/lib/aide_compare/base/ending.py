@@ -1,5 +1,6 @@
 """How a command ends: its statuses, its error lines, and never with a status that the interpreter chose."""
 import errno
+import itertools
 import os
 import sys
 from enum import IntEnum
@@ -48,6 +49,21 @@ def write_all(descriptor, data):
         if empty == MOST_EMPTY:
             raise OSError(errno.EIO, "the device takes no bytes")
         rest = rest[count:]
+
+
+def write_blocks(descriptor, parts, block=1 << 18):
+    """Writes many parts, some at a time, past Python's own buffers."""
+    waiting, room = [], block
+    for part in itertools.chain(parts, (None,)):
+        if part is not None:
+            waiting.append(part)
+            room -= len(part)
+        if part is None or room <= 0:
+            try:
+                write_all(descriptor, b"".join(waiting))
+            except OSError as error:
+                raise Fault(Status.DEVICE, "cannot write: %s" % reason(error))
+            waiting, room = [], block
 
 
 def say(text):

@@ -1,75 +1,17 @@
-"""The command line of every command: --help, --version, and the kinds of values."""
+"""The command line of every command: the words that all of them have, those that several have, and the kinds of values."""
 import argparse
+import re
 
 from aide_compare import VERSION
+from aide_compare.base import progress
 from aide_compare.base.ending import Done, Fault, Status, write_all
 from aide_compare.base.escapes import shown
 from aide_compare.base.times import seconds_of
 
 SIZES = {"k": 1 << 10, "M": 1 << 20, "G": 1 << 30}
 OPERAND = "\0"  # Before a word that follows --. No argument has this byte.
-
-
-def _formatter(prog):
-    """A width of its own keeps argparse from asking for that of the terminal, which takes 10 ms."""
-    return argparse.RawDescriptionHelpFormatter(prog, max_help_position=26, width=110)
-
-
-class Parser(argparse.ArgumentParser):
-    """The options of a command. A fault of the command line is a Fault with the status 15."""
-
-    def __init__(self, name, description, **more):
-        super().__init__(prog=name, description=description, allow_abbrev=False, formatter_class=_formatter, **more)
-        self.add_argument("--version", action="store_true", help="print the version and stop")
-
-    def parse(self, arguments):
-        """What the arguments say; options and operands may stand in any order, and after -- there are operands only."""
-        cut = arguments.index("--") if "--" in arguments else len(arguments)
-        if "--version" in arguments[:cut]:
-            write_all(1, ("%s %s\n" % (self.prog, VERSION)).encode())
-            raise Done
-        return self.parse_intermixed_args(arguments[:cut] + [OPERAND + word for word in arguments[cut + 1 :]])
-
-    def _get_value(self, action, text):
-        return super()._get_value(action, text[text.startswith(OPERAND) :])
-
-    def print_help(self, file=None):
-        write_all(1, self.format_help().encode())
-
-    def exit(self, status=0, message=None):
-        if status:
-            raise Fault(Status.USAGE, message or "the command line is not understood")
-        raise Done
-
-    def error(self, message):
-        raise Fault(Status.USAGE, message.replace(OPERAND, ""), "try: %s --help" % self.prog)
-
-
-class Once(argparse.Action):
-    """An option that may be given once."""
-
-    def __call__(self, parser, given, value, name=None):
-        if getattr(given, self.dest) is not None:
-            parser.error("%s is given twice" % "/".join(self.option_strings))
-        setattr(given, self.dest, value)
-
-
-def add_quiet(parser, text):
-    """The word of all commands for saying less."""
-    parser.add_argument("-q", "--quiet", action="store_true", help=text)
-
-
-def add_texts(parser):
-    """The lines of configuration that the command line has beside a file."""
-    add = parser.add_argument
-    add("-A", "--after", metavar="TEXT", action=Once, help="lines that follow the configuration, as report_level=summary")
-    add("-B", "--before", metavar="TEXT", action=Once, help="lines that precede it")
-
-
-def with_values(parser):
-    """The names of all options of a parser, and of those that have a value."""
-    named = [(set(action.option_strings), action.nargs != 0) for action in parser._actions]
-    return set().union(*(names for names, _ in named)), set().union(*(names for names, has_value in named if has_value))
+# Which changes raise an alarm: all, or only those that nothing explains for certain.
+ALARMS = ("differences", "unexplained")
 
 
 def some_text(text):
@@ -77,6 +19,17 @@ def some_text(text):
     if not text:
         raise argparse.ArgumentTypeError("needs a value that is not empty")
     return text
+
+
+def matching(pattern, what, taken=str):
+    """The kind of a value that a regular expression describes; `what` says so to people."""
+
+    def check(text):
+        if not re.fullmatch(pattern, text):
+            raise argparse.ArgumentTypeError("needs %s: %s" % (what, shown(text, 100) or "''"))
+        return taken(text)
+
+    return check
 
 
 def size(text):
@@ -93,3 +46,123 @@ def duration(text):
         return seconds_of(text)
     except Fault as fault:
         raise argparse.ArgumentTypeError(fault.text)
+
+
+class Once(argparse.Action):
+    """An option that may be given once."""
+
+    def __call__(self, parser, given, value, name=None):
+        if getattr(given, self.dest) is not None:
+            parser.error("%s is given twice" % "/".join(self.option_strings))
+        setattr(given, self.dest, value)
+
+
+def _text(metavar, text, **more):
+    return {"metavar": metavar, "type": some_text, "help": text, **more}
+
+
+def _texts(metavar, text):
+    return _text(metavar, text, action="append", default=[])
+
+
+# The words that several commands have: each means the same in all of them. What is left out here is of the command, as a default.
+COMMON = {
+    "config": _text("CONF", "the configuration"),
+    "after": {
+        "metavar": "TEXT",
+        "action": Once,
+        "help": "lines that follow the configuration, as report_level=summary",
+    },
+    "before": {"metavar": "TEXT", "action": Once, "help": "lines that precede it"},
+    "state": _text("FILE", "the state file, which has the result of a comparison"),
+    "max-size": {"metavar": "SIZE", "type": size, "help": "refuse a database that has more bytes unpacked"},
+    "max-report": {"metavar": "SIZE", "type": size, "help": "the most bytes of a report"},
+    "max-mail": {"metavar": "SIZE", "type": size, "default": 1 << 20, "help": "cut a mail that would be larger (1M)"},
+    "max-age": {"metavar": "TIME", "type": duration},
+    "exclude-from": _texts("FILE", "leave out the entries whose paths the lines of FILE name, as debian.without; it says how many"),
+    "exclude": _texts("PATTERN", "the same for one line"),
+    "keep-open": _texts("PATTERN", "all but the changes of these paths, as in '/etc/**': the baseline keeps their former entries"),
+    "reasons": {
+        "action": "store_true",
+        "help": "say which changes packages, logs and rules explain, and which nothing does",
+    },
+    "alarm": {"choices": ALARMS, "default": ALARMS[0], "help": "which changes raise an alarm, with the counts of --reasons"},
+    "json": _text("FILE", "write the changes to FILE as lines of JSON; - is standard output"),
+    "page": _text("FILE", "write them to FILE as a page for a browser"),
+    "packages": _text("FILE", "the packages' records of the time of the old database, as aide-compare accept keeps them"),
+    "packages-now": _text("FILE", "those of the time of the new database, if they are not those of this machine"),
+    "archive": _texts(
+        "DIRECTORY",
+        "packages and signed indexes, such as /var/lib/apt/lists and /var/cache/apt/archives, or a mirror",
+    ),
+    "keyring": _texts("FILE", "the keys of the archive, for gpgv (those of Debian)"),
+    "rules": _text("FILE", "reasons of your own: what may differ, patterns and texts"),
+    "severity": _text("FILE", "a table of severities instead of the built-in one"),
+    "user": _text("NAME", "drop privileges to this user first"),
+    "no-defaults": {"action": "store_true", "help": "read nothing of what /etc/aide-compare has for this command"},
+}
+SHORT = {"config": "-c", "after": "-A", "before": "-B"}
+EVIDENCE = ("packages", "packages-now", "archive", "keyring", "rules", "severity")
+WHEN = ("auto", "always", "never")
+
+
+def evidence_of(given):
+    """The first option that names evidence, as it is written; None if there is none."""
+    return next(("--" + name for name in EVIDENCE if getattr(given, name.replace("-", "_"), None)), None)
+
+
+def _formatter(prog):
+    """A width of its own keeps argparse from asking for that of the terminal, which takes 10 ms."""
+    return argparse.RawDescriptionHelpFormatter(prog, max_help_position=26, width=110)
+
+
+class Parser(argparse.ArgumentParser):
+    """The options of a command, with those that all commands have. A fault of the command line is a Fault with the status 15.
+    `quiet` says what --quiet leaves out here."""
+
+    def __init__(self, name, description, quiet="say nothing but why it failed", **more):
+        super().__init__(prog=name, description=description, allow_abbrev=False, formatter_class=_formatter, **more)
+        self.add_argument("--version", action="store_true", help="print the version and stop")
+        self.add_argument("-q", "--quiet", action="store_true", help=quiet)
+        self.add_argument("-v", "--verbose", action="store_true", help="say which step is done, and how long it took")
+        self.add_argument("--color", choices=WHEN, default=WHEN[0], help="colours in what people read (on a terminal)")
+
+    def take(self, *names, **changes):
+        """Adds common words; `changes` are what one of them has of this command alone."""
+        for name in names:
+            self.add_argument(*([SHORT[name]] if name in SHORT else []), "--" + name, **{**COMMON[name], **changes})
+
+    def parse(self, arguments):
+        """What the arguments say; options and operands may stand in any order, and after -- there are operands only."""
+        cut = self._cut(arguments)
+        given = self.parse_intermixed_args(arguments[:cut] + [OPERAND + word for word in arguments[cut + 1 :]])
+        progress.tell_steps(given.verbose)
+        return given
+
+    def parse_own(self, arguments):
+        """What the arguments say by the options of this parser, and all other words in their order."""
+        cut = self._cut(arguments)
+        given, others = self.parse_known_args(arguments[:cut])
+        return given, others + arguments[cut:]
+
+    def _cut(self, arguments):
+        """Where the operands begin that follow --. The version is printed here, whatever else is asked for."""
+        cut = arguments.index("--") if "--" in arguments else len(arguments)
+        if "--version" in arguments[:cut]:
+            write_all(1, ("%s %s\n" % (self.prog, VERSION)).encode())
+            raise Done
+        return cut
+
+    def _get_value(self, action, text):
+        return super()._get_value(action, text[text.startswith(OPERAND) :])
+
+    def print_help(self, file=None):
+        write_all(1, self.format_help().encode())
+
+    def exit(self, status=0, message=None):
+        if status:
+            raise Fault(Status.USAGE, message or "the command line is not understood")
+        raise Done
+
+    def error(self, message):
+        raise Fault(Status.USAGE, message.replace(OPERAND, ""), "try: %s --help" % self.prog)

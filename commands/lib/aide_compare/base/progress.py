@@ -25,11 +25,15 @@ class _Line:
             pass
 
 
-def begin(descriptor, is_verbose=False):
-    """From now on lines go to this terminal; nothing happens if it is none. With -v each step is told when it is done, on a
-    terminal or not."""
-    global _line, _since
+def tell_steps(is_verbose):
+    """From now on each step is told when it is done, on a terminal or not: -v."""
+    global _since
     _since = time.monotonic() if is_verbose else None
+
+
+def begin(descriptor):
+    """From now on lines go to this terminal; nothing happens if it is none."""
+    global _line
     if os.isatty(descriptor) and os.environ.get("TERM") != "dumb":
         _line = _Line(descriptor)
 

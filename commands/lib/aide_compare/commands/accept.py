@@ -4,14 +4,13 @@ import os
 from aide_compare.base.ending import Fault, Status, say, write_all
 from aide_compare.base.escapes import shown
 from aide_compare.base.names import KINDS
-from aide_compare.base.options import Parser, size, some_text
+from aide_compare.base.options import EVIDENCE, Parser, evidence_of, some_text
 from aide_compare.base.rights import user_of
 from aide_compare.base.patterns import BadPattern, Pattern
 from aide_compare.base.times import date_of
 from aide_compare.commands.accept_steps import MOST_BYTES, Wish, accept, digest_of_former
 from aide_compare.compare.baseline import Baseline
 from aide_compare.compare.state import read_state
-from aide_compare.reasons.evidence_options import EVIDENCE, add_evidence_options
 from aide_compare.reasons.kept_records import Records
 
 NAME = "aide-compare accept"
@@ -86,41 +85,23 @@ def _told(done, path, new, counts):
 
 
 def _parser():
-    parser = Parser(NAME, DESCRIPTION, epilog=EPILOG)
-    add = parser.add_argument
+    made = Parser(NAME, DESCRIPTION, "do not tell what was done", epilog=EPILOG)
+    add, take = made.add_argument, made.take
     add(
         "--sha256",
         metavar="DIGEST",
         type=some_text,
         help="the SHA-256 in the report or mail that was read: 16 to 64 hexadecimal digits, or all of it in base64",
     )
-    add(
-        "--state",
-        metavar="FILE",
-        type=some_text,
-        help="print the time and the counts of the comparison from this file (%s); it decides nothing" % STATE,
-    )
-    add(
-        "--max-size",
-        metavar="BYTES",
-        type=size,
-        default=MOST_BYTES,
-        help="refuse a database that has more bytes unpacked: plain, or with k, M or G (1024G)",
-    )
-    add(
-        "--keep-open",
-        metavar="PATTERN",
-        action="append",
-        default=[],
-        type=some_text,
-        help="all but the changes of these paths, as in '/etc/**': the baseline keeps their former entries",
-    )
+    take("state", help="tell the time and the counts of the comparison from this file (%s); it decides nothing" % STATE)
+    take("max-size", default=MOST_BYTES, help="refuse a database that has more bytes unpacked (1024G)")
+    take("keep-open")
     add(
         "--explained-only",
         action="store_true",
         help="only the changes with a verified reason, as aide-compare --reasons finds them; all others stay open",
     )
-    add_evidence_options(parser)
+    take(*EVIDENCE)
     add(
         "--no-packages",
         action="store_true",
@@ -138,13 +119,12 @@ def _parser():
         type=some_text,
         help="the new database, plain or compressed by gzip, and the file that it replaces; only BASELINE with --only-packages",
     )
-    return parser
+    return made
 
 
 def _given(arguments):
     """The options; a Fault if they do not go together."""
     given = _parser().parse(arguments)
-    evidence = [name for name in EVIDENCE if getattr(given, name)]
     partly = given.keep_open or given.explained_only
     if len(given.files) != (1 if given.only_packages else 2):
         why = "name BASELINE alone" if given.only_packages else "name NEW and BASELINE"
@@ -152,8 +132,8 @@ def _given(arguments):
         why = "--only-packages goes with no other of these options"
     elif not given.only_packages and not given.sha256:
         why = "--sha256 DIGEST is needed"
-    elif evidence and not given.explained_only:
-        why = "--%s needs --explained-only" % evidence[0].replace("_", "-")
+    elif evidence_of(given) and not given.explained_only:
+        why = "%s needs --explained-only" % evidence_of(given)
     else:
         return given
     raise Fault(Status.USAGE, why, "try: %s --help" % NAME)
@@ -166,14 +146,15 @@ def _patterns_of(given):
         raise Fault(Status.USAGE, "--keep-open: %s" % fault)
 
 
-def _print(lines):
-    write_all(1, "".join("%s\n" % line for line in lines).encode("utf-8", "backslashreplace"))
+def _print(lines, given):
+    if not given.quiet:
+        write_all(1, "".join("%s\n" % line for line in lines).encode("utf-8", "backslashreplace"))
 
 
 def main(arguments):
     given = _given(arguments)
     if given.only_packages:
-        _print([keep_records_only(given.files[0], given.max_size)])
+        _print([keep_records_only(given.files[0], given.max_size)], given)
         return Status.OK
     state, unknown, (new, path) = None, "", given.files
     wish = Wish(
@@ -188,7 +169,7 @@ def main(arguments):
     done = accept(wish, new, path)
     counts = _counts(state, done) if state else unknown
     try:
-        _print(_told(done, path, new, counts))
+        _print(_told(done, path, new, counts), given)
     except OSError:
         say("%s is the baseline, but that could not be printed" % shown(new))
         return Status.DEVICE

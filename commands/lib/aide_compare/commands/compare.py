@@ -3,19 +3,18 @@ import os
 import shlex
 
 from aide_compare.base import progress
-from aide_compare.base.defaults import RUN, add_off, defaults_for, place_of
+from aide_compare.base.defaults import RUN, defaults_for, place_of
 from aide_compare.base.ending import Fault, Status, reason, say, write_all
 from aide_compare.base.escapes import guarded, shown, shown_lines
 from aide_compare.base.files import Replacement, copy_file
 from aide_compare.base.names import SIDES
-from aide_compare.base.options import Parser, add_quiet, add_texts, duration, size, some_text
+from aide_compare.base.options import EVIDENCE, Parser, evidence_of, some_text
 from aide_compare.base.rights import give_up
 from aide_compare.base.times import date_of
 from aide_compare.compare.comparison import Comparison, Request
 from aide_compare.compare.handing import Handed, Handing
 from aide_compare.compare.exclusions import Exclusions, read_exclusions
-from aide_compare.reasons.evidence_options import EVIDENCE, add_evidence_options
-from aide_compare.show.colours import CHOICES, are_wanted, coloured
+from aide_compare.show.colours import are_wanted, coloured
 
 DESCRIPTION = "Compares two AIDE databases, plain or compressed by gzip. The report goes to standard output."
 TRY = "try: aide-compare compare --help"
@@ -29,8 +28,10 @@ Status: that of aide-compare-program(8). 0 no difference, 1 to 7 differences, ab
 
 def parser():
     """The options of a comparison, which aide-compare mail has too."""
-    made = Parser("aide-compare compare", DESCRIPTION, epilog=EPILOG, usage="aide-compare [compare] [OPTIONS] [OLD NEW]")
-    add = made.add_argument
+    quiet = "print neither report nor notes: only why nothing was compared"
+    usage = "aide-compare [compare] [OPTIONS] [OLD NEW]"
+    made = Parser("aide-compare compare", DESCRIPTION, quiet, epilog=EPILOG, usage=usage)
+    add, take = made.add_argument, made.take
     add(
         "databases",
         nargs="*",
@@ -38,50 +39,16 @@ def parser():
         type=some_text,
         help="the databases, - for standard input; without them the configuration names both",
     )
-    add(
-        "-c",
-        "--config",
-        metavar="CONF",
-        type=some_text,
-        help="the configuration (/dev/null with OLD NEW, otherwise AIDE's, /etc/aide/aide.conf or /etc/aide.conf)",
-    )
-    add_texts(made)
-    add("--state", metavar="FILE", type=some_text, help="write the status, the time, the counts and both SHA-256 to FILE")
-    add(
-        "--max-size",
-        metavar="BYTES",
-        type=size,
-        default=Request.max_size,
-        help="refuse a database that has more bytes unpacked",
-    )
-    add("--max-report", metavar="BYTES", type=size, default=Request.max_report, help="refuse a longer report (1G)")
-    add(
-        "--max-age",
-        metavar="TIME",
-        type=duration,
-        default=0,
-        help="refuse a new database that is older, as 50h, or from the future (0, the default: no limit)",
-    )
-    add(
-        "--exclude-from",
-        metavar="FILE",
-        action="append",
-        default=[],
-        type=some_text,
-        help="leave out the entries whose paths the lines of FILE name, as debian.without; it says how many",
-    )
-    add("--exclude", metavar="PATTERN", action="append", default=[], type=some_text, help="the same for one line")
-    add("--reasons", action="store_true", help="say which changes packages, logs and rules explain, and which nothing does")
+    take("config", help="the configuration (/dev/null with OLD NEW, otherwise AIDE's, /etc/aide/aide.conf or /etc/aide.conf)")
+    take("after", "before")
+    take("state", help="write the status, the time, the counts and both SHA-256 to FILE")
+    take("max-size", default=Request.max_size)
+    take("max-report", default=Request.max_report, help="refuse a longer report (1G)")
+    take("max-age", default=0, help="refuse a new database that is older, as 50h, or from the future (0, the default: no limit)")
+    take("exclude-from", "exclude", "reasons")
     add("--format", choices=FORMATS, help="what is printed: the report, or what people should read first (on a terminal)")
     add("--brief", action="store_const", const="brief", dest="format", help="--format brief")
-    add("--json", metavar="FILE", type=some_text, help="write the changes to FILE as aide-compare json does, with the reasons")
-    add("--page", metavar="FILE", type=some_text, help="write them to FILE as a page for a browser")
-    add("--color", choices=CHOICES, default=CHOICES[0], help="colours in what people read first (on a terminal)")
-    add_quiet(made, "print neither report nor notes: only why nothing was compared")
-    add("-v", "--verbose", action="store_true", help="say which step is done, and how long it took")
-    add_evidence_options(made)
-    add("--user", metavar="NAME", type=some_text, help="drop privileges to this user first")
-    add_off(made)
+    take("json", "page", *EVIDENCE, "user", "no-defaults")
     return made
 
 
@@ -97,9 +64,8 @@ class Task:
     `with_details`: whoever is told of the changes wants all lines of them. `weighs`: he wants what people read first."""
 
     def __init__(self, given, with_details=False, weighs=False):
-        for name in EVIDENCE:
-            if getattr(given, name) and not given.reasons:
-                raise Fault(Status.USAGE, "--%s needs --reasons" % name.replace("_", "-"), TRY)
+        if evidence_of(given) and not given.reasons:
+            raise Fault(Status.USAGE, "%s needs --reasons" % evidence_of(given), TRY)
         self.handing = Handing() if os.geteuid() == 0 and not given.user else None
         self.request, self.wanted = self._request(given, weighs), None
         if given.reasons or given.json or given.page or with_details or weighs:
@@ -252,5 +218,5 @@ def main(arguments):
         give_up(given.user)
     form = format_of(given)
     if not given.quiet:
-        progress.begin(2, given.verbose)
+        progress.begin(2)
     return Task(given, weighs=form == "brief").carry_out(Printer(given, form, arguments))[0]

@@ -5,9 +5,16 @@ import re
 from aide_compare.base.ending import Fault, Status, called, reason, write_all
 from aide_compare.base.escapes import shown
 
-# Each is a module of its name, of which only the one that is asked for is loaded; those of hosts begin with hosts_.
+# Each is a module of its name, of which only the one that is asked for is loaded.
 COMMANDS = ("compare", "json", "page", "reasons", "mail", "accept", "status", "sort", "setup", "version")
-HOSTS = ("fetch", "compare", "compare-one", "accept", "report")
+# What is done for one host is in one module; each of the others is a module and its function.
+HOSTS = {
+    "fetch": ("hosts", "fetch_one"),
+    "compare": ("hosts_compare", "main"),
+    "compare-one": ("hosts", "compare_one"),
+    "accept": ("hosts", "accept_one"),
+    "report": ("hosts_report", "main"),
+}
 JOBS = {"-E", "-D", "--compare", "--config-check"}
 USAGE = """\
 usage: aide-compare [compare] [OPTIONS] [OLD NEW]
@@ -75,16 +82,11 @@ def is_misspelt(word, arguments):
     return len(arguments) == 1 or bool(difflib.get_close_matches(word, [*COMMANDS, "hosts", "help"], 1))
 
 
-def loaded(module):
-    """The module of a subcommand."""
+def loaded(module, function="main"):
+    """What a subcommand does."""
     import importlib
 
-    return importlib.import_module("aide_compare.commands." + module.replace("-", "_"))
-
-
-def run(name, module, arguments):
-    called(name)
-    return loaded(module).main(arguments)
+    return getattr(importlib.import_module("aide_compare.commands." + module), function)
 
 
 def hosts(arguments):
@@ -94,7 +96,8 @@ def hosts(arguments):
         return Status.OK
     if word not in HOSTS:
         refuse(word, HOSTS, "aide-compare hosts")
-    return run("aide-compare hosts " + word, "hosts_" + word, arguments[1:])
+    called("aide-compare hosts " + word)
+    return loaded(*HOSTS[word])(arguments[1:])
 
 
 def help_of(words):
@@ -117,8 +120,9 @@ def main(arguments):
         return hosts(arguments[1:])
     if word == "--version":
         word, arguments = "version", ["version"] + arguments[1:]
-    if word in COMMANDS:
-        return run("aide-compare" + (" " + word) * (word != "compare"), word, arguments[1:])
-    if is_misspelt(word, arguments):
-        refuse(word, [*COMMANDS, "hosts", "help"], "aide-compare")
-    return run("aide-compare", "compare", arguments)
+    if word not in COMMANDS:
+        if is_misspelt(word, arguments):
+            refuse(word, [*COMMANDS, "hosts", "help"], "aide-compare")
+        word, arguments = "compare", ["compare"] + arguments
+    called("aide-compare" + (" " + word) * (word != "compare"))
+    return loaded(word)(arguments[1:])

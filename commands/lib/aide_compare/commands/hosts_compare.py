@@ -9,13 +9,13 @@ from aide_compare.base.child import end_with, kill_group
 from aide_compare.base.ending import Fault, Status, reason, write_all
 from aide_compare.base.escapes import guarded, shown
 from aide_compare.base.files import open_regular
-from aide_compare.base.options import Parser, add_quiet
-from aide_compare.commands.hosts_options import add_comparison, add_fetching, add_place
-from aide_compare.hosts.fetching import fetch
-from aide_compare.hosts.fleet_store import Place, check_name, share_of
-from aide_compare.hosts.host_comparison import compare_or_say
+from aide_compare.base.options import Parser, matching
+from aide_compare.base.trusted import read_whole
+from aide_compare.hosts.fetching import add_fetching, fetch
+from aide_compare.hosts.fleet_store import Place, add_place, check_name, share_of
+from aide_compare.hosts.host_comparison import add_comparison, compare_or_say
 from aide_compare.hosts.host_reasons import exclusions_of
-from aide_compare.show.reading import ALARMS
+from aide_compare.show.colours import RED, YELLOW, in_colour
 
 NAME = "aide-compare hosts compare"
 MOST_LIST = 16 << 20
@@ -124,13 +124,11 @@ def results(hosts, given):
 
 def hosts_of(path, share):
     """The names in a file, each once, and of these the part that is asked for."""
-    descriptor = open_regular(path, "the file of hosts ")
+    descriptor = 0 if path == "-" else open_regular(path, "the file of hosts ")
     try:
-        data = os.read(descriptor, MOST_LIST + 1)
+        data = read_whole(descriptor, MOST_LIST, "the file of hosts")
     finally:
         os.close(descriptor)
-    if len(data) > MOST_LIST:
-        raise Fault(Status.DEVICE, "the file of hosts has more than %d bytes" % MOST_LIST)
     lines = (line.strip() for line in data.decode("utf-8", "surrogateescape").split("\n"))
     names = list(dict.fromkeys(line for line in lines if line and not line.startswith("#")))
     if not names:
@@ -139,17 +137,10 @@ def hosts_of(path, share):
 
 
 def share(text):
-    found = re.fullmatch(r"([1-9][0-9]{0,5})/([1-9][0-9]{0,5})", text)
-    part, parts = map(int, found.groups()) if found else (1, 0)
+    part, parts = map(int, text.split("/"))
     if part > parts:
         raise Fault(Status.USAGE, "--share needs a part of all of them: --share 1/10 to --share 10/10")
     return part, parts
-
-
-def jobs(text):
-    if not re.fullmatch(r"[1-9][0-9]{0,2}", text):
-        raise Fault(Status.USAGE, "--jobs needs a number from 1 to 999")
-    return int(text)
 
 
 def compare_all(hosts, given):
@@ -162,7 +153,8 @@ def compare_all(hosts, given):
         is_alarm = is_alarm or is_told
         if is_told or not given.quiet:
             name = shown(host, 200).replace(" ", "\\040")
-            write_all(1, ("%s %d %s\n" % (name, status, text)).encode("utf-8", "backslashreplace"))
+            line = in_colour("%s %d %s\n" % (name, status, text), RED if status > 7 else YELLOW if is_told else "", given.color)
+            write_all(1, line.encode("utf-8", "backslashreplace"))
     if is_alarm or not given.quiet:
         words = "%d hosts: %d without differences, %d with, %d not compared\n" % ((len(hosts),) + tuple(counts))
         write_all(1, words.encode())
@@ -174,21 +166,21 @@ def options():
         NAME,
         "Fetches and compares the databases of the hosts of HOSTS-FILE, which has a name a line. Prints a line for\n"
         "each host as it ends: its name, its status, and what that says. Then a summary.",
+        "only hosts whose status is not 0, and a summary if there are any",
         epilog="Ends with the greatest status of all hosts: 0, up to 7 if there are differences and each host was\n"
         "compared, more if a host was not; 15 if arguments or a host's name are wrong; 18 if it cannot run.",
     )
+    jobs = matching(r"[1-9][0-9]{0,2}", "a number from 1 to 999", int)
+    part = matching(r"[1-9][0-9]{0,5}/[1-9][0-9]{0,5}", "a part of all of them: 1/10 to 10/10", share)
     parser.add_argument("--jobs", type=jobs, default=8, metavar="N", help="how many hosts at a time (8)")
-    parser.add_argument("--share", type=share, default=(1, 1), metavar="K/N", help="only the hosts of the Kth of N shares")
-    add_quiet(parser, "only hosts whose status is not 0, and a summary if there are any")
-    parser.add_argument(
-        "--alarm", choices=ALARMS, default=ALARMS[0], help="with --quiet and --reasons: unexplained: not those all explained"
-    )
+    parser.add_argument("--share", type=part, default=(1, 1), metavar="K/N", help="only the hosts of the Kth of N shares")
+    parser.take("alarm", help="with --quiet and --reasons: unexplained: not those all explained")
     parser.add_argument("--no-fetch", action="store_true", help="compare what was fetched before")
     parser.add_argument("--one", action="store_true", help="HOSTS-FILE is the name of one host")
     add_place(parser)
     add_fetching(parser)
     add_comparison(parser)
-    parser.add_argument("file", metavar="HOSTS-FILE")
+    parser.add_argument("file", metavar="HOSTS-FILE", help="a name a line; - is standard input")
     return parser
 
 

@@ -2,35 +2,29 @@
 import os
 import shlex
 
-from aide_compare.base.ending import Fault, Status, say, write_all
+from aide_compare.base import progress
+from aide_compare.base.ending import Fault, Status, say, write_blocks
 from aide_compare.base.external_sort import ExternalSort
-from aide_compare.base.files import Spool
+from aide_compare.base.files import Spool, nameless
 from aide_compare.base.folders import open_folder
-from aide_compare.base.options import Parser, duration, size, some_text
+from aide_compare.base.options import Parser, duration, matching, some_text
 from aide_compare.base.patterns import BadPattern, Pattern
 from aide_compare.base.private_room import stoppable
 from aide_compare.base.program import find_front
 from aide_compare.commands.hosts_compare import hosts_of
-from aide_compare.commands.mail import address
+from aide_compare.commands.mail import add_sending
+from aide_compare.compare.outputs import Output
 from aide_compare.hosts.fleet_store import STORE, share_of
 from aide_compare.hosts.host_changes import ChangeLines, encoded, path_in, same_changes, standing_of
 from aide_compare.hosts.hosts_read import CUT, WHOLE, read_host
-from aide_compare.mail.smtp import server
-from aide_compare.show.reading import AGE, ALARMS
+from aide_compare.show.reading import AGE
 
 NAME = "aide-compare hosts report"
 FORMATS = ("text", "json", "page")
 FORMAT = 1
 BLOCK = 1 << 18
-MOST_NAMES = 100000
 GREATEST = 10**12
 LEAST_MAIL = 16 << 10
-
-
-def number(text):
-    if not (text.isascii() and text.isdigit() and 1 <= int(text[:9]) <= MOST_NAMES):
-        raise Fault(Status.USAGE, "--max-hosts needs a number from 1 to %d" % MOST_NAMES)
-    return int(text)
 
 
 def pattern(text):
@@ -40,7 +34,7 @@ def pattern(text):
         raise Fault(Status.USAGE, "--only-path: %s" % fault)
 
 
-def words_of(given):
+def whole_command(given):
     """The command that prints all that this one leaves out, with the options that say what it is about."""
     words = [find_front(), "hosts", "report"]
     for store in given.store:
@@ -119,28 +113,27 @@ class HostsReport:
         self.body.seek(0)
         return map(json.loads, self.body)
 
-    def write_json(self):
+    def json(self):
+        """Yields the lines of JSON, in parts."""
         for fields in [self.summary] + self.hosts:
-            write_all(1, encoded(fields).encode() + b"\n")
+            yield encoded(fields).encode() + b"\n"
         self.body.seek(0)
-        for block in iter(lambda: self.body.read(BLOCK), b""):
-            write_all(1, block)
+        yield from iter(lambda: self.body.read(BLOCK), b"")
 
-    def write_text(self):
+    def text(self, choice=""):
+        """Yields the lines of the text, with severities in colours."""
         from aide_compare.hosts.hosts_text import report_lines
+        from aide_compare.show.colours import severity_in_colour
 
-        with open(1, "wb", buffering=BLOCK, closefd=False) as target:
-            for line in report_lines(self.summary, self.hosts, self.changes(), self.summary["order"]):
-                target.write((line + "\n").encode("utf-8", "backslashreplace"))
+        for line in report_lines(self.summary, self.hosts, self.changes(), self.summary["order"]):
+            yield (severity_in_colour(line, choice) + "\n").encode("utf-8", "backslashreplace")
 
-    def write_html(self, command):
+    def page(self, command):
         from aide_compare.hosts.hosts_page import page
 
-        with open(1, "wb", buffering=BLOCK, closefd=False) as target:
-            for part in page(self.summary, self.hosts, self.changes(), command):
-                target.write(part)
+        return page(self.summary, self.hosts, self.changes(), command)
 
-    def mail(self, given, command):
+    def mail(self, given, is_alarm, command):
         """Sends one mail about all hosts, and none if there is nothing to say."""
         from aide_compare.hosts.hosts_text import fitting, headline
         from aide_compare.mail.message import build, clean
@@ -151,7 +144,7 @@ class HostsReport:
         except Fault as fault:
             alert("%s; %s" % (fault.text, headline(self.summary)))
             raise
-        if not (self.is_alarm if given.alarm == "unexplained" else self.worst):
+        if not is_alarm:
             return
         lines, left_out = fitting(self.summary, self.hosts, self.changes(), self.summary["order"], given.max_mail * 3 // 4)
         if left_out:
@@ -171,23 +164,25 @@ def options():
         NAME,
         "Reports what differs on the hosts of HOSTS-FILE, as aide-compare hosts compare has found it: which hosts were\n"
         "not compared, and each change once with the hosts that have it.",
+        "print nothing if no host raises an alarm",
         epilog="Ends with the greatest status of all hosts, as aide-compare hosts compare does: 0, up to 7 if there are\n"
         "differences and each host was compared, more if a host was not. 15, 18 or 22 if it cannot do\n"
         "its work.",
     )
-    parser.add_argument(
+    add = parser.add_argument
+    add(
         "--store",
         type=some_text,
         action="append",
         metavar="DIR",
         help="where the reports are kept (%s); given N times: the Kth one is that of --share K/N" % STORE,
     )
-    parser.add_argument(
+    add(
         "--order",
         choices=("path", "rare", "common"),
         help="changes by path (as JSON), on the fewest hosts first (as text), or on the most",
     )
-    parser.add_argument(
+    add(
         "--only-path",
         type=pattern,
         action="append",
@@ -195,27 +190,16 @@ def options():
         metavar="PATTERN",
         help="only changes of these paths, as in /usr/local/**",
     )
-    parser.add_argument("--max-hosts", type=number, default=20, metavar="N", help="how many hosts of a change are named (20)")
-    parser.add_argument(
-        "--max-age",
-        type=duration,
-        default=AGE,
-        metavar="TIME",
-        help="a host that was compared longer ago counts as not compared (26h; 0: no limit)",
-    )
-    parser.add_argument(
-        "--time", type=duration, default=600, metavar="TIME", help="how long to wait for a run over a host (10m)"
-    )
+    count = matching("[1-9][0-9]{0,4}|100000", "a number from 1 to 100000", int)
+    add("--max-hosts", type=count, default=20, metavar="N", help="how many hosts of a change are named (20)")
+    parser.take("max-age", default=AGE, help="a host that was compared longer ago counts as not compared (26h; 0: no limit)")
+    add("--time", type=duration, default=600, metavar="TIME", help="how long to wait for a run over a host (10m)")
     form = parser.add_mutually_exclusive_group()
     form.add_argument("--format", choices=FORMATS, help="text (the default), json: one object a line, or page: for a browser")
-    form.add_argument("--to", type=address, metavar="ADDRESS", help="mail the text, if a host differs or was not compared")
-    parser.add_argument(
-        "--alarm", choices=ALARMS, default=ALARMS[0], help="with --to: unexplained: no mail if all changes are explained"
-    )
-    parser.add_argument("--max-mail", type=size, default=1 << 20, metavar="SIZE", help="cut a mail that would be larger (1M)")
-    parser.add_argument("--smtp", type=server, metavar="HOST[:PORT]", help="send by SMTP to this server, not by sendmail")
-    parser.add_argument("--mail-time", type=duration, default=60, metavar="TIME", help="how long sending may take (60s)")
-    parser.add_argument("file", metavar="HOSTS-FILE")
+    add_sending(parser, form, help="mail the text, if a host differs or was not compared")
+    parser.take("alarm", help="with --to or --quiet: unexplained: not if all changes are explained")
+    parser.take("json", "page")
+    add("file", metavar="HOSTS-FILE", help="a name a line; - is standard input")
     return parser
 
 
@@ -228,15 +212,31 @@ def main(arguments):
     given.store = given.store or [STORE]
     if len(given.store) == 1:
         open_folder(given.store[0]).close()
+    outputs = {name: Output(path, "the " + name) for name, path in (("json", given.json), ("page", given.page)) if path}
+    on_stdout = [output for output in outputs.values() if output.fd == 1]
+    if len(on_stdout) + (given.format is not None) > 1:
+        raise Fault(Status.USAGE, "only one of --json, --page and --format can be on standard output")
+    for output in outputs.values():
+        output.begin()
 
     def work():
-        report = HostsReport(names, given)
+        report, command = HostsReport(names, given), shlex.join(whole_command(given))
+        progress.done("the hosts are read")
+        is_alarm = report.is_alarm if given.alarm == "unexplained" else report.worst
+        forms = {"text": lambda: report.text(given.color), "json": report.json, "page": lambda: report.page(command)}
+        for name, output in outputs.items():
+            output.commit_copy(kept(forms[name]()))
         if given.to:
-            report.mail(given, shlex.join(words_of(given)))
-        elif given.format == "page":
-            report.write_html(shlex.join(words_of(given)))
-        else:
-            (report.write_json if given.format == "json" else report.write_text)()
+            report.mail(given, is_alarm, command)
+        elif not on_stdout and (is_alarm or not given.quiet):
+            write_blocks(1, forms[given.format or "text"]())
         return report.worst
 
     return stoppable(work)
+
+
+def kept(parts):
+    """A private file with these parts."""
+    file = nameless()
+    write_blocks(file, parts)
+    return file

@@ -39,7 +39,7 @@ def _options():
         metavar="NAME=VALUE",
         help="an additional member for each line, such as site=berlin",
     )
-    add("--state", metavar="FILE", type=some_text, help="the state file of this comparison: names, times and status")
+    parser.take("state", help="the state file of this comparison: names, times and status")
     add("--old", metavar="NAME", type=some_text, help="the name of the old database, instead of the one in the report")
     add("--new", metavar="NAME", type=some_text, help="the name of the new database")
     add("--names", action="store_true", help="the names that this host has for numbers of users and groups, as texts")

@@ -3,12 +3,13 @@ import os
 import re
 import shlex
 
+from aide_compare.base import progress
 from aide_compare.base.defaults import MAIL, RUN, defaults_for
 from aide_compare.base.ending import Fault, Status, say, why_of, write_all
-from aide_compare.base.options import Parser, duration, size, some_text, with_values
+from aide_compare.base.options import Parser, duration, matching, some_text
 from aide_compare.base.program import find_front
 from aide_compare.commands import compare
-from aide_compare.compare.columns import skipped_of
+from aide_compare.compare.columns import skipped_names
 from aide_compare.compare.comparison import Comparison, Request
 from aide_compare.compare.handing import Held
 from aide_compare.compare.hints import hint_for_owner
@@ -18,7 +19,6 @@ from aide_compare.mail import weekly
 from aide_compare.mail.message import Result, build, clean, host, is_explained, subject, text_of
 from aide_compare.mail.sending import SECONDS, alert, deliver, way_out
 from aide_compare.mail.smtp import server
-from aide_compare.show.reading import ALARMS
 from aide_compare.show.told import told_of
 
 NAME = "aide-compare mail"
@@ -29,34 +29,21 @@ went out or was kept in the queue."""
 UNIT = re.compile(r"[A-Za-z0-9:_.\\@-]{1,255}")  # As systemd.unit(5) has it.
 
 
-def address(text):
-    if not text or text.startswith("-") or not text.isascii() or not text.isprintable():
-        import argparse
-
-        raise argparse.ArgumentTypeError("needs an address")
-    return text
-
-
-def unit(text):
-    if not UNIT.fullmatch(text):
-        import argparse
-
-        raise argparse.ArgumentTypeError("needs the name of a unit")
-    return text
+def add_sending(parser, group=None, **to):
+    """The options that say to whom a mail goes, and how. The first one may be of a group."""
+    address = matching(r"(?!-)[ -~]+", "an address")
+    (group or parser).add_argument("--to", metavar="ADDRESS", type=address, **to)
+    parser.take("max-mail")
+    parser.add_argument("--smtp", metavar="HOST[:PORT]", type=server, help="send by SMTP to this server instead of sendmail")
+    parser.add_argument("--mail-time", metavar="TIME", type=duration, default=SECONDS, help="how long sending may take (60s)")
 
 
 def parser():
     made = Parser(NAME, DESCRIPTION, epilog=EPILOG, usage="%(prog)s [OPTIONS] [ARGUMENTS of aide-compare]")
-    add = made.add_argument
-    add("--to", metavar="ADDRESS", type=address, default="root", help="where the mail goes (root)")
+    add, unit = made.add_argument, matching(UNIT, "the name of a unit")
+    add_sending(made, default="root", help="where the mail goes (root)")
     add("--html", action="store_true", help="send the report as a text and as a page")
-    add("--max-mail", metavar="SIZE", type=size, default=1 << 20, help="cut a mail that would be larger (1M)")
-    add(
-        "--alarm",
-        choices=ALARMS,
-        default=ALARMS[0],
-        help="with --reasons: unexplained mails nothing if every change is explained (differences)",
-    )
+    made.take("alarm", help="with --reasons: unexplained mails nothing if every change is explained (differences)")
     add("--test", action="store_true", help="compare nothing, and send a test mail the same way")
     add(
         "--weekly",
@@ -66,58 +53,32 @@ def parser():
         choices=weekly.DAYS,
         help="with --state: mail a heartbeat on one day of the week (Mon)",
     )
-    add("--smtp", metavar="HOST[:PORT]", type=server, help="send by SMTP to this server instead of sendmail")
-    add("--mail-time", metavar="TIME", type=duration, default=SECONDS, help="how long sending may take (60s)")
     add("--queue", metavar="DIRECTORY", type=some_text, help="keep the mail in this directory; --send-queue sends it")
     add("--send-queue", metavar="DIRECTORY", type=some_text, help="compare nothing, and send the mails of this directory")
     add("--unit-failed", metavar="NAME", type=unit, help="with --send-queue: mail first that this unit of systemd has failed")
-    add("--user", metavar="NAME", type=some_text, help="drop privileges to this user first")
+    made.take("user")
     add("--alarm-sent-is-success", action="store_true", help="end with 0 also after differences or errors that were mailed")
     return made
 
 
-def split(arguments):
-    """The options of this command, and all others, for the comparison, in their order."""
-    (own_names, own_values), (_, values) = with_values(parser()), with_values(compare.parser())
-    own, others, rest = [], [], list(arguments)
-    while rest:
-        word = rest.pop(0)
-        if word == "--":
-            return own, others + ["--"] + rest
-        name, words = word.partition("=")[0], [word]
-        if word == "--weekly":
-            words += [rest.pop(0)] if rest and rest[0] in weekly.DAYS else []
-        elif rest and word in (own_values if name in own_names else values):
-            words.append(rest.pop(0))
-        (own if name in own_names else others).extend(words)
-    return own, others
-
-
 def without_state(words):
     """The words without --state and its value: a command for reading must not overwrite the state."""
-    values, kept, words = with_values(compare.parser())[1], [], list(words)
-    while words and words[0] != "--":
-        word = words.pop(0)
-        found = [word] + ([words.pop(0)] if word in values and words else [])
-        kept += found if word.partition("=")[0] != "--state" else []
-    return kept + words
-
-
-def known_columns(given):
-    """The columns that are not compared by the state of the last run; None if no state is kept that a next run can see."""
-    if given is None or not given.state:
-        return None
-    try:
-        return {name for names in skipped_of(read_state(given.state)).values() for name in names}
-    except Fault:
-        return set()
+    state = Parser(NAME, "")
+    state.take("state")
+    return state.parse_own(words)[1]
 
 
 class Alarm:
-    """Puts the mail together, if what came out is an alarm."""
+    """Puts the mail together, if what came out is an alarm. `known` are the columns that are not compared as the
+    state of the last run says; None if no state is kept that a next run can see."""
 
     def __init__(self, given):
-        self.given, self.message, self.known = given, Held(), known_columns(given.run)
+        self.given, self.message, self.known = given, Held(), None
+        if given.run and given.run.state:
+            try:
+                self.known = skipped_names(read_state(given.run.state))
+            except Fault:
+                self.known = []
 
     def begin(self, *_):
         """Nothing is told before all is known."""
@@ -126,8 +87,7 @@ class Alarm:
 
     def unknown(self, state):
         """The columns that are not compared, and that no earlier mail can have told."""
-        names = dict.fromkeys(name for names in skipped_of(state).values() for name in names)
-        return [name for name in names if self.known is not None and name not in self.known]
+        return [name for name in skipped_names(state) if self.known is not None and name not in self.known]
 
     def is_quiet(self, state):
         if self.unknown(state):
@@ -177,6 +137,7 @@ def page_of(explained, most):
 
 
 def way_of(given):
+    """The way of a mail; none leaves before that is there."""
     if given.queue:
         from aide_compare.mail.queue import Queue
 
@@ -211,8 +172,8 @@ def be_quiet(given, way, state):
 
 
 def compared(given, alarm):
-    """Compares, and lets the alarm put a mail together. Returns the State. A child that compares with the rights of another
-    user ends here: its parent sends what it has put together."""
+    """Compares, and lets the alarm put a mail together. Returns the State. A child that compares with the
+    rights of another user ends here: its parent sends what it has put together."""
     task = None
     try:
         if given.refusal:
@@ -269,12 +230,24 @@ def empty_queue(given):
     return 0
 
 
-def parsed(own, words):
+def cut_of(words):
+    """Where the options end."""
+    return words.index("--") if "--" in words else len(words)
+
+
+def with_day(words):
+    """The words with the day of --weekly, which stands after it or is left out."""
+    cut, named = cut_of(words), [*words[1:], ""]
+    days = [word == "--weekly" and day not in weekly.DAYS for word, day in zip(words[:cut], named)]
+    return [word + "=Mon" * is_bare for word, is_bare in zip(words, days)] + words[cut:]
+
+
+def parsed(words):
     """The options; a Fault for those that mean nothing without another one. A Fault in those of the comparison is mailed."""
-    given = parser().parse(own)
-    given.words, given.fault, given.run, given.refusal = words, "", None, None
+    given, others = parser().parse_own(with_day(words))
+    given.words, given.fault, given.run, given.refusal = others, "", None, None
     try:
-        given.run = compare.parser().parse(words)
+        given.run = compare.parser().parse(others)
         given.run.user = given.user
     except Fault as fault:
         given.refusal = fault
@@ -288,29 +261,31 @@ def parsed(own, words):
     return given
 
 
-def with_defaults(own, words):
+def with_defaults(words):
     """The options with the administrator's defaults before them. A fault in the defaults costs no mail, and the mail says it."""
-    added, others, refusal = [], [], None
+    added, refusal = {True: [], False: []}, None
     try:
-        added, others = split(defaults_for({**RUN, **MAIL}, own + words))
+        for word in defaults_for({**RUN, **MAIL}, words):
+            added[word.partition("=")[0] in MAIL].append(word)
     except Fault as fault:
         refusal = fault
-    options = words[: words.index("--")] if "--" in words else words
-    if not any(word.partition("=")[0] == "--state" for word in options):
+    own, runs = added[True], added[False]
+    if not any(word.partition("=")[0] == "--state" for word in words[: cut_of(words)]):
         # A command by hand keeps no number of quiet runs.
-        added = [word for word in added if word.partition("=")[0] != "--weekly"]
+        own = [word for word in own if word.partition("=")[0] != "--weekly"]
     try:
-        given, why = parsed(added + own, others + words), refusal
+        given, why = parsed(own + runs + words), refusal
     except Fault as fault:
-        given, why = parsed(own, others + words), fault
+        given, why = parsed(runs + words), fault
     if why:
         say(why.text)
         given.fault, given.refusal = why.text, given.refusal or refusal
+    progress.tell_steps(given.verbose)
     return given
 
 
 def main(arguments):
-    given = with_defaults(*split(arguments))
+    given = with_defaults(arguments)
     if given.user:
         from aide_compare.base.rights import give_up
 

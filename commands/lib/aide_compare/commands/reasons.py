@@ -1,12 +1,11 @@
 """The command aide-compare reasons: the lines of aide-compare json with reasons and severities."""
 import os
 
-from aide_compare.base.defaults import add_off, defaults_for
-from aide_compare.base.options import size
+from aide_compare.base.defaults import defaults_for
+from aide_compare.base.options import EVIDENCE
 from aide_compare.commands.streams import convert, parser_of
 from aide_compare.compare.unpack import copy_database
 from aide_compare.reasons.evidence import evidence_of
-from aide_compare.reasons.evidence_options import add_evidence_options
 from aide_compare.reasons.explainer import Explainer
 from aide_compare.reasons.explained_lines import UnexplainedLines
 
@@ -32,15 +31,8 @@ def main(arguments):
         "Example: aide-compare old.gz new.gz | aide-compare json | %s --databases old.gz new.gz" % NAME,
     )
     parser.add_argument("--databases", nargs=2, metavar=("OLD", "NEW"), required=True, help="the databases that were compared")
-    parser.add_argument(
-        "--max-size",
-        type=size,
-        default=MOST_DATABASE,
-        metavar="BYTES",
-        help="refuse a database that has more bytes unpacked (4G)",
-    )
-    add_evidence_options(parser)
-    add_off(parser)
+    parser.take("max-size", default=MOST_DATABASE, help="refuse a database that has more bytes unpacked (4G)")
+    parser.take(*EVIDENCE, "no-defaults")
     given = parser.parse(defaults_for(OPTIONS, arguments) + arguments)
     copies = [copy_database(side, path, given.max_size) for side, path in zip(("old", "new"), given.databases)]
     for copy in copies:

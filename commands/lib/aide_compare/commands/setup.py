@@ -10,7 +10,7 @@ import subprocess
 from aide_compare.base.ending import Fault, Status, reason, write_all
 from aide_compare.base.escapes import shown
 from aide_compare.base.files import Replacement, open_folder, open_regular, reopened
-from aide_compare.base.options import Parser, some_text
+from aide_compare.base.options import ALARMS, Parser, some_text
 
 NAME = "aide-compare setup"
 HERE = os.path.dirname(os.path.realpath(__file__))
@@ -239,20 +239,18 @@ def main(arguments):
         NAME,
         "Makes this machine ready for a comparison each day. Each step is printed before it is done, and passed over\n"
         "if it is done already.",
+        "print nothing but why a step failed",
         epilog="Status: 0 done, or nothing is missing; 18 a step failed, or --check found something missing; 15 bad arguments.",
     )
     parser.add_argument("--dry-run", action="store_true", help="print the steps, and change nothing")
     parser.add_argument("--check", action="store_true", help="say what is missing, and change nothing")
     parser.add_argument("--to", type=some_text, metavar="ADDRESS", help="who gets the mails (root)")
-    parser.add_argument(
-        "--alarm",
-        choices=("unexplained", "all"),
-        default="unexplained",
-        help="mail what nothing explains, or all (unexplained)",
-    )
+    parser.take("alarm", default=ALARMS[1], help="mail what nothing explains, or all differences (unexplained)")
     parser.add_argument("--cron", action="store_true", help="a job of cron instead of the timer")
     parser.add_argument("--no-mail", action="store_true", help="send no test mail")
     given = parser.parse(arguments)
+    if given.quiet:  # Also the programs that are run.
+        os.dup2(os.open("/dev/null", os.O_WRONLY | os.O_CLOEXEC), 1)
     if not any(exists(ROOT + path) for path in CONFIGURATIONS):
         raise Fault(Status.DEVICE, "AIDE is not installed here, or has no configuration; on Debian: apt install aide")
     machine = Machine(given)

@@ -3,11 +3,12 @@ import re
 from array import array
 from bisect import bisect_left
 
-from aide_compare.base.ending import Fault, Status, reason, say, write_all
+from aide_compare.base import progress
+from aide_compare.base.ending import Fault, Status, say, write_blocks
 from aide_compare.base.escapes import shown
 from aide_compare.base.external_sort import ExternalSort
 from aide_compare.base.files import Spool
-from aide_compare.base.options import Parser, size, some_text
+from aide_compare.base.options import Parser, some_text
 from aide_compare.base.path_keys import key_of, path_of
 from aide_compare.base.private_room import stoppable
 from aide_compare.compare.unpack import copy_database
@@ -33,7 +34,7 @@ def no_database(number, text):
     return Fault(Status.DATABASE, ("line %d: %s" % (number, text)) if number else text)
 
 
-class Moves:
+class MovedLines:
     """Counts how few entries have to move: all but those that keep their order among each other.
 
     Entries come in path order, each with its place in the file. Those that keep their order are a longest rising row of
@@ -60,7 +61,7 @@ class Moves:
         return self.count - self.kept - len(self.ends)
 
 
-class Database:
+class Unsorted:
     """A database that is read once: its entries are given to a sorter, and the lines before them are kept apart."""
 
     def __init__(self, copy, give):
@@ -137,50 +138,29 @@ class Twice:
             say("more paths that stand twice: %s" % format(self.count - len(self.names), ","))
 
 
-class Output:
-    """Standard output, in blocks, past Python's own buffers."""
-
-    def __init__(self):
-        self.waiting, self.room = [], BLOCK
-
-    def put(self, data):
-        self.waiting.append(data)
-        self.room -= len(data)
-        if self.room <= 0:
-            self.flush()
-
-    def flush(self):
-        try:
-            write_all(1, b"".join(self.waiting))
-        except OSError as error:
-            raise Fault(Status.DEVICE, "cannot write: %s" % reason(error))
-        self.waiting, self.room = [], BLOCK
-
-
-def write_sorted(database, sorter, moves, twice):
-    """Writes the whole database in path order."""
-    output = Output()
-    for block in database.lines_before():
-        output.put(block)
+def sorted_blocks(database, sorter, moves, twice):
+    """Yields the whole database in path order."""
+    yield from database.lines_before()
     for record in sorter.lines():
         key, place, line = record.split(b"\t", 2)
         twice.add(key)
         moves.add(int(place))
-        output.put(line)
+        yield line
     if moves.count != database.count:
         raise Fault(Status.DEVICE, "sort gave %d of %d lines back" % (moves.count, database.count))
-    for block in database.lines_after():
-        output.put(block)
-    output.flush()
+    yield from database.lines_after()
 
 
-def sort_database(name, most):
-    copy, moves, twice = copy_database("given", name, most), Moves(), Twice()
+def sort_database(given):
+    name = "/dev/stdin" if given.file == "-" else given.file
+    copy, moves, twice = copy_database("given", name, given.max_size), MovedLines(), Twice()
     with ExternalSort() as sorter:
-        write_sorted(Database(copy, sorter.put), sorter, moves, twice)
-    say("moved %s of %s lines" % (format(moves.moved(), ","), format(moves.count, ",")))
-    if moves.moved():
-        say(ADVICE)
+        write_blocks(1, sorted_blocks(Unsorted(copy, sorter.put), sorter, moves, twice))
+    progress.done("the lines are in order")
+    if not given.quiet:
+        say("moved %s of %s lines" % (format(moves.moved(), ","), format(moves.count, ",")))
+        if moves.moved():
+            say(ADVICE)
     twice.tell()
     return Status.DATABASE if twice.count else Status.OK
 
@@ -189,21 +169,16 @@ def main(arguments):
     parser = Parser(
         "aide-compare sort",
         DESCRIPTION,
-        epilog="Status: 0 sorted; 24 a path stands twice, or this is no " "database; 15, 18, 22: see aide-compare-sort(1).",
+        "do not say how many lines moved",
+        epilog="Status: 0 sorted; 24 a path stands twice, or this is no database; 15, 18, 22: see aide-compare-sort(1).",
     )
     parser.add_argument(
         "file",
         nargs="?",
-        default="/dev/stdin",
+        default="-",
         type=some_text,
-        help="the database, plain or compressed with gzip; standard input if it is left out",
+        help="the database, plain or compressed with gzip; standard input if it is left out, and for -",
     )
-    parser.add_argument(
-        "--max-size",
-        type=size,
-        default=MOST_BYTES,
-        metavar="SIZE",
-        help="refuse a database that has more bytes unpacked (default 64G)",
-    )
+    parser.take("max-size", default=MOST_BYTES, help="refuse a database that has more bytes unpacked (64G)")
     given = parser.parse(arguments)
-    return stoppable(lambda: sort_database("/dev/stdin" if given.file == "-" else given.file, given.max_size))
+    return stoppable(lambda: sort_database(given))

@@ -1,46 +1,251 @@
 """aide-compare status: the result of the last comparison, in the form that people, a log, Prometheus or Nagios reads."""
-import importlib
+import argparse
 import json
+import os
 
-from aide_compare.base.ending import Fault, Status, write_all
-from aide_compare.base.escapes import shown
+from aide_compare.base.defaults import CHECK, defaults_for
+from aide_compare.base.ending import Done, Fault, Status, reason, write_all
+from aide_compare.base.escapes import guarded, shown
+from aide_compare.base.files import replace
+from aide_compare.base.names import SEVERITIES
+from aide_compare.base.options import Parser
+from aide_compare.base.times import age_in_words, date_of
+from aide_compare.compare.columns import not_compared, skipped_names, skipped_of
+from aide_compare.compare.reason_counts import GRADE_KEYS, GRADES
 from aide_compare.compare.state import KEYS, read_state
-from aide_compare.show.reading import FORMATS, parser
+from aide_compare.show.colours import painted
+from aide_compare.show.reading import AGE, STATE, Reading
 
-
-def format_of(arguments):
-    """The value of --format, the last one if there are more, and all other words. Without it: what people and logs read."""
-    rest, others, found = list(arguments), [], FORMATS[0]
-    while rest and rest[0] != "--":
-        word = rest.pop(0)
-        name, equals, value = word.partition("=")
-        if name != "--format":
-            others.append(word)
-        else:
-            found = value if equals or not rest else rest.pop(0)
-    if found not in FORMATS:
-        text = "no such form: %s; there are %s" % (shown(found, 100), ", ".join(FORMATS))
-        raise Fault(Status.USAGE, text, "try: aide-compare status --help")
-    return found, others + rest
-
-
-def json_of(state):
-    """The state as an object: what is not known is null, and a number is a number."""
-    return {**{key: getattr(state, key) for key in KEYS}, **state.more}
-
-
-def print_json(arguments):
-    given = parser(
-        "aide-compare status",
+NAME, CHECK_NAME = "aide-compare status", "check_aide_compare"
+MOST, MOST_OF_CHECK = 8000, 300
+OK, WARNING, CRITICAL, UNKNOWN = range(4)
+WORDS = ("OK", "WARNING", "CRITICAL", "UNKNOWN")
+GAUGES = (
+    ("status", "status", "Sum of 1 added, 2 removed and 4 changed; above 7 nothing was compared."),
+    ("added_entries", "added", "Entries that only the new database has."),
+    ("removed_entries", "removed", "Entries that only the old database has."),
+    ("changed_entries", "changed", "Entries that both databases have and that differ."),
+    ("end_time_seconds", "time", "When the last run ended, in seconds since 1970."),
+)
+REASONS = (
+    ("explained_changes", "explained", "Changes with a reason that is verified."),
+    ("not_verified_changes", "not_verified", "Changes with a reason that is not verified."),
+    ("unexplained_changes", "unexplained", "Changes without a reason."),
+    ("high_changes", "high", "Changes of high severity that are unexplained or not verified."),
+    ("medium_changes", "medium", "Changes of medium severity that are unexplained or not verified."),
+    ("low_changes", "low", "Changes of low severity that are unexplained or not verified."),
+) + tuple(("%s_changes" % key, key, "Changes explained by the grade %s." % grade) for grade, key in zip(GRADES, GRADE_KEYS))
+TEXT = "# HELP aide_compare_%s %s\n# TYPE aide_compare_%s gauge\naide_compare_%s %d\n"
+COLUMNS = "# HELP aide_compare_skipped_column A column that is not compared.\n# TYPE aide_compare_skipped_column gauge\n"
+# Of each form what it is, and what its statuses mean.
+FORMS = {
+    "line": (
+        "Writes the result of the last comparison as one line, for logger(1).",
+        "Status: 0 written; 15 bad arguments; 18 the line cannot be written.",
+    ),
+    "prometheus": (
+        "Writes the result of the last comparison for the node exporter of Prometheus.",
+        "A directory in which another user can write, as Debian's user prometheus can in its own, is\n"
+        "written with that user's privileges.\n\n"
+        "Status: 0 written; 15 bad arguments; 18 a file cannot be read or written.",
+    ),
+    "nagios": (
+        "Says in one line what the last comparison found.",
+        "Status: 0 OK, no difference; 1 WARNING, entries were added; 2 CRITICAL, entries were removed or\n"
+        "changed; 3 UNKNOWN, all else. With --alarm unexplained or a LIMIT, and the counts of\n"
+        "aide-compare --reasons: 0 OK, all is explained; 1 WARNING, a reason is not verified;\n"
+        "2 CRITICAL, something is unexplained. A LIMIT takes the place of one of these two: a number of\n"
+        "changes that are not explained or not verified, or the least severity of one, high, medium or low.",
+    ),
+    "json": (
         "Writes the result of the last comparison as an object of JSON.",
-        epilog="Status: 0 written; 15 bad arguments; 18 there is no state.",
-    ).parse(arguments)
-    write_all(1, json.dumps(json_of(read_state(given.state)), sort_keys=True).encode() + b"\n")
+        "Status: 0 written; 15 bad arguments; 18 there is no state.",
+    ),
+}
+
+
+class Limit:
+    """When a check is WARNING or CRITICAL: by a number of changes that are not explained, or by their severity."""
+
+    def __init__(self, text):
+        self.least, self.severities = None, ()
+        if text in SEVERITIES:
+            self.severities = SEVERITIES[: SEVERITIES.index(text) + 1]
+        elif text.isascii() and text.isdigit() and 0 < len(text) <= 9 and int(text):
+            self.least = int(text)
+        else:
+            raise argparse.ArgumentTypeError("needs high, medium or low, or a number from 1: %s" % shown(text, 100))
+
+    def is_reached(self, reasons):
+        if self.least is not None:
+            return reasons.unanswered >= self.least
+        return any(getattr(reasons, name) for name in self.severities)
+
+
+def parser(form, name=NAME):
+    """The options of a form."""
+    description, epilog = FORMS[form]
+    made = Parser(name, description, "with the form line: write nothing if there is no difference", epilog=epilog)
+    made.take("state", default=STATE, help="what aide-compare has written (%s)" % STATE)
+    if name == NAME:
+        made.add_argument("--format", choices=tuple(FORMS), help="the form, and the options that it has (line)")
+    if form in ("line", "nagios"):
+        made.take("max-age", default=AGE, help="an older result counts as no comparison, or is UNKNOWN (26h)")
+    if form == "nagios":
+        made.take("alarm", help="which changes count (differences: all)")
+        made.add_argument("--warning", metavar="LIMIT", type=Limit, help="WARNING from this limit on")
+        made.add_argument("--critical", metavar="LIMIT", type=Limit, help="CRITICAL from this limit on")
+        made.take("no-defaults")
+    if form == "prometheus":
+        made.add_argument(
+            "output",
+            nargs="?",
+            default="-",
+            metavar="OUTPUT",
+            help="the file that is replaced; its name should end with .prom; standard output without it, and for -",
+        )
+    return made
+
+
+def form_of(arguments):
+    """The value of --format, the last one if there are more. Without it: what people and logs read."""
+    rest, found = list(arguments), "line"
+    while rest and rest[0] != "--":
+        name, equals, value = rest.pop(0).partition("=")
+        if name == "--format":
+            found = value if equals or not rest else rest.pop(0)
+    return found if found in FORMS else "line"
+
+
+def write_text(text):
+    write_all(1, text.encode("utf-8", "backslashreplace"))
     return Status.OK
 
 
+def line_of(path, most_age):
+    """The line. Its first two words say whether anybody has to read on."""
+    try:
+        reading = Reading(path)
+    except Fault:
+        return "no comparison: %s cannot be read, or is no state file of aide-compare" % shown(path)
+    state = reading.state
+    if reading.age > most_age or reading.future:
+        return "no comparison: the last one ended at " + date_of(state.time)
+    counts = "status=%d added=%s removed=%s changed=%s" % ((state.status,) + reading.counts("?"))
+    skipped = not_compared(skipped_names(state))
+    counts += " (%s)" % skipped if skipped else ""
+    if state.status == 0:
+        return "no difference: " + counts
+    if state.status <= 7:
+        counts = "%s %s" % (state.reasons.line(), counts) if state.reasons else counts
+        return "differences: %s new_sha256=%s old=%s new=%s" % (counts, state.new_sha256, state.old, state.new)
+    return "no comparison: status=%d error=%s" % (state.status, state.error)
+
+
+def write_line(given):
+    line = guarded(line_of(given.state, given.max_age))[:MOST]
+    if given.quiet and line.startswith("no difference:"):
+        return Status.OK
+    return write_text(painted(line, given.color) + "\n")
+
+
+def write_json(given):
+    """What is not known is null, and a number is a number."""
+    state = read_state(given.state)
+    skipped = skipped_of(state)
+    known = {**{key: getattr(state, key) for key in KEYS}, **state.more, **({"skipped": skipped} if skipped else {})}
+    return write_text(json.dumps(known, sort_keys=True) + "\n")
+
+
+def metrics_of(state):
+    """The text that the node exporter reads. A count that is not known is left out."""
+    values = [(name, words, getattr(state, key)) for name, key, words in GAUGES]
+    values += [(name, words, getattr(state.reasons, key)) for name, key, words in REASONS] if state.reasons else []
+    text = "".join(TEXT % (name, words, name, name, value) for name, words, value in values if value is not None)
+    labels = [name.replace("\\", "\\\\").replace('"', '\\"') for name in skipped_names(state)]
+    return text + COLUMNS * bool(labels) + "".join('aide_compare_skipped_column{name="%s"} 1\n' % label for label in labels)
+
+
+def write_metrics(given):
+    text = metrics_of(read_state(given.state))
+    if given.output == "-":
+        return write_text(text)
+    replace(given.output, text.encode(), what="the metrics")
+    return Status.OK
+
+
+def alarm_of(state, given):
+    """The status of differences. Without reasons every difference counts."""
+    reasons = state.reasons
+    if reasons is None or not (given.alarm == "unexplained" or given.warning or given.critical):
+        return WARNING if state.status == 1 else CRITICAL
+    if given.critical.is_reached(reasons) if given.critical else reasons.unexplained:
+        return CRITICAL
+    if given.warning.is_reached(reasons) if given.warning else reasons.unanswered:
+        return WARNING
+    return OK
+
+
+def numbers_of(state, counts):
+    """The numbers of a comparison, for graphs."""
+    numbers = "added=%s removed=%s changed=%s " % counts
+    return numbers + ("%s " % state.reasons.line() if state.reasons else "")
+
+
+def text_of(state, counts):
+    """What a comparison found, in words."""
+    if state.status > 7:
+        return "no comparison, status %d: %s" % (state.status, state.error)
+    text = "%s added, %s removed, %s changed" % counts if state.status else "no difference"
+    if state.reasons and state.status:
+        grades = state.reasons.grades()
+        text = "%s: %s%s" % (state.reasons.words(), text, "; explained by " + grades if grades else "")
+    return "; ".join(filter(None, (text, not_compared(skipped_names(state)))))
+
+
+def judged(given):
+    """A status, a text and the numbers for graphs."""
+    if not os.path.lexists(given.state):
+        return UNKNOWN, "there is no %s; aide-compare --state writes it" % shown(given.state), ""
+    reading = Reading(given.state)
+    state, age = reading.state, reading.age
+    if reading.future:
+        return UNKNOWN, "the last comparison is in the future: " + date_of(state.time), ""
+    numbers = (numbers_of(state, reading.counts("U")) if state.status <= 7 else "") + "age=%ds" % age
+    text = text_of(state, reading.counts("?"))
+    if age > given.max_age:
+        words = (age_in_words(given.max_age), date_of(state.time), text)
+        return UNKNOWN, "the last comparison is older than %s: %s: %s" % words, numbers
+    if state.status == 0:
+        return OK, text, numbers
+    return alarm_of(state, given) if state.status <= 7 else UNKNOWN, text, numbers
+
+
+def answer(status, text, numbers=""):
+    """Prints the line. A bar begins the numbers, so the text has none."""
+    line = guarded(text)[:MOST_OF_CHECK].replace("|", "!")
+    write_text("AIDE %s: %s%s\n" % (WORDS[status], line, "|" + numbers if numbers else ""))
+    return status
+
+
+def check(arguments, name=CHECK_NAME):
+    """The check for Nagios, Icinga and their like: one line, and a status from 0 to 3 whatever happens. Every failure of the
+    check itself is UNKNOWN, since 1 and 2 say what was found."""
+    try:
+        return answer(*judged(parser("nagios", name).parse(defaults_for(CHECK, arguments) + arguments)))
+    except Done:
+        return UNKNOWN
+    except Fault as fault:
+        return answer(UNKNOWN, fault.text)
+    except MemoryError:
+        return answer(UNKNOWN, "out of memory")
+    except OSError as error:
+        return answer(UNKNOWN, "a call of the system failed: " + reason(error))
+
+
 def main(arguments):
-    form, words = format_of(arguments)
-    if form == "json":
-        return print_json(words)
-    return importlib.import_module("aide_compare.commands.status_" + form).main(words)
+    form = form_of(arguments)
+    if form == "nagios":
+        return check(arguments, NAME)
+    given = parser(form).parse(arguments)
+    return {"line": write_line, "prometheus": write_metrics, "json": write_json}[form](given)

@@ -43,7 +43,6 @@ def lines():
     kit, proved = record.get("kit") or "not known", record.get("proved") or UNKNOWN
     if record and record.get("sha256") != digest:
         kit, proved = "not known", "not known: it is not the program that was installed"
-    yield "aide-compare %s" % VERSION
     yield "program: %s" % shown(program)
     yield "SHA-256: %s" % digest
     yield "kit: %s" % shown(kit, 200)
@@ -51,11 +50,13 @@ def lines():
 
 
 def main(arguments):
-    Parser(
+    given = Parser(
         "aide-compare version",
         "Prints the version, the program that the commands run, its SHA-256, the kit that built it, and whether it\n"
         "is a proved build.",
+        "print the version alone",
         epilog="Status: 0 printed; 15 bad arguments; 18 the program cannot be read.",
     ).parse(arguments)
-    write_all(1, "".join(line + "\n" for line in lines()).encode("utf-8", "backslashreplace"))
+    told = ["aide-compare %s" % VERSION, *([] if given.quiet else lines())]
+    write_all(1, "".join(line + "\n" for line in told).encode("utf-8", "backslashreplace"))
     return Status.OK

@@ -6,7 +6,7 @@ from aide_compare.base.escapes import shown
 from aide_compare.base.names import SIDES
 
 SKIPPED = re.compile(rb"^aide: (old|new) database: column ([0-9]{1,2}) skipped$", re.M)
-MOST_HEAD, MOST_NAME = 1 << 16, 40
+MOST_HEAD, MOST_NAME, MOST_TOLD = 1 << 16, 40, 3
 
 
 def names_of(descriptor):
@@ -25,8 +25,8 @@ def skipped_in(errors, databases):
     return found
 
 
-def words_of(skipped):
-    """A line for each column, as in "the column fstype is not compared"."""
+def notes_of(skipped):
+    """A line for each column, with the side if it is one of a single database."""
     for name in dict.fromkeys(name for names in skipped.values() for name in names):
         sides = [side for side, names in skipped.items() if name in names]
         where = " of the %s database" % sides[0] if len(sides) == 1 else ""
@@ -42,3 +42,16 @@ def skipped_of(state):
     """What a State says of them."""
     found = {side: state.more.get("skipped_" + side, "").split(" ") for side in SIDES}
     return {side: names for side, names in found.items() if names != [""]}
+
+
+def skipped_names(state):
+    """The names that a State has of them, each once."""
+    return list(dict.fromkeys(name for names in skipped_of(state).values() for name in names))
+
+
+def not_compared(names):
+    """As in "the column fstype is not compared", with the first names if there are many; "" without names."""
+    if not names:
+        return ""
+    listed = ", ".join(names[:MOST_TOLD]) + (" and %d more" % (len(names) - MOST_TOLD) if len(names) > MOST_TOLD else "")
+    return "the column %s is not compared" % listed if len(names) == 1 else "the columns %s are not compared" % listed

@@ -10,7 +10,7 @@ from aide_compare.base.files import nameless
 from aide_compare.base.names import SIDES
 from aide_compare.base.program import CONFIGURATION, DATABASES, NEW, OLD, find_program, run_program
 from aide_compare.base.times import age_in_words
-from aide_compare.compare.columns import skipped_in, texts_for_state, words_of
+from aide_compare.compare.columns import notes_of, skipped_in, texts_for_state
 from aide_compare.compare.configuration import (
     Texts,
     databases_of,
@@ -167,7 +167,7 @@ class Comparison:
         if self.status > 7:
             return
         self.skipped = skipped_in(self.errors, self.compared)
-        self.notes += [*self.given.misspelt(request.configuration), *words_of(self.skipped)]
+        self.notes += [*self.given.misspelt(request.configuration), *notes_of(self.skipped)]
         head = os.pread(self.report, HEAD_BYTES, 0)
         self.counts = (0, 0, 0) if self.status == 0 else counts_of(head)
         if self.counts is None and request.counts:

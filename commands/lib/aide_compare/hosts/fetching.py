@@ -8,9 +8,10 @@ import time
 from aide_compare.base.child import end_with, ended, kill_group
 from aide_compare.base.ending import Fault, reason, say
 from aide_compare.base.escapes import shown
+from aide_compare.base.options import matching, size
 from aide_compare.hosts.fleet_store import BLOCK, Part, no_room, same_bytes, seconds_left
 
-MOST_ERRORS = 65536
+PATH, MOST, MOST_ERRORS = "/var/lib/aide/aide.db.new", 1 << 30, 65536
 STOP_SECONDS = 10
 RECORDS = "aide.db.new.packages"
 SEND_RECORDS = "tar -C /var/lib/dpkg -czf - status diversions info"
@@ -22,6 +23,13 @@ HINTS = (
     ("Host key verification failed", "is its key in known_hosts?"),
     ("Permission denied", "is the key of this user in its authorized_keys?"),
 )
+
+
+def add_fetching(parser):
+    """The options that say what is fetched. The shell of a host leaves such a path as it is."""
+    path = matching(r"/[A-Za-z0-9._/-]*", "a path that begins with /, of letters, digits and . _ / -")
+    parser.add_argument("--max-sent", type=size, default=MOST, metavar="SIZE", help="the most bytes that a host may send (1G)")
+    parser.add_argument("--path", type=path, default=PATH, metavar="PATH", help="the file on HOST (%s)" % PATH)
 
 
 def start(words, output, errors):
@@ -119,7 +127,7 @@ def receive(place, command, name, given, deadline, jobs):
     """What a host sends becomes a file. The same bytes again leave the file's time, which tells how old it is."""
     part = Part(place.fd)
     try:
-        transfer = Transfer(place, part, min(given.max_size, place.room(jobs)), deadline, given.time)
+        transfer = Transfer(place, part, min(given.max_sent, place.room(jobs)), deadline, given.time)
         status = transfer.run(SSH + [place.host, command])
         if status == 127 and not transfer.errors:
             raise place.fault("there is no program ssh")

@@ -9,11 +9,20 @@ import time
 from aide_compare.base.ending import Fault, Status, reason, say, write_all
 from aide_compare.base.files import is_locked, new_file, open_regular, replace, unlink
 from aide_compare.base.folders import open_folder
+from aide_compare.base.options import duration, some_text
 from aide_compare.compare.state import State
 
 STORE = "/var/lib/aide-compare"
 NAME = re.compile(r"[A-Za-z0-9][A-Za-z0-9._:@-]{0,199}")
-BLOCK = 1 << 18
+BLOCK, SECONDS = 1 << 18, 600
+
+
+def add_place(parser):
+    """The options that say where a host is kept, and how long it may take."""
+    parser.add_argument(
+        "--store", type=some_text, default=STORE, metavar="DIR", help="where the databases are kept (%s)" % STORE
+    )
+    parser.add_argument("--time", type=duration, default=SECONDS, metavar="TIME", help="the most time for a host (10m)")
 
 
 def check_name(host):

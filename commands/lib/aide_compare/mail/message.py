@@ -11,10 +11,11 @@ from collections import Counter
 
 from aide_compare.base.escapes import shown_lines
 from aide_compare.base.times import date_of
+from aide_compare.compare.columns import not_compared
 from aide_compare.lines.cut_reports import KINDS, TITLES, TOGETHER, kind_in_line
 from aide_compare.lines.report_lines import RULE
 
-MOST_PATHS, MOST_COLUMNS = 1000, 3
+MOST_PATHS = 1000
 MOST_LINE = 1000
 # How many paths of one folder a cut list has, how many below the first two pieces of a path, and how many folders it counts.
 FOLDER_SHARE, TREE_SHARE, MOST_FOLDERS = 20, 100, 10
@@ -50,8 +51,7 @@ def subject(state, columns=()):
     elif state.status:
         told.append("no comparison (status %d)" % state.status)
     if columns:
-        names = ", ".join(re.sub(r"[^A-Za-z0-9._#-]", "?", name) for name in columns[:MOST_COLUMNS])
-        told.append("the column%s %s %s not compared" % (("", names, "is") if len(columns) == 1 else ("s", names, "are")))
+        told.append(not_compared([re.sub(r"[^A-Za-z0-9._#-]", "?", name) for name in columns]))
     return "aide on %s: %s" % (host(), "; ".join(told))
 
 

@@ -4,8 +4,8 @@ import os
 import re
 
 BOLD, RED, YELLOW, PLAIN = "\033[1m", "\033[1;31m", "\033[33m", "\033[0m"
-CHOICES = ("auto", "always", "never")
 COLOURS = {"high": RED, "medium": YELLOW}
+HOSTS_SEVERITY = re.compile("    (high|medium)(?=, )")
 SEVERITY, TITLE = re.compile("^  (high|medium) ", re.M), re.compile("^(Unexplained|Not verified|Explained):$", re.M)
 
 
@@ -14,6 +14,23 @@ def are_wanted(choice):
     if choice != "auto":
         return choice == "always"
     return os.isatty(1) and not os.environ.get("NO_COLOR") and os.environ.get("TERM") != "dumb"
+
+
+def painted(line, choice):
+    """A line that says whether there are differences, with its first words in colours."""
+    words, colon, rest = line.partition(":")
+    return in_colour(words, {"no comparison": RED, "differences": YELLOW}.get(words, BOLD), choice) + colon + rest
+
+
+def in_colour(line, colour, choice):
+    """A line in a colour, where that is wanted; without a colour as it is."""
+    return colour + line.rstrip("\n") + PLAIN + "\n" * line.endswith("\n") if colour and are_wanted(choice) else line
+
+
+def severity_in_colour(line, choice):
+    """A line of the report of many hosts, with the severity that it begins with in a colour."""
+    found = HOSTS_SEVERITY.match(line)
+    return "    " + in_colour(found.group(1), COLOURS[found.group(1)], choice) + line[found.end() :] if found else line
 
 
 def coloured(text):

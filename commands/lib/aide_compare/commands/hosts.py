@@ -1,0 +1,179 @@
+"""aide-compare hosts: what is done for many hosts, and here what is done for one of them: it is fetched, compared, accepted."""
+import os
+import time
+
+from aide_compare.base.ending import Fault, Status, say, write_all
+from aide_compare.base.files import copy_file, open_regular
+from aide_compare.base.options import Parser, some_text
+from aide_compare.base.times import date_of
+from aide_compare.commands import accept
+from aide_compare.compare.soundness import refuse_unsound
+from aide_compare.compare.state import read_state
+from aide_compare.compare.unpack import copy_database, digest_of, open_database
+from aide_compare.hosts.fetching import add_fetching, fetch
+from aide_compare.hosts.fleet_store import Part, Place, add_place, check_name, no_room
+from aide_compare.hosts.host_comparison import MOST_BASELINE, add_comparison, compare_or_say
+from aide_compare.hosts.host_reasons import BASELINES, NEWEST, exclusions_of
+from aide_compare.reasons.kept_records import mark_of
+
+NAME = "aide-compare hosts "
+
+
+def parser_of(word, description, epilog, **more):
+    made = Parser(NAME + word, description, epilog=epilog, **more)
+    add_place(made)
+    made.add_argument("host", metavar="HOST")
+    return made
+
+
+def opened(given):
+    """The Place of the host, locked, and when its time is over."""
+    deadline = time.monotonic() + given.time
+    place = Place(given.store, check_name(given.host))
+    place.lock(deadline)
+    return place, deadline
+
+
+def fetch_one(arguments):
+    parser = parser_of(
+        "fetch",
+        "Fetches the newest database of HOST by ssh into DIR/hosts/HOST/aide.db.new.",
+        "The key of the caller needs one line on HOST; see the example authorized_keys.\n"
+        "Status: 0 fetched; 15 bad arguments; 18 nothing was fetched, and what was fetched before is there.",
+    )
+    add_fetching(parser)
+    parser.take("reasons", help="fetch dpkg's records of HOST too, as evidence")
+    given = parser.parse(arguments)
+    place, deadline = opened(given)
+    fetch(place, given, deadline)
+    return Status.OK
+
+
+def print_file(path, target):
+    descriptor = open_regular(path)
+    copy_file(descriptor, target)
+    os.close(descriptor)
+
+
+def compare_one(arguments):
+    parser = parser_of(
+        "compare-one",
+        "Compares the database that was fetched from HOST with its baseline, prints the report and keeps it.",
+        "Status: that of aide-compare. 18 also means that there is no baseline\n"
+        "yet, or that AIDE has written no new database on HOST for too long.",
+        quiet="print neither report nor notes: only why nothing was compared",
+    )
+    add_comparison(parser)
+    given = parser.parse(arguments)
+    exclusions_of(given)
+    place, deadline = opened(given)
+    state = compare_or_say(place, given, 1, deadline)
+    if not given.quiet:
+        print_file(place.file("errors"), 2)
+        print_file(place.file("report"), 1)
+        if 0 < state.status <= 7:
+            say("to accept it: aide-compare hosts accept --sha256 %s %s" % (state.new_sha256, place.host))
+    elif state.status > 7:
+        say(state.error)
+    return state.status
+
+
+def accept_first(place, given):
+    """The first baseline. A baseline that is there already is never replaced."""
+    refused = place.fault("has a baseline already; nothing was accepted", Status.DATABASE)
+    if place.has("aide.db"):
+        raise refused
+    part, source = Part(place.fd), open_regular(place.file("aide.db.new"))
+    try:
+        copy = copy_database("new", place.file("aide.db.new"), given.max_size)
+        refuse_unsound(copy)
+        copy_file(source, part.fd)
+        part.keep("aide.db", replace=False)
+    except FileExistsError:
+        raise refused
+    except OSError as error:
+        raise place.fault("cannot keep its baseline: %s" % no_room(error))
+    finally:
+        os.close(source)
+        part.close()
+    keep_records(place)
+    tell(place, given, "SHA-256 %s" % copy.sha256)
+    return Status.OK
+
+
+def tell(place, given, text):
+    if not given.quiet:
+        write_all(1, ("%s: %s: %s\n" % (NAME + "accept", place.host, text)).encode())
+
+
+def say_what(place, given):
+    """When the database was compared, and what differed, if the state knows it."""
+    try:
+        state = read_state(place.state_path)
+    except Fault:
+        return
+    if state.counts and state.new_sha256.startswith(given.sha256.lower()):
+        words = (date_of(state.time),) + state.counts
+        tell(place, given, "compared %s: added %d, removed %d, changed %d" % words)
+
+
+def keep_records(place):
+    """The packages' records that came with the database become those of the baseline, whose digest they get. Without them no
+    package explains a change; those of an older baseline are never used."""
+    place.remove(BASELINES)
+    if not place.has(NEWEST):
+        return
+    digest = digest_of(open_database("old", place.file("aide.db")), MOST_BASELINE)
+    part, source = Part(place.fd), open_regular(place.file(NEWEST))
+    try:
+        copy_file(source, part.fd)
+        part.write(mark_of(digest, digest))
+        part.keep(BASELINES)
+    except OSError as error:
+        raise place.fault("is accepted, but its packages' records cannot be kept: %s" % no_room(error))
+    finally:
+        os.close(source)
+        part.close()
+
+
+def accept_next(place, given):
+    """The command aide-compare accept does the work."""
+    say_what(place, given)
+    words = ["--keep-open=" + pattern for pattern in given.keep_open] + ["--quiet"] * given.quiet
+    names = [place.file("aide.db.new"), place.file("aide.db")]
+    status = accept.main(["--no-packages", "--sha256=" + given.sha256, *words, *names])
+    if status == Status.OK:
+        keep_records(place)
+    return status
+
+
+def accept_one(arguments):
+    parser = parser_of(
+        "accept",
+        "Makes the database that was fetched from HOST its baseline. The former baseline is kept beside it,\n"
+        "as aide.db.previous.",
+        "Status: 0 accepted; 24 refused, because it is another database; 15 bad arguments; 18.",
+        quiet="do not tell what was done",
+    )
+    parser.take("max-size", default=MOST_BASELINE, help="the most bytes of a first database, unpacked (4G)")
+    which = parser.add_mutually_exclusive_group(required=True)
+    which.add_argument(
+        "--first",
+        action="store_true",
+        help="HOST has no baseline yet: keep what was fetched, and print its SHA-256, which is to be that on\n"
+        "HOST: zcat -f /var/lib/aide/aide.db.new | sha256sum",
+    )
+    which.add_argument(
+        "--sha256",
+        type=some_text,
+        metavar="DIGEST",
+        help="the SHA-256 of the unpacked database that was read, or its first 16 digits or more",
+    )
+    parser.take("keep-open", help="with --sha256: all but the changes of these paths; see aide-compare accept")
+    given = parser.parse(arguments)
+    if given.first and given.keep_open:
+        raise Fault(Status.USAGE, "--keep-open goes with --sha256", "try: %s --help" % parser.prog)
+    place, _ = opened(given)
+    if not place.has("aide.db.new"):
+        raise place.fault("nothing was fetched yet; see aide-compare hosts fetch --help")
+    return accept_first(place, given) if given.first else accept_next(place, given)
