@@ -16,7 +16,7 @@ NOTE = b"aide-compare: the column fstype is not compared: the program does not k
 def try_columns(sandbox):
     for name, text in (("o.db", OLD), ("same.db", SAME), ("more.db", MORE)):
         sandbox.write(name, text)
-    for trial in (try_places, try_names, try_mails):
+    for trial in (try_places, try_status, try_names, try_mails):
         trial(sandbox)
 
 
@@ -37,6 +37,35 @@ def try_places(sandbox):
     sandbox.expect("a column of one", answer, 0, None, [NOTE, told])
     sandbox.call(TOOL, "--state", "state", "old.db", "new.db")
     sandbox.holds("no column, no key", not [key for key in sandbox.state() if "skipped" in key], sandbox.state())
+
+
+def try_status(sandbox):
+    """Each form of the status has the names."""
+    sandbox.write("odd.db", OLD.replace(b"fstype", b'a"b').replace(b"size\n", b"size c\\d\n").replace(b"4096\n", b"4096 1\n").replace(b" 5\n", b" 5 1\n"))
+    for names, told, labels, listed in (
+        (("o.db", "same.db"), b"the column fstype is not compared", [b"fstype"], {"old": ["fstype"], "new": ["fstype"]}),
+        (
+            ("odd.db", "odd.db"),
+            b'the columns a"b, c\\134d are not compared',
+            [b'a\\"b', b"c\\\\134d"],
+            {"old": ['a"b', "c\\134d"], "new": ['a"b', "c\\134d"]},
+        ),
+    ):
+        sandbox.call(TOOL, "--state", "state", *names)
+        line, check, metrics, whole = (
+            sandbox.call("aide-compare status", "--state", "state", "--format", form).output
+            for form in ("line", "nagios", "prometheus", "json")
+        )
+        wanted = b"no difference: status=0 added=0 removed=0 changed=0 (%s)\n" % told
+        sandbox.holds("the line names %s" % labels, line == wanted, line)
+        sandbox.holds("the check names %s" % labels, check.startswith(b"AIDE OK: no difference; %s|" % told), check)
+        gauges = [b'\naide_compare_skipped_column{name="%s"} 1\n' % label for label in labels]
+        sandbox.holds("the metrics name %s" % labels, all(gauge in metrics for gauge in gauges), metrics)
+        sandbox.holds("JSON names %s" % labels, json.loads(whole).get("skipped") == listed, whole)
+    sandbox.call(TOOL, "--state", "state", "o.db", "odd.db")
+    for form in ("line", "nagios"):
+        text = sandbox.call("aide-compare status", "--state", "state", "--format", form).output
+        sandbox.holds("%s with differences" % form, b'the columns fstype, a"b, c\\134d are not compared' in text, text)
 
 
 def try_names(sandbox):

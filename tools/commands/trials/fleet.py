@@ -106,7 +106,7 @@ def try_hostile(sandbox):
     fleet.put("evil", hostile(), links(b"x"))
     sandbox.write("hosts", "".join("%s\n" % host for host in ("evil",) + PAIR))
     status, output, errors = fleet.call(
-        "aide-compare hosts compare", "--max-unpacked", "200M", "--max-report", "2M", "--jobs", "3", sandbox.path("hosts")
+        "aide-compare hosts compare", "--max-size", "200M", "--max-report", "2M", "--jobs", "3", sandbox.path("hosts")
     )
     lines = fleet.lines(output)
     good = all(lines.get(host) == "7 added 1, removed 1, changed 2" for host in PAIR)
@@ -121,19 +121,19 @@ def try_hostile(sandbox):
     fleet.put("bomb", gzip.compress(bytes(80 << 20)))
     status, output, errors = fleet.call("aide-compare hosts compare", "--one", "bomb")
     sandbox.holds(
-        "more than 64 MB unpacked, without --max-unpacked", status == 18 and "has more than 67108864 bytes" in output, output
+        "more than 64 MB unpacked, without --max-size", status == 18 and "has more than 67108864 bytes" in output, output
     )
 
 
 def try_small_store(sandbox):
     """A store of 40 MB and no option: the host that sends without end gets a share of the room, and the others theirs. Where
-    nothing can be mounted, --max-size is what limits it; the share is tried in try_endless."""
+    nothing can be mounted, --max-sent is what limits it; the share is tried in try_endless."""
     os.makedirs(sandbox.path("store"), exist_ok=True)
     with sandbox.mounted("store", "-t", "tmpfs", "-o", "size=40m,mode=755", "none") as is_small:
         fleet = Fleet(sandbox)
         fleet.put("endless", OLD)
         sandbox.write("hosts", "".join("%s\n" % host for host in ("endless",) + PAIR))
-        words = ["--max-size", "1G" if is_small else "3M", "--time", "60s", sandbox.path("hosts")]
+        words = ["--max-sent", "1G" if is_small else "3M", "--time", "60s", sandbox.path("hosts")]
         output = fleet.call("aide-compare hosts compare", *words)[1]
         good = all("%s 7 added 1, removed 1, changed 2\n" % host in output for host in PAIR)
         sandbox.holds("a store of 40 MB", good and "endless 18 endless: sent more than" in output, output)
@@ -145,7 +145,7 @@ def try_endless(sandbox):
     fleet.put("endless", OLD)
     # No file can get more than 4 MB here: that it is said is not enough, it has to be kept.
     limited = ["sh", "-c", 'ulimit -f 8192; exec "$@"', "sh"]
-    status, output, errors = fleet.call("aide-compare hosts compare", "--max-size", "3M", "--one", "endless", before=limited)
+    status, output, errors = fleet.call("aide-compare hosts compare", "--max-sent", "3M", "--one", "endless", before=limited)
     sandbox.holds("a host that sends without end", status == 18 and "sent more than 3145728 bytes" in output, (output, errors))
     left = [name for name in os.listdir(sandbox.path("store/hosts/endless")) if name not in ("aide.db", "lock")]
     sandbox.holds("nothing is left of what it sent", not left, left)
@@ -211,7 +211,7 @@ def try_told(sandbox):
 
 def try_wrong(sandbox):
     fleet = Fleet(sandbox)
-    for words in (["--same-for", "08x"], ["--same-for", "31d"], ["--time", "-1"], ["--max-size", "1T"]):
+    for words in (["--same-for", "08x"], ["--same-for", "31d"], ["--time", "-1"], ["--max-sent", "1T"]):
         status, output, errors = fleet.call("aide-compare hosts compare", *words, sandbox.path("hosts"))
         sandbox.holds("the option %r" % words, status == 15 and not output and errors, (status, errors))
     for name in ("..", "a..b", "-x", "a/b", "a b", "x\ny", "é", "a" * 201, "a\n"):

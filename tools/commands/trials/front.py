@@ -15,7 +15,7 @@ SIGPIPE = 1 << 12
 
 
 def try_front(sandbox):
-    for trial in (try_words, try_help, try_misspelt, try_program, try_version, try_forms):
+    for trial in (try_words, try_help, try_common, try_misspelt, try_program, try_version, try_forms):
         trial(sandbox)
 
 
@@ -51,6 +51,50 @@ def try_help(sandbox):
     for words in (["hosts"], ["hosts", "-h"], ["help", "hosts"]):
         wanted = [b" hosts %s " % word.encode() for word in HOSTS]
         sandbox.expect("the help by %s" % words, sandbox.call(TOOL, *words), 0, wanted, b"")
+
+
+def try_common(sandbox):
+    """The words of all subcommands: each lists them; -q leaves out what is told when all is well, and -v tells the steps."""
+    for word in SUBCOMMANDS + ["hosts " + word for word in HOSTS]:
+        wanted = [b"\n  -q, --quiet ", b"\n  -v, --verbose ", b"\n  --color {auto,always,never}", b"\n  --version "]
+        sandbox.expect("the common words of " + word, sandbox.call(TOOL, *word.split(), "--help"), 0, wanted, b"")
+        sandbox.expect("a colour of " + word, sandbox.call(TOOL, *word.split(), "--color", "odd"), 15, b"", b"'odd'")
+    sandbox.write("base.db", OLD)
+    sandbox.expect("accept", sandbox.call(TOOL, "accept", "-q", "--no-packages", "--sha256", sha256(NEW), "new.db", "base.db"), 0, b"", b"")
+    sandbox.holds("it was accepted", sandbox.read("base.db") == NEW)
+    sandbox.expect("sort", sandbox.call(TOOL, "sort", "-q", "old.db"), 0, OLD, b"")
+    sandbox.expect("sort with -v", sandbox.call(TOOL, "sort", "-v", "old.db"), 0, OLD, b"aide-compare sort: the lines are in order: ")
+    sandbox.expect("version", sandbox.call(TOOL, "version", "-q"), 0, b"aide-compare ", b"")
+    sandbox.holds("one line", sandbox.call(TOOL, "version", "--quiet").output.count(b"\n") == 1)
+    sandbox.call(TOOL, "--state", "state", "old.db", "old.db")
+    sandbox.expect("status without a difference", sandbox.call(TOOL, "status", "-q", "--state", "state"), 0, b"", b"")
+    sandbox.call(TOOL, "--state", "state", "old.db", "new.db")
+    plain = sandbox.call(TOOL, "status", "-q", "--state", "state").output
+    sandbox.holds("status with differences", plain.startswith(b"differences: "), plain)
+    answer = sandbox.call(TOOL, "status", "--color", "always", "--state", "state")
+    sandbox.expect("status in colours", answer, 0, b"\033[33mdifferences\033[0m" + plain[11:], b"")
+    try_hosts(sandbox)
+
+
+def try_hosts(sandbox):
+    """Names of hosts on standard input, and a report in three forms at once."""
+    words = ["--store", sandbox.path("store")]
+    answer = sandbox.call(TOOL, "hosts", "compare", *words, "--no-fetch", "-", text=b"nohost\n")
+    sandbox.expect("hosts on standard input", answer, 18, b"nohost 18 nohost: nothing was fetched yet", b"")
+    answer = sandbox.call(TOOL, "hosts", "compare", *words, "--no-fetch", "--color", "always", "-", text=b"nohost\n")
+    sandbox.holds("one in red", answer.output.startswith(b"\033[1;31mnohost 18 "), answer)
+    sandbox.write("hosts", "nohost\n")
+    text = sandbox.call(TOOL, "hosts", "report", *words, "hosts").output
+    answer = sandbox.call(TOOL, "hosts", "report", *words, "--json", "lines", "--page", "page", "hosts")
+    sandbox.expect("a report with files", answer, 18, text, b"")
+    lines = sandbox.call(TOOL, "hosts", "report", *words, "--order", "rare", "--format", "json", "hosts").output
+    sandbox.holds("its lines", sandbox.read("lines") == lines and b'"host":"nohost"' in lines, lines)
+    page = sandbox.call(TOOL, "hosts", "report", *words, "--page", "-", "hosts")
+    sandbox.holds("its page", page.output == sandbox.read("page") and b"<html" in page.output and page.status == 18, page)
+    sandbox.expect("not quiet", sandbox.call(TOOL, "hosts", "report", "-q", *words, "hosts"), 18, text, b"")
+    for more in (["--json", "-", "--page", "-"], ["--format", "text", "--json", "-"]):
+        answer = sandbox.call(TOOL, "hosts", "report", *words, *more, "hosts")
+        sandbox.expect("two forms on standard output: %s" % more, answer, 15, b"", b"only one of --json, --page")
 
 
 def try_misspelt(sandbox):

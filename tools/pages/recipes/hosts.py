@@ -103,7 +103,7 @@ def check_lines(trial, name, done):
 
 
 def try_lines(trial):
-    words = [*tool(trial, "aide-compare hosts compare"), "--max-size", "50000", "--max-unpacked", "100000"]
+    words = [*tool(trial, "aide-compare hosts compare"), "--max-sent", "50000", "--max-size", "100000"]
     check_lines(trial, "all hosts", trial.run(words + ["--jobs", "4", trial.path(HOSTS)]))
     parts = [trial.run(words + ["--share", "%d/3" % part, trial.path(HOSTS)]) for part in (1, 2, 3)]
     lines = [lines_of(done[1])[0] for done in parts]
