@@ -16,7 +16,7 @@ NOTE = b"aide-compare: the column fstype is not compared: the program does not k
 def try_columns(sandbox):
     for name, text in (("o.db", OLD), ("same.db", SAME), ("more.db", MORE)):
         sandbox.write(name, text)
-    for trial in (try_places, try_status, try_names, try_mails):
+    for trial in (try_places, try_status, try_names, try_mails, try_lost):
         trial(sandbox)
 
 
@@ -107,3 +107,27 @@ def try_mails(sandbox):
     message = mail.sent(sandbox)
     wanted = "differences (1 changed); the columns fstype, ??x are not compared"
     sandbox.holds("both are in the subject", message is not None and message["Subject"].endswith(wanted), message)
+
+
+def try_lost(sandbox):
+    """A mail that was lost has told nothing: the next one tells the column."""
+    mail.prepare(sandbox)
+    os.remove(sandbox.path("state"))
+    words = ("--state", "state", "o.db", "same.db")
+    sandbox.stub("sendmail", "exit 75")
+    for time in ("first", "second"):
+        sandbox.expect("a %s mail is lost" % time, mail.call(sandbox, *words), 18, b"", b"cannot send the mail")
+    mail.take_mail(sandbox)
+    for label, subject in (("the mail after it", "the column fstype is not compared"), ("no second one", None)):
+        sandbox.expect(label, mail.call(sandbox, *words), 0, b"", b"")
+        message = mail.sent(sandbox)
+        good = message is None if subject is None else message is not None and message["Subject"].endswith(": " + subject)
+        sandbox.holds("the subject of " + label, good, message and message["Subject"])
+    sandbox.holds("the state says what was told", sandbox.state().get("told_columns") == "fstype", sandbox.state())
+    sandbox.call(TOOL, "--state", "state", "o.db", "same.db")
+    sandbox.expect("after a run by hand", mail.call(sandbox, *words), 0, b"", b"")
+    sandbox.holds("it is told once more", mail.sent(sandbox) is not None)
+    sandbox.expect("a run that fails", mail.call(sandbox, "--state", "state", "o.db", "none.db"), 18, b"", None)
+    mail.sent(sandbox)
+    sandbox.expect("after a run that failed", mail.call(sandbox, *words), 0, b"", b"")
+    sandbox.holds("nobody is told again", mail.sent(sandbox) is None)

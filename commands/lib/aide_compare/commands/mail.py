@@ -9,7 +9,7 @@ from aide_compare.base.ending import Fault, Status, say, why_of, write_all
 from aide_compare.base.options import Parser, duration, matching, some_text
 from aide_compare.base.program import find_front
 from aide_compare.commands import compare
-from aide_compare.compare.columns import skipped_names
+from aide_compare.compare.columns import skipped_names, told_names, with_told
 from aide_compare.compare.comparison import Comparison, Request
 from aide_compare.compare.handing import Held
 from aide_compare.compare.hints import hint_for_owner
@@ -69,14 +69,14 @@ def without_state(words):
 
 
 class Alarm:
-    """Puts the mail together, if what came out is an alarm. `known` are the columns that are not compared as the
-    state of the last run says; None if no state is kept that a next run can see."""
+    """Puts the mail together, if what came out is an alarm. `known` are the columns that are not compared and that mails have told
+    already, as the state of the last run says; None if no state is kept that a next run can see."""
 
     def __init__(self, given):
         self.given, self.message, self.known = given, Held(), None
         if given.run and given.run.state:
             try:
-                self.known = skipped_names(read_state(given.run.state))
+                self.known = told_names(read_state(given.run.state))
             except Fault:
                 self.known = []
 
@@ -172,7 +172,7 @@ def be_quiet(given, way, state):
 
 
 def compared(given, alarm):
-    """Compares, and lets the alarm put a mail together. Returns the State. A child that compares with the
+    """Compares, and lets the alarm put a mail together. Returns the State, and where it is kept. A child that compares with the
     rights of another user ends here: its parent sends what it has put together."""
     task = None
     try:
@@ -187,15 +187,23 @@ def compared(given, alarm):
         comparison = Comparison(Request(old="", new=""))
         comparison.end_by(error)
         alarm.end(comparison, None)
-        return comparison.state()
+        return comparison.state(), Held()
     if task.is_child():
         os._exit(status)
-    return state
+    return state, task.state
+
+
+def keep_told(alarm, state, kept):
+    """The state says which columns mails have told, now that this mail is on its way: one that is lost is no mail."""
+    skipped = skipped_names(state)
+    told = [name for name in alarm.known or () if state.status > 7 or name in skipped] + alarm.unknown(state)
+    if told:
+        kept.commit(with_told(state, told).text())
 
 
 def compare_and_mail(given):
     alarm = Alarm(given)
-    state = compared(given, alarm)
+    state, kept = compared(given, alarm)
     try:
         way = way_of(given)
     except Fault as fault:
@@ -205,6 +213,7 @@ def compare_and_mail(given):
         be_quiet(given, way, state)
     else:
         send(way, alarm.message.data())
+    keep_told(alarm, state, kept)
     return 0 if given.alarm_sent_is_success else state.status
 
 

@@ -6,6 +6,7 @@ from aide_compare.base.escapes import shown
 from aide_compare.base.names import SIDES
 
 SKIPPED = re.compile(rb"^aide: (old|new) database: column ([0-9]{1,2}) skipped$", re.M)
+TOLD = "told_columns"
 MOST_HEAD, MOST_NAME, MOST_TOLD = 1 << 16, 40, 3
 
 
@@ -55,3 +56,14 @@ def not_compared(names):
         return ""
     listed = ", ".join(names[:MOST_TOLD]) + (" and %d more" % (len(names) - MOST_TOLD) if len(names) > MOST_TOLD else "")
     return "the column %s is not compared" % listed if len(names) == 1 else "the columns %s are not compared" % listed
+
+
+def told_names(state):
+    """The names of those that mails have told already."""
+    return list(filter(None, state.more.get(TOLD, "").split(" ")))
+
+
+def with_told(state, names):
+    """The State with these names as those that mails have told."""
+    state.more[TOLD] = " ".join(names)
+    return state
