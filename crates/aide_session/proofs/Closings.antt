@@ -21,12 +21,13 @@ use Rattle.aide_report.specs.Runs.{HasCause, Causes}
 use Rattle.aide_report.specs.declared.run_fault.RunFault.{RunFault}
 use Rattle.aide_report.specs.declared.run_fault.RunFault.TheVariants.{Open, Database, Changed, Write}
 use Rattle.aide_session.specs.Answer.{Named, limits, need_of}
-use Rattle.aide_session.specs.Closing.{Asks, AsksAndReads, AsksToCompare, Closes, Closing, Course, course_between}
+use Rattle.aide_session.specs.Closing.{Asks, AsksAndReads, AsksToCompare, ClosesBy, Closing, Course, course_between}
 use Rattle.aide_session.specs.Closing.{ClosingCause, closing_line, HasText, RunCause}
 use Rattle.aide_session.specs.Closing.{no_job, no_memory, no_config, large_config, bad_config, good_config, bad_run}
 use Rattle.aide_session.specs.Closing.{good_run}
 use Rattle.aide_session.specs.Ends.{Sinks}
 use Rattle.aide_session.specs.Files.{Files, IsLarge}
+use Rattle.aide_session.specs.Writing.{Writing}
 use Rattle.aide_words.specs.Job.{JobText, job_of}
 use Rattle.aide_session.specs.Lines.{usage_line, memory_line, unread_line, too_large_line, conf_line}
 use Rattle.aide_session.specs.code.Premises.{HasRead, ReadsOnlyAs}
@@ -38,8 +39,8 @@ abbrev course_of : (opened_before opened_after : Side → ℕ) → (Side → Boo
 course_of opened_before opened_after given_after flushes_before flushes_after is_flushed =
     record { opened_before = opened_before; opened_after = opened_after; given_after = given_after; flushes_before = flushes_before; flushes_after = flushes_after; is_flushed = is_flushed }
 
-opens_none : (before after : Side → ℕ) → after ≡ before → OpensAtMost before after 6
-opens_none before after is =
+opens_none : (before after : Side → ℕ) (most : ℕ) → after ≡ before → OpensAtMost before after most
+opens_none before after most is =
     let of_old = ap (λ (f : Side → ℕ). f Old) is in
     let of_new = ap (λ (f : Side → ℕ). f New) is in
     record { of_old = omega (arith, of_old); of_new = omega (arith, of_new) }
@@ -48,37 +49,37 @@ opens_none before after is =
 abbrev pub only_config : List ℕ → Named
 only_config config = record { config = config; old_path = []; new_path = [] }
 
-pub closes_misused : (files : Files) (words : List (List ℕ)) (d e f : Option (List ℕ)) (m n : ℕ) (course : Course) (site out : Type 0)
+pub closes_misused : (w : Writing) (files : Files) (words : List (List ℕ)) (d e f : Option (List ℕ)) (m n : ℕ) (course : Course) (site out : Type 0)
     → job_of words ≡ None → Put usage_line e f m n
     → course.opened_after ≡ course.opened_before → course.flushes_after ≡ course.flushes_before
-    → Closes files words 15 (sinks d d e f m n) course site out
-closes_misused files words d e f m n course site out none put unopened unflushed =
-    record { closing = no_job; named = only_config []; cause = none; status_is = refl; output = (appends_none d, unopened, unflushed); opens = tt; opens_some = opens_none course.opened_before course.opened_after unopened; put = put }
+    → ClosesBy w files words 15 (sinks d d e f m n) course site out
+closes_misused w files words d e f m n course site out none put unopened unflushed =
+    record { closing = no_job; named = only_config []; cause = none; status_is = refl; output = (appends_none d, unopened, unflushed); opens = tt; opens_some = opens_none course.opened_before course.opened_after w.most_openings unopened; put = put }
 
-pub closes_starved : (files : Files) (words : List (List ℕ)) (d e f : Option (List ℕ)) (m n : ℕ) (course : Course) (site out : Type 0)
+pub closes_starved : (w : Writing) (files : Files) (words : List (List ℕ)) (d e f : Option (List ℕ)) (m n : ℕ) (course : Course) (site out : Type 0)
     → Put memory_line e f m n
     → course.opened_after ≡ course.opened_before → course.flushes_after ≡ course.flushes_before
-    → Closes files words 22 (sinks d d e f m n) course site out
-closes_starved files words d e f m n course site out put unopened unflushed =
-    record { closing = no_memory; named = only_config []; cause = tt; status_is = refl; output = (appends_none d, unopened, unflushed); opens = tt; opens_some = opens_none course.opened_before course.opened_after unopened; put = put }
+    → ClosesBy w files words 22 (sinks d d e f m n) course site out
+closes_starved w files words d e f m n course site out put unopened unflushed =
+    record { closing = no_memory; named = only_config []; cause = tt; status_is = refl; output = (appends_none d, unopened, unflushed); opens = tt; opens_some = opens_none course.opened_before course.opened_after w.most_openings unopened; put = put }
 
 asks : (words : List (List ℕ)) (job : JobText) → job_of words ≡ Some job → Asks words (only_config job.config)
 asks words job is = record { job = job; job_is = is; config_is = refl }
 
-pub closes_unread : (files : Files) (words : List (List ℕ)) (job : JobText) (d e f : Option (List ℕ)) (m n : ℕ) (course : Course) (site out : Type 0)
+pub closes_unread : (w : Writing) (files : Files) (words : List (List ℕ)) (job : JobText) (d e f : Option (List ℕ)) (m n : ℕ) (course : Course) (site out : Type 0)
     → job_of words ≡ Some job → site
     → Put (unread_line job.config) e f m n → course.opened_after ≡ course.opened_before
-    → course.flushes_after ≡ course.flushes_before → Closes files words 18 (sinks d d e f m n) course site out
-closes_unread files words job d e f m n course site out is failed put unopened unflushed =
-    record { closing = no_config; named = only_config job.config; cause = (asks words job is, failed); status_is = refl; output = (appends_none d, unopened, unflushed); opens = tt; opens_some = opens_none course.opened_before course.opened_after unopened; put = put }
+    → course.flushes_after ≡ course.flushes_before → ClosesBy w files words 18 (sinks d d e f m n) course site out
+closes_unread w files words job d e f m n course site out is failed put unopened unflushed =
+    record { closing = no_config; named = only_config job.config; cause = (asks words job is, failed); status_is = refl; output = (appends_none d, unopened, unflushed); opens = tt; opens_some = opens_none course.opened_before course.opened_after w.most_openings unopened; put = put }
 
-pub closes_large : (files : Files) (words : List (List ℕ)) (job : JobText) (d e f : Option (List ℕ)) (m n : ℕ) (course : Course) (site out : Type 0)
+pub closes_large : (w : Writing) (files : Files) (words : List (List ℕ)) (job : JobText) (d e f : Option (List ℕ)) (m n : ℕ) (course : Course) (site out : Type 0)
     → job_of words ≡ Some job
     → ((file : Option (List ℕ)) → files job.config ≡ Some file → IsLarge file) → Put too_large_line e f m n
     → course.opened_after ≡ course.opened_before → course.flushes_after ≡ course.flushes_before
-    → Closes files words 17 (sinks d d e f m n) course site out
-closes_large files words job d e f m n course site out is large put unopened unflushed =
-    record { closing = large_config; named = only_config job.config; cause = (asks words job is, large); status_is = refl; output = (appends_none d, unopened, unflushed); opens = tt; opens_some = opens_none course.opened_before course.opened_after unopened; put = put }
+    → ClosesBy w files words 17 (sinks d d e f m n) course site out
+closes_large w files words job d e f m n course site out is large put unopened unflushed =
+    record { closing = large_config; named = only_config job.config; cause = (asks words job is, large); status_is = refl; output = (appends_none d, unopened, unflushed); opens = tt; opens_some = opens_none course.opened_before course.opened_after w.most_openings unopened; put = put }
 
 -- the configuration of a job was read, and reads as this
 pub asks_and_reads : (files : Files) (words : List (List ℕ)) (job : JobText) (text : List ℕ) (compare : Bool) (read : Result Configured ConfFault)
@@ -95,18 +96,18 @@ asks_and_reads files words job text compare read has compare_is only = record {
   reads = subst (λ (b : Bool). ReadsAs (need_of b) job.before text job.after read) compare_is only.reads;
 }
 
-pub closes_bad_config : (files : Files) (words : List (List ℕ)) (config : List ℕ) (compare : Bool) (fault : ConfFault) (d e f : Option (List ℕ)) (m n : ℕ) (course : Course) (site out : Type 0)
+pub closes_bad_config : (w : Writing) (files : Files) (words : List (List ℕ)) (config : List ℕ) (compare : Bool) (fault : ConfFault) (d e f : Option (List ℕ)) (m n : ℕ) (course : Course) (site out : Type 0)
     → AsksAndReads files words config compare (Err fault) → Put (conf_line fault) e f m n
     → course.opened_after ≡ course.opened_before → course.flushes_after ≡ course.flushes_before
-    → Closes files words 17 (sinks d d e f m n) course site out
-closes_bad_config files words config compare fault d e f m n course site out read put unopened unflushed =
-    record { closing = bad_config fault; named = only_config config; cause = (compare, read); status_is = refl; output = (appends_none d, unopened, unflushed); opens = tt; opens_some = opens_none course.opened_before course.opened_after unopened; put = put }
+    → ClosesBy w files words 17 (sinks d d e f m n) course site out
+closes_bad_config w files words config compare fault d e f m n course site out read put unopened unflushed =
+    record { closing = bad_config fault; named = only_config config; cause = (compare, read); status_is = refl; output = (appends_none d, unopened, unflushed); opens = tt; opens_some = opens_none course.opened_before course.opened_after w.most_openings unopened; put = put }
 
-pub closes_good_config : (files : Files) (words : List (List ℕ)) (config : List ℕ) (s : Configured) (d e : Option (List ℕ)) (m : ℕ) (course : Course) (site out : Type 0)
+pub closes_good_config : (w : Writing) (files : Files) (words : List (List ℕ)) (config : List ℕ) (s : Configured) (d e : Option (List ℕ)) (m : ℕ) (course : Course) (site out : Type 0)
     → AsksAndReads files words config false (Ok s) → course.opened_after ≡ course.opened_before
-    → course.flushes_after ≡ course.flushes_before → Closes files words 0 (sinks d d e e m m) course site out
-closes_good_config files words config s d e m course site out read unopened unflushed =
-    record { closing = good_config; named = only_config config; cause = (s, read); status_is = refl; output = (appends_none d, unopened, unflushed); opens = tt; opens_some = opens_none course.opened_before course.opened_after unopened; put = put_none e m }
+    → course.flushes_after ≡ course.flushes_before → ClosesBy w files words 0 (sinks d d e e m m) course site out
+closes_good_config w files words config s d e m course site out read unopened unflushed =
+    record { closing = good_config; named = only_config config; cause = (s, read); status_is = refl; output = (appends_none d, unopened, unflushed); opens = tt; opens_some = opens_none course.opened_before course.opened_after w.most_openings unopened; put = put_none e m }
 
 read_cause : (kind : DbFaultKind) (site first : Type 0) → Causes kind site first → kind ≡ Read → site
 read_cause kind site first stands is = subst (λ (k : DbFaultKind). Causes k site first) is stands
@@ -143,10 +144,10 @@ cause_by files words named good_config site more out then cause = cause
 cause_by files words named (good_run options outcome) site more out then cause = cause
 
 -- the same closing, for a cause that follows
-pub closes_by : (files : Files) (words : List (List ℕ)) (status : ℕ) (s : Sinks) (course : Course) (site more out : Type 0)
-    → (site → more) → Closes files words status s course site out
-    → Closes files words status s course more out
-closes_by files words status s course site more out then closes = record {
+pub closes_by : (w : Writing) (files : Files) (words : List (List ℕ)) (status : ℕ) (s : Sinks) (course : Course) (site more out : Type 0)
+    → (site → more) → ClosesBy w files words status s course site out
+    → ClosesBy w files words status s course more out
+closes_by w files words status s course site more out then closes = record {
   closing = closes.closing;
   named = closes.named;
   cause = cause_by files words closes.named closes.closing site more out then closes.cause;
@@ -183,14 +184,14 @@ told_side there bytes is_missing None pointed gone is = gone is
 told_side there bytes is_missing (Some text) pointed gone is = pointed text is
 
 -- a comparison that closes over the same files, the same openings and the same count of failures
-pub closes_over : (files later : Files) (words : List (List ℕ)) (status : ℕ) (s : Sinks) (course later_course : Course) (count later_count end : ℕ) (out : Type 0)
+pub closes_over : (w : Writing) (files later : Files) (words : List (List ℕ)) (status : ℕ) (s : Sinks) (course later_course : Course) (count later_count end : ℕ) (out : Type 0)
     → later ≡ files → later_course ≡ course → later_count ≡ count
-    → Closes later words status s later_course (Rose later_count end) out
-    → Closes files words status s course (Rose count end) out
-closes_over files later words status s course later_course count later_count end out same same_course same_count closes =
-    subst (λ (n : ℕ). Closes files words status s course (Rose n end) out) same_count
-    (subst (λ (d : Course). Closes files words status s d (Rose later_count end) out) same_course
-    (subst (λ (f : Files). Closes f words status s later_course (Rose later_count end) out) same closes))
+    → ClosesBy w later words status s later_course (Rose later_count end) out
+    → ClosesBy w files words status s course (Rose count end) out
+closes_over w files later words status s course later_course count later_count end out same same_course same_count closes =
+    subst (λ (n : ℕ). ClosesBy w files words status s course (Rose n end) out) same_count
+    (subst (λ (d : Course). ClosesBy w files words status s d (Rose later_count end) out) same_course
+    (subst (λ (f : Files). ClosesBy w f words status s later_course (Rose later_count end) out) same closes))
 
 pub asks_over : (files later : Files) (words : List (List ℕ)) (named : Named) → later ≡ files
     → AsksToCompare files words named → AsksToCompare later words named
@@ -208,14 +209,14 @@ unfolding asks_over
 same_options files later words named same asks = refl
 
 -- a closing over the same files and openings, after a call that may have counted failures
-pub closes_later : (files later : Files) (words : List (List ℕ)) (status : ℕ) (s : Sinks) (course later_course : Course) (count later_count end : ℕ) (out : Type 0)
+pub closes_later : (w : Writing) (files later : Files) (words : List (List ℕ)) (status : ℕ) (s : Sinks) (course later_course : Course) (count later_count end : ℕ) (out : Type 0)
     → later ≡ files → later_course ≡ course → count ≤ later_count
-    → Closes later words status s later_course (Rose later_count end) out
-    → Closes files words status s course (Rose count end) out
-closes_later files later words status s course later_course count later_count end out same same_course more closes =
-    closes_by files words status s course (Rose later_count end) (Rose count end) out (rose_later count later_count end more)
-    (subst (λ (d : Course). Closes files words status s d (Rose later_count end) out) same_course
-    (subst (λ (f : Files). Closes f words status s later_course (Rose later_count end) out) same closes))
+    → ClosesBy w later words status s later_course (Rose later_count end) out
+    → ClosesBy w files words status s course (Rose count end) out
+closes_later w files later words status s course later_course count later_count end out same same_course more closes =
+    closes_by w files words status s course (Rose later_count end) (Rose count end) out (rose_later count later_count end more)
+    (subst (λ (d : Course). ClosesBy w files words status s d (Rose later_count end) out) same_course
+    (subst (λ (f : Files). ClosesBy w f words status s later_course (Rose later_count end) out) same closes))
 
 -- the sides were opened as often
 pub same_course : {S W : Type 0} (openings : S → Side → ℕ) (was_given : S → Side → Bool) (flushes : W → ℕ) (is_flushed : W → Bool) (before later after : S) (out_old out_new : W)
@@ -225,11 +226,11 @@ same_course openings was_given flushes is_flushed before later after out_old out
     ap (λ (opened : Side → ℕ). course_of opened (openings after) (was_given after) (flushes out_old) (flushes out_new) (is_flushed out_new)) same
 
 -- the same closing once its lines are passed on
-pub closes_passed : (files : Files) (words : List (List ℕ)) (status : ℕ) (c d e f g : Option (List ℕ)) (m n k : ℕ) (course : Course) (site out : Type 0)
+pub closes_passed : (w : Writing) (files : Files) (words : List (List ℕ)) (status : ℕ) (c d e f g : Option (List ℕ)) (m n k : ℕ) (course : Course) (site out : Type 0)
     → Keeps f g → n ≤ k
-    → Closes files words status (sinks c d e f m n) course site out
-    → Closes files words status (sinks c d e g m k) course site out
-closes_passed files words status c d e f g m n k course site out kept more closes = record {
+    → ClosesBy w files words status (sinks c d e f m n) course site out
+    → ClosesBy w files words status (sinks c d e g m k) course site out
+closes_passed w files words status c d e f g m n k course site out kept more closes = record {
   closing = closes.closing;
   named = closes.named;
   cause = closes.cause;

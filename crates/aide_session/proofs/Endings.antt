@@ -12,7 +12,7 @@ use Rattle.aide_db.specs.declared.side.Side.TheVariants.{Old, New}
 use Rattle.aide_conf.specs.declared.options.Options.{Options}
 use Rattle.aide_report.specs.Asked.{Asked}
 use Rattle.aide_report.specs.Failures.{Rose}
-use Rattle.aide_report.specs.Missing.{IsHindered, IsOfReliable, RunsOver, SendsFront, SendsWhole, StopsFor, TellsSide}
+use Rattle.aide_report.specs.Missing.{IsHindered, IsOfReliable, RunsOverBy, SendsFront, SendsWhole, StopsFor, TellsSide}
 use Rattle.aide_report.specs.Missing.{run_answer}
 use Rattle.aide_report.specs.Runs.{HasCause, Causes, Report}
 use Rattle.aide_report.specs.Sent.{SendsPart}
@@ -24,10 +24,11 @@ use Rattle.aide_report.specs.Report.{status_of}
 use Rattle.aide_report.specs.declared.outcome.Outcome.{Outcome}
 use Rattle.aide_report.specs.declared.run_fault.RunFault.{RunFault}
 use Rattle.aide_report.specs.declared.run_fault.RunFault.TheVariants.{Open, Database, Changed, Write}
-use Rattle.aide_session.specs.Answer.{Answer, Named, IsCompared, asked_by, limits, refused, answer_of_run}
+use Rattle.aide_session.specs.Answer.{Answer, Named, IsComparedBy, asked_by, limits, refused, answer_of_run}
 use Rattle.aide_session.specs.Ends.{Sinks, Failure, failure_line, FailureCause, HasFailed, Ends, Whole, Starved}
 use Rattle.aide_session.specs.Ends.{config_unread, unopened, unread, unwritten}
 use Rattle.aide_session.specs.Lines.{memory_line, open_line, database_line, kind_line, outcome_lines, run_fault_line}
+use Rattle.aide_session.specs.Writing.{Writing}
 use Rattle.aide_session.specs.code.Premises.{ComparesSides}
 use Rattle.aide_session.specs.Put.{HasNoFailure, Put}
 use Rattle.aide_session.proofs.PutLemmas.{appends_none, put_passed}
@@ -144,15 +145,15 @@ given_answer named (Ok report) = refl
 given_answer named (Err fault) = refl
 
 -- an answer over what stands at both paths is that of a run
-compared_by : (options : Options) (named : Named) (old new : Option (List ℕ)) (a : Answer)
-    → IsCompared options named old new a
-    → (r : Result Report RunFault) × RunsOver limits (asked_by options named) old new r × (a ≡ answer_by named r)
-compared_by options named None new a is = (Err (Open Old), refl, is)
-compared_by options named (Some old) None a is = elim is [
+compared_by : (w : Writing) (options : Options) (named : Named) (old new : Option (List ℕ)) (a : Answer)
+    → IsComparedBy w options named old new a
+    → (r : Result Report RunFault) × RunsOverBy limits (w.over (asked_by options named)) old new r × (a ≡ answer_by named r)
+compared_by w options named None new a is = (Err (Open Old), refl, is)
+compared_by w options named (Some old) None a is = elim is [
   | inl refusal ↦ (Err (Open New), inl (refusal.0, refl), refusal.1)
   | inr bad ↦ (Err (Database bad.0), inr (bad.0, bad.1, refl), bad.2)
 ]
-compared_by options named (Some old) (Some new) a is = (run_answer is.0, (is.0, is.1, refl), is.2 ∙ given_answer named is.0)
+compared_by w options named (Some old) (Some new) a is = (run_answer is.0, (is.0, is.1, refl), is.2 ∙ given_answer named is.0)
 
 -- ---- how a run ends
 
@@ -261,12 +262,12 @@ same_asked options wish old_path old_task new_path new_task o p q i =
     record { options = o i; old_path = p i; new_path = q i }
 
 -- the answer of a comparison of both sides is that of a run
-pub run_of : (bytes_of : Side → Option (List ℕ)) (is_missing : Side → Bool) (asked : Asked) (named : Named) (a : Answer) (is : ComparesSides bytes_of is_missing asked named a)
-    → (r : Result Report RunFault) × RunsOver limits asked is.old_file is.new_file r × (a ≡ answer_by named r)
-run_of bytes_of is_missing asked named a is =
-    let by_run = compared_by asked.options named is.old_file is.new_file a is.then_is in
+pub run_of : (w : Writing) (bytes_of : Side → Option (List ℕ)) (is_missing : Side → Bool) (asked : Asked) (named : Named) (a : Answer) (is : ComparesSides w bytes_of is_missing asked named a)
+    → (r : Result Report RunFault) × RunsOverBy limits (w.over asked) is.old_file is.new_file r × (a ≡ answer_by named r)
+run_of w bytes_of is_missing asked named a is =
+    let by_run = compared_by w asked.options named is.old_file is.new_file a is.then_is in
     let same = same_asked asked.options asked.options named.old_path asked.old_path named.new_path asked.new_path refl is.old_is is.new_is in
-    (by_run.0, subst (λ (wish : Asked). RunsOver limits wish is.old_file is.new_file by_run.0) same by_run.1, by_run.2)
+    (by_run.0, subst (λ (wish : Asked). RunsOverBy limits (w.over wish) is.old_file is.new_file by_run.0) same by_run.1, by_run.2)
 
 -- the line of a run's fault over the paths that are named
 pub put_paths : (fault : RunFault) (named : Named) (old_path new_path : List ℕ) (e f : Option (List ℕ)) (m n : ℕ)

@@ -5,21 +5,24 @@ use Rattle.std.proofs.Math.Path.{subst}
 use Rattle.aide_conf.specs.Settings.{Configured}
 use Rattle.aide_conf.specs.ReadResult.{ReadsAs}
 use Rattle.aide_db.specs.declared.fault.DbFault.{DbFault}
-use Rattle.aide_report.specs.Runs.{Report, Runs}
-use Rattle.aide_session.specs.Answer.{Named, need_of, limits, asked_by, answer_of_run, IsAnswer}
-use Rattle.aide_session.specs.Answer.{Compares, IsJobAnswer, IsReadAnswer, IsSizedAnswer}
-use Rattle.aide_session.specs.Answer.{IsTextAnswer, IsWordsAnswer}
+use Rattle.aide_report.specs.Runs.{Report, Runs, RunsBy}
+use Rattle.aide_session.specs.Answer.{Named, need_of, limits, asked_by, answer_of_run, IsAnswer, IsAnswerBy}
+use Rattle.aide_session.specs.Answer.{ComparesBy, IsJobAnswerBy, IsReadAnswerBy, IsSizedAnswerBy}
+use Rattle.aide_session.specs.Answer.{IsTextAnswerBy, IsWordsAnswerBy}
 use Rattle.aide_session.specs.Asks.{Asks}
 use Rattle.aide_session.specs.Files.{Files}
+use Rattle.aide_session.specs.Writing.{Writing, the_report}
 use Rattle.aide_words.specs.Job.{JobText}
 
--- If the arguments ask for a comparison of two texts, its right answer is the answer to the arguments.
-pub answer_of_what_is_asked : (files : Files) (words : List (List ℕ)) (named : Named) (settings : Configured)
+-- If the arguments ask for a comparison of two texts, its right answer is the answer to the arguments, whatever is
+-- to be written.
+pub answer_by_what_is_asked : (w : Writing) (files : Files) (words : List (List ℕ)) (named : Named) (settings : Configured)
     (old new : List ℕ) (run : Result Report DbFault) → Asks files words named settings old new
-    → Runs limits (asked_by settings.options named) old new run → IsAnswer files words named (answer_of_run run)
-answer_of_what_is_asked files words named settings old new run asks runs =
+    → RunsBy limits (w.over (asked_by settings.options named)) old new run
+    → IsAnswerBy w files words named (answer_of_run run)
+answer_by_what_is_asked w files words named settings old new run asks runs =
     let a = answer_of_run run in
-    let compared : Compares files settings named a = record {
+    let compared : ComparesBy w files settings named a = record {
       old_is = asks.old_path;
       new_is = asks.new_path;
       old_file = Some old;
@@ -28,15 +31,21 @@ answer_of_what_is_asked files words named settings old new run asks runs =
       new_told = asks.new_there;
       then_is = (run, runs, refl);
     } in
-    let of_text : IsTextAnswer files asks.job asks.config named a = record {
+    let of_text : IsTextAnswerBy w files asks.job asks.config named a = record {
       read = Ok settings;
       reads = subst (λ (b : Bool). ReadsAs (need_of b) asks.job.before asks.config asks.job.after (Ok settings)) (sym asks.compares) asks.accepted;
-      then_is = subst (λ (b : Bool). IsReadAnswer files b (Ok settings) named a) (sym asks.compares) compared;
+      then_is = subst (λ (b : Bool). IsReadAnswerBy w files b (Ok settings) named a) (sym asks.compares) compared;
     } in
-    let of_job : IsJobAnswer files asks.job named a = record {
+    let of_job : IsJobAnswerBy w files asks.job named a = record {
       config_is = asks.config_is;
       file = Some asks.config;
       known = asks.config_there;
-      then_is = subst (λ (b : Bool). IsSizedAnswer files asks.job b asks.config named a) (sym asks.small) of_text;
+      then_is = subst (λ (b : Bool). IsSizedAnswerBy w files asks.job b asks.config named a) (sym asks.small) of_text;
     } in
-    subst (λ (o : Option JobText). IsWordsAnswer files o named a) (sym asks.job_is) of_job
+    subst (λ (o : Option JobText). IsWordsAnswerBy w files o named a) (sym asks.job_is) of_job
+
+-- the same if the report is to be written
+pub answer_of_what_is_asked : (files : Files) (words : List (List ℕ)) (named : Named) (settings : Configured)
+    (old new : List ℕ) (run : Result Report DbFault) → Asks files words named settings old new
+    → Runs limits (asked_by settings.options named) old new run → IsAnswer files words named (answer_of_run run)
+answer_of_what_is_asked = answer_by_what_is_asked the_report

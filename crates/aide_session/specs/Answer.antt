@@ -1,5 +1,5 @@
 -- The answer of a session: its output, its error lines and its status. The arguments and the files
--- determine it.
+-- determine it, and what is written: the report, or lines of JSON.
 use Rattle.std.specs.Prelude.{◌≡◌, ◌⊎◌, ℕ, ◌^◌, Bool, true, false, List, [], Ok, Err, Result}
 use Rattle.std.specs.Prelude.{Option, Some, None}
 use Rattle.aide_conf.specs.Settings.{Configured}
@@ -13,12 +13,13 @@ use Rattle.aide_db.specs.Database.{IsSound}
 use Rattle.aide_db.specs.declared.limits.Limits.{Limits}
 use Rattle.aide_db.specs.declared.side.Side.TheVariants.{Old, New}
 use Rattle.aide_report.specs.Asked.{Asked}
-use Rattle.aide_report.specs.Runs.{Report, Runs, IsFirstFaultOf}
+use Rattle.aide_report.specs.Runs.{Report, RunsBy, IsFirstFaultOf}
 use Rattle.aide_report.specs.Report.{status_of}
 use Rattle.aide_session.specs.Files.{Files, is_too_large}
 use Rattle.aide_words.specs.Job.{JobText, job_of}
 use Rattle.aide_session.specs.Lines.{usage_line, unread_line, too_large_line, conf_line, open_line}
 use Rattle.aide_session.specs.Lines.{database_line, outcome_lines}
+use Rattle.aide_session.specs.Writing.{Writing, the_report}
 
 -- what a session writes to standard output and to standard error, and its status
 pub record Answer : Type 0 where
@@ -52,7 +53,7 @@ checked = record { output = []; errors = []; status = 0 }
 abbrev pub limits : Limits
 limits = record { line = 1048576; bytes = 2 ^ 40 }
 
--- the answer of a comparison of two databases: its report, or the first fault of a database
+-- the answer of a comparison of two databases: what is written, or the first fault of a database
 abbrev pub answer_of_run : Result Report DbFault → Answer
 answer_of_run (Ok report) = record {
   output = report.text;
@@ -65,26 +66,28 @@ answer_of_run (Err fault) = refused (database_line fault) 24
 -- the answer is that the old one was not opened. If only the new one is missing, there are two
 -- cases: if the old one is sound, the answer is that the new one was not opened, otherwise it is
 -- the first fault of the old one. If both are there, it is the answer of their comparison.
-abbrev pub IsCompared : Options → Named → Option (List ℕ) → Option (List ℕ) → Answer → Type 0
-IsCompared options named None new a = a ≡ refused (open_line Old named.old_path) 18
-IsCompared options named (Some old) None a =
+abbrev pub IsComparedBy : Writing → Options → Named → Option (List ℕ) → Option (List ℕ) → Answer
+    → Type 0
+IsComparedBy w options named None new a = a ≡ refused (open_line Old named.old_path) 18
+IsComparedBy w options named (Some old) None a =
     (IsSound limits old × (a ≡ refused (open_line New named.new_path) 18))
     ⊎ ((fault : DbFault) × IsFirstFaultOf limits Old old fault
     × (a ≡ refused (database_line fault) 24))
-IsCompared options named (Some old) (Some new) a =
-    (run : Result Report DbFault) × Runs limits (asked_by options named) old new run
+IsComparedBy w options named (Some old) (Some new) a =
+    (run : Result Report DbFault) × RunsBy limits (w.over (asked_by options named)) old new run
     × (a ≡ answer_of_run run)
 
 -- The comparison of what is at the two paths that the settings name. At each path there is a
 -- database or no file.
-pub record Compares (files : Files) (s : Configured) (named : Named) (a : Answer) : Type 0 where
+pub record ComparesBy (w : Writing) (files : Files) (s : Configured) (named : Named)
+    (a : Answer) : Type 0 where
   pub old_is : s.old_path ≡ Some named.old_path
   pub new_is : s.new_path ≡ Some named.new_path
   pub old_file : Option (List ℕ)
   pub new_file : Option (List ℕ)
   pub old_told : files named.old_path ≡ Some old_file
   pub new_told : files named.new_path ≡ Some new_file
-  pub then_is : IsCompared s.options named old_file new_file a
+  pub then_is : IsComparedBy w s.options named old_file new_file a
 
 -- what a configuration is read for: a comparison, or only a check
 abbrev pub need_of : Bool → Need
@@ -92,43 +95,49 @@ need_of true = Compare
 need_of false = Check
 
 -- the answer, by whether the configuration reads as settings or has a fault
-abbrev pub IsReadAnswer : Files → Bool → Result Configured ConfFault → Named → Answer → Type 0
-IsReadAnswer files true (Ok s) named a = Compares files s named a
-IsReadAnswer files false (Ok s) named a = a ≡ checked
-IsReadAnswer files compare (Err fault) named a = a ≡ refused (conf_line fault) 17
+abbrev pub IsReadAnswerBy : Writing → Files → Bool → Result Configured ConfFault → Named → Answer
+    → Type 0
+IsReadAnswerBy w files true (Ok s) named a = ComparesBy w files s named a
+IsReadAnswerBy w files false (Ok s) named a = a ≡ checked
+IsReadAnswerBy w files compare (Err fault) named a = a ≡ refused (conf_line fault) 17
 
 -- the answer if the configuration has this text
-pub record IsTextAnswer (files : Files) (job : JobText) (text : List ℕ) (named : Named)
-    (a : Answer) : Type 0 where
+pub record IsTextAnswerBy (w : Writing) (files : Files) (job : JobText) (text : List ℕ)
+    (named : Named) (a : Answer) : Type 0 where
   pub read : Result Configured ConfFault
   pub reads : ReadsAs (need_of job.compare) job.before text job.after read
-  pub then_is : IsReadAnswer files job.compare read named a
+  pub then_is : IsReadAnswerBy w files job.compare read named a
 
 -- the answer, by whether the configuration is too large
-abbrev pub IsSizedAnswer : Files → JobText → Bool → List ℕ → Named → Answer → Type 0
-IsSizedAnswer files job true text named a = a ≡ refused too_large_line 17
-IsSizedAnswer files job false text named a = IsTextAnswer files job text named a
+abbrev pub IsSizedAnswerBy : Writing → Files → JobText → Bool → List ℕ → Named → Answer → Type 0
+IsSizedAnswerBy w files job true text named a = a ≡ refused too_large_line 17
+IsSizedAnswerBy w files job false text named a = IsTextAnswerBy w files job text named a
 
 -- the answer, by what is at the configuration's path
-abbrev pub IsFileAnswer : Files → JobText → Option (List ℕ) → Named → Answer → Type 0
-IsFileAnswer files job None named a = a ≡ refused (unread_line job.config) 18
-IsFileAnswer files job (Some text) named a =
-    IsSizedAnswer files job (is_too_large text) text named a
+abbrev pub IsFileAnswerBy : Writing → Files → JobText → Option (List ℕ) → Named → Answer → Type 0
+IsFileAnswerBy w files job None named a = a ≡ refused (unread_line job.config) 18
+IsFileAnswerBy w files job (Some text) named a =
+    IsSizedAnswerBy w files job (is_too_large text) text named a
 
 -- the answer to a job if it is known what is at its configuration's path
-pub record IsJobAnswer (files : Files) (job : JobText) (named : Named) (a : Answer) : Type 0 where
+pub record IsJobAnswerBy (w : Writing) (files : Files) (job : JobText) (named : Named)
+    (a : Answer) : Type 0 where
   pub config_is : named.config ≡ job.config
   pub file : Option (List ℕ)
   pub known : files job.config ≡ Some file
-  pub then_is : IsFileAnswer files job file named a
+  pub then_is : IsFileAnswerBy w files job file named a
 
 -- the answer, by the job that the arguments ask for
-abbrev pub IsWordsAnswer : Files → Option JobText → Named → Answer → Type 0
-IsWordsAnswer files None named a = a ≡ refused usage_line 15
-IsWordsAnswer files (Some job) named a = IsJobAnswer files job named a
+abbrev pub IsWordsAnswerBy : Writing → Files → Option JobText → Named → Answer → Type 0
+IsWordsAnswerBy w files None named a = a ≡ refused usage_line 15
+IsWordsAnswerBy w files (Some job) named a = IsJobAnswerBy w files job named a
 
 -- The answer to the arguments, over these files. It is the first fault of the arguments, of the
 -- configuration or of a database, or else what the job asks for. A named file that is not there
 -- counts as a fault. `named` has the paths that are named on the way.
+abbrev pub IsAnswerBy : Writing → Files → List (List ℕ) → Named → Answer → Type 0
+IsAnswerBy w files words named a = IsWordsAnswerBy w files (job_of words) named a
+
+-- the answer if the report is to be written
 abbrev pub IsAnswer : Files → List (List ℕ) → Named → Answer → Type 0
-IsAnswer files words named a = IsWordsAnswer files (job_of words) named a
+IsAnswer files words named a = IsAnswerBy the_report files words named a

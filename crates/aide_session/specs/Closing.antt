@@ -18,10 +18,8 @@ use Rattle.aide_report.specs.Openings.{OpensFirst}
 use Rattle.aide_report.specs.Standing.{IsFaultOf}
 use Rattle.aide_report.specs.Room.{IsNotMemory}
 use Rattle.aide_report.specs.Failures.{one_more}
-use Rattle.aide_report.specs.Agreement.{IsOfOutcome, OpensByOutcome}
 use Rattle.aide_report.specs.Report.{status_of}
 use Rattle.aide_report.specs.RunFaults.{HasSentNothing}
-use Rattle.aide_report.specs.Runs.{openings_over}
 use Rattle.aide_report.specs.declared.outcome.Outcome.{Outcome}
 use Rattle.aide_report.specs.declared.run_fault.RunFault.{RunFault}
 use Rattle.aide_report.specs.declared.run_fault.RunFault.TheVariants.{Open, Database, Changed}
@@ -32,6 +30,7 @@ use Rattle.aide_session.specs.Files.{Files, IsLarge, is_too_large}
 use Rattle.aide_words.specs.Job.{JobText, job_of}
 use Rattle.aide_session.specs.Lines.{usage_line, memory_line, unread_line, too_large_line}
 use Rattle.aide_session.specs.Lines.{conf_line, run_fault_line, outcome_lines}
+use Rattle.aide_session.specs.Writing.{Writing, the_report}
 
 -- the result of a session
 pub data Closing : Type 0 where
@@ -88,21 +87,22 @@ course_between openings was_given flushes is_flushed site_old site_new out_old o
   is_flushed = is_flushed out_new;
 }
 
--- What a session sends, opens and flushes. A good run sends a report that begins with the head and
--- the summary of its outcome. If the options and the outcome call for no more, the report is only
--- these two. A good run flushes the report once, after its last byte. No other closing flushes.
--- A run that ends with a fault has sent nothing if no write failed and the report was not begun. If
--- it could not open a side, that side was the last one opened. Every other closing sends nothing
--- and opens no side.
-abbrev pub ClosingOutput : Closing → Course → Option (List ℕ) → Option (List ℕ) → Type 0
-ClosingOutput (good_run options outcome) course before after =
-    IsOfOutcome options outcome before after
+-- What a session sends, opens and flushes. A good run sends what its outcome determines: a report
+-- begins with the head and the summary of the outcome, and is only these two if the options and the
+-- outcome call for no more; lines begin and end with those of the outcome. A good run flushes the
+-- output once, after its last byte. No other closing flushes. A run that ends with a fault has sent
+-- nothing if no write failed and nothing was begun. If it could not open a side, that side was the
+-- last one opened. Every other closing sends nothing and opens no side.
+abbrev pub ClosingOutput : Writing → Named → Closing → Course → Option (List ℕ) → Option (List ℕ)
+    → Type 0
+ClosingOutput w named (good_run options outcome) course before after =
+    w.IsOf (asked_by options named) outcome before after
     × (course.is_flushed ≡ true) × (course.flushes_after ≡ one_more course.flushes_before)
-ClosingOutput (bad_run options fault) course before after =
+ClosingOutput w named (bad_run options fault) course before after =
     HasSentNothing (course.opened_before Old) (course.opened_after Old) before after fault
     × IsRefusedThere course.opened_before course.opened_after fault
     × (course.flushes_after ≡ course.flushes_before)
-ClosingOutput _ course before after = Appends before after []
+ClosingOutput w named _ course before after = Appends before after []
     × (course.opened_after ≡ course.opened_before)
     × (course.flushes_after ≡ course.flushes_before)
 
@@ -174,34 +174,40 @@ ClosingCause files words named (good_run options outcome) site out =
     × AreBothSound files named
 
 -- How often the sides were opened. In a good run each side is opened to be read whole, to count,
--- and once for each section of entries. The outcome gives this number, and so do both texts if they
--- are known. A run with a fault opens no side more often than this, if both texts are known and
--- sound. In a run that ends with the first fault of a text, no side is opened more than once. In a
--- run that could not open a side, the last opening of that side was refused.
-abbrev pub ClosingOpens : Files → Named → Closing → Course → Type 0
-ClosingOpens files named (good_run options outcome) course =
-    OpensByOutcome options outcome course.opened_before course.opened_after
+-- and for what is written: once for each section of entries of a report, and once for lines if the
+-- databases differ. The outcome gives this number, and so do both texts if they are known. A run
+-- with a fault opens no side more often than this, if both texts are known and sound. In a run that
+-- ends with the first fault of a text, no side is opened more than once. In a run that could not
+-- open a side, the last opening of that side was refused.
+abbrev pub ClosingOpens : Writing → Files → Named → Closing → Course → Type 0
+ClosingOpens w files named (good_run options outcome) course =
+    w.OpensBy options outcome course.opened_before course.opened_after
     × ((old new : List ℕ) → HasText files named Old old → HasText files named New new
     → OpensExactly course.opened_before course.opened_after
-    (openings_over (asked_by options named) old new))
-ClosingOpens files named (bad_run options fault) course =
+    (w.openings (asked_by options named) old new))
+ClosingOpens w files named (bad_run options fault) course =
     OpensFirst course.opened_before course.opened_after fault
     × IsNotGiven course.given_after fault
     × ((old new : List ℕ) → HasText files named Old old → HasText files named New new
     → IsSound limits old → IsSound limits new
     → OpensAtMost course.opened_before course.opened_after
-    (openings_over (asked_by options named) old new))
-ClosingOpens files named _ course = ⊤
+    (w.openings (asked_by options named) old new))
+ClosingOpens w files named _ course = ⊤
 
 -- The status, the lines on standard error and the output are those of one closing, whose cause
 -- holds.
-pub record Closes (files : Files) (words : List (List ℕ)) (status : ℕ) (sinks : Sinks)
-    (course : Course) (site out : Type 0) : Type 0 where
+pub record ClosesBy (w : Writing) (files : Files) (words : List (List ℕ)) (status : ℕ)
+    (sinks : Sinks) (course : Course) (site out : Type 0) : Type 0 where
   pub closing : Closing
   pub named : Named
   pub cause : ClosingCause files words named closing site out
   pub status_is : status ≡ closing_status closing
-  pub output : ClosingOutput closing course sinks.out_old sinks.out_new
-  pub opens : ClosingOpens files named closing course
-  pub opens_some : OpensAtMost course.opened_before course.opened_after 6
+  pub output : ClosingOutput w named closing course sinks.out_old sinks.out_new
+  pub opens : ClosingOpens w files named closing course
+  pub opens_some : OpensAtMost course.opened_before course.opened_after w.most_openings
   pub put : Puts (closing_line named closing) sinks
+
+-- the same if the report is to be written
+abbrev pub Closes : Files → List (List ℕ) → ℕ → Sinks → Course → (site out : Type 0) → Type 0
+Closes files words status sinks course site out =
+    ClosesBy the_report files words status sinks course site out

@@ -4,6 +4,7 @@ pub mod Lines
 pub mod Files
 pub mod Pointing
 pub mod Sites
+pub mod Writing
 pub mod Answer
 pub mod Asks
 pub mod Ends

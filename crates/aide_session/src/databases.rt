@@ -3,7 +3,7 @@ ghost use Rattle.std.specs.Prelude.{◌≡◌, ◌≤◌, ℕ, List, Some, IsSom
 ghost use Rattle.aide_db.specs.Side.{by_side};
 ghost use Rattle.aide_db.specs.declared.side.Side.{Side};
 ghost use Rattle.aide_report.specs.Asked.{asked};
-ghost use Rattle.aide_session.specs.Answer.{Compares};
+ghost use Rattle.aide_session.specs.Answer.{ComparesBy};
 ghost use Rattle.aide_session.specs.Closing.{AsksAndReads};
 ghost use Rattle.aide_session.specs.code.Parts.{AreSame, ClosesFor, EndsWith, HoldsWith};
 ghost use Rattle.aide_session.specs.code.Parts.{KeepsPeak, part_between};
@@ -12,6 +12,7 @@ ghost use Rattle.aide_session.specs.Lines.{run_fault_line};
 ghost use Rattle.aide_session.specs.code.Premises.{AsksForSides, ComparesSides};
 ghost use Rattle.aide_session.specs.Put.{PutOn};
 
+use crate::comparison::{Comparison, LONGEST};
 use crate::devices::Devices;
 use crate::lines::{
     put_changed_line, put_database_line, put_memory_line, put_open_line, put_outcome_lines,
@@ -19,18 +20,9 @@ use crate::lines::{
 };
 use crate::site::Site;
 use aide_conf::{Settings, Task};
-use aide_db::{DbFaultKind, Limits, Side, Sources};
-use aide_report::{RunFault, Sink, run};
+use aide_db::{DbFaultKind, Side, Sources};
+use aide_report::{RunFault, Sink};
 use aide_words::Memory;
-
-/// The most bytes of a line of a database, without its newline.
-const LONGEST: u32 = 1_048_576;
-
-/// The limits of a database: its longest line, and at most 2^40 bytes in all.
-const LIMITS: Limits = Limits {
-    line: LONGEST,
-    bytes: 1_099_511_627_776,
-};
 
 /// Returns the configured path of a side.
 fn path_of<'a>(task: &Task<'a>, side: Side) -> &'a str
@@ -59,19 +51,20 @@ fn put_run_fault<E: Sink>(err: &mut E, task: &Task<'_>, fault: RunFault)
 }
 
 /// Compares the databases that the sides of a site are pointed at. The desk has room for any line.
-fn compare_sides<S: Site, W: Sink, E: Sink>(
+fn compare_sides<C: Comparison, S: Site, W: Sink, E: Sink>(
     task: &Task<'_>,
     devices: &mut Devices<'_, S, W, E>,
 ) -> u8
     requires room { 1048576 ≤ devices.old.desk.now.room }
     ensures same { AreSame devices.old devices.new }
-    ensures ends { EndsWith (λ files. ComparesSides (S.bytes_of devices.old.site.now)
-        (S.is_missing devices.old.site.now) (asked task.now)) result
+    ensures ends { EndsWith (λ files. ComparesSides C.writing
+        (S.bytes_of devices.old.site.now) (S.is_missing devices.old.site.now) (asked task.now))
+        result
         (part_between S.Sources W.Sink E.Sink devices.old devices.new) }
     ensures closes { (words : List (List ℕ))
         → AsksForSides (S.file_at devices.old.site.now) (S.bytes_of devices.old.site.now) words
         (asked task.now)
-        → ClosesFor words result
+        → ClosesFor C.writing words result
         (part_between S.Sources W.Sink E.Sink devices.old devices.new) }
     ensures site_never_falls { S.failures devices.old.site.now ≤ S.failures devices.new.site.now }
     ensures lookups { S.lookups devices.new.site.now ≡ S.lookups devices.old.site.now }
@@ -80,7 +73,7 @@ fn compare_sides<S: Site, W: Sink, E: Sink>(
         → S.bytes_of devices.old.site.now Side.New ≡ Some new
         → IsPeakOf old new devices.old.desk.now.peak devices.new.desk.now.peak }
 {
-    match run(task, LIMITS, devices.desk, devices.site, devices.out) {
+    match C::run(task, devices.desk, devices.site, devices.out) {
         Ok(outcome) => {
             put_outcome_lines(devices.err, &outcome);
             outcome.status()
@@ -94,22 +87,22 @@ fn compare_sides<S: Site, W: Sink, E: Sink>(
 
 /// Points a site at the databases that the settings name, reserves what a comparison may hold, and
 /// compares the databases.
-pub(crate) fn compare<S: Site, W: Sink, E: Sink>(
+pub(crate) fn compare<C: Comparison, S: Site, W: Sink, E: Sink>(
     settings: &Settings,
     devices: &mut Devices<'_, S, W, E>,
 ) -> u8
     requires { IsSome settings.now.old_path × IsSome settings.now.new_path }
     ensures same { AreSame devices.old devices.new }
-    ensures ends { EndsWith (λ files. Compares files settings.now) result
+    ensures ends { EndsWith (λ files. ComparesBy C.writing files settings.now) result
         (part_between S.Sources W.Sink E.Sink devices.old devices.new) }
     ensures closes { (words : List (List ℕ)) (config : List ℕ)
         → AsksAndReads (S.file_at devices.old.site.now) words config true (Ok settings.now)
-        → ClosesFor words result
+        → ClosesFor C.writing words result
         (part_between S.Sources W.Sink E.Sink devices.old devices.new) }
     ensures site_never_falls { S.failures devices.old.site.now ≤ S.failures devices.new.site.now }
     ensures lookups { S.lookups devices.new.site.now ≡ S.lookups devices.old.site.now }
     ensures peak { KeepsPeak (part_between S.Sources W.Sink E.Sink devices.old devices.new) }
-    ensures bound { HoldsWith (λ files. Compares files settings.now)
+    ensures bound { HoldsWith (λ files. ComparesBy C.writing files settings.now)
         (part_between S.Sources W.Sink E.Sink devices.old devices.new) }
 {
     let Some(task) = settings.task() else {
@@ -127,5 +120,5 @@ pub(crate) fn compare<S: Site, W: Sink, E: Sink>(
         put_memory_line(devices.err);
         return 22;
     };
-    compare_sides(&task, devices)
+    compare_sides::<C, S, W, E>(&task, devices)
 }

@@ -1,11 +1,13 @@
 //! A session over any site: its arguments, its configuration and its two databases.
 #![tactic(auto)]
 
+mod comparison;
 mod config_file;
 mod databases;
 mod devices;
 mod file_site;
 mod lines;
+mod lines_program;
 mod machine;
 mod memory_site;
 mod paged_sink;
@@ -16,7 +18,8 @@ mod site;
 
 pub use aide_words::{Job, Memory, Word, Words, WordsFault, read_words};
 pub use file_site::FileSite;
-pub use machine::start;
+pub use lines_program::{lines_session, lines_session_on};
+pub use machine::{start, start_lines};
 pub use memory_site::MemorySite;
 pub use paged_sink::PagedSink;
 pub use program::{session, session_on};

@@ -4,8 +4,8 @@ ghost use Rattle.std.specs.Prelude.{IfErr, IsSome};
 ghost use Rattle.aide_conf.specs.declared.fault.ConfFaultKind.TheVariants.{Memory};
 ghost use Rattle.aide_db.specs.Count.{one_more};
 ghost use Rattle.aide_report.specs.Failures.{Rose};
-ghost use Rattle.aide_session.specs.Answer.{Answer, Named, IsAnswer, IsJobAnswer, IsTextAnswer};
-ghost use Rattle.aide_session.specs.Answer.{need_of};
+ghost use Rattle.aide_session.specs.Answer.{Answer, Named, IsAnswer, IsAnswerBy, IsJobAnswerBy};
+ghost use Rattle.aide_session.specs.Answer.{IsTextAnswerBy, need_of};
 ghost use Rattle.aide_session.specs.Closing.{Closes, course_between};
 ghost use Rattle.aide_session.specs.code.Parts.{AreSame, ClosesFor, EndsWith, HoldsWith};
 ghost use Rattle.aide_session.specs.code.Parts.{KeepsPeak, part_between};
@@ -16,6 +16,7 @@ ghost use Rattle.aide_words.specs.Job.{job_of, text_of_job};
 ghost use Rattle.aide_session.specs.code.Premises.{HasRead, ReadsOnlyAs};
 ghost use Rattle.aide_session.specs.Put.{HasNoFailure};
 
+use crate::comparison::{AsReport, Comparison};
 use crate::config_file::{ConfigFault, read_config};
 use crate::databases::compare;
 use crate::devices::Devices;
@@ -60,30 +61,32 @@ fn read_settings(alloc: Global, prepared: &PreparedJob<'_>) -> Result<Settings, 
 }
 
 /// Runs the session of a job whose configuration has been read.
-fn run_prepared<S: Site, W: Sink, E: Sink>(
+fn run_prepared<C: Comparison, S: Site, W: Sink, E: Sink>(
     prepared: &PreparedJob<'_>,
     devices: &mut Devices<'_, S, W, E>,
 ) -> u8
     ensures same { AreSame devices.old devices.new }
     ensures ends { EndsWith
-        (λ files. IsTextAnswer files (text_of_job prepared.now.job.now) prepared.now.text.now)
+        (λ files. IsTextAnswerBy C.writing files (text_of_job prepared.now.job.now)
+        prepared.now.text.now)
         result (part_between S.Sources W.Sink E.Sink devices.old devices.new) }
     ensures closes { (words : List (List ℕ))
         → HasRead (S.file_at devices.old.site.now) words (text_of_job prepared.now.job.now)
         prepared.now.text.now
-        → ClosesFor words result
+        → ClosesFor C.writing words result
         (part_between S.Sources W.Sink E.Sink devices.old devices.new) }
     ensures site_never_falls { S.failures devices.old.site.now ≤ S.failures devices.new.site.now }
     ensures lookups { S.lookups devices.new.site.now ≡ S.lookups devices.old.site.now }
     ensures peak { KeepsPeak (part_between S.Sources W.Sink E.Sink devices.old devices.new) }
     ensures bound { HoldsWith
-        (λ files. IsTextAnswer files (text_of_job prepared.now.job.now) prepared.now.text.now)
+        (λ files. IsTextAnswerBy C.writing files (text_of_job prepared.now.job.now)
+        prepared.now.text.now)
         (part_between S.Sources W.Sink E.Sink devices.old devices.new) }
 {
     match read_settings(devices.alloc, prepared) {
         Ok(settings) => {
             if prepared.job.compare {
-                compare(&settings, devices)
+                compare::<C, S, W, E>(&settings, devices)
             } else {
                 0
             }
@@ -102,23 +105,26 @@ fn run_prepared<S: Site, W: Sink, E: Sink>(
 }
 
 /// Runs the session of a job.
-fn run_job<S: Site, W: Sink, E: Sink>(job: &Job, devices: &mut Devices<'_, S, W, E>) -> u8
+fn run_job<C: Comparison, S: Site, W: Sink, E: Sink>(
+    job: &Job,
+    devices: &mut Devices<'_, S, W, E>,
+) -> u8
     ensures same { AreSame devices.old devices.new }
-    ensures ends { EndsWith (λ files. IsJobAnswer files (text_of_job job.now)) result
+    ensures ends { EndsWith (λ files. IsJobAnswerBy C.writing files (text_of_job job.now)) result
         (part_between S.Sources W.Sink E.Sink devices.old devices.new) }
     ensures closes { (words : List (List ℕ)) → job_of words ≡ Some (text_of_job job.now)
-        → ClosesFor words result
+        → ClosesFor C.writing words result
         (part_between S.Sources W.Sink E.Sink devices.old devices.new) }
     ensures lookups { S.lookups devices.new.site.now ≤ one_more (S.lookups devices.old.site.now) }
     ensures peak { KeepsPeak (part_between S.Sources W.Sink E.Sink devices.old devices.new) }
-    ensures bound { HoldsWith (λ files. IsJobAnswer files (text_of_job job.now))
+    ensures bound { HoldsWith (λ files. IsJobAnswerBy C.writing files (text_of_job job.now))
         (part_between S.Sources W.Sink E.Sink devices.old devices.new) }
 {
     let path = job.config.as_str();
     match read_config(devices.alloc, devices.site, path) {
         Ok(text) => {
             let text = text.as_slice();
-            run_prepared(&PreparedJob { job, text }, devices)
+            run_prepared::<C, S, W, E>(&PreparedJob { job, text }, devices)
         }
         Err(ConfigFault::TooLarge) => {
             put_too_large_line(devices.err);
@@ -137,19 +143,22 @@ fn run_job<S: Site, W: Sink, E: Sink>(job: &Job, devices: &mut Devices<'_, S, W,
 
 /// Runs the session of these arguments. Its lines may still wait in standard error
 /// afterwards.
-fn run_words<S: Site, W: Sink, E: Sink>(words: &Words, devices: &mut Devices<'_, S, W, E>) -> u8
+fn run_words<C: Comparison, S: Site, W: Sink, E: Sink>(
+    words: &Words,
+    devices: &mut Devices<'_, S, W, E>,
+) -> u8
     ensures same { AreSame devices.old devices.new }
-    ensures ends { EndsWith (λ files. IsAnswer files words.now) result
+    ensures ends { EndsWith (λ files. IsAnswerBy C.writing files words.now) result
         (part_between S.Sources W.Sink E.Sink devices.old devices.new) }
-    ensures closes { ClosesFor words.now result
+    ensures closes { ClosesFor C.writing words.now result
         (part_between S.Sources W.Sink E.Sink devices.old devices.new) }
     ensures lookups { S.lookups devices.new.site.now ≤ one_more (S.lookups devices.old.site.now) }
     ensures peak { KeepsPeak (part_between S.Sources W.Sink E.Sink devices.old devices.new) }
-    ensures bound { HoldsWith (λ files. IsAnswer files words.now)
+    ensures bound { HoldsWith (λ files. IsAnswerBy C.writing files words.now)
         (part_between S.Sources W.Sink E.Sink devices.old devices.new) }
 {
     match read_words(devices.alloc, words) {
-        Ok(job) => run_job(&job, devices),
+        Ok(job) => run_job::<C, S, W, E>(&job, devices),
         Err(WordsFault::Usage) => {
             put_usage_line(devices.err);
             15
@@ -162,23 +171,23 @@ fn run_words<S: Site, W: Sink, E: Sink>(words: &Words, devices: &mut Devices<'_,
 }
 
 /// Runs the session of these arguments, and passes its lines on.
-fn run_and_pass_on<S: Site, W: Sink, E: Sink>(
+pub(crate) fn run_and_pass_on<C: Comparison, S: Site, W: Sink, E: Sink>(
     words: &Words,
     devices: &mut Devices<'_, S, W, E>,
 ) -> u8
     ensures same { AreSame devices.old devices.new }
-    ensures ends { EndsWith (λ files. IsAnswer files words.now) result
+    ensures ends { EndsWith (λ files. IsAnswerBy C.writing files words.now) result
         (part_between S.Sources W.Sink E.Sink devices.old devices.new) }
     ensures passed_on { HasNoFailure (E.failures devices.old.err.now)
         (E.failures devices.new.err.now) → E.is_flushed devices.new.err.now ≡ true }
-    ensures closes { ClosesFor words.now result
+    ensures closes { ClosesFor C.writing words.now result
         (part_between S.Sources W.Sink E.Sink devices.old devices.new) }
     ensures lookups { S.lookups devices.new.site.now ≤ one_more (S.lookups devices.old.site.now) }
     ensures peak { KeepsPeak (part_between S.Sources W.Sink E.Sink devices.old devices.new) }
-    ensures bound { HoldsWith (λ files. IsAnswer files words.now)
+    ensures bound { HoldsWith (λ files. IsAnswerBy C.writing files words.now)
         (part_between S.Sources W.Sink E.Sink devices.old devices.new) }
 {
-    let status = run_words(words, devices);
+    let status = run_words::<C, S, W, E>(words, devices);
     pass_on(devices.err);
     status
 }
@@ -259,7 +268,7 @@ pub fn session_on<S: Site, W: Sink, E: Sink>(
         → HoldsWithin (S.file_at site.old) named desk.old.peak desk.new.peak }
 {
     let mut devices = Devices::new(alloc, desk, site, out, err);
-    run_and_pass_on(words, &mut devices)
+    run_and_pass_on::<AsReport, S, W, E>(words, &mut devices)
 }
 
 /// Runs the whole program over any site like [`session_on`], with a desk of its own that has held

@@ -3,10 +3,11 @@ use Rattle.std.specs.Prelude.{◌≡◌, ℕ, ◌≤◌, Bool, List, max}
 use Rattle.aide_db.specs.declared.sources.Sources.{Ghosts as AnySources}
 use Rattle.aide_report.specs.Failures.{Rose}
 use Rattle.aide_session.specs.Answer.{Answer, Named}
-use Rattle.aide_session.specs.Closing.{Closes, Course, course_between}
+use Rattle.aide_session.specs.Closing.{ClosesBy, Course, course_between}
 use Rattle.aide_session.specs.Ends.{Ends, HasFailed, Sinks, sinks_between}
 use Rattle.aide_session.specs.Files.{Files}
 use Rattle.aide_session.specs.Held.{HoldsWithin, most_held}
+use Rattle.aide_session.specs.Writing.{Writing}
 use Rattle.aide_session.specs.declared.devices.Devices.{Devices}
 use Rattle.aide_text.specs.declared.sink.Sink.{Ghosts as AnySink}
 
@@ -61,8 +62,8 @@ EndsWith is_answer status p = (named : Named) (a : Answer) → is_answer p.files
     (Rose p.out_before p.out_after)
 
 -- the session of these arguments ends by one closing, whose cause holds
-abbrev pub ClosesFor : List (List ℕ) → ℕ → Part → Type 0
-ClosesFor words status p = Closes p.files words status p.sinks p.course
+abbrev pub ClosesFor : Writing → List (List ℕ) → ℕ → Part → Type 0
+ClosesFor w words status p = ClosesBy w p.files words status p.sinks p.course
     (Rose p.site_before p.site_after) (Rose p.out_before p.out_after)
 
 -- What a part of a session leaves of the desk's peak.

@@ -2,7 +2,7 @@ use Rattle.std.proofs.Common.{◌≡◌, ◌∙◌, sym, ℕ, List, Some, refl}
 use Rattle.std.proofs.Math.Path.{subst}
 use Rattle.aide_conf.specs.declared.options.Options.{Options}
 use Rattle.aide_db.specs.declared.side.Side.TheVariants.{Old, New}
-use Rattle.aide_session.specs.Answer.{IsCompared, Named}
+use Rattle.aide_session.specs.Answer.{IsComparedBy, Named}
 use Rattle.aide_session.specs.Closing.{AsksToCompare, HasText}
 use Rattle.aide_session.specs.Files.{Files}
 use Rattle.aide_session.specs.Held.{IsPeakOf}
@@ -16,13 +16,13 @@ pub returns-in-Err-clause-ends : goal.returns-in-Err-clause-ends
 returns-in-Err-clause-ends g c = λ named a is. ends_starved a named _ _ _ _ _ _ _ c.put_memory_line.ensures
 
 pub returns-in-Err-clause-closes : goal.returns-in-Err-clause-closes
-returns-in-Err-clause-closes g c = λ words config read. closes_starved _ words _ _ _ _ _ _ _ _ c.put_memory_line.ensures c.point.ensures.keeps.openings refl
+returns-in-Err-clause-closes g c = λ words config read. closes_starved g.C.Comparison.writing _ words _ _ _ _ _ _ _ _ c.put_memory_line.ensures c.point.ensures.keeps.openings refl
 
 pub returns-in-Err-point-clause-ends : goal.returns-in-Err-point-clause-ends
 returns-in-Err-point-clause-ends g c = λ named a is. ends_starved a named _ _ _ _ _ _ _ c.put_memory_line-in-Err-point.ensures
 
 pub returns-in-Err-point-clause-closes : goal.returns-in-Err-point-clause-closes
-returns-in-Err-point-clause-closes g c = λ words config read. closes_starved _ words _ _ _ _ _ _ _ _ c.put_memory_line-in-Err-point.ensures (c.point-2.ensures.keeps.openings ∙ c.point.ensures.keeps.openings) refl
+returns-in-Err-point-clause-closes g c = λ words config read. closes_starved g.C.Comparison.writing _ words _ _ _ _ _ _ _ _ c.put_memory_line-in-Err-point.ensures (c.point-2.ensures.keeps.openings ∙ c.point.ensures.keeps.openings) refl
 
 pub returns-clause-ends : goal.returns-clause-ends
 returns-clause-ends g c = λ named a is.
@@ -52,7 +52,7 @@ returns-clause-ends g c = λ named a is.
       new_file = is.new_file;
       old_told = told_old;
       new_told = told_new;
-      then_is = subst (λ (options : Options). IsCompared options named is.old_file is.new_file a) (sym c.in-Some.ensures.some.2) is.then_is;
+      then_is = subst (λ (options : Options). IsComparedBy g.C.Comparison.writing options named is.old_file is.new_file a) (sym c.in-Some.ensures.some.2) is.then_is;
     }))
 
 pub returns-clause-closes : goal.returns-clause-closes
@@ -63,7 +63,7 @@ returns-clause-closes g c = λ words config read.
     let texts = pointed_texts files (g.S.Sources.file_at c.point.new.self) named (g.S.Sources.bytes_of c.point.new.self) (g.S.Sources.bytes_of c.point-2.new.self)
     c.point.ensures.keeps.files c.in_default-point.ensures.pointed c.in_default-point-2.ensures.pointed (c.point-2.ensures.others.other Old old_is_not_new) in
     let asks : AsksToCompare files words named = record { settings = c.args.settings.now; asks = read; old_is = c.in-Some.ensures.some.0; new_is = c.in-Some.ensures.some.1 } in
-    closes_over files (g.S.Sources.file_at c.point-2.new.self) words _ _ _ _ _ _ _ _ same
+    closes_over g.C.Comparison.writing files (g.S.Sources.file_at c.point-2.new.self) words _ _ _ _ _ _ _ _ same
     (same_course g.S.Sources.openings g.S.Sources.was_given g.W.Sink.flushes g.W.Sink.is_flushed c.args.devices.now.site.now c.point-2.new.self c.compare_sides.new.devices.site.now c.args.devices.now.out.now c.compare_sides.new.devices.out.now (c.point-2.ensures.keeps.openings ∙ c.point.ensures.keeps.openings))
     (c.point-2.ensures.keeps.failures ∙ c.point.ensures.keeps.failures)
     (c.compare_sides.ensures.closes words (record {
@@ -76,7 +76,7 @@ returns-clause-closes g c = λ words config read.
     }))
 
 pub returns-in_default-reserve-clause-closes : goal.returns-in_default-reserve-clause-closes
-returns-in_default-reserve-clause-closes g c = λ words config read. closes_starved _ words _ _ _ _ _ _ _ _ c.put_memory_line-in_default-reserve.ensures (c.point-2.ensures.keeps.openings ∙ c.point.ensures.keeps.openings) refl
+returns-in_default-reserve-clause-closes g c = λ words config read. closes_starved g.C.Comparison.writing _ words _ _ _ _ _ _ _ _ c.put_memory_line-in_default-reserve.ensures (c.point-2.ensures.keeps.openings ∙ c.point.ensures.keeps.openings) refl
 
 pub returns-in-Err-clause-bound : goal.returns-in-Err-clause-bound
 returns-in-Err-clause-bound g c = λ named a is. same_held (g.S.Sources.file_at c.args.devices.now.site.now) named c.args.devices.now.desk.now.peak

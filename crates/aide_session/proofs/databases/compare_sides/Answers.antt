@@ -8,7 +8,7 @@ use Rattle.aide_session.proofs.databases.compare_sides.Goals as goal
 
 pub returns-in-Ok-clause-ends : goal.returns-in-Ok-clause-ends
 returns-in-Ok-clause-ends g c = λ named a is.
-    let by_run = run_of (g.S.Sources.bytes_of c.args.devices.now.site.now) (g.S.Sources.is_missing c.args.devices.now.site.now) (asked c.args.task.now) named a is in
+    let by_run = run_of g.C.Comparison.writing (g.S.Sources.bytes_of c.args.devices.now.site.now) (g.S.Sources.is_missing c.args.devices.now.site.now) (asked c.args.task.now) named a is in
     ends_as a (answer_by named by_run.0) named _ _ _ _ by_run.2
     (ends_status (answer_by named by_run.0) named _ _ _ _ _ c.status.ensures
     (ends_well by_run.0 c.in-Ok.outcome named _ _ _ _ _ _ _ _ (c.in-Ok.ensures.over is.old_file is.new_file is.old_told is.new_told by_run.0 by_run.1) c.put_outcome_lines.ensures))
@@ -19,7 +19,7 @@ returns-in-Ok-clause-closes g c = λ words for. record {
   named = for.named;
   cause = ((for.asks, for.options_are), λ side text has. c.in-Ok.ensures.sound side text (for.gives side text has));
   status_is = c.status.ensures;
-  output = (c.in-Ok.ensures.consistent, c.in-Ok.ensures.flushed, c.in-Ok.ensures.flushes);
+  output = (rw (for.old_is, for.new_is) c.in-Ok.ensures.consistent, c.in-Ok.ensures.flushed, c.in-Ok.ensures.flushes);
   opens = (
     c.in-Ok.ensures.opens_told,
     λ old new has_old has_new.
@@ -33,7 +33,7 @@ pub returns-in-Err-clause-ends : goal.returns-in-Err-clause-ends
 returns-in-Err-clause-ends g c = λ named a is.
     let fault = c.in-Err.fault in
     let site = c.args.devices.now.site.now in
-    let by_run = run_of (g.S.Sources.bytes_of c.args.devices.now.site.now) (g.S.Sources.is_missing c.args.devices.now.site.now) (asked c.args.task.now) named a is in
+    let by_run = run_of g.C.Comparison.writing (g.S.Sources.bytes_of c.args.devices.now.site.now) (g.S.Sources.is_missing c.args.devices.now.site.now) (asked c.args.task.now) named a is in
     let rose = Rose (g.S.Sources.failures site) (g.S.Sources.failures c.run.new.sources) in
     let out = Rose (g.W.Sink.failures c.args.devices.now.out.now) (g.W.Sink.failures c.run.new.out) in
     ends_as a (answer_by named by_run.0) named _ _ _ _ by_run.2

@@ -15,4 +15,4 @@ returns-clause-passed_on g c = λ unfailed.
 
 pub returns-clause-closes : goal.returns-clause-closes
 returns-clause-closes g c =
-    closes_passed _ c.args.words.now _ _ _ _ _ _ _ _ _ _ _ _ c.pass_on.ensures.kept c.pass_on.ensures.never_falls c.run_words-status.ensures.closes
+    closes_passed g.C.Comparison.writing _ c.args.words.now _ _ _ _ _ _ _ _ _ _ _ _ c.pass_on.ensures.kept c.pass_on.ensures.never_falls c.run_words-status.ensures.closes

@@ -1,4 +1,5 @@
 use Rattle.std.proofs.Common.{rules}
+use Rattle.aide_session.specs.Writing.{the_report}
 use Rattle.aide_session.proofs.Endings.{ends_exactly, ends_reliably}
 use Rattle.aide_session.proofs.Existence.{answered}
 use Rattle.aide_session.proofs.program.session_on.Goals as goal
@@ -12,4 +13,4 @@ returns-clause-reliable g c = λ named a is reliable unfailed_out.
     ends_reliably a named _ _ _ (g.S.Sources.failures c.args.site.now) (g.S.Sources.failures c.run_and_pass_on.new.devices.site.now) _ _ reliable unfailed_out (search rules)
 
 pub returns-clause-answered : goal.returns-clause-answered
-returns-clause-answered g c = λ tells. answered _ c.args.words.now tells
+returns-clause-answered g c = λ tells. answered the_report _ c.args.words.now tells

@@ -1,0 +1,43 @@
+-- What a session writes of two databases: the report, or lines of JSON.
+use Rattle.std.specs.Prelude.{ℕ, List, Option}
+use Rattle.aide_conf.specs.declared.options.Options.{Options}
+use Rattle.aide_db.specs.declared.side.Side.{Side}
+use Rattle.aide_report.specs.Agreement.{IsOfOutcome, OpensByOutcome}
+use Rattle.aide_report.specs.Asked.{Asked}
+use Rattle.aide_report.specs.LineRuns.{AreLinesOf, line_openings, line_openings_told, lines_over}
+use Rattle.aide_report.specs.Openings.{OpensExactly}
+use Rattle.aide_report.specs.Runs.{Report, openings_over, report_over}
+use Rattle.aide_report.specs.declared.outcome.Outcome.{Outcome}
+
+-- what is written of two databases
+pub record Writing : Type 1 where
+  -- what is written of two sound texts, and the outcome that goes with it
+  pub over : Asked → (old new : List ℕ) → Report
+  -- how often each database is opened for it
+  pub openings : Asked → (old new : List ℕ) → ℕ
+  -- what an outcome determines of the bytes that have gone out
+  pub IsOf : Asked → Outcome → (before after : Option (List ℕ)) → Type 0
+  -- what an outcome determines of how often the databases were opened
+  pub OpensBy : Options → Outcome → (before after : Side → ℕ) → Type 0
+  -- no run opens a database more often than this
+  pub most_openings : ℕ
+
+-- the report
+abbrev pub the_report : Writing
+the_report = record {
+  over = report_over;
+  openings = openings_over;
+  IsOf = λ asked outcome before after. IsOfOutcome asked.options outcome before after;
+  OpensBy = OpensByOutcome;
+  most_openings = 6;
+}
+
+-- the lines of JSON
+abbrev pub the_lines : Writing
+the_lines = record {
+  over = lines_over;
+  openings = line_openings;
+  IsOf = AreLinesOf;
+  OpensBy = λ options outcome before after. OpensExactly before after (line_openings_told outcome);
+  most_openings = 3;
+}
