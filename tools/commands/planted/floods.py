@@ -1,9 +1,9 @@
 """Bugs of what people read first: its order, its shares, and the files that have the content of before."""
 from .plant import seen_by
 
-LISTING, MESSAGE, EXPLAINER, SAME, ENTRIES = (
+LISTING, MESSAGE, EXPLAINER, DATABASES, ENTRIES = (
     "commands/lib/aide_compare/%s.py" % name
-    for name in ("show/listing", "mail/message", "reasons/explainer", "reasons/same_content", "reasons/entries")
+    for name in ("show/listing", "mail/message", "reasons/explainer", "reasons/by_databases", "reasons/entries")
 )
 PLANTED = (
     seen_by(
@@ -54,13 +54,13 @@ PLANTED = (
     )
     + seen_by(
         "floods.try_same_content",
-        (SAME, "LEAST_BYTES = 32", "LEAST_BYTES = 16"),
-        (SAME, 'DIFFERS = TIMES | {"inode"}', 'DIFFERS = TIMES | {"inode", "perm"}'),
-        (SAME, "not differ <= DIFFERS", "differ & {'perm', 'uid', 'gid'}"),
-        (SAME, "not differ or not differ <= DIFFERS", "not differ - {'sha256'} <= DIFFERS"),
-        (SAME, "    if stat.S_ISSOCK(new.mode) or stat.S_ISFIFO(new.mode):\n        return EMPTY\n", ""),
-        (SAME, "stat.S_ISSOCK(new.mode) or stat.S_ISFIFO(new.mode)", "stat.S_ISSOCK(new.mode)"),
-        (SAME, "stat.S_ISSOCK(new.mode) or stat.S_ISFIFO(new.mode)", "not new.is_file()"),
-        (EXPLAINER, "if change.reason is SAME:", "if change.reason:"),
+        (DATABASES, "LEAST_BYTES = 32", "LEAST_BYTES = 16"),
+        (DATABASES, 'ANEW = TIMES | {"inode"}', 'ANEW = TIMES | {"inode", "perm"}'),
+        (DATABASES, "not differ <= ANEW", "differ & {'perm', 'uid', 'gid'}"),
+        (DATABASES, "not differ or not differ <= ANEW", "not differ - {'sha256'} <= ANEW"),
+        (DATABASES, "    if stat.S_ISSOCK(new.mode) or stat.S_ISFIFO(new.mode):\n        return EMPTY\n", ""),
+        (DATABASES, "stat.S_ISSOCK(new.mode) or stat.S_ISFIFO(new.mode)", "stat.S_ISSOCK(new.mode)"),
+        (DATABASES, "stat.S_ISSOCK(new.mode) or stat.S_ISFIFO(new.mode)", "not new.is_file()"),
+        (EXPLAINER, "LOW if change.reason is SAME else", "LOW if change.reason else"),
     )
 )

@@ -2,11 +2,10 @@
 from .plant import seen_by
 
 LIB = "commands/lib/aide_compare/reasons/"
-GROWING, MOVES, ENTRIES, PACKAGES, MADE, PARENTS, PROTECTED, RULES, SEVERITY, DPKG, GATHERED, DEB, INDEXES, ARCHIVE = (
+DATABASES, ENTRIES, PACKAGES, MADE, PARENTS, PROTECTED, RULES, SEVERITY, DPKG, GATHERED, DEB, INDEXES, ARCHIVE = (
     LIB + name + ".py"
     for name in (
-        "growing",
-        "moves",
+        "by_databases",
         "entries",
         "packages",
         "made",
@@ -30,47 +29,47 @@ TRUSTED, SEVERITIES = "commands/lib/aide_compare/base/trusted.py", "commands/sha
 PLANTED = (
     seen_by(
         "reasons_logs.try_growing",
-        (GROWING, "return UNCHANGED if _has_long_digest(old) else LATER", "return UNCHANGED if old.digests() else LATER"),
-        (GROWING, "before <= after) for", "True) for"),
-        (GROWING, 'GROWS = DIGESTS | TIMES | {"size", "bcount"}', 'GROWS = DIGESTS | TIMES | {"size", "bcount", "inode"}'),
-        (GROWING, "    if not (old.bits & GROWING and old.is_file()", "    if not (new.bits & GROWING and old.is_file()"),
-        (GROWING, 'if "size" in differ:', "if differ & DIGESTS:"),
+        (DATABASES, "return UNCHANGED if _has_long(old.digests()) else LATER", "return UNCHANGED if old.digests() else LATER"),
+        (DATABASES, "before <= after) for", "True) for"),
+        (DATABASES, 'GROWS = DIGESTS | TIMES | {"size", "bcount"}', 'GROWS = DIGESTS | TIMES | {"size", "bcount", "inode"}'),
+        (DATABASES, "    if not (old.bits & GROWING and old.is_file()", "    if not (new.bits & GROWING and old.is_file()"),
+        (DATABASES, 'if "size" in differ:', "if differ & DIGESTS:"),
         (ENTRIES, '    if (old.bits ^ new.bits) & ~SPECIAL:\n        found.add("attributes")\n', ""),
         (ENTRIES, "    if (old.bits ^ new.bits) & ~SPECIAL:\n", "    if old.bits ^ new.bits:\n"),
-        (GROWING, "    return UNCHANGED if _has_long_digest(old) else LATER\n", "    return UNCHANGED\n"),
+        (DATABASES, "    return UNCHANGED if _has_long(old.digests()) else LATER\n", "    return UNCHANGED\n"),
     )
     + seen_by(
         "reasons_logs.try_added",
-        (GROWING, "old.bits & REMOVED_FILES and old.is_file()", "old.bits & NEW_FILES and old.is_file()"),
+        (DATABASES, "old.bits & REMOVED_FILES and old.is_file()", "old.bits & NEW_FILES and old.is_file()"),
     )
     + seen_by(
         "reasons_logs.try_rotated",
-        (GROWING, "is_same = _has_long_digest(old)", "is_same = bool(old.digests())"),
-        (GROWING, "    if not (old.bits & SAME_INODE and old.is_file()):\n        return None\n", ""),
-        (GROWING, 'if differ <= {"ctime"}:', 'if differ <= {"ctime", "perm"}:'),
+        (DATABASES, "is_same = _has_long(old.digests())", "is_same = bool(old.digests())"),
+        (DATABASES, "    if not (old.bits & SAME_INODE and old.is_file()):\n        return None\n", ""),
+        (DATABASES, 'if differ <= {"ctime"}:', 'if differ <= {"ctime", "perm"}:'),
         (
-            MOVES,
+            DATABASES,
             'self.by_inode.get((change.folder(), new.field("inode")))',
             'next((value for (_, inode), value in self.by_inode.items() if inode == new.field("inode")), None)',
         ),
-        (MOVES, '        if not differences(old, new) <= GROWS | {"inode"}:\n            return None\n', ""),
+        (DATABASES, '        if not differences(old, new) <= GROWS | {"inode"}:\n            return None\n', ""),
     )
     + seen_by(
         "reasons_logs.try_packed",
-        (MOVES, '"xattrs", "mtime")', '"xattrs")'),
-        (MOVES, '("perm", "uid", "gid",', '("perm", "gid",'),
-        (MOVES, '("perm", "uid", "gid",', '("uid", "gid",'),
-        (MOVES, " and sizes[1] <= sizes[0] + MOST_HEAD", ""),
-        (MOVES, "not new.bits & COMPRESSED or ", ""),
-        (MOVES, ' or new.time("mtime") is None', ""),
-        (MOVES, 'old.number("inode") != new.number("inode") and ', ""),
-        (MOVES, " and None not in sizes", ""),
-        (MOVES, "self.by_stem.get((change.folder(), stem, _kept_of(new)), ())", "sum(self.by_stem.values(), [])"),
+        (DATABASES, '"xattrs", "mtime")', '"xattrs")'),
+        (DATABASES, '("perm", "uid", "gid",', '("perm", "gid",'),
+        (DATABASES, '("perm", "uid", "gid",', '("uid", "gid",'),
+        (DATABASES, " and sizes[1] <= sizes[0] + MOST_HEAD", ""),
+        (DATABASES, "not new.bits & COMPRESSED or ", ""),
+        (DATABASES, ' or new.time("mtime") is None', ""),
+        (DATABASES, 'old.number("inode") != new.number("inode") and ', ""),
+        (DATABASES, " and None not in sizes", ""),
+        (DATABASES, "self.by_stem.get((change.folder(), stem, _kept_of(new)), ())", "sum(self.by_stem.values(), [])"),
     )
     + seen_by(
         "reasons_logs.try_many_packed",
         (
-            MOVES,
+            DATABASES,
             "self.by_stem.get((change.folder(), stem, _kept_of(new)), ())[:MOST_SOURCES]",
             "[each for each in sum(self.by_stem.values(), []) if _kept_of(self.read(each)[0]) == _kept_of(new)]",
         ),
@@ -86,7 +85,7 @@ PLANTED = (
         "reasons_packages.try_content",
         (PACKAGES, "        if old and not differ <= CONTENT:\n            return None\n", ""),
         (PACKAGES, "(old is None and not new.is_closed())", "False"),
-        (MOVES, "change.reason is None and change.is_replaced", "change.is_replaced"),
+        (DATABASES, "change.reason is None and change.is_replaced", "change.is_replaced"),
         (ENTRIES, "self.user_and_group() == (0, 0) and self.is_plain()", "self.is_plain()"),
         (PROTECTED, "is_open(new) and not is_open(old)", "is_open(new)"),
         (ENTRIES, "not self.is_link() and (has_more or has_list)", "not self.is_link() and has_more"),
@@ -172,15 +171,15 @@ PLANTED = (
     )
     + seen_by(
         "reasons_places.try_folders",
-        (PARENTS, "return NOT_VERIFIED if names.unverified else VERIFIED", "return VERIFIED"),
-        (PARENTS, "        if not has_other_names(old, new, differ):\n            return None\n", ""),
+        (PARENTS, "text + more, worst == VERIFIED,", "text, True,"),
+        (PARENTS, ' or not has_other_names(old, new, differ - {"inode"})', ' or (is_anew and not has_other_names(old, new, differ - {"inode"}))'),
         (PARENTS, "return None not in flags and flags[0] ^ flags[1] == INDEX", "return True"),
         (PARENTS, "return None not in flags and flags[0]", "return flags[0]"),
-        (PARENTS, "change.new_at is None or (names", "(names"),
-        (PARENTS, "if change.reason is None and not change.is_never:", "if change.reason is None:"),
-        (PARENTS, "return ANEW_NOT_VERIFIED if names.unverified else ANEW", "return NOT_VERIFIED"),
-        (PARENTS, "if not names or not has_other", "if not has_other"),
-        (PARENTS, 'not names or not has_other_names(old, new, differ - {"inode"})', "not names"),
+        (PARENTS, " and change.new_at is not None and", " and"),
+        (PARENTS, "if change.is_open() and", "if change.reason is None and"),
+        (PARENTS, "else ALL_NAMES, worst)", "else ALL_NAMES, NOT_VERIFIED if is_anew else worst)"),
+        (PARENTS, "if worst is None:", "if worst is None and not is_anew:"),
+        (PARENTS, ' or not has_other_names(old, new, differ - {"inode"})', ' or (not is_anew and not has_other_names(old, new, differ))'),
     )
     + seen_by(
         "reasons_places.try_rules",
@@ -229,7 +228,7 @@ PLANTED = (
     + seen_by(
         "reasons_lines.try_same",
         (LINES, 'end = line.rindex(b"}")', 'line, end = ENCODE(json.loads(line)).encode() + b"\\n", -2'),
-        (EXPLAINER, "tally.add(change.reason, change.severity)", "tally.add(None, change.severity)"),
+        (EXPLAINER, "counts_by_reason(changes)", "counts_by_reason(changes[:0])"),
     )
     + seen_by(
         "reasons_lines.try_damage",
@@ -250,9 +249,9 @@ PLANTED = (
     + seen_by(
         "reasons_nights.try_nights",
         (
-            LIB + "database.py",
-            'return key_of(line[: line.find(b" ")]',
-            'return key_of(line[: line.find(b" ")].replace(b"%", b"%25")',
+            ENTRIES,
+            'field = line[: line.find(b" ")]',
+            'field = line[: line.find(b" ")].replace(b"%", b"%25")',
         ),
         (DPKG, 'bases = (package.name + b":" + package.arch, package.name)', "bases = (package.name,)"),
     )

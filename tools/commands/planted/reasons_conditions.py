@@ -1,6 +1,6 @@
 """Bugs of aide-compare reasons: single conditions, columns and words of what dpkg's records and rules explain."""
 from .plant import seen_by
-from .reasons import ENTRIES, GROWING, LINKS, PACKAGES, RULES
+from .reasons import DATABASES, ENTRIES, LINKS, PACKAGES, RULES
 
 PLANTED = (
     seen_by(
@@ -93,7 +93,7 @@ PLANTED = (
     + seen_by("reasons_rpm.try_links", (LINKS, "if reason and new.is_file() and count", "if reason and count"))
     + seen_by(
         "reasons_logs.try_rotated",
-        (GROWING, "is_same = _has_long_digest(old)", "is_same = True"),
-        (GROWING, "is_same = _has_long_digest(old)", 'is_same = old.field("md5") != b"0"'),
+        (DATABASES, "is_same = _has_long(old.digests())", "is_same = True"),
+        (DATABASES, "is_same = _has_long(old.digests())", 'is_same = old.field("md5") != b"0"'),
     )
 )

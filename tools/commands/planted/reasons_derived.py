@@ -1,9 +1,9 @@
 """Bugs of aide-compare reasons: checks of what programs make of verified files, such as compiled Python and certificates."""
 from .plant import seen_by
-from .reasons import CONTENT, EXPLAINER, LIB, MADE, PARENTS
+from .reasons import CONTENT, DATABASES, EXPLAINER, LIB, MADE, PARENTS
 
-COMPILED, MARSHALLED, CERTIFICATES, SUMS, SAME = (
-    LIB + name + ".py" for name in ("compiled", "marshalled", "certificates", "sums", "same_content")
+COMPILED, MARSHALLED, CERTIFICATES, SUMS = (
+    LIB + name + ".py" for name in ("compiled", "marshalled", "certificates", "sums")
 )
 
 PLANTED = (
@@ -87,15 +87,16 @@ PLANTED = (
     )
     + seen_by(
         "reasons_made.try_new_folders",
-        (PARENTS, "names and new.is_folder() and new.is_plain()", "names and new.is_folder()"),
-        (PARENTS, "not (names and new.is_folder()", "not (new.is_folder()"),
-        (PARENTS, " or new.mode & 0o022:", ":"),
+        (PARENTS, "is_roots = new.is_plain() and ", "is_roots = "),
+        (PARENTS, "if is_roots and worst is not None else", "if is_roots else"),
+        (PARENTS, " and not new.mode & OTHERS_WRITE", ""),
     )
     + seen_by(
         "reasons_made.try_jail",
-        (SAME, "    if new.is_link() and new.link():\n        return SAME\n", ""),
-        (PARENTS, "return ANEW_NOT_VERIFIED if names.unverified else ANEW", "return ANEW"),
-        (PARENTS, "return ANEW_NOT_VERIFIED if names.unverified else ANEW", "return ANEW_NOT_VERIFIED"),
+        (DATABASES, "    if new.is_link() and new.link():\n        return SAME\n", ""),
+        (PARENTS, "max(standing, self.worst.get(folder, VERIFIED))", "standing"),
+        (PARENTS, "worst == VERIFIED,", "False,"),
+        (PARENTS, "worst == VERIFIED,", "True,"),
     )
     + seen_by(
         "reasons_made.try_kept",
@@ -103,7 +104,6 @@ PLANTED = (
         (MADE, " and parent in self.known.now", ""),
         (MADE, " and path.startswith(KEPT)", ""),
         (MADE, "new.is_folder() and path.startswith(KEPT)", "path.startswith(KEPT)"),
-        (PARENTS, "return NEW_NOT_VERIFIED if names.unverified else NEW", "return NEW_NOT_VERIFIED"),
-        (PARENTS, "return NEW_NOT_VERIFIED if names.unverified else NEW", "return NEW"),
+        (PARENTS, "worst == VERIFIED,", "False,"),
     )
 )

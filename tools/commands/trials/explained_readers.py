@@ -85,7 +85,7 @@ def try_alarm(sandbox):
     sandbox.write(
         "lib/aide_compare/reasons/explainer.py",
         sandbox.read("lib/aide_compare/reasons/explainer.py").replace(
-            b"        tally = Tally()\n", b"        raise KeyError\n"
+            b"        self.counts = counts_by_reason(changes)\n", b"        raise KeyError\n"
         ),
     )
     found = call(sandbox, *REASONS, *QUIET, "o.db", "gone.db")

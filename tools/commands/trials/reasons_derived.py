@@ -80,9 +80,9 @@ class Changes:
         self.sandbox, self.entries, self.changes = sandbox, {}, []
         self.change_type, self.entry_type = (
             getattr(own_module("aide_compare.reasons." + name), kind)
-            for name, kind in (("change", "Change"), ("entries", "Entry"))
+            for name, kind in (("changes", "Change"), ("entries", "Entry"))
         )
-        self.reason_type = own_module("aide_compare.reasons.reason").Reason
+        self.reason_type = own_module("aide_compare.reasons.changes").Reason
 
     def _entry(self, path, **given):
         values = Entry(path, 0o100644, **given).values

@@ -7,7 +7,7 @@ from aide_compare.base.escapes import shown
 from aide_compare.reasons.content import bytes_of
 from aide_compare.reasons.entries import CONTENT, TIMES, differences
 from aide_compare.reasons.made import target_of
-from aide_compare.reasons.reason import Reason
+from aide_compare.reasons.changes import Reason
 
 FOLDER, SHIPPED = b"/etc/ssl/certs/", b"/usr/share/ca-certificates/"
 BUNDLE = FOLDER + b"ca-certificates.crt"

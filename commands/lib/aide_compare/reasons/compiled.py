@@ -15,7 +15,7 @@ from aide_compare.base.escapes import shown
 from aide_compare.reasons.content import bytes_of
 from aide_compare.reasons.entries import CONTENT, differences
 from aide_compare.reasons.marshalled import is_same
-from aide_compare.reasons.reason import Reason
+from aide_compare.reasons.changes import Reason
 
 COMPILED = re.compile(rb"(/.*)/__pycache__/([^/]+)\.(cpython-[0-9]+)(?:\.opt-([12]))?\.pyc")
 CACHE = b"/__pycache__"

@@ -1,16 +1,22 @@
-"""What a database says of an entry: its fields, and in which columns two entries differ."""
+"""What a database says of an entry: where it is, its fields, and in which columns two entries differ."""
 import base64
 import binascii
+import os
 import re
 import stat
+from functools import partial
 
-from aide_compare.base.path_keys import unescaped
+from aide_compare.base.ending import Fault, Status
+from aide_compare.base.path_keys import key_of, key_of_path, unescaped
 from aide_compare.lines.attributes import DIGEST_COLUMNS as DIGESTS
 
 FIELDS = re.compile(rb"[^ \t]+")
 ODD_BLANKS = re.compile(rb"[\x0b\x0c\r]")
 ABSENT = b"0"
 OTHERS_WRITE = 0o022
+# The longest line of a database, the bits of a place that hold a length, and those that hold the number of a table.
+MOST_LINE, LENGTH_BITS, TABLE_BITS = 1 << 20, 21, 6
+READ_AT_ONCE = 1 << 18
 
 SIZE_ONLY_GROWS, SAME_INODE, NEW_FILES, REMOVED_FILES, GROWING, COMPRESSED = (1 << bit for bit in (26, 27, 28, 29, 40, 41))
 USER, GROUP = 1 << 3, 1 << 4
@@ -76,11 +82,8 @@ class Entry:
 
     def digests(self):
         """The digests that the entry has, as bytes. An absent one is equal to nothing, so it is not among them."""
-        found = {}
-        for column in DIGESTS & self.places.keys():
-            field = self.field(column)
-            if field != ABSENT:
-                found[column] = digest_of(field)
+        fields = ((column, self.field(column)) for column in DIGESTS & self.places.keys())
+        found = {column: digest_bytes(field) for column, field in fields if field != ABSENT}
         return {column: value for column, value in found.items() if value}
 
     def link(self):
@@ -129,22 +132,14 @@ def _is_base_acl(field):
     """Whether an access list says no more than a mode: `POSIX,` and two lists, the second one for new files in a folder."""
     kind, *lists = field.split(b",")
     texts = [b"" if part == ABSENT else _unpacked(part) for part in lists]
-    return (
-        kind == b"POSIX"
-        and len(texts) == 2
-        and texts[0] is not None
-        and texts[1] == b""
-        and (not texts[0] or BASE_ACL.fullmatch(texts[0]) is not None)
-    )
+    is_whole = kind == b"POSIX" and len(texts) == 2 and None not in texts and texts[1] == b""
+    return is_whole and (not texts[0] or BASE_ACL.fullmatch(texts[0]) is not None)
 
 
-def digest_of(field):
+def digest_bytes(field):
     """The bytes of a digest in base 16 or base 64; both have forms of their own, by the length."""
-    try:
-        if len(field) in (8, 32, 40, 48, 64, 96, 128) and re.fullmatch(rb"[0-9a-f]+", field):
-            return bytes.fromhex(field.decode())
-    except ValueError:
-        pass
+    if len(field) in (8, 32, 40, 48, 64, 96, 128) and re.fullmatch(rb"[0-9a-f]+", field):
+        return bytes.fromhex(field.decode())
     return _unpacked(field)
 
 
@@ -161,3 +156,59 @@ def differences(old, new):
     if (old.bits ^ new.bits) & ~SPECIAL:
         found.add("attributes")
     return found
+
+
+def _found(lines, tables):
+    """Yields the key and the place of each entry. The tables of columns are noted, of which the last one counts."""
+    name_at, begin = None, 0
+    for line in iter(partial(lines.readline, MOST_LINE + 1), b""):
+        field = None
+        if line[:1] == b"/" and name_at == 0 and b"\t" not in line:
+            field = line[: line.find(b" ")] if b" " in line else line.rstrip(b"\n")
+        else:
+            fields = fields_of(line) or [b"#"]
+            if fields[0] == b"@@end_db":
+                return
+            if fields[0] == b"@@db_spec" and b"name" in fields and len(tables) < 1 << TABLE_BITS:
+                columns = [column.decode("ascii", "replace") for column in fields[1:]]
+                tables.append({column: place for place, column in enumerate(columns)})
+                name_at = columns.index("name")
+            elif not fields[0].startswith((b"#", b"@@")) and name_at is not None and name_at < len(fields):
+                field = fields[name_at]
+        if field is not None:
+            yield key_of(field), (begin << LENGTH_BITS | len(line)) << TABLE_BITS | (len(tables) - 1)
+        begin += len(line)
+
+
+class OrderedDatabase:
+    """A plain database in path order, read once from its beginning. A place is where an entry is in the file, as a number:
+    where its line begins, its length, and which of the tables of columns it has."""
+
+    def __init__(self, descriptor, side):
+        self.fd, self.side, self.tables, self.key, self.place = descriptor, side, [], b"", None
+        again = os.open("/proc/self/fd/%d" % descriptor, os.O_RDONLY | os.O_CLOEXEC)
+        self.found = _found(open(again, "rb", buffering=READ_AT_ONCE), self.tables)
+
+    def find(self, key):
+        """The place of the entry that has this key, or None. The keys are asked for in order."""
+        while self.key is not None and self.key < key:
+            self.key, self.place = next(self.found, (None, None))
+        return self.place if self.key == key else None
+
+    def at(self, place):
+        """The entry at a place."""
+        where, places = place >> TABLE_BITS, self.tables[place & ((1 << TABLE_BITS) - 1)]
+        line = os.pread(self.fd, where & ((1 << LENGTH_BITS) - 1), where >> LENGTH_BITS)
+        fields = fields_of(line)
+        if len(fields) != len(places):
+            raise Fault(Status.DATABASE, "a line of the %s database has not as many fields as columns" % self.side)
+        return Entry(fields, places)
+
+
+def entries_at(descriptor, side, paths):
+    """The entries that a database has for these paths, each with its path, in one pass."""
+    database = OrderedDatabase(descriptor, side)
+    for key, path in sorted((key_of_path(path), path) for path in paths):
+        place = database.find(key)
+        if place is not None:
+            yield path, database.at(place)

@@ -5,7 +5,7 @@ from aide_compare.base.files import Spool
 from aide_compare.base.names import KINDS
 from aide_compare.lines.json_lines import LINE_LIMIT
 from aide_compare.lines.report_lines import Refused
-from aide_compare.reasons.explainer import members_of, path_of
+from aide_compare.reasons.explainer import members_of, path_of_entry
 
 BLOCK = 1 << 18
 OURS = ("severity", "reason", "reasons")
@@ -64,7 +64,7 @@ class UnexplainedLines:
     def _judge(self, fields):
         """Refuses an entry that no database can have, or that is not after the one before."""
         try:
-            names = path_of(fields).split(b"/")
+            names = path_of_entry(fields).split(b"/")
             good = fields.get("kind") in KINDS and names[0] == b"" and len(names) > 1
         except (ValueError, KeyError, AttributeError, TypeError):
             names, good = [], False

@@ -3,26 +3,22 @@ from aide_compare.base.ending import Fault, Status
 from aide_compare.base.escapes import shown
 from aide_compare.base.names import SEVERITIES
 from aide_compare.base.path_keys import key_of_path
+from aide_compare.reasons.by_databases import SAME, Renames, explain_growing, explain_lone, explain_same
 from aide_compare.reasons.certificates import Certificates
-from aide_compare.reasons.change import Change
+from aide_compare.reasons.changes import Change, counts_by_reason
 from aide_compare.reasons.compiled import Compiled
-from aide_compare.reasons.database import Database
-from aide_compare.reasons.entries import differences
-from aide_compare.reasons.growing import explain_added, explain_growing, explain_removed
+from aide_compare.reasons.entries import OrderedDatabase, differences
 from aide_compare.reasons.merged import Merged
-from aide_compare.reasons.moves import Moves
 from aide_compare.reasons.parents import Parents
 from aide_compare.reasons.protected import is_never_explained
-from aide_compare.reasons.reason import Tally
-from aide_compare.reasons.same_content import SAME, explain_same
 from aide_compare.reasons.sums import Sums
 
 LOW = SEVERITIES[-1]
 PRESENT = {"added": (False, True), "removed": (True, False), "changed": (True, True)}
 
 
-def path_of(fields):
-    """The bytes of the path of an entry."""
+def path_of_entry(fields):
+    """The bytes of the path of an entry's object."""
     return bytes.fromhex(fields["path_hex"]) if "path_hex" in fields else fields["path"].encode("utf-8", "surrogatepass")
 
 
@@ -45,7 +41,8 @@ class Explainer:
     """Explains entries. The databases are plain and in path order; `counts` is known when the first entry is given back."""
 
     def __init__(self, old_fd, new_fd, evidence):
-        self.old, self.new, self.evidence, self.counts = Database(old_fd, "old"), Database(new_fd, "new"), evidence, None
+        self.old, self.new = OrderedDatabase(old_fd, "old"), OrderedDatabase(new_fd, "new")
+        self.evidence, self.counts = evidence, None
         self.modes = {}  # Each mode once: there are few of them, and many entries.
 
     def judge(self, objects):
@@ -58,7 +55,7 @@ class Explainer:
         if packages:
             packages.drop_unseen_links()
             self._explain_derived(changes)
-        Moves(changes, self.read).explain()
+        Renames(changes, self.read).explain()
         self._explain_each(changes, self._by_place)
         Parents(self.read, packages.owner_of if packages else lambda change: None).explain(changes)
         return self._weigh(changes)
@@ -75,7 +72,7 @@ class Explainer:
 
     def _found(self, fields):
         """The change that an object means, found in the databases."""
-        path = path_of(fields)
+        path = path_of_entry(fields)
         key = key_of_path(path)
         change = Change(path, self.old.find(key), self.new.find(key))
         present = (change.old_at is not None, change.new_at is not None)
@@ -95,14 +92,12 @@ class Explainer:
 
     def read(self, change):
         """What the databases say of a change: the old entry and the new one, None for one that is not there."""
-        return (
-            None if change.old_at is None else self.old.at(change.old_at),
-            None if change.new_at is None else self.new.at(change.new_at),
-        )
+        pairs = (self.old, change.old_at), (self.new, change.new_at)
+        return tuple(None if place is None else database.at(place) for database, place in pairs)
 
     def _explain_each(self, changes, explain):
         for change in changes:
-            if change.reason is None and not change.is_never:
+            if change.is_open():
                 old, new = self.read(change)
                 change.reason = explain(change, old, new, differences(old, new) if old and new else set())
 
@@ -114,20 +109,14 @@ class Explainer:
 
     def _by_place(self, change, old, new, differ):
         """The reason that the place gives: what AIDE's rules, packages or the administrator expect there."""
-        if old and new:
-            reason = explain_same(old, new, differ)
-        else:
-            reason = explain_added(new) if new else explain_removed(old)
+        reason = explain_same(old, new, differ) if old and new else explain_lone(old, new)
         if reason is None and self.evidence.packages:
             reason = self.evidence.packages.explain_made(change, old, new, differ)
         return reason or self.evidence.rules.explain(change, old, new, differ)
 
     def _weigh(self, changes):
-        tally = Tally()
         for change in changes:
-            change.severity = self.evidence.severity.of(change.path, change.old_mode, change.new_mode)
-            if change.reason is SAME:
-                change.severity = LOW
-            tally.add(change.reason, change.severity)
-        self.counts = tally.counts()
+            severity = self.evidence.severity.of(change.path, change.old_mode, change.new_mode)
+            change.severity = LOW if change.reason is SAME else severity
+        self.counts = counts_by_reason(changes)
         return changes

@@ -5,7 +5,7 @@ from aide_compare.base.escapes import shown
 from aide_compare.reasons.compiled import source_of
 from aide_compare.reasons.entries import CONTENT
 from aide_compare.reasons.protected import takes_no_pattern
-from aide_compare.reasons.reason import Reason
+from aide_compare.reasons.changes import Reason
 from aide_compare.base.table import Table, pattern_of
 
 ANY = b"/"

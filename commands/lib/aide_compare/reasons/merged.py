@@ -1,5 +1,5 @@
 """The folders that are links to the same name in /usr, such as /bin, as a database says."""
-from aide_compare.reasons.database import entries_at
+from aide_compare.reasons.entries import entries_at
 
 MERGED = (b"/bin", b"/lib", b"/lib32", b"/lib64", b"/libx32", b"/sbin")
 

@@ -14,7 +14,7 @@ from aide_compare.reasons.entries import CONTENT, DIGESTS, TIMES
 from aide_compare.reasons.gathered import Gathered
 from aide_compare.reasons.hard_links import HardLinks
 from aide_compare.reasons.protected import takes_no_pattern, takes_no_stranger
-from aide_compare.reasons.reason import Reason
+from aide_compare.reasons.changes import Reason
 
 SAME_CONTENT = CONTENT - DIGESTS - {"size"}
 SAME_TARGET = TIMES | {"inode", "bcount"}

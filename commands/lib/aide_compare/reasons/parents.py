@@ -1,30 +1,17 @@
 """Folders that changed because names in them came, went, or were given to other files."""
-from aide_compare.reasons.entries import NAMES, differences
-from aide_compare.reasons.reason import Reason
+from aide_compare.reasons.changes import shared_reason
+from aide_compare.reasons.entries import NAMES, OTHERS_WRITE, differences
 
-VERIFIED = Reason("directory", "all that came, went or was replaced in it is explained", True, "databases")
-NOT_VERIFIED = Reason(
-    "directory", "all that came, went or was replaced in it is explained, not all of it verified", False, "databases"
-)
-ANEW = Reason("directory", "made anew; all that is in it is explained", True, "databases")
-ANEW_NOT_VERIFIED = Reason("directory", "made anew; all that is in it is explained, not all of it verified", False, "databases")
-NEW = Reason("directory", "new; all that is in it is explained", True, "databases")
-NEW_NOT_VERIFIED = Reason("directory", "new; all that is in it is explained, not all of it verified", False, "databases")
+ALL_NAMES, ALL_IN_IT = "all that came, went or was replaced in it is explained", "all that is in it is explained"
 # The one bit of the file system's attributes that a folder gets by having many names: its index.
 INDEX = 0x1000
+# What is known of the names in a folder that came, went or were replaced, the worst last.
+VERIFIED, NOT_VERIFIED, UNEXPLAINED = range(3)
 
 
-class _Names:
-    """What is known of the names of one folder that came, went or were replaced."""
-
-    __slots__ = ("unexplained", "unverified")
-
-    def __init__(self):
-        self.unexplained = self.unverified = False
-
-    def add(self, reason):
-        self.unexplained = self.unexplained or reason is None
-        self.unverified = self.unverified or (reason is not None and not reason.verified)
+def _by_names(text, worst):
+    more = ", not all of it verified" if worst == NOT_VERIFIED else ""
+    return shared_reason("directory", text + more, worst == VERIFIED, "databases")
 
 
 def has_other_names(old, new, differ):
@@ -37,41 +24,33 @@ def has_other_names(old, new, differ):
 
 
 class Parents:
-    """Explains folders, the inner ones first, each after all that is in it."""
+    """Explains folders, the inner ones first, each after all that is in it. `worst` says by folder what is known of its names;
+    a folder in which none changed is not there."""
 
     def __init__(self, read, owner_of):
-        self.read, self.owner_of, self.names = read, owner_of, {}
+        self.read, self.owner_of, self.worst = read, owner_of, {}
 
     def explain(self, changes):
         for change in reversed(changes):
-            names = self.names.pop(change.path, None)
-            if change.reason is None and not change.is_never:
-                change.reason = self._reason(change, names)
+            worst = self.worst.pop(change.path, None)
+            if change.is_open() and change.new_at is not None and worst != UNEXPLAINED:
+                change.reason = self._reason(change, worst)
             if change.is_replaced:
-                self.names.setdefault(change.folder(), _Names()).add(change.reason)
+                standing = VERIFIED if change.is_verified() else NOT_VERIFIED if change.reason else UNEXPLAINED
+                folder = change.folder()
+                self.worst[folder] = max(standing, self.worst.get(folder, VERIFIED))
 
-    def _reason(self, change, names):
-        if change.new_at is None or (names and names.unexplained):
-            return None
+    def _reason(self, change, worst):
         old, new = self.read(change)
-        if old is None:
-            return self._came(new, names)
-        if not (old.is_folder() and new.is_folder()):
+        if not new.is_folder():
             return None
+        if old is None:  # Nobody but root can put more into it.
+            is_roots = new.is_plain() and not new.mode & OTHERS_WRITE
+            return _by_names("new; " + ALL_IN_IT, worst) if is_roots and worst is not None else None
         differ = differences(old, new)
-        if "inode" in differ:
-            if not names or not has_other_names(old, new, differ - {"inode"}):
-                return None
-            return ANEW_NOT_VERIFIED if names.unverified else ANEW
-        if not has_other_names(old, new, differ):
+        is_anew = "inode" in differ
+        if not old.is_folder() or not has_other_names(old, new, differ - {"inode"}):
             return None
-        if names:
-            return NOT_VERIFIED if names.unverified else VERIFIED
-        return self.owner_of(change)
-
-    @staticmethod
-    def _came(new, names):
-        """The reason for a new folder of root's that has something, and into which nobody else can put more."""
-        if not (names and new.is_folder() and new.is_plain()) or new.mode & 0o022:
-            return None
-        return NEW_NOT_VERIFIED if names.unverified else NEW
+        if worst is None:
+            return None if is_anew else self.owner_of(change)
+        return _by_names("made anew; " + ALL_IN_IT if is_anew else ALL_NAMES, worst)

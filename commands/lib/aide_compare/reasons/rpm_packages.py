@@ -15,7 +15,7 @@ from aide_compare.reasons.entries import CONTENT
 from aide_compare.reasons.hard_links import HardLinks
 from aide_compare.reasons.merged import Merged
 from aide_compare.reasons.protected import takes_no_stranger
-from aide_compare.reasons.reason import Reason
+from aide_compare.reasons.changes import Reason
 from aide_compare.reasons.rpm import RPM_NAME
 from aide_compare.reasons.rpm_night import Night
 from aide_compare.reasons.vouched import Vouched

@@ -5,9 +5,9 @@ from collections import namedtuple
 from aide_compare.base.ending import Fault, Status
 from aide_compare.base.escapes import shown
 from aide_compare.reasons.entries import DIGESTS
-from aide_compare.reasons.growing import has_grown
+from aide_compare.reasons.by_databases import has_grown
 from aide_compare.reasons.protected import takes_no_pattern
-from aide_compare.reasons.reason import Reason
+from aide_compare.reasons.changes import Reason
 from aide_compare.base.table import Table, pattern_of
 from aide_compare.base.trusted import lines_of
 

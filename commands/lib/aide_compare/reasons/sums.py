@@ -4,7 +4,7 @@ import re
 from aide_compare.reasons.content import Contents, bytes_of
 from aide_compare.reasons.dpkg import DIGEST
 from aide_compare.reasons.entries import CONTENT, differences
-from aide_compare.reasons.reason import Reason
+from aide_compare.reasons.changes import Reason
 
 SUMS = re.compile(rb"/var/lib/dpkg/info/[A-Za-z0-9][A-Za-z0-9+.-]*(?::[a-z0-9-]+)?\.md5sums")
 MOST_SUMS = 64 << 20

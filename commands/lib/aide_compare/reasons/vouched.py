@@ -5,7 +5,7 @@ and neither is what AIDE does not measure.
 """
 from aide_compare.base.escapes import shown
 from aide_compare.reasons.content import Hashes
-from aide_compare.reasons.database import entries_at
+from aide_compare.reasons.entries import entries_at
 
 # The digests of at least 256 bits that every Python computes. The first one that an entry has decides.
 STRONG = ("sha256", "sha512", "sha3_256", "sha3_512")
