@@ -4,7 +4,7 @@ use Rattle.std.specs.Prelude.{Result}
 use Rattle.std.proofs.Math.Path.{subst}
 use Rattle.aide_conf.specs.Settings.{Configured}
 use Rattle.aide_conf.specs.declared.fault.ConfFault.{ConfFault}
-use Rattle.aide_session.specs.Answer.{Answer, Named, refused, checked, IsFileAnswerBy, IsSizedAnswerBy, IsTextAnswerBy}
+use Rattle.aide_session.specs.Answer.{Answer, Named, refused, checked_by, IsFileAnswerBy, IsSizedAnswerBy, IsTextAnswerBy}
 use Rattle.aide_session.specs.Answer.{IsJobAnswerBy, IsWordsAnswerBy, IsReadAnswerBy, ComparesBy, IsAnswerBy}
 use Rattle.aide_session.specs.Files.{Files, IsLarge, is_too_large}
 use Rattle.aide_words.specs.Job.{JobText, job_of}
@@ -98,6 +98,6 @@ compares_is w files job text s named a compare reads is =
 
 pub checked_is : (w : Writing) (files : Files) (job : JobText) (text : List ℕ) (s : Configured) (named : Named) (a : Answer)
     → job.compare ≡ false → ReadsOnlyAs job text (Ok s) → IsTextAnswerBy w files job text named a
-    → a ≡ checked
+    → a ≡ checked_by w.says s
 checked_is w files job text s named a compare reads is =
     subst (λ (b : Bool). IsReadAnswerBy w files b (Ok s) named a) compare (read_answer w files job text (Ok s) named a reads is)

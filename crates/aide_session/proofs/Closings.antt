@@ -22,14 +22,14 @@ use Rattle.aide_report.specs.declared.run_fault.RunFault.{RunFault}
 use Rattle.aide_report.specs.declared.run_fault.RunFault.TheVariants.{Open, Database, Changed, Write}
 use Rattle.aide_session.specs.Answer.{Named, limits, need_of}
 use Rattle.aide_session.specs.Closing.{Asks, AsksAndReads, AsksToCompare, ClosesBy, Closing, Course, course_between}
-use Rattle.aide_session.specs.Closing.{ClosingCause, closing_line, HasText, RunCause}
+use Rattle.aide_session.specs.Closing.{ClosingCause, closing_line, HasText, IsTold, IsUntold, RunCause, untold_config}
 use Rattle.aide_session.specs.Closing.{no_job, no_memory, no_config, large_config, bad_config, good_config, bad_run}
 use Rattle.aide_session.specs.Closing.{good_run}
 use Rattle.aide_session.specs.Ends.{Sinks}
 use Rattle.aide_session.specs.Files.{Files, IsLarge}
 use Rattle.aide_session.specs.Writing.{Writing}
 use Rattle.aide_words.specs.Job.{JobText, job_of}
-use Rattle.aide_session.specs.Lines.{usage_line, memory_line, unread_line, too_large_line, conf_line}
+use Rattle.aide_session.specs.Lines.{usage_line, memory_line, unread_line, too_large_line, conf_line, write_line}
 use Rattle.aide_session.specs.code.Premises.{HasRead, ReadsOnlyAs}
 use Rattle.aide_session.specs.Put.{Put}
 use Rattle.aide_session.proofs.Endings.{rose_later, sinks}
@@ -103,11 +103,19 @@ pub closes_bad_config : (w : Writing) (files : Files) (words : List (List ℕ)) 
 closes_bad_config w files words config compare fault d e f m n course site out read put unopened unflushed =
     record { closing = bad_config fault; named = only_config config; cause = (compare, read); status_is = refl; output = (appends_none d, unopened, unflushed); opens = tt; opens_some = opens_none course.opened_before course.opened_after w.most_openings unopened; put = put }
 
-pub closes_good_config : (w : Writing) (files : Files) (words : List (List ℕ)) (config : List ℕ) (s : Configured) (d e : Option (List ℕ)) (m : ℕ) (course : Course) (site out : Type 0)
-    → AsksAndReads files words config false (Ok s) → course.opened_after ≡ course.opened_before
-    → course.flushes_after ≡ course.flushes_before → ClosesBy w files words 0 (sinks d d e e m m) course site out
-closes_good_config w files words config s d e m course site out read unopened unflushed =
-    record { closing = good_config; named = only_config config; cause = (s, read); status_is = refl; output = (appends_none d, unopened, unflushed); opens = tt; opens_some = opens_none course.opened_before course.opened_after w.most_openings unopened; put = put_none e m }
+pub closes_told : (w : Writing) (files : Files) (words : List (List ℕ)) (config : List ℕ) (s : Configured) (c d e : Option (List ℕ)) (m : ℕ) (course : Course) (site out : Type 0)
+    → AsksAndReads files words config false (Ok s)
+    → IsTold w.says s c d course.is_flushed course.flushes_before course.flushes_after
+    → course.opened_after ≡ course.opened_before → ClosesBy w files words 0 (sinks c d e e m m) course site out
+closes_told w files words config s c d e m course site out read told unopened =
+    record { closing = good_config s; named = only_config config; cause = read; status_is = refl; output = (told, unopened); opens = tt; opens_some = opens_none course.opened_before course.opened_after w.most_openings unopened; put = put_none e m }
+
+pub closes_untold : (w : Writing) (files : Files) (words : List (List ℕ)) (config : List ℕ) (s : Configured) (c d e f : Option (List ℕ)) (m n : ℕ) (course : Course) (site out : Type 0)
+    → AsksAndReads files words config false (Ok s)
+    → IsUntold w.says s c d course.flushes_before course.flushes_after → out → Put write_line e f m n
+    → course.opened_after ≡ course.opened_before → ClosesBy w files words 18 (sinks c d e f m n) course site out
+closes_untold w files words config s c d e f m n course site out read untold rose put unopened =
+    record { closing = untold_config s; named = only_config config; cause = (read, rose); status_is = refl; output = (untold, unopened); opens = tt; opens_some = opens_none course.opened_before course.opened_after w.most_openings unopened; put = put }
 
 read_cause : (kind : DbFaultKind) (site first : Type 0) → Causes kind site first → kind ≡ Read → site
 read_cause kind site first stands is = subst (λ (k : DbFaultKind). Causes k site first) is stands
@@ -140,7 +148,8 @@ cause_by files words named no_job site more out then cause = cause
 cause_by files words named no_memory site more out then cause = cause
 cause_by files words named large_config site more out then cause = cause
 cause_by files words named (bad_config fault) site more out then cause = cause
-cause_by files words named good_config site more out then cause = cause
+cause_by files words named (good_config s) site more out then cause = cause
+cause_by files words named (untold_config s) site more out then cause = cause
 cause_by files words named (good_run options outcome) site more out then cause = cause
 
 -- the same closing, for a cause that follows

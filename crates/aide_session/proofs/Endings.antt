@@ -9,6 +9,7 @@ use Rattle.aide_entry.specs.declared.fault_kind.DbFaultKind.{DbFaultKind}
 use Rattle.aide_entry.specs.declared.fault_kind.DbFaultKind.TheVariants as db
 use Rattle.aide_db.specs.declared.side.Side.{Side}
 use Rattle.aide_db.specs.declared.side.Side.TheVariants.{Old, New}
+use Rattle.aide_conf.specs.Settings.{Configured}
 use Rattle.aide_conf.specs.declared.options.Options.{Options}
 use Rattle.aide_report.specs.Asked.{Asked}
 use Rattle.aide_report.specs.Failures.{Rose}
@@ -24,14 +25,15 @@ use Rattle.aide_report.specs.Report.{status_of}
 use Rattle.aide_report.specs.declared.outcome.Outcome.{Outcome}
 use Rattle.aide_report.specs.declared.run_fault.RunFault.{RunFault}
 use Rattle.aide_report.specs.declared.run_fault.RunFault.TheVariants.{Open, Database, Changed, Write}
-use Rattle.aide_session.specs.Answer.{Answer, Named, IsComparedBy, asked_by, limits, refused, answer_of_run}
+use Rattle.aide_session.specs.Answer.{Answer, Named, IsComparedBy, asked_by, limits, refused, answer_of_run, checked_by}
+use Rattle.aide_session.specs.Closing.{IsTold, IsUntold}
 use Rattle.aide_session.specs.Ends.{Sinks, Failure, failure_line, FailureCause, HasFailed, Ends, Whole, Starved}
 use Rattle.aide_session.specs.Ends.{config_unread, unopened, unread, unwritten}
-use Rattle.aide_session.specs.Lines.{memory_line, open_line, database_line, kind_line, outcome_lines, run_fault_line}
+use Rattle.aide_session.specs.Lines.{memory_line, open_line, database_line, kind_line, outcome_lines, run_fault_line, write_line}
 use Rattle.aide_session.specs.Writing.{Writing}
 use Rattle.aide_session.specs.code.Premises.{ComparesSides}
 use Rattle.aide_session.specs.Put.{HasNoFailure, Put}
-use Rattle.aide_session.proofs.PutLemmas.{appends_none, put_passed}
+use Rattle.aide_session.proofs.PutLemmas.{appends_none, put_none, put_passed}
 
 abbrev pub sinks : (c d e f : Option (List ℕ)) → (m n : ℕ) → Sinks
 sinks c d e f m n = record { out_old = c; out_new = d; err_old = e; err_new = f; err_before = m; err_after = n }
@@ -59,6 +61,24 @@ pub ends_broken : (a : Answer) (named : Named) (failure : Failure) (d e f : Opti
     → Put (failure_line named failure) e f m n → Ends a named 18 (sinks d d e f m n) site out
 ends_broken a named failure d e f m n site out cause put =
     inr (inr (record { status_is = refl; output = none_sent a.output d; failure = failure; cause = cause; put = put }))
+
+-- what is said of an accepted configuration has gone out
+pub ends_told : (says : Option (Configured → List ℕ)) (s : Configured) (a : Answer) (named : Named) (c d e : Option (List ℕ)) (m : ℕ) (is_flushed : Bool) (k l : ℕ) (site out : Type 0)
+    → a ≡ checked_by says s → IsTold says s c d is_flushed k l
+    → Ends a named 0 (sinks c d e e m m) site out
+ends_told None s a named c d e m is_flushed k l site out is told =
+    subst (λ (x : Answer). Ends x named 0 (sinks c d e e m m) site out) (sym is) (inl (record { status_is = refl; output = told.0; put = put_none e m }))
+ends_told (Some says) s a named c d e m is_flushed k l site out is told =
+    subst (λ (x : Answer). Ends x named 0 (sinks c d e e m m) site out) (sym is) (inl (record { status_is = refl; output = told.0; put = put_none e m }))
+
+-- it could not be written
+pub ends_untold : (says : Option (Configured → List ℕ)) (s : Configured) (a : Answer) (named : Named) (c d e f : Option (List ℕ)) (m n k l : ℕ) (site out : Type 0)
+    → a ≡ checked_by says s → IsUntold says s c d k l → out → Put write_line e f m n
+    → Ends a named 18 (sinks c d e f m n) site out
+ends_untold None s a named c d e f m n k l site out is untold rose put = absurd untold
+ends_untold (Some says) s a named c d e f m n k l site out is untold rose put =
+    subst (λ (x : Answer). Ends x named 18 (sinks c d e f m n) site out) (sym is)
+    (inr (inr (record { status_is = refl; output = untold.0; failure = unwritten; cause = rose; put = put })))
 
 cause_by : (failure : Failure) (site more out : Type 0) → (site → more) → FailureCause failure site out
     → FailureCause failure more out

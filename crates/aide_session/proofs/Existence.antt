@@ -14,7 +14,7 @@ use Rattle.aide_db.specs.declared.side.Side.TheVariants.{Old, New}
 use Rattle.aide_db.proofs.FaultExists.{sound_or_fault}
 use Rattle.aide_report.specs.Runs.{Report, RunsBy}
 use Rattle.aide_session.specs.Answer.{Answer, Named, ComparesBy, IsComparedBy, IsFileAnswerBy, IsJobAnswerBy, IsReadAnswerBy}
-use Rattle.aide_session.specs.Answer.{IsSizedAnswerBy, IsWordsAnswerBy, answer_of_run, asked_by, checked, limits, need_of}
+use Rattle.aide_session.specs.Answer.{IsSizedAnswerBy, IsWordsAnswerBy, answer_of_run, asked_by, checked_by, limits, need_of}
 use Rattle.aide_session.specs.Answer.{refused}
 use Rattle.aide_session.specs.Closing.{AsksToCompare}
 use Rattle.aide_session.specs.Existence.{HasSessionAnswerBy, TellsNamed}
@@ -104,7 +104,7 @@ module _ (w : Writing) (files : Files) (words : List (List ℕ)) (tells : TellsN
     of_read : (compare : Bool) (read : Result Configured ConfFault) → job.compare ≡ compare
         → ReadsAs (need_of compare) job.before text job.after read → Read compare read
     of_read true (Ok s) compare_is reads = of_settings s compare_is reads
-    of_read false (Ok s) compare_is reads = (only_config job.config, checked, refl, refl)
+    of_read false (Ok s) compare_is reads = (only_config job.config, checked_by w.says s, refl, refl)
     of_read true (Err fault) compare_is reads = (only_config job.config, refused (conf_line fault) 17, refl, refl)
     of_read false (Err fault) compare_is reads = (only_config job.config, refused (conf_line fault) 17, refl, refl)
 

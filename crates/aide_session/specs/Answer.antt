@@ -45,9 +45,14 @@ asked_by options named = record {
 abbrev pub refused : List ℕ → ℕ → Answer
 refused lines status = record { output = []; errors = lines; status = status }
 
--- the answer for a configuration without a fault that is only checked
+-- the answer for a configuration without a fault that is only checked, if nothing is said of it
 abbrev pub checked : Answer
 checked = record { output = []; errors = []; status = 0 }
+
+-- the same, by what is said of a configuration: the text is written if anything is
+abbrev pub checked_by : Option (Configured → List ℕ) → Configured → Answer
+checked_by None s = checked
+checked_by (Some says) s = record { output = says s; errors = []; status = 0 }
 
 -- a line of a database has at most 1,048,576 bytes, and a database at most 2 ^ 40
 abbrev pub limits : Limits
@@ -98,7 +103,7 @@ need_of false = Check
 abbrev pub IsReadAnswerBy : Writing → Files → Bool → Result Configured ConfFault → Named → Answer
     → Type 0
 IsReadAnswerBy w files true (Ok s) named a = ComparesBy w files s named a
-IsReadAnswerBy w files false (Ok s) named a = a ≡ checked
+IsReadAnswerBy w files false (Ok s) named a = a ≡ checked_by w.says s
 IsReadAnswerBy w files compare (Err fault) named a = a ≡ refused (conf_line fault) 17
 
 -- the answer if the configuration has this text

@@ -20,6 +20,7 @@ use Rattle.aide_report.specs.Room.{IsNotMemory}
 use Rattle.aide_report.specs.Failures.{one_more}
 use Rattle.aide_report.specs.Report.{status_of}
 use Rattle.aide_report.specs.RunFaults.{HasSentNothing}
+use Rattle.aide_report.specs.Sent.{SendsPart}
 use Rattle.aide_report.specs.declared.outcome.Outcome.{Outcome}
 use Rattle.aide_report.specs.declared.run_fault.RunFault.{RunFault}
 use Rattle.aide_report.specs.declared.run_fault.RunFault.TheVariants.{Open, Database, Changed}
@@ -29,7 +30,7 @@ use Rattle.aide_session.specs.Ends.{Sinks, Puts}
 use Rattle.aide_session.specs.Files.{Files, IsLarge, is_too_large}
 use Rattle.aide_words.specs.Job.{JobText, job_of}
 use Rattle.aide_session.specs.Lines.{usage_line, memory_line, unread_line, too_large_line}
-use Rattle.aide_session.specs.Lines.{conf_line, run_fault_line, outcome_lines}
+use Rattle.aide_session.specs.Lines.{conf_line, run_fault_line, outcome_lines, write_line}
 use Rattle.aide_session.specs.Writing.{Writing, the_report}
 
 -- the result of a session
@@ -39,7 +40,8 @@ pub data Closing : Type 0 where
   no_config : Closing
   large_config : Closing
   bad_config : ConfFault → Closing
-  good_config : Closing
+  good_config : Configured → Closing
+  untold_config : Configured → Closing
   bad_run : Options → RunFault → Closing
   good_run : Options → Outcome → Closing
 
@@ -50,7 +52,8 @@ closing_status no_memory = 22
 closing_status no_config = 18
 closing_status large_config = 17
 closing_status (bad_config fault) = 17
-closing_status good_config = 0
+closing_status (good_config s) = 0
+closing_status (untold_config s) = 18
 closing_status (bad_run options fault) = fault_status fault
 closing_status (good_run options outcome) = status_of outcome.added outcome.removed outcome.changed
 
@@ -61,7 +64,8 @@ closing_line named no_memory = memory_line
 closing_line named no_config = unread_line named.config
 closing_line named large_config = too_large_line
 closing_line named (bad_config fault) = conf_line fault
-closing_line named good_config = []
+closing_line named (good_config s) = []
+closing_line named (untold_config s) = write_line
 closing_line named (bad_run options fault) = run_fault_line named.old_path named.new_path fault
 closing_line named (good_run options outcome) = outcome_lines outcome
 
@@ -87,12 +91,31 @@ course_between openings was_given flushes is_flushed site_old site_new out_old o
   is_flushed = is_flushed out_new;
 }
 
+-- What has gone out of an accepted configuration that is only checked: nothing if nothing is said of
+-- it, otherwise the text, which was flushed once, after its last byte.
+abbrev pub IsTold : Option (Configured → List ℕ) → Configured → (before after : Option (List ℕ))
+    → (is_flushed : Bool) → (flushes_before flushes_after : ℕ) → Type 0
+IsTold None s before after is_flushed flushes_before flushes_after =
+    Appends before after [] × (flushes_after ≡ flushes_before)
+IsTold (Some says) s before after is_flushed flushes_before flushes_after =
+    Appends before after (says s) × (is_flushed ≡ true) × (flushes_after ≡ one_more flushes_before)
+
+-- Only the beginning of the text has gone out, or it was not flushed. If nothing is said, nothing
+-- can be missing.
+abbrev pub IsUntold : Option (Configured → List ℕ) → Configured → (before after : Option (List ℕ))
+    → (flushes_before flushes_after : ℕ) → Type 0
+IsUntold None s before after flushes_before flushes_after = ⊥
+IsUntold (Some says) s before after flushes_before flushes_after =
+    SendsPart (says s) before after × (flushes_after ≡ flushes_before)
+
 -- What a session sends, opens and flushes. A good run sends what its outcome determines: a report
 -- begins with the head and the summary of the outcome, and is only these two if the options and the
 -- outcome call for no more; lines begin and end with those of the outcome. A good run flushes the
--- output once, after its last byte. No other closing flushes. A run that ends with a fault has sent
+-- output once, after its last byte. A run that ends with a fault flushes nothing, and has sent
 -- nothing if no write failed and nothing was begun. If it could not open a side, that side was the
--- last one opened. Every other closing sends nothing and opens no side.
+-- last one opened. Every other closing opens no side. An accepted configuration that is only
+-- checked may have a text, which is sent and flushed; without a text it has only a good closing.
+-- Every other closing sends and flushes nothing.
 abbrev pub ClosingOutput : Writing → Named → Closing → Course → Option (List ℕ) → Option (List ℕ)
     → Type 0
 ClosingOutput w named (good_run options outcome) course before after =
@@ -102,6 +125,12 @@ ClosingOutput w named (bad_run options fault) course before after =
     HasSentNothing (course.opened_before Old) (course.opened_after Old) before after fault
     × IsRefusedThere course.opened_before course.opened_after fault
     × (course.flushes_after ≡ course.flushes_before)
+ClosingOutput w named (good_config s) course before after =
+    IsTold w.says s before after course.is_flushed course.flushes_before course.flushes_after
+    × (course.opened_after ≡ course.opened_before)
+ClosingOutput w named (untold_config s) course before after =
+    IsUntold w.says s before after course.flushes_before course.flushes_after
+    × (course.opened_after ≡ course.opened_before)
 ClosingOutput w named _ course before after = Appends before after []
     × (course.opened_after ≡ course.opened_before)
     × (course.flushes_after ≡ course.flushes_before)
@@ -164,8 +193,10 @@ ClosingCause files words named large_config site out = Asks words named
     × ((file : Option (List ℕ)) → files named.config ≡ Some file → IsLarge file)
 ClosingCause files words named (bad_config fault) site out = (compare : Bool)
     × AsksAndReads files words named.config compare (Err fault)
-ClosingCause files words named good_config site out = (s : Configured)
-    × AsksAndReads files words named.config false (Ok s)
+ClosingCause files words named (good_config s) site out =
+    AsksAndReads files words named.config false (Ok s)
+ClosingCause files words named (untold_config s) site out =
+    AsksAndReads files words named.config false (Ok s) × out
 ClosingCause files words named (bad_run options fault) site out =
     ((asks : AsksToCompare files words named) × (asks.settings.options ≡ options))
     × RunCause files named fault site out

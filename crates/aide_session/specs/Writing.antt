@@ -1,5 +1,7 @@
--- What a session writes of two databases: the report, or lines of JSON.
-use Rattle.std.specs.Prelude.{ℕ, List, Option}
+-- What a session writes of two databases, and of a configuration that is only checked: the report and nothing, or
+-- lines of JSON.
+use Rattle.std.specs.Prelude.{ℕ, List, Option, Some, None}
+use Rattle.aide_conf.specs.Settings.{Configured}
 use Rattle.aide_conf.specs.declared.options.Options.{Options}
 use Rattle.aide_db.specs.declared.side.Side.{Side}
 use Rattle.aide_report.specs.Agreement.{IsOfOutcome, OpensByOutcome}
@@ -8,8 +10,9 @@ use Rattle.aide_report.specs.LineRuns.{AreLinesOf, line_openings, line_openings_
 use Rattle.aide_report.specs.Openings.{OpensExactly}
 use Rattle.aide_report.specs.Runs.{Report, openings_over, report_over}
 use Rattle.aide_report.specs.declared.outcome.Outcome.{Outcome}
+use Rattle.aide_settings_text.specs.Settings.{settings_line}
 
--- what is written of two databases
+-- what is written
 pub record Writing : Type 1 where
   -- what is written of two sound texts, and the outcome that goes with it
   pub over : Asked → (old new : List ℕ) → Report
@@ -21,8 +24,10 @@ pub record Writing : Type 1 where
   pub OpensBy : Options → Outcome → (before after : Side → ℕ) → Type 0
   -- no run opens a database more often than this
   pub most_openings : ℕ
+  -- what is written of an accepted configuration that is only checked, if anything is
+  pub says : Option (Configured → List ℕ)
 
--- the report
+-- the report; nothing is written of a configuration
 abbrev pub the_report : Writing
 the_report = record {
   over = report_over;
@@ -30,9 +35,14 @@ the_report = record {
   IsOf = λ asked outcome before after. IsOfOutcome asked.options outcome before after;
   OpensBy = OpensByOutcome;
   most_openings = 6;
+  says = None;
 }
 
--- the lines of JSON
+-- the line that says what a configuration sets
+abbrev pub settings_told : Configured → List ℕ
+settings_told s = settings_line s.options s.old_path s.new_path
+
+-- the lines of JSON; a configuration has one of its own
 abbrev pub the_lines : Writing
 the_lines = record {
   over = lines_over;
@@ -40,4 +50,5 @@ the_lines = record {
   IsOf = AreLinesOf;
   OpensBy = λ options outcome before after. OpensExactly before after (line_openings_told outcome);
   most_openings = 3;
+  says = Some settings_told;
 }

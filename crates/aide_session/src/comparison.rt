@@ -1,6 +1,6 @@
-//! What a session writes of two databases: the report, or lines of JSON.
+//! What a session writes: the report, or lines of JSON.
 ghost use Rattle.std.specs.Prelude.{◌≡◌, ◌≤◌, ◌*◌, ℕ, List, Option, Some, Result, Ok, Err, IfOk};
-ghost use Rattle.std.specs.Prelude.{IfErr, OnOk, true, max};
+ghost use Rattle.std.specs.Prelude.{IfErr, OnOk, OnErr, true, max};
 ghost use Rattle.aide_db.specs.Database.{IsSound};
 ghost use Rattle.aide_db.specs.declared.fault.DbFault.{DbFault};
 ghost use Rattle.aide_report.specs.Asked.{asked};
@@ -12,10 +12,12 @@ ghost use Rattle.aide_report.specs.Room.{IsNotOfMemory};
 ghost use Rattle.aide_report.specs.RunFaults.{IsRight, HasSentNothing};
 ghost use Rattle.aide_report.specs.Runs.{Report, RunsBy, HasCause};
 ghost use Rattle.aide_session.specs.Answer.{limits};
+ghost use Rattle.aide_session.specs.Closing.{IsTold, IsUntold};
 ghost use Rattle.aide_session.specs.Held.{IsPeakOf, most_held};
 ghost use Rattle.aide_text.specs.Failures.{CountsFlush, Rose};
 
-use aide_conf::Task;
+use crate::telling::{Unwritten, tell_settings};
+use aide_conf::{Settings, Task};
 use aide_db::{Desk, Limits, Side, Sources};
 use aide_report::{Outcome, RunFault, Sink, run, run_lines};
 use std::alloc::Global;
@@ -29,7 +31,7 @@ const LIMITS: Limits = Limits {
     bytes: 1_099_511_627_776,
 };
 
-/// What a session writes of two databases.
+/// What a session writes of two databases, and of a configuration that is only checked.
 pub(crate) trait Comparison {
     ghost use Rattle.aide_session.specs.Writing.{Writing};
 
@@ -98,9 +100,18 @@ pub(crate) trait Comparison {
             → IsPeakOf old new desk.old.peak desk.new.peak }
         ensures lookups { S.lookups sources.new ≡ S.lookups sources.old }
         ensures memory { limits.line ≤ desk.old.room → IfErr result IsNotOfMemory };
+
+    /// Writes what there is to say of an accepted configuration, and flushes it.
+    fn tell<W: Sink>(settings: &Settings, out: &mut W) -> Result<(), Unwritten>
+        ensures told { OnOk result (IsTold writing.says settings.now
+            (W.delivered out.old) (W.delivered out.new)
+            (W.is_flushed out.new) (W.flushes out.old) (W.flushes out.new)) }
+        ensures untold { OnErr result (IsUntold writing.says settings.now
+            (W.delivered out.old) (W.delivered out.new) (W.flushes out.old) (W.flushes out.new)) }
+        ensures rose { OnErr result (Rose (W.failures out.old) (W.failures out.new)) };
 }
 
-/// The report.
+/// The report. Nothing is written of a configuration.
 pub(crate) struct AsReport;
 
 impl Comparison for AsReport {
@@ -116,9 +127,13 @@ impl Comparison for AsReport {
     ) -> Result<Outcome, RunFault> {
         run(task, LIMITS, desk, sources, out)
     }
+
+    fn tell<W: Sink>(_settings: &Settings, _out: &mut W) -> Result<(), Unwritten> {
+        Ok(())
+    }
 }
 
-/// The lines of JSON.
+/// The lines of JSON. A configuration has one of its own.
 pub(crate) struct AsLines;
 
 impl Comparison for AsLines {
@@ -133,5 +148,9 @@ impl Comparison for AsLines {
         out: &mut W,
     ) -> Result<Outcome, RunFault> {
         run_lines(task, LIMITS, desk, sources, out)
+    }
+
+    fn tell<W: Sink>(settings: &Settings, out: &mut W) -> Result<(), Unwritten> {
+        tell_settings(settings, out)
     }
 }

@@ -2,6 +2,7 @@
 #![tactic(auto)]
 
 mod comparison;
+mod config_check;
 mod config_file;
 mod databases;
 mod devices;
@@ -15,6 +16,7 @@ mod pointed;
 mod program;
 mod put;
 mod site;
+mod telling;
 
 pub use aide_words::{Job, Memory, Word, Words, WordsFault, read_words};
 pub use file_site::FileSite;

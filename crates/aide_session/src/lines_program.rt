@@ -20,7 +20,8 @@ use aide_words::Words;
 use std::alloc::Global;
 
 /// Runs the whole program over any site like [`session_on`], but writes the changes as lines of JSON
-/// in place of the report. Each clause says of the lines what that of [`session_on`] says of the
+/// in place of the report. Of a configuration that is only checked it writes one line, which says
+/// what the configuration sets. Each clause is that of [`session_on`], with the lines in place of the
 /// report.
 pub fn lines_session_on<S: Site, W: Sink, E: Sink>(
     alloc: Global,

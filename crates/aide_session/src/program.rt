@@ -17,6 +17,7 @@ ghost use Rattle.aide_session.specs.code.Premises.{HasRead, ReadsOnlyAs};
 ghost use Rattle.aide_session.specs.Put.{HasNoFailure};
 
 use crate::comparison::{AsReport, Comparison};
+use crate::config_check::check;
 use crate::config_file::{ConfigFault, read_config};
 use crate::databases::compare;
 use crate::devices::Devices;
@@ -88,7 +89,7 @@ fn run_prepared<C: Comparison, S: Site, W: Sink, E: Sink>(
             if prepared.job.compare {
                 compare::<C, S, W, E>(&settings, devices)
             } else {
-                0
+                check::<C, S, W, E>(&settings, devices)
             }
         }
         Err(fault) => match fault.kind {

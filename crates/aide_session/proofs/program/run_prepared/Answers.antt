@@ -1,10 +1,9 @@
-use Rattle.std.proofs.Common.{[], refl, true, false, Ok, Err}
+use Rattle.std.proofs.Common.{refl, true, false, Ok, Err}
 use Rattle.aide_session.specs.Lines.{conf_line}
 use Rattle.aide_session.proofs.AnswerSteps.{checked_is, compares_is, fault_is}
-use Rattle.aide_session.proofs.Closings.{asks_and_reads, closes_bad_config, closes_good_config, closes_starved}
+use Rattle.aide_session.proofs.Closings.{asks_and_reads, closes_bad_config, closes_starved}
 use Rattle.aide_session.proofs.Endings.{ends_refused, ends_starved}
 use Rattle.aide_session.proofs.HeldLemmas.{same_held}
-use Rattle.aide_session.proofs.PutLemmas.{put_none}
 use Rattle.aide_session.proofs.program.run_prepared.Goals as goal
 
 pub returns-then-prepared-clause-ends : goal.returns-then-prepared-clause-ends
@@ -21,14 +20,14 @@ returns-then-prepared-clause-bound g c = λ named a is.
 
 pub returns-in-Ok-clause-ends : goal.returns-in-Ok-clause-ends
 returns-in-Ok-clause-ends g c = λ named a is.
-    ends_refused a named [] 0 _ _ _ _ _ _ _ (checked_is g.C.Comparison.writing _ _ _ c.in-Ok.settings named a c.if-prepared.false c.in-Ok.ensures.ok is) (put_none _ _)
+    c.check.ensures.ends named a (checked_is g.C.Comparison.writing _ _ _ c.in-Ok.settings named a c.if-prepared.false c.in-Ok.ensures.ok is)
 
 pub returns-in-Ok-clause-closes : goal.returns-in-Ok-clause-closes
 returns-in-Ok-clause-closes g c = λ words has.
-    closes_good_config g.C.Comparison.writing _ words _ c.in-Ok.settings _ _ _ _ _ _ (asks_and_reads _ words _ _ false (Ok c.in-Ok.settings) has c.if-prepared.false c.in-Ok.ensures.ok) refl refl
+    c.check.ensures.closes words _ (asks_and_reads _ words _ _ false (Ok c.in-Ok.settings) has c.if-prepared.false c.in-Ok.ensures.ok)
 
 pub returns-in-Ok-clause-bound : goal.returns-in-Ok-clause-bound
-returns-in-Ok-clause-bound g c = λ named a is. same_held (g.S.Sources.file_at c.args.devices.now.site.now) named c.args.devices.now.desk.now.peak
+returns-in-Ok-clause-bound g c = λ named a is. c.check.ensures.bound named
 
 pub returns-in-Memory-clause-ends : goal.returns-in-Memory-clause-ends
 returns-in-Memory-clause-ends g c = λ named a is. ends_starved a named _ _ _ _ _ _ _ c.put_memory_line.ensures
