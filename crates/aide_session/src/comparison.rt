@@ -32,7 +32,7 @@ const LIMITS: Limits = Limits {
 };
 
 /// What a session writes of two databases, and of a configuration that is only checked.
-pub(crate) trait Comparison {
+pub(crate) trait Comparison: Copy {
     ghost use Rattle.aide_session.specs.Writing.{Writing};
 
     /// What contracts say of what is written.
@@ -112,6 +112,7 @@ pub(crate) trait Comparison {
 }
 
 /// The report. Nothing is written of a configuration.
+#[derive(Clone, Copy)]
 pub(crate) struct AsReport;
 
 impl Comparison for AsReport {
@@ -134,6 +135,7 @@ impl Comparison for AsReport {
 }
 
 /// The lines of JSON. A configuration has one of its own.
+#[derive(Clone, Copy)]
 pub(crate) struct AsLines;
 
 impl Comparison for AsLines {

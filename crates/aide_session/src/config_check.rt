@@ -18,7 +18,7 @@ use aide_report::Sink;
 /// Writes what there is to say of an accepted configuration that is only checked.
 pub(crate) fn check<C: Comparison, S: Site, W: Sink, E: Sink>(
     settings: &Settings,
-    devices: &mut Devices<'_, S, W, E>,
+    devices: &mut Devices<'_, C, S, W, E>,
 ) -> u8
     ensures same { AreSame devices.old devices.new }
     ensures ends { EndsWith (λ files named a. a ≡ checked_by C.writing.says settings.now) result

@@ -53,7 +53,7 @@ fn put_run_fault<E: Sink>(err: &mut E, task: &Task<'_>, fault: RunFault)
 /// Compares the databases that the sides of a site are pointed at. The desk has room for any line.
 fn compare_sides<C: Comparison, S: Site, W: Sink, E: Sink>(
     task: &Task<'_>,
-    devices: &mut Devices<'_, S, W, E>,
+    devices: &mut Devices<'_, C, S, W, E>,
 ) -> u8
     requires room { 1048576 ≤ devices.old.desk.now.room }
     ensures same { AreSame devices.old devices.new }
@@ -89,7 +89,7 @@ fn compare_sides<C: Comparison, S: Site, W: Sink, E: Sink>(
 /// compares the databases.
 pub(crate) fn compare<C: Comparison, S: Site, W: Sink, E: Sink>(
     settings: &Settings,
-    devices: &mut Devices<'_, S, W, E>,
+    devices: &mut Devices<'_, C, S, W, E>,
 ) -> u8
     requires { IsSome settings.now.old_path × IsSome settings.now.new_path }
     ensures same { AreSame devices.old devices.new }
@@ -120,5 +120,5 @@ pub(crate) fn compare<C: Comparison, S: Site, W: Sink, E: Sink>(
         put_memory_line(devices.err);
         return 22;
     };
-    compare_sides::<C, S, W, E>(&task, devices)
+    compare_sides(&task, devices)
 }

@@ -69,8 +69,8 @@ pub fn lines_session_on<S: Site, W: Sink, E: Sink>(
         → IsAnswerBy the_lines (S.file_at site.old) words.now named a
         → HoldsWithin (S.file_at site.old) named desk.old.peak desk.new.peak }
 {
-    let mut devices = Devices::new(alloc, desk, site, out, err);
-    run_and_pass_on::<AsLines, S, W, E>(words, &mut devices)
+    let mut devices = Devices::new(AsLines, alloc, desk, site, out, err);
+    run_and_pass_on(words, &mut devices)
 }
 
 /// Runs the whole program over any site like [`lines_session_on`], with a desk of its own that has

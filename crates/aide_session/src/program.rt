@@ -64,7 +64,7 @@ fn read_settings(alloc: Global, prepared: &PreparedJob<'_>) -> Result<Settings, 
 /// Runs the session of a job whose configuration has been read.
 fn run_prepared<C: Comparison, S: Site, W: Sink, E: Sink>(
     prepared: &PreparedJob<'_>,
-    devices: &mut Devices<'_, S, W, E>,
+    devices: &mut Devices<'_, C, S, W, E>,
 ) -> u8
     ensures same { AreSame devices.old devices.new }
     ensures ends { EndsWith
@@ -87,9 +87,9 @@ fn run_prepared<C: Comparison, S: Site, W: Sink, E: Sink>(
     match read_settings(devices.alloc, prepared) {
         Ok(settings) => {
             if prepared.job.compare {
-                compare::<C, S, W, E>(&settings, devices)
+                compare(&settings, devices)
             } else {
-                check::<C, S, W, E>(&settings, devices)
+                check(&settings, devices)
             }
         }
         Err(fault) => match fault.kind {
@@ -108,7 +108,7 @@ fn run_prepared<C: Comparison, S: Site, W: Sink, E: Sink>(
 /// Runs the session of a job.
 fn run_job<C: Comparison, S: Site, W: Sink, E: Sink>(
     job: &Job,
-    devices: &mut Devices<'_, S, W, E>,
+    devices: &mut Devices<'_, C, S, W, E>,
 ) -> u8
     ensures same { AreSame devices.old devices.new }
     ensures ends { EndsWith (λ files. IsJobAnswerBy C.writing files (text_of_job job.now)) result
@@ -125,7 +125,7 @@ fn run_job<C: Comparison, S: Site, W: Sink, E: Sink>(
     match read_config(devices.alloc, devices.site, path) {
         Ok(text) => {
             let text = text.as_slice();
-            run_prepared::<C, S, W, E>(&PreparedJob { job, text }, devices)
+            run_prepared(&PreparedJob { job, text }, devices)
         }
         Err(ConfigFault::TooLarge) => {
             put_too_large_line(devices.err);
@@ -146,7 +146,7 @@ fn run_job<C: Comparison, S: Site, W: Sink, E: Sink>(
 /// afterwards.
 fn run_words<C: Comparison, S: Site, W: Sink, E: Sink>(
     words: &Words,
-    devices: &mut Devices<'_, S, W, E>,
+    devices: &mut Devices<'_, C, S, W, E>,
 ) -> u8
     ensures same { AreSame devices.old devices.new }
     ensures ends { EndsWith (λ files. IsAnswerBy C.writing files words.now) result
@@ -159,7 +159,7 @@ fn run_words<C: Comparison, S: Site, W: Sink, E: Sink>(
         (part_between S.Sources W.Sink E.Sink devices.old devices.new) }
 {
     match read_words(devices.alloc, words) {
-        Ok(job) => run_job::<C, S, W, E>(&job, devices),
+        Ok(job) => run_job(&job, devices),
         Err(WordsFault::Usage) => {
             put_usage_line(devices.err);
             15
@@ -174,7 +174,7 @@ fn run_words<C: Comparison, S: Site, W: Sink, E: Sink>(
 /// Runs the session of these arguments, and passes its lines on.
 pub(crate) fn run_and_pass_on<C: Comparison, S: Site, W: Sink, E: Sink>(
     words: &Words,
-    devices: &mut Devices<'_, S, W, E>,
+    devices: &mut Devices<'_, C, S, W, E>,
 ) -> u8
     ensures same { AreSame devices.old devices.new }
     ensures ends { EndsWith (λ files. IsAnswerBy C.writing files words.now) result
@@ -188,7 +188,7 @@ pub(crate) fn run_and_pass_on<C: Comparison, S: Site, W: Sink, E: Sink>(
     ensures bound { HoldsWith (λ files. IsAnswerBy C.writing files words.now)
         (part_between S.Sources W.Sink E.Sink devices.old devices.new) }
 {
-    let status = run_words::<C, S, W, E>(words, devices);
+    let status = run_words(words, devices);
     pass_on(devices.err);
     status
 }
@@ -268,8 +268,8 @@ pub fn session_on<S: Site, W: Sink, E: Sink>(
     ensures bound { (named : Named) (a : Answer) → IsAnswer (S.file_at site.old) words.now named a
         → HoldsWithin (S.file_at site.old) named desk.old.peak desk.new.peak }
 {
-    let mut devices = Devices::new(alloc, desk, site, out, err);
-    run_and_pass_on::<AsReport, S, W, E>(words, &mut devices)
+    let mut devices = Devices::new(AsReport, alloc, desk, site, out, err);
+    run_and_pass_on(words, &mut devices)
 }
 
 /// Runs the whole program over any site like [`session_on`], with a desk of its own that has held

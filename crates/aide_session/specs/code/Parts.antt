@@ -32,8 +32,8 @@ pub record Part : Type 0 where
   pub peak_after : ℕ
 
 -- the same of a site and sinks of any kind
-abbrev pub part_between : {S R W E : Type 0} → AnySources S R → AnySink W → AnySink E
-    → Devices S W E R → Devices S W E R → Part
+abbrev pub part_between : {C S R W E : Type 0} → AnySources S R → AnySink W → AnySink E
+    → Devices C S W E R → Devices C S W E R → Part
 part_between s w e m n = record {
   files = s.file_at m.site.now;
   is_reliable = s.is_reliable m.site.now;
@@ -49,7 +49,7 @@ part_between s w e m n = record {
 }
 
 -- The devices are the same ones, whatever became of them.
-pub record AreSame {S R W E : Type 0} (m n : Devices S W E R) : Type 0 where
+pub record AreSame {C S R W E : Type 0} (m n : Devices C S W E R) : Type 0 where
   pub desk : n.desk.ghost_name ≡ m.desk.ghost_name
   pub site : n.site.ghost_name ≡ m.site.ghost_name
   pub out : n.out.ghost_name ≡ m.out.ghost_name
