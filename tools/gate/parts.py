@@ -23,8 +23,8 @@ def at_least(number, *words):
 FILES = [
     exactly(582, "tools.source.check_tools"),
     exactly(214, "tools.source.check_edits"),
-    exactly(554, "tools.source.check_docs"),
-    exactly(102, "tools.source.check_layout"),
+    exactly(561, "tools.source.check_docs"),
+    exactly(108, "tools.source.check_layout"),
     exactly(160, "tools.source.check_layers"),
     exactly(961, "tools.source.check_planted"),
     exactly(1897, "tools.wrong_bodies.check"),

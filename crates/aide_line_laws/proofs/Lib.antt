@@ -1,0 +1,7 @@
+pub mod Strings
+pub mod Clean
+pub mod Pieces
+pub mod Values
+pub mod Objects
+pub mod Letters
+pub mod Laws

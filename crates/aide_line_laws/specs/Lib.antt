@@ -1,0 +1,2 @@
+pub mod JsonLine
+pub mod ByteValues
