@@ -35,7 +35,8 @@ from aide_compare.base.shown_text import shown, shown_path
 from aide_compare.lines import report_parts
 from aide_compare.lines.json_lines import Report
 from aide_compare.lines.report_lines import Refused
-from aide_compare.show.page import part_of, script_of
+from aide_compare.show.page import script_of
+from aide_compare.show.page_heading import part_of
 
 REFUSED, USAGE, DEVICE = 65, 15, 18
 # What a report may leave open.

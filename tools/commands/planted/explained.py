@@ -22,7 +22,7 @@ RUNS, READERS = "explained.%s", "explained_readers.%s"
 PLANTED = (
     seen_by(
         READERS % "try_values",
-        ("commands/lib/aide_compare/show/page_lists.py", "place < self.valued_to[stream]", 'b"<table>" in item'),
+        ("commands/lib/aide_compare/show/page_lists.py", "place < room.valued_end", 'b"<table>" in item'),
     )
     + seen_by(
         "others_modules.try_others_modules",

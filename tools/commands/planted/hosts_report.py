@@ -42,7 +42,7 @@ PLANTED = (
     + seen_by(
         "hosts_page.try_removed",
         (
-            LIB + "show/page_streams.py",
+            LIB + "show/page_items.py",
             "    if any(row[side] is VARIOUS for row in entry.rows):\n        return VARIOUS\n",
             "",
         ),
@@ -52,8 +52,8 @@ PLANTED = (
         (LIB + "hosts/host_changes.py", '.replace(b"%", b"%25")', ""),
         (
             LIB + "hosts/hosts_text.py",
-            'fields.get("type", "Entry"), shown(path))',
-            'fields.get("type", "Entry"), path.decode("utf-8", "replace"))',
+            'fields.get("type", "Entry"), shown(path_in(fields)))',
+            'fields.get("type", "Entry"), path_in(fields).decode("utf-8", "replace"))',
         ),
     )
     + seen_by(
@@ -101,15 +101,15 @@ PLANTED = (
         "hosts_page.try_room",
         (
             LIB + "hosts/hosts_page.py",
-            "yield head(summary, hosts, remark_of(items.left_out, command))",
+            "yield head(summary, hosts, remark_of(share.left_out, command))",
             'yield head(summary, hosts, "")',
         ),
     )
     + seen_by(
         "hosts_page.try_values",
         (LIB + "hosts/hosts_page.py", 'row[1] if "old" in attributes[LABELS[row[0]]] else VARIOUS', "row[1]"),
-        (LIB + "hosts/hosts_page.py", 'host_list("Not compared", refused, True)', '""'),
-        (LIB + "hosts/hosts_page.py", 'fields["hosts"] - len(fields["names"])', "0"),
+        (LIB + "hosts/hosts_text.py", 'if each["status"] > 7', "if False"),
+        (LIB + "hosts/hosts_text.py", 'fields["hosts"] - len(fields["names"])', "0"),
         (LIB + "hosts/hosts_page.py", '"Not compared", "not_compared")', '"Not compared", "hosts")'),
     )
     + seen_by(
@@ -126,6 +126,7 @@ PLANTED = (
     )
     + seen_by(
         "hosts_quiet.try_reports",
+        (LIB + "hosts/hosts_page.py", 'if "severity" in fields else None', 'if "severities" in fields else None'),
         (LIB + "commands/hosts_report.py", 'report.is_alarm if given.alarm == "unexplained" else ', ""),
         (
             LIB + "hosts/host_changes.py",

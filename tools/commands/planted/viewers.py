@@ -27,12 +27,12 @@ PLANTED = (
             '<span class="reason">%s</span>\' % escape(reason)',
             '<span class="reason">%s</span>\' % reason',
         ),
-        (LIB + "show/page_lists.py", "escape(what.text), files(", "what.text, files("),
+        (LIB + "show/page_lists.py", "escape(what.text), numbered(", "what.text, numbered("),
         (LIB + "show/page_streams.py", "            place - self.last,\n", "            1,\n"),
         (
-            LIB + "show/page_reasons.py",
-            "0 if group is None else 2 if group.verified else 1",
-            "0 if group is None else 2",
+            LIB + "show/page_view.py",
+            "0 if reason is None else 2 if reason.verified else 1",
+            "0 if reason is None else 2",
         ),
         (LIB + "show/page_heading.py", "(text, HINT)", '(text, "")'),
         (
@@ -49,7 +49,7 @@ PLANTED = (
             "        while folder[:len(self.names)] != self.names:\n            self.leave(len(self.names) - 1)\n",
         ),
     )
-    + seen_by("viewers.try_sizes", (LIB + "show/page_items.py", "or self.used + size > self.whole", "or False"))
+    + seen_by("viewers.try_sizes", (LIB + "show/page_items.py", "or len(text) + more > self.left", "or False"))
     + seen_by(
         "viewers.try_heading",
         (LIB + "show/page_heading.py", 'found = [left_out(report.summary.get("left_out")), ', "found = ["),
@@ -62,7 +62,6 @@ PLANTED = (
     + seen_by(
         "viewers.try_views",
         (LIB + "show/page_view.py", 'seen.path.startswith(self.directory + "/")', "seen.path.startswith(self.directory)"),
-        (LIB + "show/page_view.py", "-abs(seen.growth)", "-seen.growth"),
     )
     + seen_by(
         "viewers.try_only",
@@ -99,7 +98,7 @@ PLANTED = (
         "viewers.try_commands",
         (LIB + "commands/streams.py", "REFUSED = 65", "REFUSED = 1"),
         (LIB + "commands/json.py", "        judge(self.summary, given.least, given.empty)\n", ""),
-        (LIB + "show/page.py", '("TITLE", escape(title))', '("TITLE", title)'),
+        (LIB + "show/page_heading.py", '"title": escape(title)', '"title": title'),
     )
     + seen_by(
         "viewers.try_table",

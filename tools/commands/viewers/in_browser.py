@@ -7,8 +7,8 @@ from tools.commands.viewers.looks import cases
 from tools.commands.viewers.samples import DEMO
 
 from aide_compare.base.names import KINDS, SEVERITIES
-from aide_compare.show.page import part_of
-from aide_compare.show.page_view import STANDINGS
+from aide_compare.show.page_heading import part_of
+from aide_compare.show.page_view import CHOICES, STANDINGS
 
 READY = "document.documentElement.dataset.ready"
 ENTRY = "#list > li:not(.section)"
@@ -20,7 +20,7 @@ FOCUS = "document.activeElement"
 # What a view finds and how it is written, by the functions of the page's script.
 VIEWED = """(() => {
   %s
-  const entries = %s, choices = choicesOf(%s), view = viewOf(%s, choices);
+  const entries = %s, choices = %s, view = viewOf(%s, choices);
   const fitting = entries.filter((entry) => fits(view, view.path.toLowerCase(), entry));
   return [ordered(fitting, view.order || 'path').map((entry) => entry.path), textOf(view, choices)];
 })()"""
@@ -83,10 +83,10 @@ def try_views(browser, tally):
         for one in table["entries"]
     ]
     browser.open("/proc/version")
+    choices = json.dumps({**CHOICES, "attribute": table["attributes"]})
     for case in table["cases"]:
-        found, text = browser.value(
-            VIEWED % (part_of("page_logic.js"), json.dumps(entries), json.dumps(table["attributes"]), json.dumps(case["view"]))
-        )
+        words = (part_of("page_logic.js"), json.dumps(entries), choices, json.dumps(case["view"]))
+        found, text = browser.value(VIEWED % words)
         tally.add("view %s" % case["view"], [] if found == case["found"] else ["it finds %r" % found])
         wanted = case.get("text", case["view"])
         tally.add("text of %s" % case["view"], [] if text == wanted else ["it is %r" % text])
@@ -196,9 +196,9 @@ def try_keyboard(browser, path, tally):
         browser.press("Tab", 9)
         stops += 1
     tally.add("few stops before the tree", [] if 0 < stops <= 6 else ["%d" % stops])
-    was = browser.value(FOCUS + ".dataset.node")
+    was = browser.value(FOCUS + ".node.path")
     browser.press("ArrowDown", 40)
-    tally.add("the next folder", [] if browser.value(FOCUS + ".dataset.node") != was else ["it is the same"])
+    tally.add("the next folder", [] if browser.value(FOCUS + ".node.path") != was else ["it is the same"])
     browser.press("Home", 36)
     browser.press("Enter", 13)
     tally.add("a folder is chosen", wait_for(browser, FOCUS + ".getAttribute('aria-selected')", "true"))

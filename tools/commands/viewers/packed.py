@@ -9,23 +9,25 @@ LAYERS = ("index", "values", "digests")
 Packed = namedtuple("Packed", "place kind doubtful severity group growth attributes facts path values digests")
 
 
-def layer_of(text):
-    """What a layer has of each entry, one after another."""
-    found = []
-    for line in filter(None, text.split("\n")):
-        count, packed = line.split(" ")
-        part = json.loads("[" + zlib.decompress(base64.b64decode(packed)).decode() + "]")
-        if len(part) != int(count):
-            raise ValueError("a chunk has %d entries, and not %s" % (len(part), count))
-        found += part
-    return found
+def chunks_of(text):
+    """What the chunks of a layer have of each entry."""
+    lines = filter(None, text.split("\n"))
+    return [json.loads("[" + zlib.decompress(base64.b64decode(line)).decode() + "]") for line in lines]
+
+
+def layers_of(stream):
+    """The layers of a stream, what each has of each entry, one after another. Their chunks have the same entries."""
+    for parts in zip(*stream):
+        if len(set(map(len, parts))) > 1:
+            raise ValueError("a chunk has %s entries" % " and ".join(map(str, map(len, parts))))
+    return [[each for chunk in chunks for each in chunk] for chunks in stream]
 
 
 def entries_of(layers):
     """The entries of a page in the order of paths, from its layers by name, such as index0."""
     entries = []
     for stream in "01":
-        index, values, digests = (layer_of(layers[name + stream]) for name in LAYERS)
+        index, values, digests = layers_of([chunks_of(layers[name + stream]) for name in LAYERS])
         place = 0
         for slot, line in enumerate(index):
             gap, marks, group, growth, attributes, facts, path = line.split("\t")

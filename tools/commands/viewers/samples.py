@@ -2,6 +2,7 @@
 import json
 import random
 import subprocess
+from collections import Counter
 
 from tools.commands.viewers import HTML, JSON, hostile
 from tools.oracle.configuration import DEFAULTS
@@ -80,11 +81,22 @@ def reason_of(path):
     return {"class": "package", "text": text, "verified": True, "grade": grade} if text else None
 
 
+def counts_of(objects):
+    """The counts of the reasons and severities of all entries, as the summary has them."""
+    counts = Counter(dict.fromkeys(("explained", "not_verified", "unexplained", "high", "medium", "low"), 0))
+    for fields in objects:
+        if fields["record"] == "entry":
+            reason = fields.get("reason")
+            is_explained = bool(reason and reason["verified"])
+            counts["unexplained" if not reason else "explained" if is_explained else "not_verified"] += 1
+            counts["explained_" + reason["grade"] if is_explained else fields["severity"]] += 1
+    return counts
+
+
 def demo_lines():
     """The lines of that report, with a host, times, severities and reasons."""
     objects = [json.loads(line) for line in lines_of(demo_report()).splitlines()]
     severe = {"/" + row[0]: row[3] for row in DEMO}
-    counts = dict.fromkeys(("explained", "not_verified", "unexplained", "high", "medium", "low"), 0)
     for fields in objects:
         if fields["record"] != "entry":
             continue
@@ -92,9 +104,7 @@ def demo_lines():
         reason = None if fields["path"] in severe else reason_of(fields["path"])
         if reason:
             fields["reason"] = reason
-        counts["unexplained" if not reason else "explained" if reason["verified"] else "not_verified"] += 1
-        counts[fields["severity"]] += not (reason and reason["verified"])
-    objects[0].update(reasons=counts, **HOST)
+    objects[0].update(reasons=counts_of(objects), **HOST)
     return b"".join(json.dumps(fields).encode() + b"\n" for fields in objects)
 
 
@@ -119,7 +129,8 @@ def hostile_lines():
                 fields["reason"] = {"class": "package", "text": names[number % 5], "verified": number % 3 > 0, "grade": "dpkg"}
             for sides in fields.get("attributes", {}).values():
                 sides["new_text"] = names[number % 5]
-    objects[0].update(host=names[0], **{"@timestamp": names[2], "<b>": names[3], "left_out": {"old": 3, "new": 0}})
+    more = {"@timestamp": names[2], "<b>": names[3], "left_out": {"old": 3, "new": 0}}
+    objects[0].update(host=names[0], reasons=counts_of(objects), **more)
     return b"".join(json.dumps(fields).encode() + b"\n" for fields in objects)
 
 

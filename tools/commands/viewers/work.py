@@ -104,7 +104,6 @@ def pieces_looked_at(entries):
     lists.names = Pieces(lists.names)
     for entry in entries:
         lists.add(entry._replace(names=Pieces(entry.names)))
-    lists.end()
     for _ in lists.parts():
         pass
     return Pieces.looked_at

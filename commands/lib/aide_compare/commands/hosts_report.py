@@ -125,7 +125,7 @@ class HostsReport:
         from aide_compare.hosts.hosts_text import report_lines
         from aide_compare.show.colours import severity_in_colour
 
-        for line in report_lines(self.summary, self.hosts, self.changes(), self.summary["order"]):
+        for line in report_lines(self.summary, self.hosts, self.changes()):
             yield (severity_in_colour(line, choice) + "\n").encode("utf-8", "backslashreplace")
 
     def page(self, command):
@@ -146,7 +146,7 @@ class HostsReport:
             raise
         if not is_alarm:
             return
-        lines, left_out = fitting(self.summary, self.hosts, self.changes(), self.summary["order"], given.max_mail * 3 // 4)
+        lines, left_out = fitting(self.summary, self.hosts, self.changes(), given.max_mail * 3 // 4)
         if left_out:
             lines += [
                 "This mail is cut: %d more changes are left out. This command prints all:" % left_out,

@@ -3,7 +3,7 @@ from collections import Counter
 
 from aide_compare.base.escapes import guarded, shown
 from aide_compare.compare.reason_counts import counted
-from aide_compare.hosts.host_changes import is_explained
+from aide_compare.hosts.host_changes import is_explained, path_in
 from aide_compare.hosts.hosts_read import CUT, NO_LIST, UNREADABLE
 from aide_compare.lines.attributes import STRENGTH
 from aide_compare.lines.decoded import decoded
@@ -23,43 +23,65 @@ ORDERS = {
 
 def headline(summary):
     explained = " (%d all explained)" % summary["explained"] if summary["explained"] else ""
-    return "aide on %d hosts: %d differ%s, %d not compared" % (
-        summary["hosts"],
-        summary["differ"],
-        explained,
-        summary["not_compared"],
-    )
+    told = (summary["hosts"], summary["differ"], explained, summary["not_compared"])
+    return "aide on %d hosts: %d differ%s, %d not compared" % told
 
 
-class Explained:
-    """The changes that are explained for certain, which have no lines of their own: how many there are by their reason."""
+def counts_text(fields):
+    if fields["added"] is None:
+        return "no counts are known"
+    return "added %d, removed %d, changed %d" % (fields["added"], fields["removed"], fields["changed"])
 
-    def __init__(self):
-        self.counts = Counter()
 
-    def take(self, changes):
-        """Yields the other changes."""
-        for fields in changes:
-            if not is_explained(fields):
-                yield fields
-                continue
-            text = fields["reason"]["text"]
-            self.counts[text if text in self.counts or len(self.counts) < MOST_REASONS else "other reasons"] += 1
+def not_listed(fields):
+    total = "?" if fields["added"] is None else fields["added"] + fields["removed"] + fields["changed"]
+    why, more = WHY[fields["report"]]
+    return "%s: %s; %d of %s changes are listed below%s" % (fields["host"], why, fields["listed"], total, more)
 
-    def lines(self):
-        if self.counts:
-            yield "Explained:"
-            for text, count in sorted(self.counts.items(), key=lambda pair: (-pair[1], pair[0])):
-                yield "  %s: %s" % (shown(text, MOST_VALUE), counted(count, "different change"))
-            yield ""
+
+def host_lists(hosts):
+    """The lists of hosts, each with its title: those that were not compared and why, those of which not all is listed, and
+    all that differ."""
+    differ = [each for each in hosts if 1 <= each["status"] <= 7]
+    return {
+        "Not compared": [
+            "%s: %s (status %d)" % (each["host"], each["error"], each["status"]) for each in hosts if each["status"] > 7
+        ],
+        "Not all changes are listed": [not_listed(each) for each in differ if each["report"] in WHY],
+        "Hosts that differ": ["%s: %s" % (each["host"], counts_text(each)) for each in differ],
+    }
+
+
+def names_of(fields):
+    """The hosts that have a change, the first ones by their names."""
+    more = fields["hosts"] - len(fields["names"])
+    return ", ".join(fields["names"]) + (" and %d more" % more if more else "")
 
 
 def reason_words(fields):
-    """The severity of a change and what is said of its reason; nothing without reasons."""
-    if "severity" not in fields:
-        return ""
+    """What is said of the reason of a change; nothing without reasons."""
     reason = fields.get("reason")
-    return "%s, %s" % (fields["severity"], "not verified: " + shown(reason["text"], MOST_VALUE) if reason else "unexplained")
+    if reason:
+        return "%s: %s" % ("explained" if reason["verified"] else "not verified", shown(reason["text"], MOST_VALUE))
+    return "unexplained" if "severity" in fields else ""
+
+
+class Share:
+    """What there is room for. Changes whose first host is the same take half of it at most, so that one host cannot crowd out
+    what the others have."""
+
+    def __init__(self, room):
+        self.room, self.share, self.taken, self.left_out = room, room // 2, Counter(), 0
+
+    def takes(self, fields, size):
+        """Whether a change of this size is taken."""
+        first = fields["names"][0]
+        has_room = size <= self.room and self.taken[first] + size <= self.share
+        if has_room:
+            self.room -= size
+            self.taken[first] += size
+        self.left_out += not has_room
+        return has_room
 
 
 def value_of(both, side, label, kind):
@@ -69,13 +91,9 @@ def value_of(both, side, label, kind):
         return None
     value = bytes.fromhex(both[side + "_hex"]) if side + "_hex" in both else value
     text = both.get(side + "_text") or decoded(label, value, kind)
-    if text:
-        return guarded(str(text)[:MOST_VALUE])
-    if both.get(side + "_time"):
-        return guarded(str(both[side + "_time"]))
-    if isinstance(value, int):
-        return str(value)
-    return shown(value, MOST_VALUE)
+    if text or both.get(side + "_time"):
+        return guarded(str(text)[:MOST_VALUE] if text else str(both[side + "_time"]))
+    return str(value) if isinstance(value, int) else shown(value, MOST_VALUE)
 
 
 def values(fields):
@@ -94,90 +112,66 @@ def values(fields):
 
 def change_lines(fields, hosts):
     """The lines of a change. The path stands last in its line, so that no path can look like another line's words."""
-    path = bytes.fromhex(fields["path_hex"]) if "path_hex" in fields else fields["path"].encode()
-    more = fields["hosts"] - len(fields["names"])
-    yield "%s on %d of %d hosts: %s %s" % (fields["kind"], fields["hosts"], hosts, fields.get("type", "Entry"), shown(path))
-    yield "    on " + ", ".join(fields["names"]) + (" and %d more" % more if more else "")
-    if "severity" in fields:
-        yield "    " + reason_words(fields)
-    line = ", ".join(values(fields))
-    if line:
-        yield "    " + line
-    elif fields.get("summary"):
-        yield "    " + shown(fields["summary"], 18)
-    if fields.get("per_host"):
-        yield "    of each host: " + ", ".join(fields["per_host"])
+    told = (fields["kind"], fields["hosts"], hosts, fields.get("type", "Entry"), shown(path_in(fields)))
+    yield "%s on %d of %d hosts: %s %s" % told
+    line = ", ".join(values(fields)) or shown(fields.get("summary") or "", 18)
+    own = "of each host: " + ", ".join(fields["per_host"]) if fields.get("per_host") else ""
+    reason = ", ".join(filter(None, (fields.get("severity"), reason_words(fields))))
+    for part in ("on " + names_of(fields), reason, line, own):
+        if part:
+            yield "    " + part
+    yield ""
 
 
 def some(title, lines, most):
     """A list with its title; nothing if it is empty."""
     if lines:
-        yield title
-        yield from ("  " + line for line in lines[:most])
+        yield title + ":"
+        yield from ("  " + guarded(line) for line in lines[:most])
         if len(lines) > most:
             yield "  and %d more" % (len(lines) - most)
         yield ""
 
 
-def counts_text(fields):
-    if fields["added"] is None:
-        return "no counts are known"
-    return "added %d, removed %d, changed %d" % (fields["added"], fields["removed"], fields["changed"])
-
-
-def not_listed(fields):
-    total = "?" if fields["added"] is None else fields["added"] + fields["removed"] + fields["changed"]
-    why, more = WHY[fields["report"]]
-    return "%s: %s; %d of %s changes are listed below%s" % (fields["host"], why, fields["listed"], total, more)
-
-
 def head_lines(summary, hosts, most):
-    """The lines before the changes: how many hosts there are of each kind, and which."""
+    """The lines before the changes: how many hosts there are of each kind, and which, of each list the first ones."""
     yield "%s, %d without differences" % (headline(summary), summary["unchanged"])
     yield ""
-    yield from some(
-        "Not compared:",
-        [
-            "%s: %s (status %d)" % (each["host"], guarded(each["error"]), each["status"])
-            for each in hosts
-            if each["status"] > 7
-        ],
-        most,
-    )
-    differ = [each for each in hosts if 1 <= each["status"] <= 7]
-    yield from some("Of these not all is listed below:", [not_listed(each) for each in differ if each["report"] in WHY], most)
-    yield from some("Hosts that differ:", ["%s: %s" % (each["host"], counts_text(each)) for each in differ], most)
-
-
-def report_lines(summary, hosts, changes, order, most=1 << 62):
-    """All lines of the text, each list of hosts with so many of them."""
-    yield from head_lines(summary, hosts, most)
+    for title, lines in host_lists(hosts).items():
+        yield from some(title, lines, most)
     if summary["changes"]:
-        yield "%s, %s:" % (counted(summary["changes"], "different change"), ORDERS[order])
+        yield "%s, %s:" % (counted(summary["changes"], "different change"), ORDERS[summary["order"]])
         yield ""
-    explained = Explained()
-    for fields in explained.take(changes):
-        yield from change_lines(fields, summary["hosts"])
-        yield ""
-    yield from explained.lines()
 
 
-def fitting(summary, hosts, changes, order, room):
-    """The lines of a text of at most so many bytes, and how many changes do not fit and are left out. Changes whose first host
-    is the same take half of it at most, so that one host cannot crowd out what the others have."""
-    lines, left_out, taken = list(report_lines(summary, hosts, (), order, max(room // 2000, 10))), 0, {}
-    room -= size_of(lines)
-    share, explained = room // 2, Explained()
-    for fields in explained.take(changes):
-        block = list(change_lines(fields, summary["hosts"])) + [""]
-        size, first = size_of(block), fields["names"][0]
-        if size > room or taken.get(first, 0) + size > share:
-            left_out += 1
-        else:
-            room -= size
-            taken[first] = taken.get(first, 0) + size
-            lines += block
-    return lines + list(explained.lines())[:MOST_REASONS], left_out
+def all_change_lines(changes, hosts, share):
+    """The lines of the changes that a Share takes. Those that are explained for certain have no lines of their own: a line
+    says of each reason how many there are."""
+    explained = Counter()
+    for fields in changes:
+        if is_explained(fields):
+            text = fields["reason"]["text"]
+            explained[text if text in explained or len(explained) < MOST_REASONS else "other reasons"] += 1
+            continue
+        lines = list(change_lines(fields, hosts))
+        if share.takes(fields, size_of(lines)):
+            yield from lines
+    listed = sorted(explained.items(), key=lambda pair: (-pair[1], pair[0]))
+    lines = ["%s: %s" % (shown(text, MOST_VALUE), counted(count, "different change")) for text, count in listed]
+    yield from some("Explained", lines, len(lines))
+
+
+def report_lines(summary, hosts, changes):
+    """All lines of the text."""
+    yield from head_lines(summary, hosts, len(hosts))
+    yield from all_change_lines(changes, summary["hosts"], Share(1 << 62))
+
+
+def fitting(summary, hosts, changes, room):
+    """The lines of a text of at most so many bytes, and how many changes do not fit and are left out."""
+    lines = list(head_lines(summary, hosts, max(room // 2000, 10)))
+    share = Share(room - size_of(lines))
+    return lines + list(all_change_lines(changes, summary["hosts"], share)), share.left_out
 
 
 def size_of(lines):

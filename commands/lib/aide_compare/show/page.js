@@ -1,45 +1,43 @@
 // Shows what the address asks for: filters, order, tree and list, and what readers press, type and print.
-// The filters in words, for the status and for a page that is printed.
+const PAGE = 100, FEW = 25, REASONS = 4;
+
+// The filters in words, also for a page that is printed; nothing without a filter.
 function askedWords() {
   const words = Object.keys(choices).filter((name) => view[name].size)
-    .map((name) => name + ' ' + choices[name].filter((word, place) => view[name].has(place)).join(' or ').replace('_', ' '));
+    .map((name) => name + ' ' + chosen(view, choices, name).join(' or ').replace('_', ' '));
   if (view.reason.size) words.push('reason ' + [...view.reason].join(' or '));
   if (view.path) words.push('path with \u201c' + view.path + '\u201d');
-  if (view.directory) words.push('in ' + view.directory + '/');
-  return words.join(', ');
+  const parts = [...words.length ? ['with: ' + words.join(', ')] : [], ...view.directory ? ['in ' + view.directory + '/'] : []];
+  return parts.length ? 'Only entries ' + parts.join(', ') + '.' : '';
 }
 
 function showCounts(pages) {
-  find('found').textContent = (matching.length === entries.length ? entriesOf(entries.length)
-    : number(matching.length) + ' of ' + entriesOf(entries.length)) + (view.directory ? ' in ' + view.directory + '/' : '');
-  find('asked').textContent = askedWords() ? 'Only entries with: ' + askedWords() + '.' : '';
-  find('clear').hidden = !askedWords();
+  const asked = askedWords(), found = matching.length === entries.length ? '' : number(matching.length) + ' of ';
+  find('found').textContent = found + entriesOf(entries.length) + (view.directory ? ' in ' + view.directory + '/' : '');
+  find('asked').textContent = asked;
+  find('clear').hidden = !asked;
   find('pager').hidden = pages === 1;
   find('place').textContent = 'Page ' + number(view.page) + ' of ' + number(pages);
   find('previous').disabled = view.page === 1;
   find('next').disabled = view.page === pages;
-  find('unfold').setAttribute('aria-pressed', String(Boolean(view.values)));
+  find('unfold').setAttribute('aria-pressed', view.values !== '');
   find('order').value = shownOrder;
 }
 
-let asked = 0;
-async function showList() {
-  const pages = Math.max(1, Math.ceil(matching.length / PAGE)), mine = asked += 1;
-  view.page = Math.min(view.page, pages);
-  const from = (view.page - 1) * PAGE;
-  if (view.values) await Promise.all(chunksFor(matching.slice(from, from + PAGE)).map(openChunk));
-  if (mine !== asked) return;
-  find('list').replaceChildren(...listItems(from, PAGE));
-  showCounts(pages);
+function showItems(from, count) {
+  find('list').replaceChildren();
+  for (const item of listItems(from, count)) find('list').append(item);
 }
 
-function showTree() {
-  const had = find('tree').contains(document.activeElement) ? document.activeElement.dataset.node : null;
-  find('tree').replaceChildren();
-  fill(find('tree'), 0);
-  const item = had && find('tree').querySelector('[data-node="' + had + '"]');
-  if (item) focusOn(item);
-  else if (find('tree').firstElementChild) find('tree').firstElementChild.tabIndex = 0;
+let listNumber = 0;
+async function showList() {
+  const pages = Math.max(1, Math.ceil(matching.length / PAGE)), mine = listNumber += 1;
+  view.page = Math.min(view.page, pages);
+  const from = (view.page - 1) * PAGE;
+  if (view.values) await openValues(matching.slice(from, from + PAGE));
+  if (mine !== listNumber) return;
+  showItems(from, PAGE);
+  showCounts(pages);
 }
 
 // The search and every other thing that was asked for are written into the address.
@@ -53,10 +51,8 @@ function change(what, isFilter = true) {
   view = { ...view, page: 1, ...what };
   filter();
   if (isFilter) showTree();
-  for (const item of find('tree').querySelectorAll('[data-node]')) {
-    item.setAttribute('aria-selected', String(view.directory !== '' && pathOf(Number(item.dataset.node)) === view.directory));
-  }
-  for (const button of document.querySelectorAll('.choices button')) button.show();
+  showChosen();
+  for (const button of document.querySelectorAll('.choices [aria-pressed]')) button.show();
   write();
   return showList();
 }
@@ -68,152 +64,129 @@ function turn(step) {
   find('list').scrollIntoView();
 }
 
-// A button that is pressed or not, for one choice of a filter. Arrow keys go from one to the next.
-function toggles(name, title, all) {
-  const place = find(name), buttons = make('span', 'choices'), some = all.filter(({ count }) => count);
-  place.hidden = !some.length;
-  if (!some.length) return;
-  place.append(make('span', 'name', title), buttons);
-  some.forEach(({ value, text, count, kind }, order) => {
-    const button = make('button', kind || '', text + ' ');
-    button.type = 'button';
-    button.tabIndex = order ? -1 : 0;
-    button.hidden = name === 'reason' && order >= REASONS;
-    button.append(make('small', '', number(count)));
-    button.show = () => button.setAttribute('aria-pressed', String(view[name].has(value)));
-    button.addEventListener('click', () => {
-      const chosen = new Set(view[name]);
-      if (!chosen.delete(value)) chosen.add(value);
-      change({ [name]: chosen });
+function choiceButton(name, { value, text, count, kind }) {
+  const button = make('button', { type: 'button', class: kind || '', tabindex: -1, 'aria-pressed': false },
+    text + ' ', make('small', {}, number(count)));
+  button.show = () => button.setAttribute('aria-pressed', view[name].has(value));
+  button.addEventListener('click', () => {
+    const words = new Set(view[name]);
+    if (!words.delete(value)) words.add(value);
+    change({ [name]: words });
+  });
+  return button;
+}
+
+// A row of buttons that are pressed or not, for the choices of a filter. Arrow keys go from one to the next.
+function showChoices(name, title, all) {
+  const row = make('span', { class: 'choices' });
+  const buttons = all.filter(({ count }) => count).map((choice) => choiceButton(name, choice));
+  const hidden = name === 'reason' ? buttons.slice(REASONS) : [];
+  find(name).hidden = !buttons.length;
+  if (!buttons.length) return;
+  for (const button of hidden) button.hidden = true;
+  buttons[0].tabIndex = 0;
+  row.append(...buttons);
+  if (hidden.length) {
+    const more = make('button', { type: 'button', tabindex: -1 }, number(hidden.length) + ' more');
+    more.addEventListener('click', () => {
+      for (const button of hidden) button.hidden = false;
+      focusOn(hidden[0], row);
+      more.remove();
     });
-    buttons.append(button);
-  });
-  if (name === 'reason' && some.length > REASONS) buttons.append(moreButton(buttons, some.length - REASONS));
-  buttons.addEventListener('keydown', (event) => buttonKey(event, buttons));
-}
-
-function moreButton(buttons, count) {
-  const more = make('button', 'more', number(count) + ' more');
-  more.type = 'button';
-  more.tabIndex = -1;
-  more.show = () => {};
-  more.addEventListener('click', () => {
-    for (const button of buttons.children) button.hidden = false;
-    focusOn(more.previousElementSibling, buttons);
-    more.remove();
-  });
-  return more;
-}
-
-function buttonKey(event, buttons) {
-  const all = [...buttons.children].filter((button) => !button.hidden), place = all.indexOf(document.activeElement);
-  const next = { ArrowRight: place + 1, ArrowLeft: place - 1, Home: 0, End: all.length - 1 }[event.key];
-  if (next === undefined || !all[next]) return;
-  event.preventDefault();
-  focusOn(all[next], buttons);
-}
-
-function counted(names, texts, countOf) {
-  const found = names.map(() => 0);
-  for (const entry of entries) countOf(entry, found);
-  return names.map((name, value) => ({ value, text: texts[value], count: found[value], kind: name }));
+    row.append(more);
+  }
+  row.addEventListener('keydown', (event) =>
+    moveFocus(event, row, [...row.children].filter((one) => !one.hidden), ['ArrowLeft', 'ArrowRight']));
+  find(name).append(make('span', { class: 'name' }, title), row);
 }
 
 function makeFilters() {
-  const one = (name) => (entry, found) => { found[entry[name]] += 1; };
-  toggles('standing', 'Reason', data.hasReasons ? counted(STANDINGS, STANDING_NAMES, one('standing')) : []);
-  toggles('severity', 'Severity', counted(SEVERITIES, SEVERITIES, (entry, found) => {
-    if (entry.severity < 3) found[entry.severity] += 1;
-  }));
-  toggles('kind', 'Kind', counted(KINDS, KINDS, one('kind')));
-  toggles('attribute', 'Attribute', counted(data.attributes, data.attributes, (entry, found) => {
-    for (let place = 0; place < found.length; place += 1) found[place] += entry.attributes >> place & 1;
-  }).map((choice) => ({ ...choice, kind: '' })));
-  toggles('reason', 'Explained by', [...groups].sort((left, right) => left.rank - right.rank).map((group) => (
-    { value: group.key, count: group.count,
-      text: group.text + ' (' + group.grade + (group.standing === 1 ? ', not verified' : '') + ')' })));
-  ORDERS.forEach((order, place) => {
-    if (!data.hasReasons && (order === 'importance' || order === 'severity')) return;
-    const option = make('option', '', ORDER_NAMES[place]);
-    option.value = order;
-    find('order').append(option);
-  });
+  // The choices of a filter, with the number of entries for which each holds.
+  const counted = (name, holds, texts = choices[name]) => choices[name].map((word, value) =>
+    ({ value, text: texts[value], kind: word, count: entries.filter((entry) => holds(entry, value)).length }));
+  const equals = (name) => (entry, value) => entry[name] === value;
+  if (data.hasReasons) {
+    showChoices('standing', 'Reason',
+      counted('standing', equals('standing'), ['not explained', 'explained, not verified', 'explained']));
+  }
+  showChoices('severity', 'Severity', counted('severity', equals('severity')));
+  showChoices('kind', 'Kind', counted('kind', equals('kind')));
+  showChoices('attribute', 'Attribute', counted('attribute', (entry, place) => entry.attributes >> place & 1)
+    .map((choice) => ({ ...choice, kind: '' })));
+  showChoices('reason', 'Explained by', ranked.map(({ key, text, grade, count, standing }) =>
+    ({ value: key, count, text: text + ' (' + grade + (standing === 1 ? ', not verified' : '') + ')' })));
+  for (const order of Object.keys(KEYS)) {
+    if (data.hasReasons || (order !== 'importance' && order !== 'severity')) {
+      find('order').append(make('option', { value: order }, data.orders[order]));
+    }
+  }
 }
 
-// All that fits is printed, and not one page of it.
-let isPrinting = false;
-function beforePrint() {
-  if (isPrinting) return;
-  isPrinting = true;
-  find('list').replaceChildren(...listItems(0, matching.length));
-}
-
-function afterPrint() {
-  isPrinting = false;
-  showList();
-}
-
-async function print() {
-  if (view.values) await Promise.all(chunksFor(matching).map(openChunk));
-  window.print();
+// The view of an address; a directory that has no entries is left out of it.
+function showView(text) {
+  view = viewOf(text, choices);
+  if (view.directory && !nodeAt(view.directory)) view.directory = '';
+  find('search').value = view.path;
+  return change({ page: view.page });
 }
 
 function readAddress() {
   const text = location.hash.slice(1);
-  if (text === 'content' || text === written) return;
-  view = viewOf(text, choices);
-  find('search').value = view.path;
-  if (view.directory && nodeAt(view.directory) < 0) view.directory = '';
-  const { page } = view;
-  change({ page });
+  if (text !== 'content' && text !== written) showView(text);
+}
+
+function clear() {
+  showView('order=' + view.order + '&values=' + view.values);
+  find('search').focus();
+}
+
+// All that fits is printed, and not one page of it.
+async function print() {
+  if (view.values) await openValues(matching);
+  window.print();
+}
+
+function treeClick(event) {
+  const item = event.target.closest('[role="treeitem"]');
+  if (item) (event.target.classList.contains('fold') ? toggle : choose)(item);
 }
 
 function listen() {
+  const on = (target, event, act) => target.addEventListener(event, act);
   let timer = 0;
-  find('search').addEventListener('input', (event) => {
+  on(find('search'), 'input', (event) => {
     clearTimeout(timer);
     timer = setTimeout(() => change({ path: event.target.value }), 100);
   });
-  find('clear').addEventListener('click', () => {
-    find('search').value = '';
-    change(viewOf('order=' + view.order + '&values=' + view.values, choices));
-    find('search').focus();
-  });
-  find('order').addEventListener('change', () => change({ order: find('order').value }, false));
-  find('unfold').addEventListener('click', () => change({ page: view.page, values: view.values ? '' : 'shown' }, false));
-  find('previous').addEventListener('click', () => turn(-1));
-  find('next').addEventListener('click', () => turn(1));
-  find('print').addEventListener('click', print);
-  find('tree').addEventListener('keydown', treeKey);
-  find('tree').addEventListener('click', (event) => {
-    const item = event.target.closest('[role="treeitem"]');
-    if (!item) return;
-    if (event.target.classList.contains('fold')) toggle(item);
-    else choose(item);
-  });
+  on(find('clear'), 'click', clear);
+  on(find('order'), 'change', () => change({ order: find('order').value }, false));
+  on(find('unfold'), 'click', () => change({ page: view.page, values: view.values ? '' : 'shown' }, false));
+  on(find('previous'), 'click', () => turn(-1));
+  on(find('next'), 'click', () => turn(1));
+  on(find('print'), 'click', print);
+  on(find('tree'), 'keydown', treeKey);
+  on(find('tree'), 'click', treeClick);
   for (const link of document.querySelectorAll('[href="#content"]')) {
-    link.addEventListener('click', (event) => {
+    on(link, 'click', (event) => {
       event.preventDefault();
       find('content').focus();
     });
   }
-  window.addEventListener('hashchange', readAddress);
-  window.addEventListener('beforeprint', beforePrint);
-  window.addEventListener('afterprint', afterPrint);
+  on(window, 'hashchange', readAddress);
+  on(window, 'beforeprint', () => showItems(0, matching.length));
+  on(window, 'afterprint', showList);
 }
 
 async function begin() {
   await readEntries();
   placeEntries();
   makeFilters();
-  view = viewOf(location.hash.slice(1) || data.state || (entries.length <= FEW ? 'values=shown' : ''), choices);
-  find('search').value = view.path;
-  if (view.directory && nodeAt(view.directory) < 0) view.directory = '';
+  const text = location.hash.slice(1) || data.state || (entries.length <= FEW ? 'values=shown' : '');
+  view = viewOf(text, choices);
   filter();
-  for (let first = shownChildren(0); first.length === 1 && !first[0].leaf && opened.size < DEEP;
+  for (let first = shownChildren(root); first.length === 1 && first[0].node.below && opened.size < DEEP;
     first = shownChildren(first[0].node)) opened.add(first[0].node);
-  const { page } = view;
-  await change({ page });
+  await showView(text);
   listen();
   find('waiting').remove();
   find('view').hidden = false;

@@ -1,21 +1,48 @@
-"""What stands over the entries of a page: of which host and which databases it is, the counts, and what is missing."""
+"""The beginning of a page: its policy, of which host and which databases it is, the counts, and what is missing."""
+import base64
+import hashlib
+import os
 from html import escape
 
-from aide_compare.base.names import KINDS, SEVERITIES
+from aide_compare.base.names import KINDS, SEVERITIES, SIDES
 from aide_compare.base.shown_text import shown, shown_date, shown_note
+from aide_compare.compare.reason_counts import GRADE_KEYS, KEYS, ReasonCounts
 from aide_compare.lines.json_lines import DATE, bytes_of
 from aide_compare.show.page_items import entries, number
+from aide_compare.show.page_view import STANDINGS
 
+HERE = os.path.dirname(os.path.abspath(__file__))
+POLICY = "default-src 'none'; base-uri 'none'; form-action 'none'; style-src '%s'"
 OUTCOMES = {True: "The two databases differ", False: "No differences between the two databases"}
+CARDS = (("unexplained", "Not explained"), ("unverified", "Explained, not verified"), ("explained", "Explained"))
 KNOWN = set(
     """record format differences total added removed changed levels grouped summarized base16 lines uncertain reasons
     left_out skipped host @timestamp old_time new_time old_digest new_digest""".split()
 )
 MOST_MEMBERS, MOST_LETTERS = 20, 5000
 HINT = (
-    "Reasons are hints: those of the grades dpkg and rpm come from records of the host, and whoever was root before AIDE ran can "
-    "forge these. The evidence of a signed archive is stronger."
+    "Reasons are hints: those of the grades dpkg and rpm come from records of the host, and whoever was root before AIDE ran "
+    "can forge these. The evidence of a signed archive is stronger."
 )
+
+
+def part_of(name):
+    """A file of the page that is the same for each report."""
+    with open(os.path.join(HERE, name), encoding="utf-8") as file:
+        return file.read()
+
+
+def digest_of(text):
+    """The name that a content policy has for a script or style."""
+    return "sha256-" + base64.b64encode(hashlib.sha256(text.encode()).digest()).decode()
+
+
+def beginning(title, script="", **parts):
+    """The beginning of a page, up to the entries. `title` is a text; the parts are markup."""
+    style = part_of("page.css")
+    policy = POLICY % digest_of(style) + ("; script-src '%s'" % digest_of(script) if script else "")
+    parts = {"heading": escape(title), "databases": "", **parts, "title": escape(title), "style": style, "policy": policy}
+    return (part_of("page.html") % parts).encode("utf-8", "backslashreplace")
 
 
 def member(summary, name):
@@ -24,12 +51,6 @@ def member(summary, name):
     if not isinstance(value, str):
         return ""
     return shown_date(value) if DATE.fullmatch(value) else shown_note(value)
-
-
-def title_of(title, summary):
-    """The heading: what the caller has given, or else the host."""
-    host = member(summary, "host")
-    return shown(title[:MOST_LETTERS]) if title else "File changes on %s" % host if host else "File changes"
 
 
 def facts(summary):
@@ -55,52 +76,44 @@ def databases(report):
     return '<details class="databases"><summary>Databases</summary><dl>%s</dl></details>\n' % lines if lines else ""
 
 
-def card(name, text, count):
-    return '<div class="%s"><dt>%s</dt><dd>%s</dd></div>' % (name, text, number(count))
+def cards(rows):
+    """Counts: of each its class, its name and its number."""
+    text = '<div class="%s"><dt>%s</dt><dd>%s</dd></div>'
+    return '<dl class="counts">%s</dl>' % "".join(text % (name, words, number(count)) for name, words, count in rows)
 
 
-def counts(report, reasons):
-    """The counts of the page: of what is explained, and of each kind, as far as the lines have them."""
-    cards = []
-    if reasons.has_any:
-        open_ones, not_verified, explained = reasons.standings
-        cards.append(
-            card("unexplained", "Not explained", open_ones)
-            + card("unverified", "Explained, not verified", not_verified)
-            + card("explained", "Explained", explained)
-        )
-    if report.changes() is not None:
-        cards.append(
-            "".join(card(kind, kind.capitalize(), report.summary[kind]) for kind in KINDS)
-            + card("all", "Entries in the new database", report.summary["total"])
-        )
-    text = "".join('<dl class="counts">%s</dl>' % part for part in cards)
-    return '<div class="cards">%s</div>\n%s%s' % (text, worth(reasons), look(report, reasons)) if cards else ""
-
-
-def look(report, reasons):
-    """The line that a narrow screen has in place of the counts: how many entries to look at, as a link to them."""
-    count = sum(reasons.standings[:2]) if reasons.has_any else report.changes()
-    return '<p class="look"><a href="#content">%s to look at</a></p>\n' % number(count) if count else ""
+def counts(report):
+    """The counts of what is explained and of each kind, as far as the lines have them, and how many entries to look at: a
+    narrow screen has this line in their place, as a link to them."""
+    summary, reasons, changes, text = report.summary, None, report.changes(), ""
+    if "reasons" in summary:
+        reasons = ReasonCounts(**{key: summary["reasons"].get(key, 0) for key in KEYS + GRADE_KEYS})
+        text += cards((*card, getattr(reasons, name)) for card, name in zip(CARDS, STANDINGS))
+    if changes is not None:
+        rows = [(kind, kind.capitalize(), summary[kind]) for kind in KINDS]
+        text += cards(rows + [("all", "Entries in the new database", summary["total"])])
+    if not text:
+        return ""
+    count = changes if reasons is None else reasons.unanswered
+    look = '<p class="look"><a href="#content">%s to look at</a></p>\n' % number(count) if count else ""
+    return '<div class="cards">%s</div>\n%s%s' % (text, worth(reasons) if reasons else "", look)
 
 
 def worth(reasons):
     """How severe is what is not explained, and what reasons are worth."""
-    if not reasons.has_any:
-        return ""
-    severe = ", ".join("%s %s" % (number(count), name) for name, count in zip(SEVERITIES, reasons.severities) if count)
-    text = '<p class="severities">Severity of what is not explained or not verified: %s</p>\n' % severe if severe else ""
-    text += '<p class="severities">Explained by: %s</p>\n' % reasons.grades() if reasons.grades() else ""
+    severe = ", ".join("%s %s" % (number(getattr(reasons, name)), name) for name in SEVERITIES if getattr(reasons, name))
+    rows = (("Severity of what is not explained or not verified", severe), ("Explained by", reasons.grades()))
+    text = "".join('<p class="severities">%s: %s</p>\n' % row for row in rows if row[1])
     return '%s<p class="hint">%s</p>\n' % (text, HINT)
 
 
 def left_out(value):
     """What the comparison has left out, as far as the summary says it: for each database, how many entries."""
-    counts = [value.get(side) for side in ("old", "new")] if isinstance(value, dict) else [value]
-    if not all(type(count) is int for count in counts) or not any(counts):
+    numbers = [value.get(side) for side in SIDES] if isinstance(value, dict) else [value]
+    if not all(type(count) is int for count in numbers) or not any(numbers):
         return ""
-    where = " and ".join("%s of the %s database" % (entries(count), side) for count, side in zip(counts, ("old", "new")))
-    return "The comparison left out %s, by the rules of --exclude-from." % (where if len(counts) == 2 else entries(counts[0]))
+    where = " and ".join("%s of the %s database" % (entries(count), side) for count, side in zip(numbers, SIDES))
+    return "The comparison left out %s, by the rules of --exclude-from." % (where if len(numbers) == 2 else entries(*numbers))
 
 
 def skipped(value):
@@ -117,4 +130,24 @@ def remarks(report, more):
         found.append("The report ends after its first part. A report that was cut there looks the same.")
     elif report.changes() and not report.count:
         found.append("A report of this level lists no entries.")
-    return "".join('<p class="remark">%s</p>\n' % escape(text) for text in found + more if text)
+    return paragraphs(found + more)
+
+
+def paragraphs(texts):
+    return "".join('<p class="remark">%s</p>\n' % escape(text) for text in texts if text)
+
+
+def head(report, title, script, more):
+    """The beginning of the page of a report. Without a title it has that of the host."""
+    summary, host = report.summary, member(report.summary, "host")
+    title = shown(title[:MOST_LETTERS]) if title else "File changes on %s" % host if host else "File changes"
+    kinds = "" if report.changes() is None else ": " + ", ".join("%s %s" % (number(summary[kind]), kind) for kind in KINDS)
+    return beginning(
+        title,
+        script,
+        heading=escape(title + kinds),
+        outcome=OUTCOMES[summary["differences"]],
+        databases=facts(summary) + databases(report),
+        counts=counts(report),
+        remarks=remarks(report, more),
+    )

@@ -1,19 +1,14 @@
 """The entries of the plain lists, which need no script: an item of a list, with its values in a table."""
 from html import escape
 
+from aide_compare.base.files import Spool
 from aide_compare.base.names import KINDS, SEVERITIES
-from aide_compare.lines.json_lines import LABELS
-from aide_compare.show.page_streams import VARIOUS, facts_of
+from aide_compare.lines.json_lines import LABELS, PLACES
 from aide_compare.show.page_view import DIGESTS_NAME
 
-SIGNS = ["+", "\N{MINUS SIGN}", "~"]
-GRADES = {
-    "databases": "the databases say so",
-    "dpkg": "dpkg says so",
-    "rpm": "rpm says so",
-    "archive": "the archive says so",
-    "rules": "a rule says so",
-}
+# In place of an old value, if hosts with the same change had several. No text of a host is this object.
+VARIOUS = type("Various", (str,), {})("various")
+SIZE, PERM, UID, GID = (PLACES[label] for label in ("Size", "Perm", "UID", "GID"))
 HEADS = '<tr><th scope="col">Attribute<th scope="col">Old<th scope="col">New'
 
 
@@ -21,40 +16,19 @@ def number(count):
     return format(count, ",")
 
 
-def files(count):
-    return "1 file" if count == 1 else "%s files" % number(count)
+def numbered(count, word, words):
+    """A number with its word: "1 entry", "2,300 entries"."""
+    return "1 " + word if count == 1 else "%s %s" % (number(count), words)
 
 
 def entries(count):
-    return "1 entry" if count == 1 else "%s entries" % number(count)
-
-
-def counted(counts):
-    """The counts of a folder: a number for each kind that it has."""
-    return " ".join(
-        '<span class="%s" title="%s">%s%s</span>' % (kind, kind, sign, number(count))
-        for kind, sign, count in zip(KINDS, SIGNS, counts)
-        if count
-    )
-
-
-def bar(counts, whole):
-    """A bar that shows how many entries of each kind there are, as a share of a whole."""
-    parts, left = "", 0.0
-    for kind, count in zip(KINDS, counts):
-        width = 100 * count / whole
-        if count:
-            parts += '<rect class="%s" x="%.2f" width="%.2f" height="8"/>' % (kind, left, width)
-        left += width
-    return '<svg class="bar" viewBox="0 0 100 8" preserveAspectRatio="none" aria-hidden="true">%s</svg>' % parts
+    return numbered(count, "entry", "entries")
 
 
 def cell(value, note="", doubt=""):
     """A value. If people read something else in its place, the exact one is its title."""
-    if value is None:
-        return '<td class="none">none'
-    if value is VARIOUS:
-        return '<td class="none">' + value
+    if value is None or value is VARIOUS:
+        return '<td class="none">' + (value or "none")
     text = '<td title="%s">%s' % (escape(value), escape(note)) if note and note != value else "<td>" + escape(value)
     return "%s<small>%s</small>" % (text, escape(doubt)) if doubt else text
 
@@ -64,24 +38,30 @@ def line_of(row):
     return '<tr><th scope="row">%s%s%s' % (LABELS[place], cell(old, old_note, old_doubt), cell(new, new_note, new_doubt))
 
 
-def digest_lines(digests):
-    """The strongest digest; the others open on demand."""
-    first, *others = digests
-    if not others:
-        return line_of(first)
-    inner = "".join(map(line_of, others))
-    name = "1 other digest" if len(others) == 1 else "%d other digests" % len(others)
-    return '%s<tr><td class="others" colspan="3"><details><summary>%s</summary><table>%s%s</table></details>' % (
-        line_of(first),
-        name,
-        HEADS,
-        inner,
-    )
-
-
 def table(entry):
-    lines = "".join(map(line_of, entry.rows)) + (digest_lines(entry.digests) if entry.digests else "")
-    return "<table>%s%s</table>" % (HEADS, lines)
+    """The values of an entry. Of its digests the strongest one is seen; the others open on demand."""
+    lines, others = "".join(map(line_of, entry.rows + entry.digests[:1])), "".join(map(line_of, entry.digests[1:]))
+    if others:
+        name = numbered(len(entry.digests) - 1, "other digest", "other digests")
+        others = '<tr><td class="others" colspan="3"><details><summary>%s</summary><table>%s%s</table></details>' % (
+            name,
+            HEADS,
+            others,
+        )
+    return "<table>%s%s%s</table>" % (HEADS, lines, others)
+
+
+def facts_of(entry):
+    """Permissions, owner and size of an entry that is there on one side only, as people read them."""
+    if entry.kind == KINDS.index("changed"):
+        return ""
+    side = 2 if entry.kind == KINDS.index("added") else 1
+    if any(row[side] is VARIOUS for row in entry.rows):
+        return VARIOUS
+    values = {row[0]: len(row) > 3 and row[side + 2] or row[side] for row in entry.rows}
+    owner = ":".join(values[place] for place in (UID, GID) if values.get(place))
+    size = values.get(SIZE)
+    return "  ".join(filter(None, (values.get(PERM), owner, size and size + " bytes")))
 
 
 def head_of(entry, name, reason):
@@ -92,47 +72,44 @@ def head_of(entry, name, reason):
         severity = SEVERITIES[entry.severity]
         text += '<em class="%s">%s</em> ' % (severity, severity)
     text += "<code>%s</code>%s" % (escape(name), ' <span class="reason">%s</span>' % escape(reason) if reason else "")
-    facts = facts_of(entry) if entry.kind < 2 and entry.rows else ""
     labels = [LABELS[row[0]] for row in entry.rows] + ([DIGESTS_NAME] if entry.digests else [])
-    return text + (" <i>%s</i>" % (escape(facts) or " ".join(labels)) if labels else "")
+    return text + (" <i>%s</i>" % (escape(facts_of(entry)) or " ".join(labels)) if labels else "")
 
 
-def short_item(entry, name, reason):
-    return "<li>%s\n" % head_of(entry, name, reason)
-
-
-def whole_item(entry, name, reason):
-    """An entry with its values."""
-    if not entry.rows and not entry.digests:
-        return short_item(entry, name, reason)
-    return "<li><details><summary>%s</summary>%s</details>\n" % (head_of(entry, name, reason), table(entry))
+def item(head, inner):
+    """An item of a list, which opens if there is something in it."""
+    return "<li><details><summary>%s</summary>%s</details>\n" % (head, inner) if inner else "<li>%s\n" % head
 
 
 class Room:
-    """How much room the items have: first for items with values, then for names only, then none is left."""
+    """The items that there is room for: first those with values, then names only, and then none."""
 
     def __init__(self, whole, valued):
-        self.whole, self.valued, self.used, self.names, self.values = whole, valued, 0, 0, 0
-        self.is_full = False
+        self.file, self.left, self.valued, self.is_full = Spool(), whole, valued, False
+        # How many items were put in, how many of them with their values, and where the last one of these ends.
+        self.names, self.values, self.valued_end = 0, 0, 0
 
-    def take(self, size):
-        """Whether so much fits. Once something did not, nothing does: so the first ones are there, and no other."""
-        self.is_full = self.is_full or self.used + size > self.whole
+    def put(self, text, more=0):
+        """Whether a text fits, with so much more that comes later. Once something did not, nothing does: so the first ones
+        are there, and no other."""
+        self.is_full = self.is_full or len(text) + more > self.left
         if not self.is_full:
-            self.used += size
+            self.left -= len(text) + more
+            self.file.write(text)
         return not self.is_full
 
-    def item(self, entry, name, reason=""):
-        """The item of an entry, as bytes; None if there is no room for it."""
+    def put_item(self, entry, name, reason=""):
+        """Whether there is room for an entry."""
         if self.is_full:
-            return None
-        text = whole_item(entry, name, reason).encode() if self.used < self.valued else b""
-        if self.used < self.valued and self.used + len(text) > self.valued:
-            self.valued = 0
-        has_values = self.used < self.valued
-        text = text if has_values else short_item(entry, name, reason).encode()
-        if not self.take(len(text)):
-            return None
+            return False
+        head, text = head_of(entry, name, reason), b""
+        if self.valued > 0:
+            text = item(head, table(entry) if entry.rows or entry.digests else "").encode()
+            self.valued -= len(text)
+        has_values = self.valued > 0
+        if not self.put(text if has_values else item(head, "").encode()):
+            return False
         self.names += 1
-        self.values += has_values
-        return text
+        if has_values:
+            self.values, self.valued_end = self.values + 1, self.file.tell()
+        return True

@@ -1,131 +1,92 @@
-// The tree of folders: how many entries each folder has, how it is shown, and how keys move in it.
-// Folders: node 0 is the root; a node comes after its parent. An entry that is itself a folder belongs to its node.
-const nodes = [{ name: '', parent: -1, children: new Map() }];
+// The tree of directories: how many entries each has, how it is shown, and how keys move in it.
+// So many nested directories are open at first: very deep elements are too much for some browsers.
+const CHILDREN = 200, DEEP = 20;
+const SIGNS = ['+', '\u2212', '~'];
+const nodeOf = (path, name, parent) => ({ path, name, parent, children: new Map(), counts: [0, 0, 0], direct: 0, below: 0 });
+// The directories; each comes after the one that it is in. An entry that is itself a directory belongs to its node.
+const root = nodeOf('', '', null), nodes = [root], opened = new Set([root]);
+const total = ({ counts }) => counts[0] + counts[1] + counts[2];
+
 function childOf(parent, name) {
-  let child = nodes[parent].children.get(name);
-  if (child === undefined) {
-    child = nodes.length;
-    nodes.push({ name, parent, children: new Map() });
-    nodes[parent].children.set(name, child);
+  if (!parent.children.has(name)) {
+    nodes.push(nodeOf(parent.path + '/' + name, name, parent));
+    parent.children.set(name, nodes[nodes.length - 1]);
   }
-  return child;
+  return parent.children.get(name);
 }
-function pathOf(node) {
-  const names = [];
-  for (; node > 0; node = nodes[node].parent) names.push('/' + nodes[node].name);
-  return names.reverse().join('');
-}
-function nodeAt(path) {
-  let node = 0;
-  for (const name of path.split('/').slice(1)) {
-    node = nodes[node].children.get(name);
-    if (node === undefined) return -1;
-  }
-  return node;
-}
+
+// The node of a directory; undefined if no entry is in it.
+const nodeAt = (path) => path.split('/').slice(1).reduce((node, name) => node && node.children.get(name), root);
+
 function placeEntries() {
+  for (const entry of entries) entry.node = entry.path.split('/').slice(1, -1).reduce(childOf, root);
   for (const entry of entries) {
-    for (const name of entry.path.split('/').slice(1, -1)) entry.node = childOf(entry.node, name);
-  }
-  for (const entry of entries) {
-    const own = nodes[entry.node].children.get(entry.path.slice(entry.path.lastIndexOf('/') + 1));
-    if (own !== undefined) entry.node = own;
+    entry.node = entry.node.children.get(entry.path.slice(entry.path.lastIndexOf('/') + 1)) || entry.node;
   }
 }
 
-let counts = new Uint32Array(3), direct = new Uint32Array(1), below = new Uint32Array(1);
-const total = (node) => counts[3 * node] + counts[3 * node + 1] + counts[3 * node + 2];
+// All entries in each order that was asked for: they are sorted once.
+const sorted = new Map();
+function inOrder(order) {
+  if (!sorted.has(order)) sorted.set(order, ordered(entries, order));
+  return sorted.get(order);
+}
 
-// Counts what fits, folder by folder, and keeps what is in the chosen folder, in the chosen order.
+// Counts what fits, directory by directory, and keeps what is in the chosen one, in the chosen order.
 function filter() {
   const folded = view.path.toLowerCase(), everywhere = { ...view, directory: '' };
-  const order = view.order || (data.hasReasons ? 'importance' : 'path');
-  const fitting = inOrder(order).filter((entry) => fits(everywhere, folded, entry));
-  counts = new Uint32Array(3 * nodes.length);
-  direct = new Uint32Array(nodes.length);
-  below = new Uint32Array(nodes.length);
-  for (const entry of fitting) {
-    counts[3 * entry.node + entry.kind] += 1;
-    direct[entry.node] += 1;
+  shownOrder = view.order || (data.hasReasons ? 'importance' : 'path');
+  const fitting = inOrder(shownOrder).filter((entry) => fits(everywhere, folded, entry));
+  for (const node of nodes) Object.assign(node, { counts: [0, 0, 0], direct: 0, below: 0 });
+  for (const { node, kind } of fitting) {
+    node.counts[kind] += 1;
+    node.direct += 1;
   }
-  for (let node = nodes.length - 1; node > 0; node -= 1) {
-    const parent = nodes[node].parent;
-    for (let kind = 0; kind < 3; kind += 1) counts[3 * parent + kind] += counts[3 * node + kind];
-    if (total(node)) below[parent] += 1;
+  for (const node of nodes.slice(1).reverse()) {
+    node.counts.forEach((count, kind) => { node.parent.counts[kind] += count; });
+    if (total(node)) node.parent.below += 1;
   }
   matching = view.directory ? fitting.filter((entry) => fits(view, folded, entry)) : fitting;
-  shownOrder = order;
 }
 
-// Folders that hold nothing but one folder are shown together with it.
+// Directories that hold nothing but one directory are shown together with it.
 function shownChildren(node) {
-  return [...nodes[node].children.values()].filter(total).map((child) => {
-    const names = [nodes[child].name];
-    let last = child;
-    while (!direct[last] && below[last] === 1) {
-      for (const next of nodes[last].children.values()) {
-        if (total(next)) {
-          last = next;
-          break;
-        }
-      }
-      names.push(nodes[last].name);
+  return [...node.children.values()].filter(total).map((child) => {
+    let last = child, name = child.name + '/';
+    while (!last.direct && last.below === 1) {
+      last = [...last.children.values()].find(total);
+      name += last.name + '/';
     }
-    return { node: last, name: names.join('/') + '/', leaf: !below[last] };
+    return { node: last, name };
   });
 }
 
-function setAll(element, attributes) {
-  for (const [name, value] of Object.entries(attributes)) element.setAttribute(name, value);
-}
-
-function bar(node, whole) {
-  const space = 'http://www.w3.org/2000/svg';
-  const picture = document.createElementNS(space, 'svg');
-  setAll(picture, { class: 'bar', viewBox: '0 0 100 8', preserveAspectRatio: 'none', 'aria-hidden': 'true' });
+function bar({ counts }, whole) {
+  const picture = make('svg', { class: 'bar', viewBox: '0 0 100 8', preserveAspectRatio: 'none', 'aria-hidden': 'true' });
   let left = 0;
-  KINDS.forEach((kind, place) => {
-    const width = 100 * counts[3 * node + place] / whole;
-    if (!width) return;
-    const part = document.createElementNS(space, 'rect');
-    setAll(part, { class: kind, x: left, width, height: 8 });
-    picture.append(part);
+  counts.forEach((count, kind) => {
+    const width = 100 * count / whole;
+    if (count) picture.append(make('rect', { class: KINDS[kind], x: left, width, height: 8 }));
     left += width;
   });
   return picture;
 }
 
-function numbers(node) {
-  const place = make('span', 'numbers');
-  KINDS.forEach((kind, kindPlace) => {
-    const count = counts[3 * node + kindPlace];
-    if (count) place.append(make('span', kind, SIGNS[kindPlace] + number(count)), ' ');
-  });
-  return place;
-}
+const treeItem = (label, row) => make('li', { role: 'treeitem', 'aria-label': label, tabindex: -1 }, row);
+const isChosen = (node) => view.directory !== '' && node.path === view.directory;
 
-const wordsOf = (node) => KINDS.map((kind, place) => [counts[3 * node + place], kind]).filter(([count]) => count)
-  .map(([count, kind]) => number(count) + ' ' + kind).join(', ');
-
-function treeItem(label) {
-  const item = make('li');
-  item.setAttribute('role', 'treeitem');
-  item.setAttribute('aria-label', label);
-  item.tabIndex = -1;
-  return item;
-}
-
-function folderItem({ node, name, leaf }, whole, waiting) {
-  const item = treeItem(name + ', ' + wordsOf(node)), row = make('div', 'folder');
-  item.dataset.node = node;
-  item.setAttribute('aria-selected', String(view.directory !== '' && pathOf(node) === view.directory));
-  row.append(make('span', leaf ? '' : 'fold'), make('code', '', name), bar(node, whole), numbers(node));
-  item.append(row);
-  if (!leaf) {
-    const list = make('ul');
-    list.setAttribute('role', 'group');
+function folderItem({ node, name }, whole, waiting) {
+  const kinds = KINDS.map((word, kind) => ({ word, kind, count: node.counts[kind] })).filter(({ count }) => count);
+  const numbers = kinds.flatMap(({ word, kind, count }) => [make('span', { class: word }, SIGNS[kind] + number(count)), ' ']);
+  const row = make('div', { class: 'folder' }, make('span', { class: node.below ? 'fold' : '' }), make('code', {}, name),
+    bar(node, whole), make('span', { class: 'numbers' }, ...numbers));
+  const item = treeItem(name + ', ' + kinds.map(({ word, count }) => number(count) + ' ' + word).join(', '), row);
+  item.node = node;
+  item.setAttribute('aria-selected', isChosen(node));
+  if (node.below) {
+    const list = make('ul', { role: 'group' });
     item.append(list);
-    item.setAttribute('aria-expanded', String(opened.has(node)));
+    item.setAttribute('aria-expanded', opened.has(node));
     if (opened.has(node)) waiting.push([list, node, 0]);
   }
   return item;
@@ -138,25 +99,22 @@ function fill(...first) {
 }
 
 function fillOne(waiting, list, node, from = 0) {
-  const children = shownChildren(node), whole = total(node);
-  children.slice(from, from + CHILDREN).forEach((child) => list.append(folderItem(child, whole, waiting)));
-  const left = children.length - from - CHILDREN;
-  if (left > 0) {
-    const more = treeItem(number(left) + ' more directories');
-    more.append(make('div', 'folder more', number(left) + ' more directories'));
-    more.more = () => {
-      more.remove();
-      fill(list, node, from + CHILDREN);
-    };
-    list.append(more);
-  }
+  const children = shownChildren(node), left = children.length - from - CHILDREN, words = number(left) + ' more directories';
+  list.append(...children.slice(from, from + CHILDREN).map((child) => folderItem(child, total(node), waiting)));
+  if (left <= 0) return;
+  const more = treeItem(words, make('div', { class: 'folder more' }, words));
+  more.more = () => {
+    more.remove();
+    fill(list, node, from + CHILDREN);
+  };
+  list.append(more);
 }
 
 function toggle(item) {
-  const node = Number(item.dataset.node), list = item.lastElementChild;
+  const { node } = item, list = item.lastElementChild;
   if (!item.hasAttribute('aria-expanded')) return;
   if (!opened.delete(node)) opened.add(node);
-  item.setAttribute('aria-expanded', String(opened.has(node)));
+  item.setAttribute('aria-expanded', opened.has(node));
   if (opened.has(node) && !list.firstChild) fill(list, node);
 }
 
@@ -165,10 +123,24 @@ function choose(item) {
     const next = item.previousElementSibling;
     item.more();
     focusOn(next);
-    return;
+  } else {
+    change({ directory: isChosen(item.node) ? '' : item.node.path }, false);
   }
-  const path = pathOf(Number(item.dataset.node));
-  change({ directory: view.directory === path ? '' : path }, false);
+}
+
+const treeItems = () => [...find('tree').querySelectorAll('[role="treeitem"]')];
+
+function showTree() {
+  const had = find('tree').contains(document.activeElement) && document.activeElement.node;
+  find('tree').replaceChildren();
+  fill(find('tree'), root);
+  const [first] = treeItems(), item = had && treeItems().find(({ node }) => node === had);
+  if (item) focusOn(item);
+  else if (first) first.tabIndex = 0;
+}
+
+function showChosen() {
+  for (const item of treeItems()) if (item.node) item.setAttribute('aria-selected', isChosen(item.node));
 }
 
 // One element of the tree, or of a row of buttons, is reached by the tabulator: the one that had the focus last.
@@ -179,20 +151,24 @@ function focusOn(item, container = find('tree')) {
   item.focus();
 }
 
+// Keys go from one element to the next; `more` has what other keys do.
+function moveFocus(event, container, items, [before, after], more = {}) {
+  const place = items.indexOf(document.activeElement);
+  const to = { [before]: items[place - 1], [after]: items[place + 1], Home: items[0], End: items[items.length - 1] };
+  const act = more[event.key] || (to[event.key] && (() => focusOn(to[event.key], container)));
+  if (!act || event.altKey || event.ctrlKey || event.metaKey) return;
+  event.preventDefault();
+  act();
+}
+
 function treeKey(event) {
   const item = event.target.closest('[role="treeitem"]');
-  if (!item || event.altKey || event.ctrlKey || event.metaKey) return;
-  const items = [...find('tree').querySelectorAll('[role="treeitem"]')]
-    .filter((one) => !one.parentElement.closest('[aria-expanded="false"]'));
-  const place = items.indexOf(item), isOpen = item.getAttribute('aria-expanded');
-  const actions = {
-    ArrowDown: () => focusOn(items[place + 1]), ArrowUp: () => focusOn(items[place - 1]),
-    Home: () => focusOn(items[0]), End: () => focusOn(items[items.length - 1]),
-    ArrowRight: () => isOpen === 'false' ? toggle(item) : isOpen && focusOn(items[place + 1]),
+  if (!item) return;
+  const items = treeItems().filter((one) => !one.parentElement.closest('[aria-expanded="false"]'));
+  const isOpen = item.getAttribute('aria-expanded'), act = () => choose(item);
+  moveFocus(event, find('tree'), items, ['ArrowUp', 'ArrowDown'], {
+    ArrowRight: () => isOpen === 'false' ? toggle(item) : isOpen && focusOn(items[items.indexOf(item) + 1]),
     ArrowLeft: () => isOpen === 'true' ? toggle(item) : focusOn(item.parentElement.closest('[role="treeitem"]')),
-    Enter: () => choose(item), ' ': () => choose(item),
-  };
-  if (!actions[event.key]) return;
-  event.preventDefault();
-  actions[event.key]();
+    Enter: act, ' ': act,
+  });
 }

@@ -1,6 +1,6 @@
-"""What a reader of a page asks for: filters and an order, as they are written in the address of the page after "#".
+"""What a reader of a page asks for: filters, as they are written in the address of the page after "#".
 
-page_logic.js has the same functions for the script. One table of cases is tried with both.
+page_logic.js has the same filters for the script, and the orders. One table of cases is tried with both.
 """
 from collections import namedtuple
 from urllib.parse import parse_qsl, quote_plus
@@ -10,16 +10,22 @@ from aide_compare.lines.json_lines import DIGESTS, LABELS
 
 # How an entry stands: nothing explains it, something does that was not verified, or something does.
 STANDINGS = ["unexplained", "not_verified", "explained"]
-ORDERS = ["importance", "path", "kind", "severity", "size"]
+ORDERS = {
+    "importance": "what matters most",
+    "path": "path",
+    "kind": "kind",
+    "severity": "severity",
+    "size": "change of size",
+}
 DIGESTS_NAME = "Digests"
 # The names of attributes on a page: all digests are one.
 ATTRIBUTES = [label for label in LABELS if label not in DIGESTS] + [DIGESTS_NAME]
 CHOICES = {"kind": KINDS, "standing": STANDINGS, "severity": SEVERITIES, "attribute": ATTRIBUTES}
+TEXTS = ("reason", "path", "directory")
 
-# An entry as filters and orders see it: its place in the order of paths, and places in KINDS, STANDINGS and SEVERITIES (3 if
-# it has no severity); `attributes` are places in ATTRIBUTES; `reason` is its key, "" without one; `group` is the rank of the
-# reason, `growth` by how many bytes the file has grown.
-Seen = namedtuple("Seen", "place kind standing severity attributes reason group growth path")
+# An entry as filters see it: places in KINDS, STANDINGS and SEVERITIES (3 if it has no severity); `attributes` are places in
+# ATTRIBUTES; `reason` is its key, "" without one.
+Seen = namedtuple("Seen", "kind standing severity attributes reason path")
 
 
 def quoted(text):
@@ -31,27 +37,25 @@ def fault_of(text):
     """The part of a view's text that means nothing; None if all has a meaning."""
     for name, value in parse_qsl(text, keep_blank_values=True):
         words = value.split(",") if name in CHOICES else [value]
-        known = CHOICES.get(name, ORDERS if name == "order" else words if name in ("reason", "path", "directory") else ())
+        known = words if name in TEXTS else ORDERS if name == "order" else CHOICES.get(name, ())
         if not value or not all(word in known for word in words):
             return "%s=%s" % (name, value)
     return None if not text or "=" in text else text
 
 
 class View:
-    """Filters and an order. A filter without choices takes every entry; several choices take what has one of them."""
+    """Filters. One without choices takes every entry; several choices take what has one of them."""
 
     def __init__(self, text=""):
-        self.choices = {name: set() for name in CHOICES}
-        self.reasons, self.path, self.directory, self.order = set(), "", "", ""
+        self.choices, self.order = {name: set() for name in CHOICES}, ""
+        self.reasons, self.path, self.directory = set(), "", ""
         for name, value in parse_qsl(text):
             if name in CHOICES:
                 self.choices[name].update(CHOICES[name].index(word) for word in value.split(",") if word in CHOICES[name])
             elif name == "reason":
                 self.reasons.add(value)
-            elif name in ("path", "directory"):
+            elif name in TEXTS or name == "order" and value in ORDERS:
                 setattr(self, name, value)
-            elif name == "order" and value in ORDERS:
-                self.order = value
 
     def text(self):
         """The view as an address has it."""
@@ -65,6 +69,7 @@ class View:
         return "&".join("%s=%s" % (name, quoted(value)) for name, value in parts)
 
     def fits(self, seen):
+        """Whether an entry is one that is asked for."""
         kinds, standings, severities, attributes = self.choices.values()
         return (
             (not kinds or seen.kind in kinds)
@@ -76,16 +81,25 @@ class View:
             and (not self.directory or seen.path == self.directory or seen.path.startswith(self.directory + "/"))
         )
 
-    def ordered(self, entries):
-        """The entries that fit, in the order that is asked for."""
-        return sorted(filter(self.fits, entries), key=KEYS[self.order or "path"])
+
+_ATTRIBUTE_PLACES = [ATTRIBUTES.index(label if label in ATTRIBUTES else DIGESTS_NAME) for label in LABELS]
 
 
-KEYS = {
-    "path": lambda seen: seen.place,
-    "kind": lambda seen: (seen.kind, seen.place),
-    "severity": lambda seen: (seen.severity, seen.place),
-    "size": lambda seen: (-abs(seen.growth), seen.place),
-    # What is not explained comes first, the severe of it at the front; then what is explained, reason by reason.
-    "importance": lambda seen: (seen.standing, seen.group if seen.standing == 2 else seen.severity, seen.place),
-}
+def attributes_of(entry):
+    """The places of an entry's attributes in ATTRIBUTES, one for all digests."""
+    return [_ATTRIBUTE_PLACES[row[0]] for row in entry.rows + entry.digests[:1]]
+
+
+def standing_of(reason):
+    """The place of an entry's standing in STANDINGS, by its reason."""
+    return 0 if reason is None else 2 if reason.verified else 1
+
+
+def key_of(reason):
+    """The name of a reason in the address of a page."""
+    return "%s: %s" % (reason.grade, reason.text) if reason else ""
+
+
+def seen_of(entry):
+    severity = 3 if entry.severity is None else entry.severity
+    return Seen(entry.kind, standing_of(entry.reason), severity, attributes_of(entry), key_of(entry.reason), entry.name)
