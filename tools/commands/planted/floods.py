@@ -54,7 +54,7 @@ PLANTED = (
     )
     + seen_by(
         "floods.try_same_content",
-        (DATABASES, "LEAST_BYTES = 32", "LEAST_BYTES = 16"),
+        (ENTRIES, "STRONG_BYTES = 32", "STRONG_BYTES = 16"),
         (DATABASES, 'ANEW = TIMES | {"inode"}', 'ANEW = TIMES | {"inode", "perm"}'),
         (DATABASES, "not differ <= ANEW", "differ & {'perm', 'uid', 'gid'}"),
         (DATABASES, "not differ or not differ <= ANEW", "not differ - {'sha256'} <= ANEW"),

@@ -1,33 +1,33 @@
 """Checks of evidence, each taken away: then something forged explains a change. The rows of trials/forged.py see it."""
 from .plant import seen_by
-from .reasons import ARCHIVE, DEB, DPKG, ENTRIES, GATHERED, LIB, PACKAGES, PROTECTED
+from .reasons import ARCHIVE, CONTENT, DEB, DPKG, ENTRIES, LIB, PACKAGES, PROTECTED
 
-VOUCHED, EVIDENCE, KEPT = (LIB + name + ".py" for name in ("vouched", "evidence", "kept_records"))
+EVIDENCE, KEPT = (LIB + name + ".py" for name in ("evidence", "kept_records"))
 EXPLAINING = "commands/lib/aide_compare/show/explained.py"
 
 PLANTED = (
     seen_by(
         "forged.try_records",
         # The databases vouch for what is read, by a strong digest; what they do not vouch for is doubted.
-        (VOUCHED, "        return digests.get(digest[0]) == digest[1]\n", "        return True\n"),
-        (VOUCHED, 'STRONG = ("sha256",', 'STRONG = ("md5", "sha256",'),
+        (CONTENT, "return bool(digest) and digests.get(digest[0]) == digest[1]", "return bool(digest)"),
+        (CONTENT, 'STRONG = ("sha256",', 'STRONG = ("md5", "sha256",'),
         # Each of the records on which a reason rests.
         (DPKG, 'names = ("diversions",) + tuple', "names = tuple"),
         (DPKG, 'for kind in ("list", "md5sums"))', 'for kind in ("md5sums",))'),
         (DPKG, 'for kind in ("list", "md5sums"))', 'for kind in ("list",))'),
         (DPKG, 'return not any(name.endswith(".list") for name in self.records.doubted)', "return True"),
         (DPKG, 'is_needed = kind == "list" and package.is_there', "is_needed = False"),
-        (GATHERED, "for night in (self.old, self.new))", "for night in (self.new,))"),
-        (GATHERED, "for night in (self.old, self.new))", "for night in (self.old,))"),
+        (DPKG, "for night in (self.old, self.new))", "for night in (self.new,))"),
+        (DPKG, "for night in (self.old, self.new))", "for night in (self.old,))"),
         (
-            GATHERED,
+            DPKG,
             "        is_owned = all(self.old.vouches_for(package) for package in self.before[path])\n",
             "        is_owned = True\n",
         ),
         (
             PACKAGES,
-            'self._reason("gone with %s" % words_of(owners[-1]), "dpkg", self.known.is_sure_gone(path))',
-            'self._reason("gone with %s" % words_of(owners[-1]), "dpkg", True)',
+            'self._reason("gone with %s" % package_words(owners[-1]), "dpkg", self.known.is_sure_gone(path))',
+            'self._reason("gone with %s" % package_words(owners[-1]), "dpkg", True)',
         ),
         (PACKAGES, '"dpkg", is_sure and self.known.is_sure_now(change.path))', '"dpkg", True)'),
         # A mark in status installs nothing.
@@ -73,8 +73,8 @@ PLANTED = (
         # Which version there is, status says.
         (
             PACKAGES,
-            'self._reason(words_of(member.package), "archive", self._is_archive_sure())',
-            'self._reason(words_of(member.package), "archive", True)',
+            'self._reason(package_words(member.package), "archive", self._is_archive_sure())',
+            'self._reason(package_words(member.package), "archive", True)',
         ),
         (DPKG, "before.version == after.version else", "before[:4] == after[:4] else"),
     )
@@ -87,7 +87,7 @@ PLANTED = (
     )
     + seen_by(
         "forged.try_between",
-        (VOUCHED, "            self.doubted.append(name)\n", "            pass\n"),
+        (DPKG, "            self.doubted.append(name)\n", "            pass\n"),
         (EVIDENCE, "Packages([old], beside + [new], Archive", "Packages([old], [new], Archive"),
         (KEPT, "if digest_in(descriptor) != accepted:", "if True:"),
     )

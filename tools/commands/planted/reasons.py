@@ -2,7 +2,7 @@
 from .plant import seen_by
 
 LIB = "commands/lib/aide_compare/reasons/"
-DATABASES, ENTRIES, PACKAGES, MADE, PARENTS, PROTECTED, RULES, SEVERITY, DPKG, GATHERED, DEB, INDEXES, ARCHIVE = (
+DATABASES, ENTRIES, PACKAGES, MADE, PARENTS, PROTECTED, RULES, SEVERITY, DPKG, DEB, INDEXES, ARCHIVE = (
     LIB + name + ".py"
     for name in (
         "by_databases",
@@ -14,14 +14,13 @@ DATABASES, ENTRIES, PACKAGES, MADE, PARENTS, PROTECTED, RULES, SEVERITY, DPKG, G
         "rules",
         "severity",
         "dpkg",
-        "gathered",
         "deb",
         "indexes",
         "archive",
     )
 )
-CONTENT, RECORDS, LINES, EXPLAINER, PACKED, LINKS, MERGED = (
-    LIB + name + ".py" for name in ("content", "records", "explained_lines", "explainer", "packed", "hard_links", "merged")
+CONTENT, RECORDS, LINES, EXPLAINER, PACKED = (
+    LIB + name + ".py" for name in ("content", "records", "explained_lines", "explainer", "packed")
 )
 TRUSTED, SEVERITIES = "commands/lib/aide_compare/base/trusted.py", "commands/share/severity.conf"
 
@@ -29,14 +28,14 @@ TRUSTED, SEVERITIES = "commands/lib/aide_compare/base/trusted.py", "commands/sha
 PLANTED = (
     seen_by(
         "reasons_logs.try_growing",
-        (DATABASES, "return UNCHANGED if _has_long(old.digests()) else LATER", "return UNCHANGED if old.digests() else LATER"),
+        (DATABASES, "return UNCHANGED if has_strong(old.digests()) else LATER", "return UNCHANGED if old.digests() else LATER"),
         (DATABASES, "before <= after) for", "True) for"),
         (DATABASES, 'GROWS = DIGESTS | TIMES | {"size", "bcount"}', 'GROWS = DIGESTS | TIMES | {"size", "bcount", "inode"}'),
         (DATABASES, "    if not (old.bits & GROWING and old.is_file()", "    if not (new.bits & GROWING and old.is_file()"),
         (DATABASES, 'if "size" in differ:', "if differ & DIGESTS:"),
         (ENTRIES, '    if (old.bits ^ new.bits) & ~SPECIAL:\n        found.add("attributes")\n', ""),
         (ENTRIES, "    if (old.bits ^ new.bits) & ~SPECIAL:\n", "    if old.bits ^ new.bits:\n"),
-        (DATABASES, "    return UNCHANGED if _has_long(old.digests()) else LATER\n", "    return UNCHANGED\n"),
+        (DATABASES, "    return UNCHANGED if has_strong(old.digests()) else LATER\n", "    return UNCHANGED\n"),
     )
     + seen_by(
         "reasons_logs.try_added",
@@ -44,7 +43,7 @@ PLANTED = (
     )
     + seen_by(
         "reasons_logs.try_rotated",
-        (DATABASES, "is_same = _has_long(old.digests())", "is_same = bool(old.digests())"),
+        (DATABASES, "is_same = has_strong(old.digests())", "is_same = bool(old.digests())"),
         (DATABASES, "    if not (old.bits & SAME_INODE and old.is_file()):\n        return None\n", ""),
         (DATABASES, 'if differ <= {"ctime"}:', 'if differ <= {"ctime", "perm"}:'),
         (
@@ -90,7 +89,7 @@ PLANTED = (
         (PROTECTED, "is_open(new) and not is_open(old)", "is_open(new)"),
         (ENTRIES, "not self.is_link() and (has_more or has_list)", "not self.is_link() and has_more"),
         (ENTRIES, "not self.is_link() and (has_more or has_list)", "not self.is_link() and has_list"),
-        (LINKS, '        count = new.number("lcount") or 0\n', "        count = 0\n"),
+        (PACKAGES, '        count = new.number("lcount") or 0\n', "        count = 0\n"),
         (PACKAGES, "differ <= SAME_CONTENT and old.digests():", "differ <= SAME_CONTENT:"),
         (ENTRIES, "for column, value in found.items() if value}", "for column, value in found.items()}"),
     )
@@ -101,30 +100,30 @@ PLANTED = (
     )
     + seen_by(
         "reasons_packages.try_names",
-        (MERGED, "return self.merged[head] + path[len(head) :] if head in self.merged else path", "return path"),
+        (ENTRIES, "return merged[head] + path[len(head) :] if head in merged else path", "return path"),
         (DPKG, "self.diverted[self.usr(source)] = (self.usr(target), package)", "self.diverted[source] = (target, package)"),
         (DPKG, "        return path if by == package.name else target\n", "        return target\n"),
         (DPKG, "        return path if by == package.name else target\n", "        return path\n"),
         (DPKG, "yield self.place_of(path, package), digest", "yield path, digest"),
         (
-            MERGED,
-            '        if entry.link() in (b"usr" + path, b"/usr" + path)\n',
-            "",
+            ENTRIES,
+            ' if entry.link() in (b"usr" + path, b"/usr" + path)}',
+            "}",
         ),
         (
-            MERGED,
-            'entry.link() in (b"usr" + path, b"/usr" + path)\n',
-            'b"usr/" in (entry.link() or b"")\n',
+            ENTRIES,
+            'entry.link() in (b"usr" + path, b"/usr" + path)}',
+            'b"usr/" in (entry.link() or b"")}',
         ),
         (
             DPKG,
-            '        for path in self._read(package, "list").split(b"\\n"):',
-            '        for path in self._read(package, "list").split():',
+            '        return text.split(b"\\n")\n',
+            "        return text.split()\n",
         ),
     )
     + seen_by(
         "reasons_packages.try_links",
-        (PACKAGES, "is_packages = any(owner in self.known.now[path] for owner in owners)", "is_packages = True"),
+        (PACKAGES, "is_packages = any(owner in self.known.now[path] for owner in self._owners_of_target(path, new))", "is_packages = True"),
     )
     + seen_by(
         "reasons_packages.try_removed",
@@ -134,14 +133,14 @@ PLANTED = (
             "        owners = self.known.now.get(path)\n",
         ),
         (
-            GATHERED,
+            DPKG,
             "for package in night.packages.values() if self.others else ():",
             "for _, package in self.changed if package:",
         ),
     )
     + seen_by(
         "reasons_packages.try_came",
-        (GATHERED, "owners[path] + alone if path in owners else alone", "alone"),
+        (DPKG, "owners[path] + alone if path in owners else alone", "alone"),
         (DPKG, "keys = sorted(old.packages.keys() | new.packages.keys())", "keys = sorted(old.packages)"),
     )
     + seen_by(

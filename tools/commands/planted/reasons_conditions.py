@@ -1,6 +1,6 @@
 """Bugs of aide-compare reasons: single conditions, columns and words of what dpkg's records and rules explain."""
 from .plant import seen_by
-from .reasons import DATABASES, ENTRIES, LINKS, PACKAGES, RULES
+from .reasons import DATABASES, ENTRIES, PACKAGES, RULES
 
 PLANTED = (
     seen_by(
@@ -23,12 +23,12 @@ PLANTED = (
         "reasons_upgrades.try_words",
         (
             PACKAGES,
-            "self._reason(text % words_of(owners[-1])",
-            "self._reason(words_of(owners[-1])",
+            "self._reason(text % package_words(owners[-1])",
+            "self._reason(package_words(owners[-1])",
         ),
-        (PACKAGES, '"gone with %s" % words_of(owners[-1])', "words_of(owners[-1])"),
+        (PACKAGES, '"gone with %s" % package_words(owners[-1])', "package_words(owners[-1])"),
         (PACKAGES, '"%s, same target as before"', '"%s, same content as before"'),
-        (PACKAGES, 'made.made_by("a link of %s" % words_of(self.known.now[path][-1]))', 'made.made_by("")'),
+        (PACKAGES, 'made.made_by("a link of %s" % package_words(self.known.now[path][-1]))', 'made.made_by("")'),
     )
     + seen_by(
         "reasons_entries.try_values",
@@ -90,10 +90,10 @@ PLANTED = (
         ),
         (RULES, '("removed" if old else "added") in', '("added" if new else "added") in'),
     )
-    + seen_by("reasons_rpm.try_links", (LINKS, "if reason and new.is_file() and count", "if reason and count"))
+    + seen_by("reasons_rpm.try_links", (PACKAGES, "if reason and new.is_file() and count", "if reason and count"))
     + seen_by(
         "reasons_logs.try_rotated",
-        (DATABASES, "is_same = _has_long(old.digests())", "is_same = True"),
-        (DATABASES, "is_same = _has_long(old.digests())", 'is_same = old.field("md5") != b"0"'),
+        (DATABASES, "is_same = has_strong(old.digests())", "is_same = True"),
+        (DATABASES, "is_same = has_strong(old.digests())", 'is_same = old.field("md5") != b"0"'),
     )
 )

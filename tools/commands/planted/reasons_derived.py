@@ -22,7 +22,7 @@ PLANTED = (
         (COMPILED, "if text is None or source is None or seconds is None:", "if text is None or source is None:"),
         (COMPILED, "if change.new_at is None and source.new_at is None:", "if change.new_at is None:"),
         (CONTENT, "and hashes.digests() == known else", "else"),
-        (CONTENT, "len(digest) >= STRONG for", "True for"),
+        (CONTENT, "if not has_strong(known):", "if not known:"),
         (EXPLAINER, "        Compiled(changes, self.read).explain()\n", ""),
     )
     + seen_by(

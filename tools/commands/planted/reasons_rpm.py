@@ -2,7 +2,7 @@
 from .plant import seen_by
 from .reasons import CONTENT, ENTRIES, LIB, RECORDS
 
-RPM, NIGHT, PACKAGES = (LIB + name + ".py" for name in ("rpm", "rpm_night", "rpm_packages"))
+RPM, PACKAGES = (LIB + name + ".py" for name in ("rpm", "rpm_packages"))
 
 PLANTED = (
     seen_by(
@@ -14,7 +14,7 @@ PLANTED = (
             '            return ""\n',
         ),
         (PACKAGES, " or (file.package in self.fresh and takes_no_stranger(change.path, new.mode)):", ":"),
-        (PACKAGES, "self._reason(words_of(file.package), not self.why_not)", "self._reason(words_of(file.package), True)"),
+        (PACKAGES, "self._reason(package_words(file.package), not self.why_not)", "self._reason(package_words(file.package), True)"),
     )
     + seen_by(
         "reasons_rpm.try_content",
@@ -37,17 +37,17 @@ PLANTED = (
             'frozenset(found.group(1).split(b",")),',
         ),
         (PACKAGES, 'frozenset(found.group(1).split(b",")), frozenset(found.group(2))', "frozenset(found.group(2)),"),
-        (NIGHT, "user == group == b", "group == b"),
-        (NIGHT, "user == group == b", "user == b"),
-        (NIGHT, "int(flags) & GHOST or", "False or"),
-        (NIGHT, "ALGORITHMS.get(found.group(4))", '"sha256"'),
+        (PACKAGES, "user == group == b", "group == b"),
+        (PACKAGES, "user == group == b", "user == b"),
+        (PACKAGES, "int(flags) & GHOST or", "False or"),
+        (PACKAGES, "ALGORITHMS.get(found.group(4))", '"sha256"'),
     )
     + seen_by(
         "reasons_rpm.try_unchanged",
         (PACKAGES, "in sorted(new.blocks.keys() - old.blocks.keys()):", "in new.blocks:"),
-        (NIGHT, "package = Package(*found.groups()[:3])", 'package = Package(found.group(1), b"", b"")'),
+        (PACKAGES, "package = RpmPackage(*found.groups()[:3])", 'package = RpmPackage(found.group(1), b"", b"")'),
         (
-            PACKAGES,
+            LIB + "packages.py",
             "(shown(package.name, 100), shown(package.version, 100))",
             "(package.name.decode(), shown(package.version, 100))",
         ),
@@ -66,13 +66,13 @@ PLANTED = (
             "for package in new.blocks if self.before else ():",
             "for package in new.blocks.keys() - old.blocks.keys():",
         ),
-        (NIGHT, "yield self.usr(fields[1]), fields", "yield fields[1], fields"),
-        (NIGHT, "yield self.usr(fields[1]), fields", 'yield fields[1].replace(b"/sbin", b"/usr/sbin"), fields'),
+        (PACKAGES, "yield self.usr(fields[1]), fields", "yield fields[1], fields"),
+        (PACKAGES, "yield self.usr(fields[1]), fields", 'yield fields[1].replace(b"/sbin", b"/usr/sbin"), fields'),
     )
     + seen_by("reasons_rpm.try_read", (CONTENT, "else self.agrees(path, entry, wanted)", "else True"))
     + seen_by(
         "reasons_rpm_records.try_damage",
-        (NIGHT, 'if line and (len(fields) != FILE_FIELDS or fields[0] != b"F"):', "if len(fields) != FILE_FIELDS:"),
+        (PACKAGES, 'if line and (len(fields) != FILE_FIELDS or fields[0] != b"F"):', "if len(fields) != FILE_FIELDS:"),
         (RECORDS, " and RPM_NAME not in self.members:", " and False:"),
     )
     + seen_by(

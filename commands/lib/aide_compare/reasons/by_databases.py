@@ -18,6 +18,7 @@ from aide_compare.reasons.entries import (
     SAME_INODE,
     TIMES,
     differences,
+    has_strong,
 )
 
 
@@ -36,8 +37,6 @@ EMPTY = _by_databases("same_content", "made anew, without content", True)
 
 GROWS = DIGESTS | TIMES | {"size", "bcount"}
 ANEW = TIMES | {"inode"}
-# Two files with one shorter digest may be made on purpose, so that it verifies nothing.
-LEAST_BYTES = 32
 PACKED = re.compile(rb"(.+?)(?:[.-][0-9][0-9.-]*)?\.(?:gz|xz|bz2|zst)")
 NUMBERED = re.compile(rb"(.+?)(?:[.-][0-9][0-9.-]*)?")
 # A packed file is not larger than its source but for the head that each packer writes.
@@ -45,11 +44,6 @@ MOST_HEAD = 256
 # Packers keep these of their source, so a source is looked up by them: among thousands of files none is compared with all.
 KEPT = ("perm", "uid", "gid", "acl", "xattrs", "mtime")
 MOST_SOURCES = 16
-
-
-def _has_long(digests):
-    """Whether one of these digests says what a content is."""
-    return any(len(digest) >= LEAST_BYTES for digest in digests.values())
 
 
 def _is_later(old, new):
@@ -71,7 +65,7 @@ def explain_growing(old, new, differ):
         return None
     if "size" in differ:
         return GREW
-    return UNCHANGED if _has_long(old.digests()) else LATER
+    return UNCHANGED if has_strong(old.digests()) else LATER
 
 
 def explain_lone(old, new):
@@ -93,7 +87,7 @@ def explain_same(old, new, differ):
     digests = old.digests() if old.is_file() and new.is_file() else {}
     if not digests or digests != new.digests():
         return None
-    return SAME if _has_long(digests) else WEAK
+    return SAME if has_strong(digests) else WEAK
 
 
 def _stem(change, form):
@@ -115,7 +109,7 @@ def _explain_rename(source, old, new):
         return None
     differ = differences(old, new)
     if differ <= {"ctime"}:
-        is_same = _has_long(old.digests())
+        is_same = has_strong(old.digests())
         return _moved("renamed from %s" if is_same else "renamed from %s, content not verified", source, is_same)
     if old.bits & GROWING and has_grown(old, new, differ):
         return _moved("renamed from %s and grew, content not verified", source)

@@ -1,15 +1,17 @@
-"""Digests of files of this machine, for databases that have no digest which the evidence has too."""
+"""Whether bytes are those that a database measured: of files of this machine, and of records that say what packages have."""
 import hashlib
 import os
 
 from aide_compare.base.ending import Fault
+from aide_compare.base.escapes import shown
 from aide_compare.base.files import open_regular
-from aide_compare.reasons.entries import DIGESTS
+from aide_compare.reasons.entries import DIGESTS, entries_at, has_strong
 
 # The columns of digests that are computed here: those that every Python computes, by the same name.
 COMPUTED = DIGESTS & hashlib.algorithms_guaranteed
+# Those of at least 256 bits. The first one that an entry has decides whether a database vouches for records.
+STRONG = ("sha256", "sha512", "sha3_256", "sha3_512")
 BLOCK = 1 << 18
-STRONG = 32  # The bytes of a digest of 256 bits.
 
 
 class Hashes:
@@ -36,7 +38,7 @@ def bytes_of(path, entry, most):
     """The bytes of a file of this machine, at most so many, if they have the digests of its entry in the database, and one of
     these has at least 256 bits; None otherwise."""
     known = {column: digest for column, digest in entry.digests().items() if column in COMPUTED}
-    if not any(len(digest) >= STRONG for digest in known.values()):
+    if not has_strong(known):
         return None
     try:
         with open(open_regular(os.fsdecode(path)), "rb") as file:
@@ -73,20 +75,49 @@ class Contents:
 
     def _digests(self, path, columns):
         """The digests of a file, or None if it cannot be read whole."""
+        hashes = Hashes(columns)
         try:
-            descriptor = open_regular(os.fsdecode(path))
-        except Fault:
-            return None
-        try:
-            hashes = Hashes(columns)
-            while self.left > 0:
-                block = os.read(descriptor, min(BLOCK, self.left))
-                if not block:
-                    return hashes.digests()
-                hashes.update(block)
-                self.left -= len(block)
-            return None
-        except OSError:
-            return None
-        finally:
-            os.close(descriptor)
+            with open(open_regular(os.fsdecode(path)), "rb", buffering=0) as file:
+                while self.left > 0:
+                    block = file.read(min(BLOCK, self.left))
+                    if not block:
+                        return hashes.digests()
+                    hashes.update(block)
+                    self.left -= len(block)
+        except (Fault, OSError):
+            pass
+        return None
+
+
+def strong_digest(entry):
+    """A strong digest that an entry of a file has, as its column and its bytes; None without one."""
+    digests = entry.digests() if entry.is_file() else {}
+    return next(((column, digests[column]) for column in STRONG if column in digests), None)
+
+
+class Vouched:
+    """What a database says of files, by their paths: the strong digest of each, None if it has an entry without one.
+
+    Records are read when the databases are compared, and AIDE ran hours before. So what was written in between is no evidence,
+    and neither is what AIDE does not measure."""
+
+    def __init__(self, database, paths):
+        self.side = database.side
+        self.digests = {path: strong_digest(entry) for path, entry in entries_at(database, paths)}
+
+    def has(self, path, text):
+        """Whether these bytes are the content of the file, as the database has it."""
+        digest = self.digests.get(path)
+        hashes = Hashes(digest[:1] if digest else ())
+        hashes.update(text)
+        return self.fits(path, hashes.digests())
+
+    def fits(self, path, digests):
+        """Whether the file has the digest among these that the database has of it."""
+        digest = self.digests.get(path)
+        return bool(digest) and digests.get(digest[0]) == digest[1]
+
+    def why_not(self, path):
+        """Why the database does not vouch for what was read of the file."""
+        has = "another" if self.digests.get(path) else "no"
+        return "the %s database has %s SHA-256 or stronger digest of %s" % (self.side, has, shown(path, 200))

@@ -29,6 +29,11 @@ CONTENT = DIGESTS | TIMES | {"size", "bcount", "inode"}
 # What a folder gets anew when names come and go in it.
 NAMES = TIMES | {"size", "bcount", "lcount"}
 
+# The folders that may be links to the same name in /usr.
+MERGED = (b"/bin", b"/lib", b"/lib32", b"/lib64", b"/libx32", b"/sbin")
+# Two files with one digest of less than 256 bits may be made on purpose, so that it does not say what a content is.
+STRONG_BYTES = 32
+
 BASE_ACL = re.compile(rb"(?:(?:user|group|other)::[r-][w-][x-]\n?){3}\n?")
 
 
@@ -143,6 +148,11 @@ def digest_bytes(field):
     return _unpacked(field)
 
 
+def has_strong(digests):
+    """Whether one of these digests, which are bytes by column, says what a content is."""
+    return any(len(digest) >= STRONG_BYTES for digest in digests.values())
+
+
 def differences(old, new):
     """The columns in which two entries differ, with `type` for the type of the file, and `attributes` if the rules of the two
     databases do not ask for the same of it."""
@@ -205,10 +215,23 @@ class OrderedDatabase:
         return Entry(fields, places)
 
 
-def entries_at(descriptor, side, paths):
-    """The entries that a database has for these paths, each with its path, in one pass."""
-    database = OrderedDatabase(descriptor, side)
+def entries_at(database, paths):
+    """The entries that a database has for these paths, each with its path, in one pass of its own."""
+    again = OrderedDatabase(database.fd, database.side)
     for key, path in sorted((key_of_path(path), path) for path in paths):
-        place = database.find(key)
+        place = again.find(key)
         if place is not None:
-            yield path, database.at(place)
+            yield path, again.at(place)
+
+
+def usr_of(database):
+    """A function that gives a path as it is with the folders followed that are links to the same name in /usr, such as /bin."""
+    found = entries_at(database, MERGED)
+    merged = {path: b"/usr" + path for path, entry in found if entry.link() in (b"usr" + path, b"/usr" + path)}
+
+    def usr(path):
+        end = path.find(b"/", 1)
+        head = path if end < 0 else path[:end]
+        return merged[head] + path[len(head) :] if head in merged else path
+
+    return usr

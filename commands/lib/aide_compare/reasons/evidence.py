@@ -1,7 +1,7 @@
 """The evidence that the command line names: packages, archives, rules and the table of severities."""
 from aide_compare.base.ending import Fault, Status
 from aide_compare.reasons.archive import Archive
-from aide_compare.reasons.packages import Packages
+from aide_compare.reasons.packages import DpkgPackages
 from aide_compare.reasons.records import KeptRecords, records_now
 from aide_compare.reasons.rpm import RPM_NAME
 from aide_compare.reasons.rpm_packages import RpmPackages
@@ -35,7 +35,7 @@ def _packages_of(given):
     if (RPM_NAME in old.names) != (RPM_NAME in new.names):
         raise Fault(Status.USAGE, "the records of one night are dpkg's, and those of the other are rpm's")
     if RPM_NAME not in old.names:
-        return Packages([old], beside + [new], Archive(given.archive, given.keyring) if given.archive else None)
+        return DpkgPackages([old], beside + [new], Archive(given.archive, given.keyring) if given.archive else None)
     if given.archive:
         raise Fault(Status.USAGE, "--archive has packages of dpkg, and the records are rpm's")
     return RpmPackages(old.read(RPM_NAME), new)

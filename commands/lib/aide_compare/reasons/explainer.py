@@ -7,8 +7,7 @@ from aide_compare.reasons.by_databases import SAME, Renames, explain_growing, ex
 from aide_compare.reasons.certificates import Certificates
 from aide_compare.reasons.changes import Change, counts_by_reason
 from aide_compare.reasons.compiled import Compiled
-from aide_compare.reasons.entries import OrderedDatabase, differences
-from aide_compare.reasons.merged import Merged
+from aide_compare.reasons.entries import OrderedDatabase, differences, usr_of
 from aide_compare.reasons.parents import Parents
 from aide_compare.reasons.protected import is_never_explained
 from aide_compare.reasons.sums import Sums
@@ -68,7 +67,7 @@ class Explainer:
         """Explains what programs make of files that are verified by then."""
         Compiled(changes, self.read).explain()
         Certificates(changes, self.read).explain()
-        Sums(changes, self.read, Merged(self.new.fd, self.new.side).usr).explain()
+        Sums(changes, self.read, usr_of(self.new)).explain()
 
     def _found(self, fields):
         """The change that an object means, found in the databases."""

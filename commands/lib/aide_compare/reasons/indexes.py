@@ -11,8 +11,8 @@ from aide_compare.base.ending import Fault, Status
 from aide_compare.base.files import reopened
 from aide_compare.base.folders import open_folder
 from aide_compare.base.trusted import open_trusted
+from aide_compare.reasons.content import Vouched
 from aide_compare.reasons.packed import Refuted, copied, unpacked
-from aide_compare.reasons.vouched import Vouched
 
 LISTED = re.compile(rb"^ ([0-9a-f]{64}) +([0-9]+) +(\S+)$", re.M)
 SECTION = re.compile(rb"^SHA256:\s*\n((?: .*\n?)+)", re.M)
@@ -119,7 +119,7 @@ class Index:
         """Why a keyring is not what the databases say of it; "" if it is, or if none has a digest of it. If one has, all
         have to: whoever was root before AIDE ran can put his own keys there, and the new database has these."""
         paths = [os.fsencode(path) for path in self.paths]
-        nights = [Vouched(database.fd, database.side, paths) for database in databases]
+        nights = [Vouched(database, paths) for database in databases]
         for path, descriptor in zip(paths, self.keyrings):
             if any(night.digests.get(path) for night in nights):
                 text = os.pread(descriptor, MOST_KEYRING, 0)

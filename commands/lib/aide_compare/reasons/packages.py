@@ -6,15 +6,14 @@ an access list or the type of a file. Beside a signed archive they are hints: wh
 """
 import stat
 
+from aide_compare.base.escapes import shown
 from aide_compare.reasons import made
 from aide_compare.reasons.archive import Asked, has_rights_of
+from aide_compare.reasons.changes import shared_reason
 from aide_compare.reasons.content import COMPUTED, Contents
-from aide_compare.reasons.dpkg import words_of
+from aide_compare.reasons.dpkg import Gathered
 from aide_compare.reasons.entries import CONTENT, DIGESTS, TIMES
-from aide_compare.reasons.gathered import Gathered
-from aide_compare.reasons.hard_links import HardLinks
 from aide_compare.reasons.protected import takes_no_pattern, takes_no_stranger
-from aide_compare.reasons.changes import Reason
 
 SAME_CONTENT = CONTENT - DIGESTS - {"size"}
 SAME_TARGET = TIMES | {"inode", "bcount"}
@@ -23,14 +22,50 @@ MD5_SIZE = 16
 HINT, DOUBT = ", only dpkg's records say so", ", no database vouches for its evidence"
 
 
-class Packages:
-    """The packages that changed. `gather` comes first: it reads what their records say of the changes. The records of each
-    night may be in several places."""
+def package_words(package):
+    """The package and its version, for people."""
+    return "%s %s" % (shown(package.name, 100), shown(package.version, 100))
+
+
+class ChangedPackages:
+    """The packages of dpkg or rpm that changed between the two nights. `gather` comes first: it reads what their records say of
+    the changes. `linked` are the new names of files that have several."""
+
+    def __init__(self):
+        self.contents, self.linked = Contents(), {}
+
+    def noted(self, change, new, reason):
+        """Notes a new file that has several names. Gives the reason back."""
+        count = new.number("lcount") or 0
+        if reason and new.is_file() and count > 1 and change.is_replaced:
+            self.linked.setdefault((new.field("inode"), count), []).append(change)
+        return reason
+
+    def drop_unseen_links(self):
+        """Takes the reason from each file that has a name which is not explained."""
+        for (_, count), changes in self.linked.items():
+            if len(changes) < count:
+                for change in changes:
+                    change.reason = None
+
+    def explain_made(self, change, old, new, differ):
+        """Nothing, unless it is known which files the scripts of packages make."""
+
+    @staticmethod
+    def folder_reason(package, grade):
+        """The reason for a folder of a changed package in which no name changed: new files are written beside the old ones."""
+        text = "a directory of %s, only its times or size changed" % package_words(package)
+        return shared_reason("directory", text, False, grade)
+
+
+class DpkgPackages(ChangedPackages):
+    """The packages of dpkg. The records of each night may be in several places."""
 
     def __init__(self, old_places, new_places, archive=None):
-        self.records, self.archive, self.contents = (old_places, new_places), archive, Contents()
+        super().__init__()
+        self.records, self.archive = (old_places, new_places), archive
         self.known = self.made = None
-        self.links, self.refuted, self.reasons, self.doubted_keys = HardLinks(), set(), {}, ""
+        self.refuted, self.doubted_keys = set(), ""
 
     def gather(self, changes, explainer):
         self.known = Gathered(self.records, (explainer.old, explainer.new), changes, explainer.read)
@@ -44,7 +79,7 @@ class Packages:
     def came(self):
         """The packages that came new, each with whether a signed index has it; None without an archive."""
         packages = [package for _, package in self.known.changed if package and package.key in self.known.fresh]
-        return [(words_of(package), self.archive.lists(package) if self.archive else None) for package in packages]
+        return [(package_words(package), self.archive.lists(package) if self.archive else None) for package in packages]
 
     def doubt(self):
         """Why not all that the records say counts; "" if it does, or if no package changed."""
@@ -79,10 +114,9 @@ class Packages:
         return self.archive and self.archive.covers(self.known.now[path]) and not is_diverted
 
     def _reason(self, text, grade, is_sure):
-        """A reason, the same object for the same text. Beside an archive dpkg's records are hints."""
+        """A reason. Beside an archive dpkg's records are hints."""
         is_hint = grade == "dpkg" and self.archive is not None
-        key = (text + (HINT if is_hint else "" if is_sure else DOUBT), grade, is_sure and not is_hint)
-        return self.reasons.setdefault(key, self.reasons.get(key) or Reason("package", key[0], key[2], grade))
+        return shared_reason("package", text + (HINT if is_hint else "" if is_sure else DOUBT), is_sure and not is_hint, grade)
 
     def _is_strange(self, package):
         """Whether a package came new, or is one that no signed index has."""
@@ -96,14 +130,14 @@ class Packages:
         owners = self.known.now[change.path]
         if self._takes_none(change, owners):
             return None
-        return self._reason(text % words_of(owners[-1]), "dpkg", is_sure and self.known.is_sure_now(change.path))
+        return self._reason(text % package_words(owners[-1]), "dpkg", is_sure and self.known.is_sure_now(change.path))
 
     def _removed(self, path):
         """A path of before that no package has now, if one that had it changed."""
         owners = self.known.before.get(path)
         if not owners or path in self.known.listed or (self.archive and self.archive.at(path)):
             return None
-        return self._reason("gone with %s" % words_of(owners[-1]), "dpkg", self.known.is_sure_gone(path))
+        return self._reason("gone with %s" % package_words(owners[-1]), "dpkg", self.known.is_sure_gone(path))
 
     def _control(self, path, old, new, differ, control):
         """The reason for one of dpkg's files about a package of the archive, which brings it."""
@@ -116,8 +150,8 @@ class Packages:
         """The reason if an entry is what a package of the archive has at this path. Such a package decides."""
         for member in self.archive.at(change.path):
             if self._is_signed(change.path, member, old, new, differ) and not self._takes_none(change, [member.package]):
-                reason = self._reason(words_of(member.package), "archive", self._is_archive_sure())
-                return self.links.noted(change, new, reason)
+                reason = self._reason(package_words(member.package), "archive", self._is_archive_sure())
+                return self.noted(change, new, reason)
         if not new.is_folder():
             self.refuted.add(change.path)
         return self._same(change, old, new, differ) if change.path in self.known.now else None
@@ -142,7 +176,7 @@ class Packages:
         if old and not differ <= CONTENT:
             return None
         reason = self._same(change, old, new, differ) or self._by_records(change, new)
-        return self.links.noted(change, new, reason)
+        return self.noted(change, new, reason)
 
     def _by_records(self, change, new):
         """The reason if the digest is one that dpkg's records of the changed packages have for this path."""
@@ -153,9 +187,6 @@ class Packages:
                 return self._package(change, is_sure=is_sure)
         return None
 
-    def drop_unseen_links(self):
-        self.links.drop_unseen()
-
     def _link(self, change, old, new, differ):
         path, link = change.path, new.link()
         if not link or (old and not differ <= OTHER_TARGET):
@@ -163,13 +194,17 @@ class Packages:
         same = self._same(change, old, new, differ)
         if same:
             return same
-        owners = self.known.now.get(self.known.usr(made.target_of(path, link)), ())
-        is_packages = any(owner in self.known.now[path] for owner in owners)
+        is_packages = any(owner in self.known.now[path] for owner in self._owners_of_target(path, new))
         if takes_no_pattern(path) and (old or not is_packages):
             return None
         if is_packages:
             return self._package(change)
-        return made.made_by("a link of %s" % words_of(self.known.now[path][-1]))
+        return made.made_by("a link of %s" % package_words(self.known.now[path][-1]))
+
+    def _owners_of_target(self, path, new):
+        """The changed packages that have what a link points to."""
+        link = new.link() if new else None
+        return self.known.now.get(self.known.usr(made.target_of(path, link)), ()) if link else ()
 
     def explain_made(self, change, old, new, differ):
         """The reason that scripts of packages give. What the archive has with other content is not made by them."""
@@ -180,15 +215,10 @@ class Packages:
 
     def _starts_strangers(self, change, new):
         """Whether a link has something started that only packages have which came new, or which no signed index has."""
-        link = new.link() if new else None
-        owners = self.known.now.get(self.known.usr(made.target_of(change.path, link))) if link else None
+        owners = self._owners_of_target(change.path, new)
         return bool(owners) and self._takes_none(change, owners)
 
     def owner_of(self, change):
-        """The reason for a folder of a changed package in which no name changed: dpkg writes new files beside the old ones."""
+        """The reason for a folder of a changed package in which no name changed."""
         owners = self.known.now.get(change.path)
-        return (
-            Reason("directory", "a directory of %s, only its times or size changed" % words_of(owners[-1]), False, "dpkg")
-            if owners
-            else None
-        )
+        return self.folder_reason(owners[-1], "dpkg") if owners else None

@@ -9,9 +9,8 @@ from aide_compare.base.files import open_regular
 from aide_compare.base.folders import open_folder
 from aide_compare.base.private_room import PrivateRoom
 from aide_compare.base.trusted import read_whole
-from aide_compare.reasons.content import Hashes
+from aide_compare.reasons.content import STRONG, Hashes
 from aide_compare.reasons.packed import Refuted, copied
-from aide_compare.reasons.vouched import STRONG
 
 RPM = "/usr/bin/rpm"
 # Where rpm's database may be. rpm is always told: with no folder of its own, Debian's makes a new database in the home.

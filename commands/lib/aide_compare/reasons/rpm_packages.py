@@ -8,39 +8,86 @@ make a package count as changed, whose files then still have to be as the databa
 import os
 import re
 import stat
+from collections import namedtuple
 
-from aide_compare.base.escapes import shown
-from aide_compare.reasons.content import Contents
-from aide_compare.reasons.entries import CONTENT
-from aide_compare.reasons.hard_links import HardLinks
-from aide_compare.reasons.merged import Merged
+from aide_compare.base.ending import Fault, Status
+from aide_compare.reasons.changes import shared_reason
+from aide_compare.reasons.content import Vouched
+from aide_compare.reasons.entries import CONTENT, usr_of
+from aide_compare.reasons.packages import ChangedPackages, package_words
 from aide_compare.reasons.protected import takes_no_stranger
-from aide_compare.reasons.changes import Reason
 from aide_compare.reasons.rpm import RPM_NAME
-from aide_compare.reasons.rpm_night import Night
-from aide_compare.reasons.vouched import Vouched
 
 LINK = CONTENT | {"lname"}
 DOUBT = ", no database vouches for rpm's records"
 CAPABILITIES = re.compile(rb"(?:= )?([a-z0-9_,]+)[+=]([eip]+)")
+PACKAGE = re.compile(rb"P\t([^\t\n]+)\t([^\t\n]+)\t([^\t\n]+)\t([^\t\n]+)")
+BLOCKS = re.compile(rb"^(?=P\t)", re.MULTILINE)
+MODE, DIGEST = re.compile(rb"[0-7]{5,7}"), re.compile(rb"(?:[0-9a-f]{2})+")
+FILE_FIELDS = 10
+# The numbers that rpm gives to digests. A package that says none has MD5.
+ALGORITHMS = {b"1": "md5", b"(none)": "md5", b"2": "sha1", b"8": "sha256", b"10": "sha512"}
+GHOST, NORMAL, NONE = 64, b"0", (b"", b"(none)")
+MOST_PACKAGES = 100000
+
+RpmPackage = namedtuple("RpmPackage", "name version arch")
+# What rpm says of a file: `digests` by column, where a link points to, whether root owns it, and its capabilities.
+RpmFile = namedtuple("RpmFile", "package mode digests link is_roots capabilities")
 
 
-def words_of(package):
-    """The package and its version, for people."""
-    return "%s %s" % (shown(package.name, 100), shown(package.version, 100))
+def _damaged(why):
+    return Fault(Status.DEVICE, "rpm's records are damaged: %s" % why)
 
 
-class RpmPackages:
-    """The packages of rpm that changed. `gather` comes first: it reads what their records say of the changes."""
+class RpmNight:
+    """The packages of one night, each with the lines of its files. `usr` gives a path as it is in the database."""
+
+    def __init__(self, text, usr):
+        self.usr, self.blocks, self.columns = usr, {}, {}
+        if not text.endswith(b"\n"):
+            raise _damaged("there are no packages, or they are cut short")
+        for block in BLOCKS.split(text):
+            if block:
+                self._add(*block.partition(b"\n")[::2])
+
+    def _add(self, head, lines):
+        found = PACKAGE.fullmatch(head)
+        if not found or len(self.blocks) >= MOST_PACKAGES:
+            raise _damaged("too many packages, or a line that is none")
+        package = RpmPackage(*found.groups()[:3])
+        self.blocks[package], self.columns[package] = lines, ALGORITHMS.get(found.group(4))
+
+    def paths(self, package):
+        """The paths of a package, each with the fields of its line."""
+        for line in self.blocks[package].split(b"\n"):
+            fields = line.split(b"\t")
+            if line and (len(fields) != FILE_FIELDS or fields[0] != b"F"):
+                raise _damaged("a line that is no file")
+            if line:
+                yield self.usr(fields[1]), fields
+
+    def file_of(self, package, fields):
+        """What rpm says of a file, or None for one that rpm itself did not write."""
+        _, _, digest, mode, user, group, link, flags, capabilities, state = fields
+        if state != NORMAL or not flags.isdigit() or int(flags) & GHOST or not MODE.fullmatch(mode):
+            return None
+        column = self.columns[package]
+        digests = {column: bytes.fromhex(digest.decode())} if column and DIGEST.fullmatch(digest) else {}
+        is_roots, has_none = user == group == b"root", capabilities in NONE
+        return RpmFile(package, int(mode, 8), digests, link, is_roots, b"" if has_none else capabilities)
+
+
+class RpmPackages(ChangedPackages):
+    """The packages of rpm."""
 
     def __init__(self, old_text, new_records):
+        super().__init__()
         self.texts, self.records = (old_text, new_records.read(RPM_NAME)), new_records
-        self.links, self.contents, self.reasons = HardLinks(), Contents(), {}
         self.now, self.before, self.listed, self.fresh, self.why_not = {}, {}, set(), [], ""
 
     def gather(self, changes, explainer):
         databases = (explainer.old, explainer.new)
-        old, new = (Night(text, Merged(each.fd, each.side).usr) for text, each in zip(self.texts, databases))
+        old, new = (RpmNight(text, usr_of(database)) for text, database in zip(self.texts, databases))
         self.why_not = self._doubt(explainer.new)
         names = {package.name for package in old.blocks}
         self.fresh = sorted(package for package in new.blocks if package.name not in names)
@@ -61,7 +108,7 @@ class RpmPackages:
         if not getattr(self.records, "digests", None):
             return "rpm's database of now was not read, or is not one file"
         path = os.fsencode(os.path.realpath(self.records.path))
-        vouched = Vouched(database.fd, database.side, [path])
+        vouched = Vouched(database, [path])
         return "" if vouched.fits(path, self.records.digests) else vouched.why_not(path)
 
     def doubt(self):
@@ -70,26 +117,25 @@ class RpmPackages:
 
     def came(self):
         """The packages that came new. No signed index is asked."""
-        return [(words_of(package), None) for package in self.fresh]
+        return [(package_words(package), None) for package in self.fresh]
 
     def explain(self, change, old, new, differ):
         """The reason that rpm's records give, or None. Nothing vouches for the records of before, so what went is a hint."""
         if new is None:
             owner = self.before.get(change.path)
             is_gone = owner and change.path not in self.listed
-            return self._reason("gone with %s" % words_of(owner), False) if is_gone else None
+            return self._reason("gone with %s" % package_words(owner), False) if is_gone else None
         file = next((file for file in self._files(change) if self._fits(change.path, file, old, new, differ)), None)
         if not file or (file.package in self.fresh and takes_no_stranger(change.path, new.mode)):
             return None
-        return self.links.noted(change, new, self._reason(words_of(file.package), not self.why_not))
+        return self.noted(change, new, self._reason(package_words(file.package), not self.why_not))
 
     def _files(self, change):
         return [file for file in self.now.get(change.path, ()) if file]
 
-    def _reason(self, text, is_sure):
-        """A reason, the same object for the same text."""
-        text += "" if is_sure else DOUBT
-        return self.reasons.setdefault(text, self.reasons.get(text) or Reason("package", text, is_sure, "rpm"))
+    @staticmethod
+    def _reason(text, is_sure):
+        return shared_reason("package", text + ("" if is_sure else DOUBT), is_sure, "rpm")
 
     def _fits(self, path, file, old, new, differ):
         """Whether an entry has all that rpm says of the file. A new one has nothing more than that."""
@@ -103,20 +149,10 @@ class RpmPackages:
             return old is None
         return new.is_file() and differ <= CONTENT and self.contents.fits(path, new, file.digests)
 
-    def drop_unseen_links(self):
-        self.links.drop_unseen()
-
-    def explain_made(self, change, old, new, differ):
-        """Nothing: which files the scripts of packages make is not known here."""
-        return None
-
     def owner_of(self, change):
         """The reason for a folder of a changed package in which no name changed."""
         files = [file for file in self._files(change) if stat.S_ISDIR(file.mode)]
-        if not files:
-            return None
-        text = "a directory of %s, only its times or size changed" % words_of(files[-1].package)
-        return Reason("directory", text, False, "rpm")
+        return self.folder_reason(files[-1].package, "rpm") if files else None
 
 
 def _capabilities(text):
