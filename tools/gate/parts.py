@@ -9,6 +9,7 @@ from collections import namedtuple
 Part = namedtuple("Part", "words number is_exact")
 
 PROGRAM = "crates/aide/out/aide"
+LINES = "crates/aide_lines/out/aide_lines"
 IN_MEMORY = "crates/aide_in_memory/out/aide_in_memory"
 
 
@@ -36,8 +37,8 @@ def proofs():
     return [at_least(190, "rt", "ci"), exactly(26, "tools.wrong_bodies.sample")]
 
 
-def trials(program, in_memory):
-    """The trials of the built program and of the commands."""
+def trials(program, lines, in_memory):
+    """The trials of the built programs and of the commands."""
     return [
         at_least(2600, "tools.program.end_to_end", program),
         at_least(4378, "tools.program.try_configurations", program),
@@ -55,7 +56,7 @@ def trials(program, in_memory):
     ]
 
 
-def quick_trials(program):
+def quick_trials(program, lines):
     """Those that take seconds, the longest first. The others prove something, let each allocation fail, install, or wait for
     processes."""
     return [

@@ -1,7 +1,7 @@
 """A verdict in minutes: the checks of the files, the formats, and all trials that prove nothing and do not run for long.
 
-Without PROGRAM the trials run with an unproved program, which `tools/build_unproved` makes of the sources as they are. The last line
-is 'N passed, M failed'. This is no gate: only `tools/test` proves what it runs.
+Without PROGRAM the trials run with unproved programs, which `tools/build_unproved` makes of the sources as they are. The last line is
+'N passed, M failed'. This is no gate: only `tools/test` proves what it runs.
 """
 import concurrent.futures
 import sys
@@ -9,6 +9,7 @@ import sys
 from tools.gate import formats, parts, unproved
 from tools.gate.counting import Count
 from tools.lib.arguments import executable, parser_of
+from tools.lib.tally import lines_program_of
 
 JOBS = 3
 
@@ -22,15 +23,15 @@ def main():
     given = parser.parse_args()
     count = Count()
     with concurrent.futures.ThreadPoolExecutor(1) as pool:
-        made = pool.submit(unproved.made) if given.program is None and not given.files else None
+        made = pool.submit(unproved.all_made) if given.program is None and not given.files else None
         count.run_side_by_side(parts.FILES, JOBS)
         count.add("formats", formats.faults())
         if given.files:
             return count.status()
-        program = given.program or made.result()
-    count.run_side_by_side(parts.quick_trials(program) if program else [], JOBS)
-    if not program:
-        count.fail("no unproved program was made, so no trial ran")
+        programs = [given.program, lines_program_of(given.program)] if given.program else made.result()
+    count.run_side_by_side(parts.quick_trials(*programs) if all(programs) else [], JOBS)
+    if not all(programs):
+        count.fail("an unproved program was not made, so no trial ran")
     return count.status()
 
 

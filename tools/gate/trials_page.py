@@ -25,7 +25,7 @@ WIDEST = 120
 def numbers():
     """How many trials each part of the gate counts, by the last word of its name."""
     found = {}
-    for part in parts.FILES + parts.trials("PROGRAM", "IN_MEMORY"):
+    for part in parts.FILES + parts.trials("PROGRAM", "LINES", "IN_MEMORY"):
         found[part.words[0].rpartition(".")[2]] = "{:,}{}".format(part.number, "" if part.is_exact else " or more")
     return found
 

@@ -26,7 +26,7 @@ def jobs():
 
 def prove(count):
     """What the gate has proved it builds too: those very programs are tried, and none that was there before."""
-    for name in (parts.PROGRAM, parts.IN_MEMORY):
+    for name in (parts.PROGRAM, parts.LINES, parts.IN_MEMORY):
         if os.path.lexists(os.path.join(TOP, name)):
             os.remove(os.path.join(TOP, name))
     os.environ.setdefault("RT_JOBS", str(jobs()))
@@ -48,11 +48,11 @@ def main():
     for part in parts.FILES:
         count.run(part)
     crates = prove(count)
-    if os.access(os.path.join(TOP, parts.PROGRAM), os.X_OK):
-        for part in parts.trials(parts.PROGRAM, parts.IN_MEMORY):
+    if all(os.access(os.path.join(TOP, name), os.X_OK) for name in (parts.PROGRAM, parts.LINES)):
+        for part in parts.trials(parts.PROGRAM, parts.LINES, parts.IN_MEMORY):
             count.run(part)
     else:
-        count.fail("the program was not built")
+        count.fail("the programs were not built")
     cost.keep(crates, count.spent)
     return count.status()
 

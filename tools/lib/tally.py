@@ -94,3 +94,11 @@ def program_of(path):
     if not os.access(path, os.X_OK):
         sys.exit("%s is not an executable file" % path)
     return path.encode()
+
+
+def lines_program_of(program):
+    """The whole path of the program of lines that goes with a program `aide`: in the folder of its own crate, or beside it."""
+    folder, name = os.path.split(os.path.abspath(os.fsdecode(program)))
+    if folder.endswith("/crates/aide/out"):
+        folder = os.path.join(folder, "../../aide_lines/out")
+    return os.fsdecode(program_of(os.path.join(folder, "aide_lines" + name[len("aide") :])))

@@ -21,7 +21,7 @@ KINDS = (
     ),
     ("Crates of tests, with their stored answers", "tests"),
     ("The plain definitions", r"tools/oracle/"),
-    ("Stored cases", r"tools/program/cases/|examples/|crates/aide/"),
+    ("Stored cases", r"tools/program/cases/|examples/|crates/aide(_lines)?/"),
     ("Planted bugs: tools.source.check_planted names those that no longer fit", r"tools/\w+/planted/"),
     ("Trials and tools", r"tools/|bench/"),
     ("Commands", r"commands/"),
