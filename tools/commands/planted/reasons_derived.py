@@ -2,8 +2,8 @@
 from .plant import seen_by
 from .reasons import CONTENT, DATABASES, EXPLAINER, LIB, MADE, PARENTS
 
-COMPILED, MARSHALLED, CERTIFICATES, SUMS = (
-    LIB + name + ".py" for name in ("compiled", "marshalled", "certificates", "sums")
+COMPILED, MARSHALLED, DERIVED = (
+    LIB + name + ".py" for name in ("compiled", "marshalled", "derived")
 )
 
 PLANTED = (
@@ -11,9 +11,9 @@ PLANTED = (
         "reasons_compiled.try_compiled",
         (COMPILED, "text[HEAD:] == code or is_same(text[HEAD:], code)", "True"),
         (COMPILED, "text[HEAD:] == code or is_same(text[HEAD:], code)", "text[HEAD:] == code"),
-        (COMPILED, "    if text[:HEAD] != _head(source, seconds, text[4:8]):\n        return False\n", ""),
+        (COMPILED, '    if text[:HEAD] != _head(source, seconds, int.from_bytes(text[4:8], "little")):\n        return False\n', ""),
         (COMPILED, 'int(found.group(4) or b"0")', "0"),
-        (COMPILED, "source.reason and source.reason.verified and change", "change"),
+        (COMPILED, "source.is_verified() and change", "change"),
         (COMPILED, "pair.change.is_never = True", "pass"),
         (COMPILED, "tag.decode() == sys.implementation.cache_tag", "True"),
         (COMPILED, " and not new.mode & 0o111", ""),
@@ -27,52 +27,52 @@ PLANTED = (
     )
     + seen_by(
         "reasons_compiled.try_marshalled",
-        (MARSHALLED, " and first.at == len(text)", ""),
-        (MARSHALLED, "    if kind != other_kind:\n        return False\n", ""),
-        (MARSHALLED, "signed=signed)", "signed=True)"),
-        (MARSHALLED, "count == other.number(ROWS[kind]) and _are", "other.number(ROWS[kind]) and _are"),
-        (MARSHALLED, "    if kind not in COUNTED:\n        return False\n", ""),
-        (MARSHALLED, "(IndexError, RecursionError)", "IndexError"),
-        (MARSHALLED, "(IndexError, RecursionError)", "RecursionError"),
-        (MARSHALLED, "return one.take(length) == other.take(length)", "return True"),
-        (MARSHALLED, "return one.take(FIXED[kind]) == other.take(FIXED[kind])", "return True"),
+        (MARSHALLED, "if self.at != len(self.text):", "if False:"),
+        (MARSHALLED, "            yield kind\n", ""),
+        (MARSHALLED, 'self._take(4), "little")', 'self._take(4), "little", signed=True)'),
+        (MARSHALLED, "            yield count\n", ""),
+        (MARSHALLED, "COUNTED.get(kind) or ROWS[kind]", "COUNTED.get(kind) or ROWS.get(kind, 4)"),
+        (MARSHALLED, "(IndexError, KeyError, RecursionError)", "(IndexError, KeyError)"),
+        (MARSHALLED, "(IndexError, KeyError, RecursionError)", "(KeyError, RecursionError)"),
+        (MARSHALLED, "yield self._take(2 * abs(count)", "self._take(2 * abs(count)"),
+        (MARSHALLED, "yield self._take(FIXED[kind])", "self._take(FIXED[kind])"),
         (MARSHALLED, 'SAME = {ord("t"): ord("u"), ord("A"): ord("a"), ord("Z"): ord("z")}', "SAME = {}"),
     )
     + seen_by(
         "reasons_derived.try_links",
-        (CERTIFICATES, "change.reason and change.reason.verified", "True"),
-        (CERTIFICATES, ' and _name(path) == name[:-4].translate(NAMES) + b".pem"', ""),
-        (CERTIFICATES, ".translate(NAMES)", ""),
-        (CERTIFICATES, "not found or not _fits(change.path, target) or", "not found or"),
-        (CERTIFICATES, " or (found.new_at is None) != (new is None)", ""),
-        (CERTIFICATES, "(new and not new.is_plain()) or ", ""),
-        (CERTIFICATES, " or (old and new and not differences(old, new) <= OTHER_TARGET)", ""),
+        (DERIVED, "change.path.startswith(SHIPPED) and change.is_verified()", "change.path.startswith(SHIPPED)"),
+        (DERIVED, ' and change.name() == name[:-4].translate(NAMES) + b".pem"', ""),
+        (DERIVED, ".translate(NAMES)", ""),
+        (DERIVED, "not found or not _fits(change, target) or", "not found or"),
+        (DERIVED, " or (found.new_at is None) != (new is None)", ""),
+        (DERIVED, "(new and not new.is_plain()) or ", ""),
+        (DERIVED, " or (old and new and not differences(old, new) <= OTHER_TARGET)", ""),
         (
-            CERTIFICATES,
-            ", key=lambda change: bool(BY_SUM.fullmatch(_name(change.path))))",
-            ", key=lambda change: change.path)",
+            DERIVED,
+            "sorted(self.open, key=_is_by_sum)",
+            "sorted(self.open, key=lambda change: change.path)",
         ),
         (MADE, "lambda row: row.pattern.text not in ONLY_LINKS", "None"),
     )
     + seen_by(
         "reasons_derived.try_bundle",
-        (CERTIFICATES, "if found and all(found) and not rest:", "if found and not rest:"),
-        (CERTIFICATES, "if found and all(found) and not rest:", "if found and all(found):"),
-        (CERTIFICATES, "if found and all(found) and not rest:", "if all(found) and not rest:"),
-        (CERTIFICATES, "change.is_never = True", "pass"),
-        (CERTIFICATES, "or not differences(old, new) <= CONTENT:", "or False:"),
-        (CERTIFICATES, "if text is None or not old or", "if text is None or"),
-        (CERTIFICATES, 'text if text.endswith(b"\\n") else text + b"\\n"', "text"),
+        (DERIVED, "if found and all(found) and not rest:", "if found and not rest:"),
+        (DERIVED, "if found and all(found) and not rest:", "if found and all(found):"),
+        (DERIVED, "if found and all(found) and not rest:", "if all(found) and not rest:"),
+        (DERIVED, "change.is_never = True", "pass"),
+        (DERIVED, "or not differences(old, new) <= CONTENT:", "or False:"),
+        (DERIVED, "if text is None or not old or", "if text is None or"),
+        (DERIVED, 'text if text.endswith(b"\\n") else text + b"\\n"', "text"),
     )
     + seen_by(
         "reasons_derived.try_sums",
-        (SUMS, 'entry and self.contents.fits(change.path, entry, {"md5": bytes.fromhex(found.group(1).decode())})', "entry"),
-        (SUMS, "if not grades or None in grades:", "if None in grades:"),
-        (SUMS, "if not grades or None in grades:", "if not grades:"),
-        (SUMS, "change.reason and change.reason.verified\n        }", "True\n        }"),
-        (SUMS, "new.is_plain() and ", ""),
-        (SUMS, "not new.mode & 0o111 and ", ""),
-        (SUMS, "(not old or differences(old, new) <= CONTENT)", "True"),
+        (DERIVED, 'entry and self.contents.fits(change.path, entry, {"md5": bytes.fromhex(found.group(1).decode())})', "entry"),
+        (DERIVED, "if not grades or None in grades:", "if None in grades:"),
+        (DERIVED, "if not grades or None in grades:", "if not grades:"),
+        (DERIVED, "for change in there if self.open and change.is_verified()", "for change in there if self.open"),
+        (DERIVED, "new.is_file() and new.is_plain() and ", "new.is_file() and "),
+        (DERIVED, "not new.mode & 0o111 and ", ""),
+        (DERIVED, "(not old or differences(old, new) <= CONTENT)", "True"),
     )
     + seen_by(
         "reasons_made.try_made_links",

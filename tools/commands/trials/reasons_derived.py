@@ -112,7 +112,7 @@ BLOCK, OTHER = (b"-----BEGIN CERTIFICATE-----\n%s\n-----END CERTIFICATE-----\n" 
 
 def try_bundle(sandbox):
     """The one file with all certificates: only those of packages, each as it is there."""
-    module = own_module("aide_compare.reasons.certificates")
+    module = own_module("aide_compare.reasons.derived")
     for number, (label, text, more, want) in enumerate(
         (
             ("those of packages", BLOCK + OTHER, {}, "dpkg!"),
@@ -140,7 +140,7 @@ def try_bundle(sandbox):
 
 def try_sums(sandbox):
     """dpkg's digests of a package: each is that of a verified file."""
-    module = own_module("aide_compare.reasons.sums")
+    module = own_module("aide_compare.reasons.derived")
     good, other = (hashlib.md5(text).hexdigest() for text in (b"good", b"other"))
     for number, (label, lines, more, want) in enumerate(
         (

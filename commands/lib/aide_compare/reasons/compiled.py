@@ -7,21 +7,23 @@ import marshal
 import os
 import re
 import resource
+import struct
 import sys
+from collections import namedtuple
 
 from aide_compare.base.child import in_child
 from aide_compare.base.ending import Fault
 from aide_compare.base.escapes import shown
+from aide_compare.reasons.changes import Reason
 from aide_compare.reasons.content import bytes_of
 from aide_compare.reasons.entries import CONTENT, differences
 from aide_compare.reasons.marshalled import is_same
-from aide_compare.reasons.changes import Reason
 
 COMPILED = re.compile(rb"(/.*)/__pycache__/([^/]+)\.(cpython-[0-9]+)(?:\.opt-([12]))?\.pyc")
 CACHE = b"/__pycache__"
 HEAD = 16
 # The kinds of heads: with the time and size of the source, and with its sum, which is looked at or not.
-BY_TIME, BY_SUM = (0).to_bytes(4, "little"), tuple((number).to_bytes(4, "little") for number in (1, 3))
+BY_TIME, BY_SUM = 0, (1, 3)
 # Before 3.11 Python writes sets in another order on each run.
 IS_ABLE = sys.version_info >= (3, 11)
 MOST_SOURCE, MOST_COMPILED, MOST_MEMORY = 16 << 20, 64 << 20, 2 << 30
@@ -41,37 +43,33 @@ def source_of(path):
 def _head(source, seconds, kind):
     """The head of the compiled file of a source, which has one of three kinds."""
     if kind in BY_SUM:
-        return importlib.util.MAGIC_NUMBER + kind + importlib.util.source_hash(source)
-    numbers = (seconds & 0xFFFFFFFF, len(source) & 0xFFFFFFFF)
-    return importlib.util.MAGIC_NUMBER + BY_TIME + b"".join(number.to_bytes(4, "little") for number in numbers)
+        return struct.pack("<4sI8s", importlib.util.MAGIC_NUMBER, kind, importlib.util.source_hash(source))
+    return struct.pack("<4sIII", importlib.util.MAGIC_NUMBER, BY_TIME, seconds & 0xFFFFFFFF, len(source) & 0xFFFFFFFF)
 
 
 def _is_from(text, source, path, seconds, level):
     """Whether the bytes of a compiled file are those that this Python makes of the source."""
-    if text[:HEAD] != _head(source, seconds, text[4:8]):
+    if text[:HEAD] != _head(source, seconds, int.from_bytes(text[4:8], "little")):
         return False
     code = marshal.dumps(compile(source, path, "exec", dont_inherit=True, optimize=level))
     return text[HEAD:] == code or is_same(text[HEAD:], code)
 
 
-class _Pair:
-    """A compiled file and its source, with what the new database says of them, and the level of optimization."""
+# A compiled file and its source, the level of optimization, and what the new database says of both.
+_Pair = namedtuple("_Pair", "change source level entry source_entry")
 
-    def __init__(self, read, change, source, level):
-        self.change, self.source, self.level = change, source, level
-        self.entry, self.source_entry = read(change)[1], read(source)[1]
 
-    def answer(self):
-        """Reads both files, which have to be those of the database, and compiles the source again."""
-        try:
-            text = bytes_of(self.change.path, self.entry, MOST_COMPILED)
-            source = bytes_of(self.source.path, self.source_entry, MOST_SOURCE)
-            seconds = self.source_entry.time("mtime")
-            if text is None or source is None or seconds is None:
-                return UNKNOWN
-            return SAME if _is_from(text, source, os.fsdecode(self.source.path), seconds, self.level) else OTHER
-        except (SyntaxError, ValueError, OverflowError, RecursionError):
-            return OTHER
+def _answer(pair):
+    """Reads both files, which have to be those of the database, and compiles the source again."""
+    try:
+        text = bytes_of(pair.change.path, pair.entry, MOST_COMPILED)
+        source = bytes_of(pair.source.path, pair.source_entry, MOST_SOURCE)
+        seconds = pair.source_entry.time("mtime")
+        if text is None or source is None or seconds is None:
+            return UNKNOWN
+        return SAME if _is_from(text, source, os.fsdecode(pair.source.path), seconds, pair.level) else OTHER
+    except (SyntaxError, ValueError, OverflowError, RecursionError):
+        return OTHER
 
 
 def _answers(pairs):
@@ -79,7 +77,7 @@ def _answers(pairs):
 
     def work():
         resource.setrlimit(resource.RLIMIT_AS, (MOST_MEMORY, MOST_MEMORY))
-        return b"".join(pair.answer() for pair in pairs)
+        return b"".join(map(_answer, pairs))
 
     try:
         found = in_child("compiling Python again", work, SECONDS)
@@ -93,12 +91,12 @@ class Compiled:
 
     def __init__(self, changes, read):
         self.read, self.asked = read, []
-        sources = {source_of(change.path): None for change in changes if COMPILED.fullmatch(change.path)}
+        compiled = [(change, COMPILED.fullmatch(change.path)) for change in changes if change.path.endswith(b".pyc")]
+        sources = {source_of(change.path): None for change, found in compiled if found}
         sources.update((change.path, change) for change in changes if change.path in sources)
-        for change in changes:
-            found = COMPILED.fullmatch(change.path)
+        for change, found in compiled:
             source = sources[source_of(change.path)] if found else None
-            if source and source.reason and source.reason.verified and change.reason is None and not change.is_never:
+            if source and source.is_verified() and change.is_open():
                 self._ask(change, source, found.group(3), int(found.group(4) or b"0"))
 
     def _ask(self, change, source, tag, level):
@@ -117,7 +115,8 @@ class Compiled:
     def explain(self):
         """Gives the reasons. What is not made of its source is never explained."""
         for begin in range(0, len(self.asked), AT_ONCE):
-            pairs = [_Pair(self.read, *asked) for asked in self.asked[begin : begin + AT_ONCE]]
+            asked = self.asked[begin : begin + AT_ONCE]
+            pairs = [_Pair(*each, self.read(each[0])[1], self.read(each[1])[1]) for each in asked]
             for pair, answer in zip(pairs, _answers(pairs)):
                 if answer == SAME[0]:
                     text = "compiled from %s, as Python does it again" % shown(pair.source.path, 200)

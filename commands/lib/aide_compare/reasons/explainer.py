@@ -4,13 +4,12 @@ from aide_compare.base.escapes import shown
 from aide_compare.base.names import SEVERITIES
 from aide_compare.base.path_keys import key_of_path
 from aide_compare.reasons.by_databases import SAME, Renames, explain_growing, explain_lone, explain_same
-from aide_compare.reasons.certificates import Certificates
 from aide_compare.reasons.changes import Change, counts_by_reason
 from aide_compare.reasons.compiled import Compiled
+from aide_compare.reasons.derived import Certificates, Sums
 from aide_compare.reasons.entries import OrderedDatabase, differences, usr_of
 from aide_compare.reasons.parents import Parents
 from aide_compare.reasons.protected import is_never_explained
-from aide_compare.reasons.sums import Sums
 
 LOW = SEVERITIES[-1]
 PRESENT = {"added": (False, True), "removed": (True, False), "changed": (True, True)}

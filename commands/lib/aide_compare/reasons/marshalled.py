@@ -3,6 +3,7 @@ which depends on what else was in memory, so two texts of the same code may diff
 
 Nothing is made of the texts: marshal.loads is not safe for bytes that somebody else wrote.
 """
+from itertools import zip_longest
 
 FLAG, REFERENCE = 0x80, ord("r")
 # What follows the type: so many bytes; a length in so many bytes, and then that many; a count, and then that many objects.
@@ -20,63 +21,56 @@ CODE_NUMBERS, CODE_OBJECTS, CODE_LINE, CODE_TABLES = 20, 8, 4, 2
 class _Reader:
     """Reads one text. `begins` are the places of the objects to which references lead, in their order."""
 
-    def __init__(self, text, at=0, begins=None):
-        self.text, self.at, self.is_copy = text, at, begins is not None
-        self.begins = begins if self.is_copy else []
+    def __init__(self, text):
+        self.text, self.at, self.begins = text, 0, []
 
-    def take(self, size):
-        """The next bytes. If they are cut short, the end of the text is not where it should be."""
+    def all(self):
+        """Yields what the text says, as if it had no references: types, counts and bytes. Fails where it is none."""
+        yield from self._objects(1, False)
+        if self.at != len(self.text):
+            raise IndexError("the end is not where it should be")
+
+    def _take(self, size):
         self.at += size
         return self.text[self.at - size : self.at]
 
-    def number(self, size, signed=False):
-        return int.from_bytes(self.take(size), "little", signed=signed)
+    def _objects(self, count, is_copy):
+        for _ in range(count):
+            begin = self.at
+            kind = self._take(1)[0]
+            if kind & ~FLAG == REFERENCE:
+                place = self.begins[int.from_bytes(self._take(4), "little")]
+                after, self.at = self.at, place
+                yield from self._objects(1, True)
+                self.at = after
+                continue
+            if kind & FLAG and not is_copy:
+                self.begins.append(begin)
+            kind = SAME.get(kind & ~FLAG, kind & ~FLAG)
+            yield kind
+            yield from self._content(kind, is_copy)
 
-    def next(self):
-        """The type of the next object, and the reader of what follows it, which is another one after a reference."""
-        begin = self.at
-        kind = self.take(1)[0]
-        if kind & ~FLAG == REFERENCE:
-            reader = _Reader(self.text, self.begins[self.number(4)], self.begins)
-            return reader.next()
-        if kind & FLAG and not self.is_copy:
-            self.begins.append(begin)
-        return SAME.get(kind & ~FLAG, kind & ~FLAG), self
-
-
-def _are_same(first, second, count):
-    return all(_is_same(first, second) for _ in range(count))
-
-
-def _is_same(first, second):
-    (kind, one), (other_kind, other) = first.next(), second.next()
-    if kind != other_kind:
-        return False
-    if kind in FIXED:
-        return one.take(FIXED[kind]) == other.take(FIXED[kind])
-    if kind == CODE:
-        return (
-            one.take(CODE_NUMBERS) == other.take(CODE_NUMBERS)
-            and _are_same(one, other, CODE_OBJECTS)
-            and one.take(CODE_LINE) == other.take(CODE_LINE)
-            and _are_same(one, other, CODE_TABLES)
-        )
-    if kind in ROWS:
-        count = one.number(ROWS[kind])
-        return count == other.number(ROWS[kind]) and _are_same(one, other, count)
-    if kind not in COUNTED:
-        return False
-    count = one.number(COUNTED[kind], signed=kind == LONG)
-    if count != other.number(COUNTED[kind], signed=kind == LONG):
-        return False
-    length = 2 * abs(count) if kind == LONG else count
-    return one.take(length) == other.take(length)
+    def _content(self, kind, is_copy):
+        """What follows a type."""
+        if kind == CODE:
+            yield self._take(CODE_NUMBERS)
+            yield from self._objects(CODE_OBJECTS, is_copy)
+            yield self._take(CODE_LINE)
+            yield from self._objects(CODE_TABLES, is_copy)
+        elif kind in FIXED:
+            yield self._take(FIXED[kind])
+        else:
+            count = int.from_bytes(self._take(COUNTED.get(kind) or ROWS[kind]), "little", signed=kind == LONG)
+            yield count
+            if kind in ROWS:
+                yield from self._objects(count, is_copy)
+            else:
+                yield self._take(2 * abs(count) if kind == LONG else count)
 
 
 def is_same(text, wanted):
     """Whether a text means the same code as one that this Python has written."""
-    first, second = _Reader(text), _Reader(wanted)
     try:
-        return _is_same(first, second) and first.at == len(text) and second.at == len(wanted)
-    except (IndexError, RecursionError):
+        return all(one == other for one, other in zip_longest(_Reader(text).all(), _Reader(wanted).all()))
+    except (IndexError, KeyError, RecursionError):
         return False
