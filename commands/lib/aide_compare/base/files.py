@@ -120,6 +120,13 @@ def nameless(room=None):
         )
 
 
+def in_memory(data):
+    """A file of the kernel's with a few bytes, which have no place on a disk."""
+    descriptor = os.memfd_create("aide-compare")
+    write_all(descriptor, data)
+    return descriptor
+
+
 class Spool:
     """A private file that is written from its beginning to its end, and then read. Up to HELD bytes are in memory only."""
 
@@ -147,11 +154,11 @@ class Replacement:
     the rights of that user, who gains nothing then from what he puts there."""
 
     def __init__(self, path, mode=0o644, what="the file"):
-        self.path, self.mode, self.what, self.folder = path, mode, what, None
+        self.path, self.mode, self.what, self.folder, self.part = path, mode, what, None, None
         self.name = os.path.basename(path)
 
     def begin(self):
-        """Tries that a file can be made there."""
+        """Tries that a file can be made there. It is kept for what comes, unless that is the work of another user."""
         self._commit(self._try)
         return self
 
@@ -178,9 +185,10 @@ class Replacement:
             raise fault if fault.status == Status.USAGE else self._fault(fault.text)
 
     def close(self):
+        if self.part is not None:
+            self.part = os.close(self.part)
         if self.folder:
-            self.folder.close()
-            self.folder = None
+            self.folder = self.folder.close()
 
     def _fault(self, text):
         return Fault(Status.DEVICE, "cannot write %s %s: %s" % (self.what, shown(self.path), text))
@@ -211,9 +219,11 @@ class Replacement:
     def _try(self):
         self._refuse_other_kinds()
         part, name = new_file(self.folder.fd, random_name())
-        os.close(part)
         if name:
             os.unlink(name, dir_fd=self.folder.fd)
+            os.close(part)
+        else:
+            self.part = part
 
     def _put(self, fill):
         """Of several commands at once each makes its file anew until it was put in place: each time that one has to, another
@@ -225,7 +235,8 @@ class Replacement:
 
     def _was_put(self, fill):
         """Makes the file and puts it in place; False if another command took its name away meanwhile."""
-        part, name = new_file(self.folder.fd, random_name())
+        part, name = (self.part, None) if self.part is not None else new_file(self.folder.fd, random_name())
+        self.part = None
         try:
             fill(part)
             os.fchmod(part, self.mode)

@@ -6,7 +6,7 @@ import time
 
 from aide_compare.base.ending import Fault, Status, fault_of, write_all
 from aide_compare.base.escapes import shown, shown_lines
-from aide_compare.base.files import nameless
+from aide_compare.base.files import in_memory, nameless
 from aide_compare.base.names import SIDES
 from aide_compare.base.program import CONFIGURATION, DATABASES, NEW, OLD, find_program, run_program
 from aide_compare.base.times import age_in_words
@@ -228,8 +228,7 @@ class Comparison:
         keep = (lambda data: write_all(report, data)) if is_cut else (lambda data: None) if report is None else None
         try:
             if defined.config:
-                given[CONFIGURATION], words[2] = nameless(), "/proc/self/fd/%d" % CONFIGURATION
-                write_all(given[CONFIGURATION], defined.config)
+                given[CONFIGURATION], words[2] = in_memory(defined.config), "/proc/self/fd/%d" % CONFIGURATION
             ended = run_program(self.program, words, given if keep else {1: report, **given}, most, keep)
         finally:
             if CONFIGURATION in given:
