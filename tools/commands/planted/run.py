@@ -162,7 +162,7 @@ PLANTED = (
         "attacks.try_each_moment",
         (
             FILES,
-            "        self._refuse_other_kinds()\n        part, name = new_file(self.folder.fd, random_name())\n        os.close(part)\n",
+            "        self._refuse_other_kinds()\n        part, name = new_file(self.folder.fd, random_name())\n        if name:\n",
             EMPTIED,
         ),
     )
