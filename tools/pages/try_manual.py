@@ -100,6 +100,11 @@ def between(page, begin, end):
     return unescaped(found)
 
 
+def line_after(text, begin):
+    """The line of macros after the words that begin so."""
+    return re.search(r"^(?:\.No )?%s.*\n\.\w\w (.*)$" % begin, text, re.M).group(1)
+
+
 def section(page, title, macro="Sh"):
     found = re.search(r"^\.%s %s\n(.*?)(?=^\.Sh |\Z)" % (macro, re.escape(title)), page, re.M | re.S)
     return found.group(1)
@@ -162,21 +167,23 @@ def try_options(trial, page):
 
 def try_other_names(trial, page):
     """Options without effect are accepted, and what is refused by name is refused so."""
-    without = re.findall(r"^\.Ic (\w+)", between(page, "without effect", "without effect"), re.M)
+    without = re.findall(r"\b[a-z]\w+\b", between(page, "without effect", "without effect"))
     trial.holds("options without effect", sorted(without) == sorted(WITHOUT_EFFECT), without)
     for name in without:
         trial.good(name + "=any text\n", name)
         trial.bad(name + "=\n", "bad value", name + "=")
     refused = between(page, "refused", "refused")
-    for name in re.findall(r"^\.Ic (@@\w+)", refused, re.M):
+    directives = re.findall(r"@@\w+", refused)
+    trial.holds("refused directives", len(directives) == 4, directives)
+    for name in directives:
         trial.bad(name + " x\n", "left out of this profile", name)
-    older = re.findall(r"^\.Ic ([a-z_]+)(?: [,;])?$", refused, re.M)
+    older = re.findall(r"\b[a-z_]+\b", line_after(refused, "the older names"))
     trial.holds("older names", sorted(older) == sorted(OLDER_OPTIONS), older)
     for name in older:
         trial.bad(name + "=no\n", "left out of this profile", name)
     for name, value in re.findall(r"^\.Ic (\w+) Ns = Ns Cm (\w+)", refused, re.M):
         trial.bad("%s=%s\n" % (name, value), "left out of this profile", value)
-    urls = [url.split()[0] for url in re.findall(r"^\.Cm (\S+)", refused, re.M)]
+    urls = re.findall(r"\b[a-z]+:?(?= [,.])", line_after(refused, "a database that is"))
     trial.holds("refused URLs", urls == ["stdin", "fd:", "http:", "https:", "ftp:"], urls)
     for url in urls:
         trial.bad("database_in=%s\n" % (url if url == "stdin" else url + "//x"), "left out of this profile", url)
@@ -293,7 +300,7 @@ def try_groups(trial, page):
             status = trial.compare(*databases, options="report_ignore_changed_attrs=%s\n" % group)[0]
             trial.holds("%s in %s" % (name, group), status == (0 if name in sets[group] else 4), status)
         trial.good("%s=s\n" % group, "a new " + group)
-    for name in re.findall(r"^\.Li (\w+)", between(page, "empty names", "empty names"), re.M):
+    for name in re.findall(r"\b(?!Li\b)\w+\b", between(page, "empty names", "empty names")):
         trial.good("report_force_attrs=p+%s\n" % name, name)
         trial.bad("%s=s\n" % name, "bad name", "a group " + name)
     trial.good("reprot_quiet=s\n", "a misspelt option")

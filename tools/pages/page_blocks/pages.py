@@ -31,9 +31,9 @@ def manual_pages():
 
 
 def plain(line):
-    """A line of a manual page without its macro, the `No` after which words go on as text, and its escapes."""
+    """A line of a manual page without its macro, those that follow in the line, and its escapes."""
     if re.match(r"\.[A-Z][a-z]\b", line):
-        line = line[4:].replace(" No ", " ")
+        line = re.sub(r" (?:Ar|Fl|No|Pa|Xr)(?= )", "", line[4:])
     for escape, letters in ESCAPES:
         line = line.replace(escape, letters)
     return line
