@@ -54,6 +54,7 @@ TEXTS = [
         Tool("try_line_definitions"),
         GATE,
     ),
+    Row("the program of lines beside these, and beside the report", "program/try_lines.py", Tool("try_lines"), GATE),
     Row("odd paths, arguments and missing files", "program/end_to_end.py", PART, GATE),
     Row("a database cut at each byte", "`aide_faults`, program/end_to_end.py", EACH, GATE),
     Row("a database with each byte changed, taken out, put in", "program/hostile.py", "14,000", HAND),

@@ -4,6 +4,7 @@ import subprocess
 import sys
 from concurrent.futures import ThreadPoolExecutor
 
+from tools.oracle.lines import lines_answer_of
 from tools.oracle.session import Answer, Unread, answer_of
 
 # Only for a program that hangs: on a machine with much other work a run may take minutes.
@@ -34,6 +35,11 @@ def run(program, words, **streams):
 
 def wanted(words, files=file_at):
     return answer_of(words, files)
+
+
+def wanted_lines(words, files=file_at):
+    """The answer that is wanted of the program that writes lines."""
+    return lines_answer_of(words, files)
 
 
 def shown(text):

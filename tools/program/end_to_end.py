@@ -10,7 +10,7 @@ import random
 
 from tools.lib.arguments import parser_of
 from tools.program import cases
-from tools.program.random_sessions import try_sessions
+from tools.program.random_sessions import beside_definitions, try_sessions
 from tools.program.real_files.devices import try_devices
 from tools.program.real_files.examples import try_examples
 from tools.program.real_files.fifos import try_fifos
@@ -41,7 +41,7 @@ def main():
     for trial in [] if given.quick else [try_devices, try_limits, try_quickly, try_stack]:
         trial(program, tally)
     print("seed %d" % given.seed, flush=True)
-    try_sessions(program, given.seed, range(given.sessions), given.jobs, tally)
+    try_sessions(lambda words: beside_definitions(program, words), given.seed, range(given.sessions), given.jobs, tally)
     tally.end()
 
 

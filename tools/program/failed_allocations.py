@@ -10,7 +10,8 @@ those of a command line that is not understood. There the parser looks for names
 The sessions are the stored cases, the examples at each report level, long arguments, paths and configurations, and random
 ones.
 
-With --in-memory a second program is tried, crates/aide_in_memory. It runs sessions over files in memory. Each call that
+With --lines the same is done with the program that writes lines of JSON, over the examples at one level, the long and the random
+sessions. With --in-memory another program is tried, crates/aide_in_memory. It runs sessions over files in memory. Each call that
 is refused memory has to say so, and is made once more. So with one refusal the program has to print what is stored beside
 it; with all later ones refused too it has to end with status 22 behind a front of that.
 
@@ -30,7 +31,7 @@ from tools.lib.preload import built, run_with
 from tools.program.random_sessions import make_session
 from tools.program.real_files.examples import LEVELS, folders_of_aide, words_at
 from tools.program.real_files.folder import NEW, OLD, SKIPPING
-from tools.lib.tally import Tally, difference, program_of, side_by_side, wanted
+from tools.lib.tally import Tally, difference, program_of, side_by_side, wanted, wanted_lines
 
 NOTES = struct.Struct("3l")
 STARVED = refused(b"out of memory", NO_MEMORY)
@@ -44,10 +45,10 @@ Refusal = namedtuple("Refusal", "answer calls own others")
 
 
 class Refuser:
-    """A program, and the library that refuses it memory."""
+    """A program, the library that refuses it memory, and what is wanted of it over real files."""
 
-    def __init__(self, program, library):
-        self.program, self.library = program, library
+    def __init__(self, program, library, wanted=None):
+        self.program, self.library, self.wanted = program, library, wanted
 
     def run(self, words, first=0, last=0):
         """What the program answers where the calls for memory with these numbers are refused, and what was counted."""
@@ -74,7 +75,7 @@ def faults_of_whole(free, whole):
 
 def try_session(refuser, words):
     """How often what became of a refusal, and the faults of a session by what was refused."""
-    whole = wanted(words)
+    whole = refuser.wanted(words)
     free = refuser.run(words)
     counts, found = Counter(), {"nothing refused": faults_of_whole(free, whole)}
     for way, last_of in WAYS.items():
@@ -103,10 +104,10 @@ def stored_sessions(top):
         yield os.path.relpath(path, cases.FOLDER), cases.answers_in(cases.read(path), folder, list)
 
 
-def example_sessions():
-    """What AIDE has written, with every attribute too, at each report level."""
+def example_sessions(levels):
+    """What AIDE has written, with every attribute too, at these report levels."""
     for folder in folders_of_aide():
-        for level in LEVELS:
+        for level in levels:
             yield "%s at %s" % (os.path.basename(folder), level), words_at(folder, "report_level=" + level)
 
 
@@ -160,7 +161,15 @@ def random_sessions(top, seed, count):
 def sessions(top, seed, count):
     """The labels and words of all sessions, with their files below a folder."""
     yield from stored_sessions(top)
-    yield from example_sessions()
+    yield from example_sessions(LEVELS)
+    yield from long_sessions(top)
+    yield from random_sessions(top, seed, count)
+
+
+def sessions_of_lines(top, seed, count):
+    """Those for the program of lines, which knows no levels."""
+    os.mkdir(top)
+    yield from example_sessions(LEVELS[-1:])
     yield from long_sessions(top)
     yield from random_sessions(top, seed, count)
 
@@ -228,7 +237,10 @@ def try_allocations(program, top, given, tally):
         tally.add("fail_allocation.c", faults)
         return
     print("seed %d" % given.seed, flush=True)
-    try_sessions(Refuser(program, library), list(sessions(top, given.seed, given.sessions)), given.jobs, tally)
+    try_sessions(Refuser(program, library, wanted), list(sessions(top, given.seed, given.sessions)), given.jobs, tally)
+    if given.lines:
+        known = list(sessions_of_lines(os.path.join(top, b"lines"), given.seed, given.sessions))
+        try_sessions(Refuser(program_of(given.lines), library, wanted_lines), known, given.jobs, tally)
     if given.in_memory:
         stored = os.path.join(os.path.dirname(os.path.dirname(os.path.abspath(given.in_memory))), "stdout")
         try_in_memory(Refuser(program_of(given.in_memory), library), stored, given.jobs, tally)
@@ -237,6 +249,7 @@ def try_allocations(program, top, given, tally):
 def main():
     parser = parser_of("tools.program.failed_allocations", __doc__)
     parser.add_argument("program")
+    parser.add_argument("--lines", metavar="OTHER", help="the program that writes lines of JSON")
     parser.add_argument("--in-memory", metavar="OTHER", help="a program that runs sessions over files in memory")
     parser.add_argument("--sessions", type=int, default=20, help="how many random sessions")
     parser.add_argument(

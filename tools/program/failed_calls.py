@@ -4,7 +4,8 @@
 A library that is loaded before the C library (fail_call.c) makes the n-th call of a kind fail, take nothing or move half of
 its bytes, for every n. All later calls work again. So a failure that the program ignores, or a call that it makes once more,
 shows in its answer. The right answer to each run is exact: which file could not be opened, in which line of which database
-reading failed, and which bytes had gone out before. The openings of each undisturbed run are compared too.
+reading failed, and which bytes had gone out before. The openings of each undisturbed run are compared too. With --lines the
+same is done with the program that writes lines of JSON.
 
 The library is built by a C compiler of the machine or by that of the toolchain; with neither one trial fails. The last
 line is 'N passed, M failed'.
@@ -18,7 +19,7 @@ from tools.lib.arguments import parser_of
 from tools.oracle.session import BAD_DEVICE, Answer, refused
 from tools.lib.preload import built, run_with
 from tools.program.real_files.folder import NEW, OLD, SKIPPING, Folder, names
-from tools.lib.tally import Tally, difference, program_of, side_by_side, wanted
+from tools.lib.tally import Tally, difference, program_of, side_by_side, wanted, wanted_lines
 
 NOTE = struct.Struct("3l")
 OPEN, CLOSE, READ, WRITE = range(1, 5)
@@ -35,6 +36,8 @@ Session = namedtuple("Session", "words whole calls files")
 Call = namedtuple("Call", "kind descriptor result")
 # How often the sides are opened where the words ask for a comparison, and both texts are sound.
 OPENINGS = {"a report of all parts": 6, "a report of several pages": 3, "columns that are skipped": 2}
+# Lines are written in one pass, behind one that reads and one that counts.
+MOST_OPENINGS, MOST_OF_LINES = 6, 3
 
 
 def sessions(folder):
@@ -124,10 +127,10 @@ def openings_of(calls):
 
 
 class Stumbler:
-    """A program, and the library that lets its calls go wrong."""
+    """A program, what is wanted of it, and the library that lets its calls go wrong."""
 
-    def __init__(self, program, library):
-        self.program, self.library = program, library
+    def __init__(self, program, library, wanted, most_openings):
+        self.program, self.library, self.wanted, self.most_openings = program, library, wanted, most_openings
 
     def run(self, words, kind=0, number=0, way=0):
         answer, notes = run_with(
@@ -144,11 +147,11 @@ def try_one(stumbler, session, kind, number, way):
 
 def try_session(stumbler, label, words, files, jobs, tally):
     """Lets each call of a session go wrong in each way. How many calls of which kind there are."""
-    whole = wanted(words)
+    whole = stumbler.wanted(words)
     answer, calls = stumbler.run(words)
     tally.check(label, answer, whole)
     openings, most, left = openings_of(calls)
-    known = 1 + 2 * OPENINGS.get(label, 0)
+    known = 1 + 2 * min(OPENINGS.get(label, 0), stumbler.most_openings)
     is_right = most <= 2 and left == 0 and (label not in OPENINGS or openings == known)
     tally.add(label + ", openings", [] if is_right else ["%d, %d at a time, %d left" % (openings, most, left)])
     session, counts = Session(words, whole, calls, files), Counter(call.kind for call in calls)
@@ -158,12 +161,9 @@ def try_session(stumbler, label, words, files, jobs, tally):
     return counts
 
 
-def try_calls(program, top, jobs, tally):
-    library, faults = built("fail_call.c", top)
-    if library is None:
-        tally.add("fail_call.c", faults)
-        return
-    stumbler, counts = Stumbler(program, library), Counter()
+def try_calls(stumbler, top, jobs, tally):
+    """Tries all sessions, with their files in a folder."""
+    counts = Counter()
     for label, words, files in sessions(top):
         counts.update(try_session(stumbler, label, words, files, jobs, tally))
     print(", ".join("%d %ss" % (counts[kind], name) for kind, name in KINDS.items()), flush=True)
@@ -173,11 +173,20 @@ def try_calls(program, top, jobs, tally):
 def main():
     parser = parser_of("tools.program.failed_calls", __doc__)
     parser.add_argument("program")
+    parser.add_argument("--lines", metavar="OTHER", help="the program that writes lines of JSON")
     parser.add_argument("--jobs", type=int, default=2, help="how many runs at a time")
-    given = parser.parse_args()
-    program, tally = program_of(given.program), Tally()
+    given, tally = parser.parse_args(), Tally()
+    tried = [(given.program, wanted, MOST_OPENINGS)]
+    tried += [(given.lines, wanted_lines, MOST_OF_LINES)] if given.lines else []
     with tempfile.TemporaryDirectory(prefix="failed-calls-") as top:
-        try_calls(program, os.fsencode(top), given.jobs, tally)
+        library, faults = built("fail_call.c", os.fsencode(top))
+        if library is None:
+            tally.add("fail_call.c", faults)
+            tried = []
+        for number, (program, answers, most) in enumerate(tried):
+            folder = os.path.join(os.fsencode(top), b"program-%d" % number)
+            os.mkdir(folder)
+            try_calls(Stumbler(program_of(program), library, answers, most), folder, given.jobs, tally)
     tally.end()
 
 

@@ -8,7 +8,7 @@ import collections
 import random
 
 from tools.lib.arguments import parser_of
-from tools.program.random_sessions import try_sessions
+from tools.program.random_sessions import beside_definitions, try_sessions
 from tools.program.real_files.damage import try_damage
 from tools.program.real_files.fifos import try_fifos
 from tools.program.real_files.outside import try_outside
@@ -52,7 +52,7 @@ def main():
     try_replaced(program, table)
     try_damage(program, table, given.jobs)
     print("seed %d" % given.seed, flush=True)
-    try_sessions(program, given.seed, range(given.sessions), given.jobs, table)
+    try_sessions(lambda words: beside_definitions(program, words), given.seed, range(given.sessions), given.jobs, table)
     table.end()
 
 

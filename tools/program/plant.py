@@ -18,7 +18,7 @@ import tempfile
 from tools.lib.arguments import parser_of
 from tools.lib import signals
 from tools.lib.apart import apart
-from tools.lib.tally import Tally, program_of
+from tools.lib.tally import Tally, lines_program_of, program_of
 from tools.program.planted import checks, machine, oracle, pages
 
 HERE = os.path.dirname(os.path.dirname(os.path.dirname(os.path.abspath(__file__))))
@@ -33,7 +33,10 @@ WORDS = {
     "failed_calls": [],
     "try_manual": [],
     "try_line_definitions": ["--count", "100", "--seed", "7"],
+    "try_lines": ["--quick", "--sessions", "60", "--seed", "7"],
 }
+# Trials of the program of lines, which goes with PROGRAM.
+OF_LINES = ["try_lines"]
 WITHOUT_PROGRAM = ["try_line_definitions", *checks.MODULES]
 ELSEWHERE = {"try_manual": "tools.pages.try_manual", **checks.MODULES}
 PARTS = {
@@ -44,6 +47,11 @@ PARTS = {
     "long_lines": "outside.try_long_lines",
     "twenty_megabytes": "outside.try_twenty_megabytes",
 }
+
+
+def tried_by(trial, program):
+    """The program that a trial tries."""
+    return os.fsencode(lines_program_of(program)) if trial in OF_LINES else program
 
 
 def words_of(trial, program):
@@ -101,6 +109,7 @@ def planted_in_text(plant, folder):
 
 def faults_of(plant, program):
     """The faults of a bug: none if its trial sees it."""
+    program = tried_by(plant.seen_by, program)
     with tempfile.TemporaryDirectory(prefix="plant-") as folder:
         os.chmod(folder, 0o755)
         (cloned if plant.seen_by in checks.MODULES else copied)(folder)
@@ -135,7 +144,7 @@ def main():
     for name, plant in bugs(given.only):
         if plant.seen_by not in tried:
             tried.add(plant.seen_by)
-            line = last_line(plant.seen_by, program, HERE)
+            line = last_line(plant.seen_by, tried_by(plant.seen_by, program), HERE)
             tally.add("%s without a bug" % plant.seen_by, [] if PASSED.fullmatch(line) else [line])
         tally.add("%s, seen by %s" % (name, plant.seen_by), faults_of(plant, program))
     tally.end()

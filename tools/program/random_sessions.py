@@ -33,25 +33,30 @@ def make_session(seed, number, folder):
     return random_words(pick, config if pick.random() < 0.99 else config + b"x", bad)
 
 
-def try_session(program, seed, number, top):
-    """The status that is wanted of a session, and what is not as wanted."""
+def beside_definitions(program, words):
+    """The status that is wanted, and what is not as wanted."""
+    want = wanted(words)
+    return want.status, difference(run(program, words), want)
+
+
+def try_session(check, seed, number, top):
+    """The status that is wanted of a session, and what is not as wanted; `check` gives both for words."""
     folder = os.path.join(top, b"%d" % number)
     os.mkdir(folder)
     words = make_session(seed, number, folder)
-    want = wanted(words)
-    faults = difference(run(program, words), want)
+    status, faults = check(words)
     if not faults:
         shutil.rmtree(folder)
     else:
         faults.append("its files are in %s, its words are %r" % (os.fsdecode(folder), words))
-    return want.status, faults
+    return status, faults
 
 
-def try_sessions(program, seed, numbers, jobs, tally):
+def try_sessions(check, seed, numbers, jobs, tally):
     """Tries so many sessions; the files of those that went wrong are kept. Gives how many wanted which status."""
     top = tempfile.mkdtemp(prefix="sessions-").encode()
     statuses = collections.Counter()
-    results = side_by_side(jobs, lambda number: try_session(program, seed, number, top), numbers)
+    results = side_by_side(jobs, lambda number: try_session(check, seed, number, top), numbers)
     for number, (status, faults) in zip(numbers, results):
         tally.add("seed %d, session %d" % (seed, number), faults)
         statuses[status] += 1
@@ -70,7 +75,8 @@ def main():
     given = parser.parse_args()
     print("seed %d" % given.seed, flush=True)
     tally, numbers = Tally(), range(given.first, given.first + given.count)
-    statuses = try_sessions(program_of(given.program), given.seed, numbers, given.jobs, tally)
+    program = program_of(given.program)
+    statuses = try_sessions(lambda words: beside_definitions(program, words), given.seed, numbers, given.jobs, tally)
     print("by status: %s" % ", ".join("%d: %d" % known for known in sorted(statuses.items())))
     tally.end()
 

@@ -56,6 +56,12 @@ PLANTED = [
     changed("error lines in parts", "devices", calls="error lines in parts"),
     changed("a failed write passed over", "devices", calls="failed write passed over"),
     changed("the rest of a page lost", "devices", calls="rest of the page lost"),
+    changed("lines: 1 in place of 0", "try_lines", status="status or 1"),
+    changed("lines: standard output and standard error exchanged", "try_lines", streams=(2, 1)),
+    changed("lines: -D compares", "try_lines", words="[b'-E' if word == b'-D' else word for word in words]"),
+    changed("lines: both sides open the old path", "try_lines", calls="old path for both"),
+    changed("lines: a failed write passed over", "try_lines", calls="failed write passed over"),
+    changed("lines: the rest of a page lost", "try_lines", calls="rest of the page lost"),
 ]
 
 SCRIPT = """#!{python} -IS

@@ -116,4 +116,12 @@ PLANTED = (
         (LINES, '("new", "database_new", texts[1], new)', '("new", "database_new", texts[1], old)'),
         (LINES, "if attribute in settings[name]]", "if attribute in settings[SET_OPTIONS[0]]]"),
     )
+    + seen_by(
+        "try_lines",
+        (LINES, "*range(0x7F, 0xA0)", "*range(0x80, 0xA0)"),
+        (LINES, 'return name + "_hex", string', "return name, string"),
+        (LINES, "if kind_of(change, settings)]", "if shown(change, settings)]"),
+        (LINES, 'members.append((name, b"null") if path is None else', 'members.append((name, b"") if not path else'),
+        (LINES, '[(name, truth(settings[name])) for name in BOOL_OPTIONS]', '[(name, b"true") for name in BOOL_OPTIONS]'),
+    )
 )
