@@ -2,8 +2,22 @@
 import base64
 import hashlib
 
+# Eleven digests, with their bytes.
+DIGESTS = {
+    "md5": 16,
+    "sha1": 20,
+    "sha256": 32,
+    "sha512": 64,
+    "rmd160": 20,
+    "tiger": 24,
+    "crc32": 4,
+    "haval": 32,
+    "gost": 32,
+    "whirlpool": 64,
+    "stribog512": 64,
+}
 # The columns of the forms, by the length of their lines in bytes, about. Lines of 77 bytes are those of a configuration
-# without digests. Lines of 64 short fields have 138 bytes.
+# without digests. Lines of 64 short fields have 138 bytes. Those of eleven digests have 653.
 FORMS = {
     77: ["name", "perm", "inode", "mtime", "size"],
     138: [
@@ -59,6 +73,7 @@ FORMS = {
         "acl",
         "xattrs",
     ],
+    653: ["name", "perm", "size", "mtime", *DIGESTS],
     259: [
         "name",
         "lname",
@@ -82,7 +97,7 @@ FORMS = {
 }
 ACL = "POSIX,dXNlcjo6cnctCmdyb3VwOjpyLS0Kb3RoZXI6OnItLQo=,0"
 # What AIDE writes in the column `attr`, if the form has it. All attributes of the form of 138 bytes are on.
-BITS = {77: "", 138: "4095", 165: "112744996797", 259: "112744996797"}
+BITS = {77: "", 653: "", 138: "4095", 165: "112744996797", 259: "112744996797"}
 
 
 class Pair:
@@ -95,7 +110,9 @@ class Pair:
         self.more_columns, self.sections = list(more_columns), sections
 
     def openings(self, level):
-        """How often a run opens each database: for two passes, and once for each list and for the details."""
+        """How often a run opens each database: for two passes, and once for each list and for the details, or for the lines."""
+        if level == "lines":
+            return 3 if self.sections else 2
         return 2 if level == "minimal" else 2 + self.sections
 
     def has(self, number, is_new):
@@ -127,6 +144,11 @@ def is_one_of(every, number):
 
 def digest(name, text):
     return base64.b64encode(hashlib.new(name, text.encode()).digest()).decode()
+
+
+def long_digest(text, size):
+    """A digest of so many bytes."""
+    return base64.b64encode(hashlib.shake_128(text.encode()).digest(size)).decode()
 
 
 def time_at(number):
@@ -163,6 +185,7 @@ def fields_of(form, number, has_times, has_bytes):
         "sha256": digest("sha256", text),
         "acl": ACL if form == 259 else "0",
         "e2fsattrs": "524288",
+        **({name: long_digest(text, size) for name, size in DIGESTS.items()} if form == 653 else {}),
     }
 
 

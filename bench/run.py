@@ -5,6 +5,8 @@ It makes pairs of databases that differ in one way each and prints a table in Ma
 is one reading of both databases: the report at `minimal` takes two, and every other report one more for each list of
 entries and one for the details. `sha256sum` reads both databases as often as the program opens them.
 
+With --lines PROGRAM is the one that writes lines of JSON, which takes two openings, and a third one if the databases differ.
+
 With --instructions, valgrind's cachegrind counts the instructions of the program and of `sha256sum`. The counts are the
 same in every run, and the rows are ordered by their ratio. Without it they are ordered by the ratio of times. With --counts
 they are all that is measured but for the greatest memory, so the table is the same beside any other work.
@@ -43,6 +45,16 @@ CASES = [
     ("100 % removed", (77, 138, 165, 259), (WHOLE,)),
     ("a column more", (77, 165, 259), ("minimal", DEFAULT)),
     ("an upgrade", (165, 259), ("minimal", DEFAULT)),
+]
+# The same for the program of lines, which knows no levels.
+LINES = "lines"
+CASES_OF_LINES = [
+    ("none changed", (77, 138), (LINES,)),
+    ("0.1 % changed", (165, 259), (LINES,)),
+    ("10 % changed", (165, 259), (LINES,)),
+    ("100 % changed", (77, 138, 165, 259, 653), (LINES,)),
+    ("100 % added", (77, 138, 165, 259, 653), (LINES,)),
+    ("100 % removed", (165,), (LINES,)),
 ]
 # The pairs that are measured with more entries too, and those that AIDE compares.
 LARGER = ("a few of each", "100 % changed")
@@ -164,7 +176,7 @@ def compare(executable, folder, level):
         "--config",
         os.path.join(folder, "conf"),
         "--before",
-        "@@define DIR %s\n@@define LEVEL %s" % (folder, level),
+        "@@define DIR %s\n@@define LEVEL %s" % (folder, DEFAULT if level == LINES else level),
     ]
 
 
@@ -236,10 +248,10 @@ def measured_rows(given, name, form, entries, levels):
 
 
 def all_rows(given):
-    for name, forms, levels in CASES:
+    for name, forms, levels in CASES_OF_LINES if given.lines else CASES:
         for form in forms:
             yield from measured_rows(given, name, form, given.entries, levels)
-            if given.larger and name in LARGER and form == 165:
+            if given.larger and name in LARGER and form in (165, 653):
                 yield from measured_rows(given, name, form, given.larger, levels)
 
 
@@ -288,6 +300,7 @@ def main():
     parser.add_argument("--larger", type=int, default=100000, help="how many it has in a few rows; 0 leaves these out")
     parser.add_argument("--seconds", type=float, default=5, help="how long each row of the program is measured")
     parser.add_argument("--least-runs", type=int, default=3, help="how often each row is measured at least")
+    parser.add_argument("--lines", action="store_true", help="PROGRAM writes lines of JSON")
     parser.add_argument("--instructions", action="store_true", help="count instructions by valgrind")
     parser.add_argument("--counts", action="store_true", help="count instructions, and measure no times")
     parser.add_argument("--aide-up-to", type=int, default=100000, help="the greatest number of entries that AIDE gets")
