@@ -15,7 +15,7 @@ import sys
 
 from tools.lib.arguments import add_program, parser_of
 from tools.lib.scratch import TOP as HERE, Scratch
-from tools.lib.tally import Tally
+from tools.lib.tally import Tally, lines_program_of
 from tools.oracle.attributes import ATTRIBUTES
 from tools.oracle.configuration import LEVELS, OLDER_OPTIONS, OPTIONS, WITHOUT_EFFECT
 from tools.oracle.session import CONFIGURATION_WORDS, DATABASE_WORDS
@@ -59,8 +59,8 @@ class Trial(Scratch, Tally):
         Tally.__init__(self)
         self.program = os.path.abspath(program)
 
-    def run(self, *words, stdout=subprocess.PIPE):
-        done = subprocess.run([self.program, *words], stdin=subprocess.DEVNULL, stdout=stdout, stderr=subprocess.PIPE)
+    def run(self, *words, stdout=subprocess.PIPE, program=None):
+        done = subprocess.run([program or self.program, *words], stdin=subprocess.DEVNULL, stdout=stdout, stderr=subprocess.PIPE)
         output = done.stdout.decode(errors="replace") if done.stdout is not None else ""
         return done.returncode, output, done.stderr.decode(errors="replace")
 
@@ -77,13 +77,13 @@ class Trial(Scratch, Tally):
         status, errors = self.read(text)
         self.holds(name, status == 17 and errors.rstrip("\n").endswith(": " + words), (status, errors))
 
-    def compare(self, old, new, options=""):
+    def compare(self, old, new, options="", program=None):
         text = "database_in=file:%s\ndatabase_new=file:%s\n%s" % (
             self.write("old.db", old),
             self.write("new.db", new),
             options,
         )
-        return self.run("-E", "-c", self.write("conf", text))
+        return self.run("-E", "-c", self.write("conf", text), program=program)
 
 
 def database(columns, *entries):
@@ -315,7 +315,9 @@ PAIR = (
 def try_reports(trial, page):
     """The reports in the page are those that the program writes, level for level."""
     parts = dict(re.findall(r'^\.\\" try: (\w+)\n\.Bd -literal\n(.*?)\.Ed$', page, re.M | re.S))
-    trial.holds("levels of the page", list(parts) == LEVELS, list(parts))
+    trial.holds("levels of the page", list(parts) == [*LEVELS, "lines"], list(parts))
+    output = trial.compare(*PAIR, program=lines_program_of(trial.program))[1].splitlines(keepends=True)
+    trial.holds("lines of JSON", parts["lines"] == output[1] + output[-1], output)
     order = ["minimal", "summary", "list_entries", "details", "database_attributes"]
     shown = {}
     for level in LEVELS:
