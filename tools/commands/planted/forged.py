@@ -42,10 +42,10 @@ PLANTED = (
         (ENTRIES, "OTHERS_WRITE = 0o022", "OTHERS_WRITE = 0o002"),
         (ENTRIES, " if self.bits & OWNER == OWNER else None", ""),
         (PACKAGES, "return None if reason and self._starts_strangers(change, new) else reason", "return reason"),
-        (PROTECTED, '    (b"/**/.ssh/authorized_keys*", "', '    (b"/home/*/.ssh/authorized_keys*", "'),
-        (PROTECTED, '    (b"/**/.ssh/authorized_keys*/**", "', '    (b"/home/*/.ssh/authorized_keys*/**", "'),
-        (PROTECTED, '    (b"/etc/ssh/authorized_keys*/**", "', '    (b"/etc/ssh/authorized_keys*/x/**", "'),
-        (PROTECTED, '    (b"/etc/ld.so.preload", "', '    (b"/etc/ld.so.preload.d", "'),
+        (PROTECTED, '(b"/**/.ssh/authorized_keys*", ', '(b"/home/*/.ssh/authorized_keys*", '),
+        (PROTECTED, ' b"/**/.ssh/authorized_keys*/**")', ' b"/home/*/.ssh/authorized_keys*/**")'),
+        (PROTECTED, ' b"/etc/ssh/authorized_keys*/**")', ' b"/etc/ssh/authorized_keys*/x/**")'),
+        (PROTECTED, '(b"/etc/ld.so.preload",)', '(b"/etc/ld.so.preload.d",)'),
     )
     + seen_by(
         "forged.try_archive",

@@ -2,7 +2,7 @@
 from .plant import seen_by
 
 LIB = "commands/lib/aide_compare/reasons/"
-DATABASES, ENTRIES, PACKAGES, MADE, PARENTS, PROTECTED, RULES, SEVERITY, DPKG, DEB, INDEXES, ARCHIVE = (
+DATABASES, ENTRIES, PACKAGES, MADE, PARENTS, PROTECTED, TABLES, DPKG, DEB, INDEXES, ARCHIVE = (
     LIB + name + ".py"
     for name in (
         "by_databases",
@@ -11,8 +11,7 @@ DATABASES, ENTRIES, PACKAGES, MADE, PARENTS, PROTECTED, RULES, SEVERITY, DPKG, D
         "made",
         "parents",
         "protected",
-        "rules",
-        "severity",
+        "tables",
         "dpkg",
         "deb",
         "indexes",
@@ -86,7 +85,7 @@ PLANTED = (
         (PACKAGES, "(old is None and not new.is_closed())", "False"),
         (DATABASES, "change.reason is None and change.is_replaced", "change.is_replaced"),
         (ENTRIES, "self.user_and_group() == (0, 0) and self.is_plain()", "self.is_plain()"),
-        (PROTECTED, "is_open(new) and not is_open(old)", "is_open(new)"),
+        (PROTECTED, "all_can_write(new) and not all_can_write(old)", "all_can_write(new)"),
         (ENTRIES, "not self.is_link() and (has_more or has_list)", "not self.is_link() and has_more"),
         (ENTRIES, "not self.is_link() and (has_more or has_list)", "not self.is_link() and has_list"),
         (PACKAGES, '        count = new.number("lcount") or 0\n', "        count = 0\n"),
@@ -182,10 +181,10 @@ PLANTED = (
     )
     + seen_by(
         "reasons_places.try_rules",
-        (RULES, "return None if takes_no_pattern(change.path) else rule.reason", "return rule.reason"),
-        (RULES, "        if old is None and _is_program_or_device(new.mode):\n            return None\n", ""),
-        (RULES, "        return differ <= rule.columns or (", "        return True or ("),
-        (RULES, "text = shown(parts[2], MOST_TEXT)", 'text = parts[2].decode("utf-8", "replace")'),
+        (TABLES, "return None if takes_no_pattern(change.path) else rule.reason", "return rule.reason"),
+        (TABLES, "        if old is None and _is_program_or_device(new.mode):\n            return None\n", ""),
+        (TABLES, "        return differ <= rule.columns or (", "        return True or ("),
+        (TABLES, "text = shown(parts[2], MOST_TEXT)", 'text = parts[2].decode("utf-8", "replace")'),
     )
     + seen_by("reasons_places.try_never", (PROTECTED, " or next(_NEVER.rows(path), None) is not None", ""))
     + seen_by(
@@ -198,25 +197,25 @@ PLANTED = (
     )
     + seen_by(
         "reasons_places.try_severity",
-        (SEVERITY, "return 0 if stat.S_ISDIR(mode) else mode & SET_ID", "return mode & SET_ID"),
-        (SEVERITY, " and not stat.S_ISLNK(mode) and not (stat.S_ISDIR(mode) and mode & stat.S_ISVTX)", ""),
-        (SEVERITY, "lambda row: all(test(old, new) for test in row.tests)", "lambda row: True"),
+        (PROTECTED, "return 0 if stat.S_ISDIR(mode) else mode & SET_ID", "return mode & SET_ID"),
+        (PROTECTED, " and not stat.S_ISLNK(mode) and not (stat.S_ISDIR(mode) and mode & stat.S_ISVTX)", ""),
+        (TABLES, "lambda row: all(test(old, new) for test in row.tests)", "lambda row: True"),
         (SEVERITIES, "high    any     /etc/sudoers.d/**\n", ""),
         (SEVERITIES, "high    executable      /usr/bin/*\n", ""),
     )
     + seen_by(
         "reasons_severity.try_tests",
         (
-            SEVERITY,
+            PROTECTED,
             "bool(set_id(new) & ~set_id(old)) if stat.S_IFMT(old) == stat.S_IFMT(new) else bool(set_id(new))",
             "bool(set_id(new) & ~set_id(old))",
         ),
-        (SEVERITY, "for mode in (old, new))", "for mode in (new,))"),
-        (SEVERITY, "stat.S_ISLNK(new or old)", "stat.S_ISLNK(old or new)"),
+        (TABLES, "for mode in (old, new))", "for mode in (new,))"),
+        (TABLES, "stat.S_ISLNK(new or old)", "stat.S_ISLNK(old or new)"),
     )
     + seen_by(
         "reasons_severity.try_tables",
-        (SEVERITY, "len(parts) != 3 or", "len(parts) > 3 or"),
+        (TABLES, "len(parts) != 3 or", "len(parts) > 3 or"),
     )
     + seen_by(
         "reasons_contents.try_contents",

@@ -1,6 +1,6 @@
 """Bugs of aide-compare reasons: single conditions, columns and words of what dpkg's records and rules explain."""
 from .plant import seen_by
-from .reasons import DATABASES, ENTRIES, PACKAGES, RULES
+from .reasons import DATABASES, ENTRIES, PACKAGES, TABLES
 
 PLANTED = (
     seen_by(
@@ -60,17 +60,17 @@ PLANTED = (
     + seen_by("reasons_entries.try_early", (ENTRIES, "None if seconds is None else sign * seconds", "seconds"))
     + seen_by(
         "reasons_rules.try_words",
-        (RULES, '"times": {"mtime", "ctime", "atime"}', '"times": {"mtime", "ctime"}'),
-        (RULES, 'DIGESTS | {"size", "bcount", "mtime", "ctime", "atime"}', 'DIGESTS | {"size", "mtime", "ctime", "atime"}'),
+        (TABLES, '"times": {"mtime", "ctime", "atime"}', '"times": {"mtime", "ctime"}'),
+        (TABLES, 'DIGESTS | {"size", "bcount", "mtime", "ctime", "atime"}', 'DIGESTS | {"size", "mtime", "ctime", "atime"}'),
         (
-            RULES,
+            TABLES,
             'DIGESTS | {"size", "bcount", "mtime", "ctime", "atime"}',
             'DIGESTS | {"size", "bcount", "mtime", "ctime", "atime", "inode"}',
         ),
-        (RULES, '    "caps": {"cap', '    "perm": {"perm", "uid"},\n    "caps": {"cap'),
-        (RULES, '    "caps": {"cap', '    "uid": {"uid", "gid"},\n    "caps": {"cap'),
-        (RULES, '"caps": {"capabilities"}', '"caps": {"caps"}'),
-        (RULES, '"digests": DIGESTS', '"digests": DIGESTS | {"size"}'),
+        (TABLES, '    "caps": {"cap', '    "perm": {"perm", "uid"},\n    "caps": {"cap'),
+        (TABLES, '    "caps": {"cap', '    "uid": {"uid", "gid"},\n    "caps": {"cap'),
+        (TABLES, '"caps": {"capabilities"}', '"caps": {"caps"}'),
+        (TABLES, '"digests": DIGESTS', '"digests": DIGESTS | {"size"}'),
     )
     + seen_by(
         "reasons_rules.try_kinds",
@@ -79,16 +79,16 @@ PLANTED = (
     + seen_by(
         "reasons_rules.try_order",
         (
-            RULES,
+            TABLES,
             "        for rule in self.table.rows(change.path):\n",
             "        for rule in list(self.table.rows(change.path))[:1]:\n",
         ),
         (
-            RULES,
+            TABLES,
             "        for rule in self.table.rows(change.path):\n",
             "        for rule in list(self.table.rows(change.path))[::-1]:\n",
         ),
-        (RULES, '("removed" if old else "added") in', '("added" if new else "added") in'),
+        (TABLES, '("removed" if old else "added") in', '("added" if new else "added") in'),
     )
     + seen_by("reasons_rpm.try_links", (PACKAGES, "if reason and new.is_file() and count", "if reason and count"))
     + seen_by(

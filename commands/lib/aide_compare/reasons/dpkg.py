@@ -12,7 +12,7 @@ from aide_compare.reasons.content import Vouched
 from aide_compare.reasons.entries import usr_of
 
 FOLDER = b"/var/lib/dpkg/"
-PREFIXES = frozenset(prefix for _, prefix in made.ROWS)
+PREFIXES = frozenset(made.ROWS)
 FIELD = re.compile(rb"^(Package|Status|Architecture|Multi-Arch|Version|Conffiles):[ \t]*(.*(?:\n[ \t].*)*)", re.M)
 CONFFILE = re.compile(rb" ?(/.*?) ([0-9a-f]{32})(?: (?:obsolete|remove-on-upgrade))*")
 DIGEST = re.compile(rb"([0-9a-f]{32})  ?(.+)")

@@ -5,8 +5,7 @@ from aide_compare.reasons.packages import DpkgPackages
 from aide_compare.reasons.records import KeptRecords, records_now
 from aide_compare.reasons.rpm import RPM_NAME
 from aide_compare.reasons.rpm_packages import RpmPackages
-from aide_compare.reasons.rules import Rules
-from aide_compare.reasons.severity import Severity
+from aide_compare.reasons.tables import Rules, Severity
 
 
 class Evidence:

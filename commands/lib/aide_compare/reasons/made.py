@@ -1,71 +1,65 @@
 """What the scripts of packages make: no package has these files, so nothing verifies them."""
 import re
+from collections import namedtuple
 
 from aide_compare.base.escapes import shown
-from aide_compare.reasons.compiled import source_of
-from aide_compare.reasons.entries import CONTENT
-from aide_compare.reasons.protected import takes_no_pattern
+from aide_compare.base.patterns import Pattern
+from aide_compare.base.table import Table
 from aide_compare.reasons.changes import Reason
-from aide_compare.base.table import Table, pattern_of
+from aide_compare.reasons.compiled import source_of
+from aide_compare.reasons.entries import CONTENT, OTHERS_WRITE
+from aide_compare.reasons.protected import takes_no_pattern
 
 ANY = b"/"
-# What is made, and which path a package has that has it made. A row counts only if a package with such a path changed.
-ROWS = (
-    (b"/etc/ld.so.cache", b"/usr/lib/"),
-    (b"/var/cache/ldconfig/**", b"/usr/lib/"),
-    (b"/usr/share/mime", b"/usr/share/mime/packages"),
-    (b"/usr/share/mime/**", b"/usr/share/mime/packages"),
-    (b"/usr/share/applications/mimeinfo.cache", b"/usr/share/applications"),
-    (b"/usr/share/icons/*/icon-theme.cache", b"/usr/share/icons"),
-    (b"/usr/share/glib-2.0/schemas/gschemas.compiled", b"/usr/share/glib-2.0/schemas"),
-    (b"/usr/share/info/dir*", b"/usr/share/info"),
-    (b"/var/cache/man/**", b"/usr/share/man"),
-    (b"/var/cache/fontconfig/**", b"/usr/share/fonts"),
-    (b"/var/cache/fontconfig/**", b"/etc/fonts"),
-    (b"/usr/lib/locale/locale-archive", b"/usr/share/i18n"),
-    (b"/etc/alternatives/*", ANY),
-    (b"/etc/rc?.d/*", b"/etc/init.d/"),
-    (b"/etc/ssl/certs/*", b"/usr/share/ca-certificates"),
-    (b"/etc/ssl/certs/ca-certificates.crt", b"/usr/share/ca-certificates"),
-    (b"/etc/ca-certificates.conf*", b"/usr/share/ca-certificates"),
-    (b"/usr/*/share/ca-certificates", b"/usr/share/ca-certificates"),
-    (b"/etc/shells", b"/usr/share/debianutils/shells.d"),
-    (b"/var/lib/shells.state", b"/usr/share/debianutils/shells.d"),
-    (b"/etc/timezone", b"/usr/share/zoneinfo"),
-    (b"/etc/localtime", b"/usr/share/zoneinfo"),
-    (b"/etc/python3/debian_config", b"/usr/share/python3"),
-    (b"/etc/apparmor.d/local/*", b"/etc/apparmor.d"),
-    (b"/boot/initrd.img-*", b"/boot/"),
-    (b"/boot/initrd.img-*", b"/usr/share/initramfs-tools"),
-    (b"/initrd.img*", b"/boot/"),
-    (b"/vmlinuz*", b"/boot/"),
-    (b"/boot/grub/grub.cfg", b"/boot/"),
-    (b"/usr/lib/modules/*/modules.*", b"/usr/lib/modules"),
-    (b"/var/lib/dpkg/*", ANY),
-    (b"/var/lib/dpkg/alternatives/*", ANY),
-    (b"/var/lib/dpkg/triggers/*", ANY),
-    (b"/var/lib/apt/**", ANY),
-    (b"/var/cache/apt/**", ANY),
-    (b"/var/cache/debconf/*", ANY),
-    (b"/var/lib/ucf/**", ANY),
-    (b"/var/log/apt/*", ANY),
-    (b"/var/log/dpkg.log", ANY),
-    (b"/var/lib/systemd/deb-systemd-helper-enabled/**", ANY),
-    (b"/var/lib/systemd/deb-systemd-user-helper-enabled/**", ANY),
-)
+Row = namedtuple("Row", "pattern")
+# What is made, by the beginning of a path that has it made. Such a row counts only if a package with such a path changed.
+ROWS = {
+    b"/usr/lib/": (b"/etc/ld.so.cache", b"/var/cache/ldconfig/**"),
+    b"/usr/share/mime/packages": (b"/usr/share/mime", b"/usr/share/mime/**"),
+    b"/usr/share/applications": (b"/usr/share/applications/mimeinfo.cache",),
+    b"/usr/share/icons": (b"/usr/share/icons/*/icon-theme.cache",),
+    b"/usr/share/glib-2.0/schemas": (b"/usr/share/glib-2.0/schemas/gschemas.compiled",),
+    b"/usr/share/info": (b"/usr/share/info/dir*",),
+    b"/usr/share/man": (b"/var/cache/man/**",),
+    b"/usr/share/fonts": (b"/var/cache/fontconfig/**",),
+    b"/etc/fonts": (b"/var/cache/fontconfig/**",),
+    b"/usr/share/i18n": (b"/usr/lib/locale/locale-archive",),
+    b"/etc/init.d/": (b"/etc/rc?.d/*",),
+    b"/usr/share/ca-certificates": (
+        b"/etc/ssl/certs/*",
+        b"/etc/ssl/certs/ca-certificates.crt",
+        b"/etc/ca-certificates.conf*",
+        b"/usr/*/share/ca-certificates",
+    ),
+    b"/usr/share/debianutils/shells.d": (b"/etc/shells", b"/var/lib/shells.state"),
+    b"/usr/share/zoneinfo": (b"/etc/timezone", b"/etc/localtime"),
+    b"/usr/share/python3": (b"/etc/python3/debian_config",),
+    b"/etc/apparmor.d": (b"/etc/apparmor.d/local/*",),
+    b"/usr/share/initramfs-tools": (b"/boot/initrd.img-*",),
+    b"/boot/": (b"/boot/initrd.img-*", b"/initrd.img*", b"/vmlinuz*", b"/boot/grub/grub.cfg"),
+    b"/usr/lib/modules": (b"/usr/lib/modules/*/modules.*",),
+    ANY: (
+        b"/etc/alternatives/*",
+        b"/var/lib/dpkg/*",
+        b"/var/lib/dpkg/alternatives/*",
+        b"/var/lib/dpkg/triggers/*",
+        b"/var/lib/apt/**",
+        b"/var/cache/apt/**",
+        b"/var/cache/debconf/*",
+        b"/var/lib/ucf/**",
+        b"/var/log/apt/*",
+        b"/var/log/dpkg.log",
+        b"/var/lib/systemd/deb-systemd-helper-enabled/**",
+        b"/var/lib/systemd/deb-systemd-user-helper-enabled/**",
+    ),
+}
 # What these rows mean is a link. A file there would be an authority, a program or a script of somebody's own.
 ONLY_LINKS = frozenset((b"/etc/alternatives/*", b"/etc/rc?.d/*", b"/etc/ssl/certs/*"))
 ALTERNATIVES = b"/etc/alternatives/"
 # Below these folders scripts and programs of a package make folders for what they keep, which may belong to its user.
 KEPT = (b"/var/cache/", b"/var/lib/", b"/var/log/", b"/var/spool/")
-OTHERS_WRITE = 0o022
 INFO = re.compile(rb"/var/lib/dpkg/info/([A-Za-z0-9][A-Za-z0-9+.-]*)(?::([a-z0-9-]+))?\.[a-z0-9]+")
 STARTED = re.compile(rb"/etc/(?:systemd/(?:system|user)/(?:[^/]+\.(?:wants|requires)/)?[^/]+|rc[0-6S]\.d/[KS][0-9]{2}[^/]+)")
-
-
-class _Row:
-    def __init__(self, pattern, prefix):
-        self.pattern, self.prefix = pattern_of(pattern, "a row"), prefix
 
 
 def made_by(why):
@@ -77,7 +71,8 @@ class Made:
 
     def __init__(self, known):
         self.known, self.names = known, {part.name for pair in known.changed for part in pair if part}
-        self.table = Table([_Row(pattern, prefix) for pattern, prefix in ROWS if prefix == ANY or prefix in known.prefixes])
+        made = [texts for prefix, texts in ROWS.items() if prefix == ANY or prefix in known.prefixes]
+        self.table = Table([Row(Pattern(text)) for texts in made for text in texts])
         self.alternatives = set()  # The links in /etc/alternatives that are explained; they come before those that use them.
 
     def explain(self, change, old, new, differ):
@@ -118,7 +113,7 @@ class Made:
 
     def _started(self, path, target):
         """A link that has a unit started, or a script of init.d, whose order changes with that of others."""
-        is_script = path.startswith(b"/etc/rc") and self._is_listed(target)
+        is_script = path.startswith(b"/etc/rc") and target in self.known.listed
         return made_by("starts %s" % shown(target, 200)) if self.known.is_owned(target) or is_script else None
 
     @staticmethod
@@ -127,9 +122,6 @@ class Made:
         if old:
             return differ <= CONTENT | {"lname"}
         return new.is_plain() and (may_run or not (new.is_file() and new.mode & 0o111))
-
-    def _is_listed(self, path):
-        return path in self.known.listed
 
     def _target(self, path, entry):
         return self.known.usr(target_of(path, entry.link())) if entry.link() else None
@@ -143,7 +135,7 @@ class Made:
             return made_by("points to a file of a changed package")
         if target in self.alternatives and path.startswith(b"/usr/") and not path.startswith(b"/usr/local/"):
             return made_by("an alternative")
-        return made_by("") if row and (self._is_listed(target) or next(self.table.rows(target), None)) else None
+        return made_by("") if row and (target in self.known.listed or next(self.table.rows(target), None)) else None
 
 
 def target_of(path, link):

@@ -16,7 +16,7 @@ from aide_compare.lines.report_written import Values
 from aide_compare.reasons.evidence import Evidence, evidence_of
 from aide_compare.reasons.explainer import Explainer, members_of
 from aide_compare.reasons.kept_records import SUFFIX, misfit
-from aide_compare.reasons.severity import Severity
+from aide_compare.reasons.tables import Severity
 from aide_compare.show.brief import brief, unjudged
 
 BLOCK = 1 << 18

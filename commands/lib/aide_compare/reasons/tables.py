@@ -1,0 +1,123 @@
+"""The two tables of an administrator: reasons for what may differ at some paths, and how much a change matters."""
+import os
+import stat
+from collections import namedtuple
+
+from aide_compare.base.ending import Fault, Status
+from aide_compare.base.escapes import shown
+from aide_compare.base.names import SEVERITIES
+from aide_compare.base.table import Table, pattern_of
+from aide_compare.base.trusted import lines_of
+from aide_compare.reasons.by_databases import has_grown
+from aide_compare.reasons.changes import Reason
+from aide_compare.reasons.entries import DIGESTS
+from aide_compare.reasons.protected import RUN_BITS, all_can_write, gains_set_id, gains_writers, set_id, takes_no_pattern
+
+MOST_TEXT = 200
+# The columns that each word of a rule stands for, beside `added` and `removed`.
+COLUMNS = {
+    **{name: {name} for name in "size bcount mtime ctime atime inode lname perm uid gid acl xattrs selinux e2fsattrs".split()},
+    "linkcount": {"lcount"},
+    "caps": {"capabilities"},
+    "digests": DIGESTS,
+    "times": {"mtime", "ctime", "atime"},
+    "content": DIGESTS | {"size", "bcount", "mtime", "ctime", "atime"},
+}
+KINDS, GROWS = ("added", "removed"), "grows"
+# What each word of a row of severities tests: the mode of before, and that of now, which is 0 without an entry.
+TESTS = {
+    "any": lambda old, new: True,
+    "added": lambda old, new: not old,
+    "removed": lambda old, new: not new,
+    "changed": lambda old, new: bool(old and new),
+    "set-id": lambda old, new: bool(set_id(old) | set_id(new)),
+    "new-set-id": gains_set_id,
+    "world-writable": lambda old, new: all_can_write(new),
+    "new-world-writable": gains_writers,
+    "executable": lambda old, new: any(stat.S_ISREG(mode) and mode & RUN_BITS for mode in (old, new)),
+    "file": lambda old, new: stat.S_ISREG(new or old),
+    "directory": lambda old, new: stat.S_ISDIR(new or old),
+    "link": lambda old, new: stat.S_ISLNK(new or old),
+    "type": lambda old, new: bool(old and new) and stat.S_IFMT(old) != stat.S_IFMT(new),
+    "mode": lambda old, new: bool(old and new) and old != new,
+}
+HERE = os.path.dirname(os.path.abspath(__file__))
+# In the repository, and where packaging/install puts it.
+SHIPPED = ("../../../share/severity.conf", "../../../../../share/aide-compare/severity.conf")
+OTHERWISE = "medium"
+
+Rule = namedtuple("Rule", "words columns pattern reason")
+Row = namedtuple("Row", "level tests pattern")
+
+
+def _words(part, known, what):
+    """The words of a part of a line, separated by commas, each of which has to be known."""
+    words = part.decode("ascii", "replace").split(",")
+    unknown = [word for word in words if word not in known]
+    if unknown:
+        raise Fault(Status.USAGE, "%s: %s" % (what, shown(unknown[0], 100)))
+    return words
+
+
+def _rule(line, place):
+    """A rule from its line: what may differ, a pattern, and the text."""
+    parts = line.split(None, 2)
+    if len(parts) != 3:
+        raise Fault(Status.USAGE, "%s: a line is what may differ, then a pattern, then a text" % place)
+    words = _words(parts[0], (*COLUMNS, *KINDS, GROWS), "%s: unknown word" % place)
+    columns = frozenset().union(*(COLUMNS[word] for word in words if word in COLUMNS))
+    text = shown(parts[2], MOST_TEXT)
+    return Rule(frozenset(words), columns, pattern_of(parts[1], place), Reason("rule", text, False, "rules"))
+
+
+def _row(line, place):
+    parts = line.split(None, 2)
+    if len(parts) != 3 or parts[0].decode("ascii", "replace") not in SEVERITIES:
+        raise Fault(Status.USAGE, "%s: a line is high, medium or low, then tests, then a pattern" % place)
+    tests = _words(parts[1], TESTS, "%s: unknown test" % place)
+    return Row(parts[0].decode(), [TESTS[test] for test in tests], pattern_of(parts[2], place))
+
+
+def _is_program_or_device(mode):
+    return stat.S_ISCHR(mode) or stat.S_ISBLK(mode) or (stat.S_ISREG(mode) and bool(mode & RUN_BITS))
+
+
+class Rules:
+    """The rules of a file. They verify nothing, so what they explain counts as not verified."""
+
+    def __init__(self, path=None):
+        self.table = Table([_rule(line, place) for line, place in lines_of(path, "the rules")] if path else [])
+
+    def explain(self, change, old, new, differ):
+        """The reason of the first rule that allows all that differs. A new program or device needs more than a rule."""
+        if old is None and _is_program_or_device(new.mode):
+            return None
+        for rule in self.table.rows(change.path):
+            if self._allows(rule, old, new, differ):
+                return None if takes_no_pattern(change.path) else rule.reason
+        return None
+
+    @staticmethod
+    def _allows(rule, old, new, differ):
+        if not (old and new):
+            return ("removed" if old else "added") in rule.words
+        return differ <= rule.columns or (GROWS in rule.words and old.is_file() and has_grown(old, new, differ))
+
+
+def _shipped():
+    found = [path for path in (os.path.normpath(os.path.join(HERE, part)) for part in SHIPPED) if os.path.isfile(path)]
+    if not found:
+        raise Fault(Status.DEVICE, "severity.conf is missing beside this command; name one by --severity")
+    return found[0]
+
+
+class Severity:
+    """The table of severities: the first line whose pattern and tests fit decides."""
+
+    def __init__(self, path=None):
+        self.table = Table([_row(line, place) for line, place in lines_of(path or _shipped(), "the table of severities")])
+
+    def of(self, path, old, new):
+        """The severity of a change of the entry with this path from one mode to another; 0 if there is no such entry."""
+        row = next(self.table.rows(path, lambda row: all(test(old, new) for test in row.tests)), None)
+        return row.level if row else OTHERWISE
