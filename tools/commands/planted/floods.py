@@ -45,7 +45,7 @@ PLANTED = (
         "floods.try_flooded_mail",
         (LISTING, "ROOMS = (200, 100, 100)", "ROOMS = (200, 100, 10000)"),
         (LISTING, '(("owner", change.owner), OWNER_SHARE)', '(("owner", change.owner), 10**6)'),
-        (LISTING, "sorted(self.counts.items(), key=lambda pair: (-pair[1], pair[0]))", "[]"),
+        (LISTING, "most_frequent(self.counts, MOST_FOLDERS)", "[], []"),
     )
     + seen_by(
         "floods.try_cut_lists",

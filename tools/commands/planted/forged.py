@@ -3,7 +3,7 @@ from .plant import seen_by
 from .reasons import ARCHIVE, CONTENT, DEB, DPKG, ENTRIES, LIB, PACKAGES, PROTECTED
 
 EVIDENCE, KEPT = (LIB + name + ".py" for name in ("evidence", "kept_records"))
-EXPLAINING = "commands/lib/aide_compare/show/explained.py"
+BRIEF = "commands/lib/aide_compare/show/brief.py"
 
 PLANTED = (
     seen_by(
@@ -93,7 +93,7 @@ PLANTED = (
     )
     + seen_by(
         "forged.try_new_packages",
-        (EXPLAINING, "came = sorted(came, key=lambda pair: pair[1] is not False)", "came = list(reversed(came))"),
+        (BRIEF, "came = sorted(came, key=lambda pair: pair[1] is not False)", "came = list(reversed(came))"),
         (PACKAGES, "if package and package.key in self.known.fresh]", "if package]"),
         (ARCHIVE, "        self.listed.update(found)\n", "        self.listed.update(keys)\n"),
     )

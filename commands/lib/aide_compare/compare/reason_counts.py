@@ -15,6 +15,12 @@ def counted(number, word):
     return "%d %s" % (number, word if number == 1 else plural)
 
 
+def most_frequent(counts, most):
+    """The greatest of some counts, so many of them, and the others: each as it is counted, with its count."""
+    pairs = sorted(counts.items(), key=lambda pair: (-pair[1], pair[0]))
+    return pairs[:most], pairs[most:]
+
+
 class ReasonCounts(namedtuple("ReasonCounts", KEYS + GRADE_KEYS, defaults=(0,) * len(GRADES))):
     """The first three add up to all changes. The next three count, by severity, those that are not explained: the ones
     that are unexplained, and the ones whose reason is not verified. The last ones count those that are explained by their

@@ -2,7 +2,7 @@
 from collections import Counter
 
 from aide_compare.base.escapes import guarded, shown
-from aide_compare.compare.reason_counts import counted
+from aide_compare.compare.reason_counts import counted, most_frequent
 from aide_compare.hosts.host_changes import is_explained, path_in
 from aide_compare.hosts.hosts_read import CUT, NO_LIST, UNREADABLE
 from aide_compare.lines.attributes import STRENGTH
@@ -156,8 +156,8 @@ def all_change_lines(changes, hosts, share):
         lines = list(change_lines(fields, hosts))
         if share.takes(fields, size_of(lines)):
             yield from lines
-    listed = sorted(explained.items(), key=lambda pair: (-pair[1], pair[0]))
-    lines = ["%s: %s" % (shown(text, MOST_VALUE), counted(count, "different change")) for text, count in listed]
+    counts, _ = most_frequent(explained, len(explained))
+    lines = ["%s: %s" % (shown(text, MOST_VALUE), counted(count, "different change")) for text, count in counts]
     yield from some("Explained", lines, len(lines))
 
 

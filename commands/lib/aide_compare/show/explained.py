@@ -20,7 +20,6 @@ from aide_compare.reasons.tables import Severity
 from aide_compare.show.brief import brief, unjudged
 
 BLOCK = 1 << 18
-MOST_CAME = 20
 MOST_WEIGHED = 200000  # Each takes half a kilobyte of memory. Of more the report is printed, which takes none.
 ENCODE = json.JSONEncoder(separators=(",", ":")).encode
 
@@ -144,17 +143,6 @@ class Entries:
             yield ENCODE(fields).encode() + b"\n"
 
 
-def evidence_lines(counts, came):
-    """By which grades changes are explained, and which packages came new, those first that no signed index has."""
-    lines = ["Explained by: " + counts.grades()] if counts.grades() else []
-    came = sorted(came, key=lambda pair: pair[1] is not False)
-    names = [name + (" (in none of the signed lists)" if is_listed is False else "") for name, is_listed in came]
-    if names:
-        more = ["and %d more" % (len(names) - MOST_CAME)] if len(names) > MOST_CAME else []
-        lines.append("New packages: " + ", ".join(names[:MOST_CAME] + more))
-    return lines
-
-
 class Explained:
     """The entries of a comparison; with `sources` the changes as the explainer has them, and their counts; and if it `weighs`
     the changes with their severity only."""
@@ -185,11 +173,9 @@ class Explained:
         """The bytes of what people read first; nothing if the changes were not looked at."""
         if self.changes is None:
             return b""
-        if self.counts is None:
-            return unjudged(self.changes, self.explainer.counts, self.explainer.read).encode("utf-8", "backslashreplace")
-        first, _, rest = brief(self.changes, self.counts, self.explainer.read).partition("\n")
-        lines = [first] + evidence_lines(self.counts, self.explainer.evidence.came())
-        return ("\n".join(lines) + "\n" + rest).encode("utf-8", "backslashreplace")
+        given = (self.changes, self.explainer.counts, self.explainer.read)
+        text = unjudged(*given) if self.counts is None else brief(*given, self.explainer.evidence.came())
+        return text.encode("utf-8", "backslashreplace")
 
 
 def explain(comparison, sources, with_details, weighs=False):

@@ -10,7 +10,7 @@ import stat
 from collections import Counter
 
 from aide_compare.base.escapes import shown
-from aide_compare.compare.reason_counts import counted
+from aide_compare.compare.reason_counts import counted, most_frequent
 from aide_compare.reasons.entries import differences
 from aide_compare.reasons.entry_words import words_of
 from aide_compare.reasons.parents import has_other_names
@@ -69,44 +69,27 @@ class Rest:
 
     def lines(self):
         """The largest folders, and one line for all others."""
-        most = sorted(self.counts.items(), key=lambda pair: (-pair[1], pair[0]))
-        for (folder, kind), count in most[:MOST_FOLDERS]:
-            yield "%-7s  %s: %s" % (kind, shown(folder, MOST_PATHS[1]), more(count, (folder, kind) in self.others))
-        rest = most[MOST_FOLDERS:]
+        first, rest = most_frequent(self.counts, MOST_FOLDERS)
+        for (folder, kind), count in first:
+            words = counted(count, "more entry" if (folder, kind) in self.others else "more file")
+            yield "%-7s  %s: %s" % (kind, shown(folder, MOST_PATHS[1]), words)
         if rest:
-            yield "and %d more in %d more directories" % (
-                sum(count for _, count in rest),
-                len({folder for (folder, _), _ in rest}),
-            )
+            folders = {folder for (folder, _), _ in rest}
+            yield "and %d more in %d more directories" % (sum(count for _, count in rest), len(folders))
 
 
-def more(count, are_mixed):
-    """As in "230 more files"."""
-    kinds = ("entry", "entries") if are_mixed else ("file", "files")
-    return "%d more %s" % (count, kinds[count != 1])
-
-
-class Listing:
-    """The changes of each severity, and the lines for them."""
-
-    def __init__(self, severities):
-        self.changes = {name: [] for name in severities}
-
-    def add(self, change):
-        if change.severity in self.changes:
-            self.changes[change.severity].append(change)
-
-    def lines(self, read):
-        """The lines, by severity and by the groups of owners."""
-        folders = Folders(read)
-        for severity, changes in self.changes.items():
-            shares = Shares(severity)
-            for group in range(len(ROOMS)):
-                found = [change for change in changes if group_of_owner(change.owner) == group]
-                for line in group_lines(in_order(found, folders), shares, folders):
-                    yield "  %-6s  %s" % (severity, line)
-        if folders.count:
-            yield "  %s of what is listed changed too" % counted(folders.count, "directory")
+def listed(changes, severities, read):
+    """The lines for the changes of some severities, by severity and by the groups of owners."""
+    folders, found = Folders(read), {}
+    for change in changes:
+        found.setdefault((change.severity, group_of_owner(change.owner)), []).append(change)
+    for severity in severities:
+        shares = Shares(severity)
+        for group in range(len(ROOMS)):
+            for line in group_lines(in_order(found.get((severity, group), ()), folders), shares, folders):
+                yield "  %-6s  %s" % (severity, line)
+    if folders.count:
+        yield "  %s of what is listed changed too" % counted(folders.count, "directory")
 
 
 class Folders:
