@@ -12,11 +12,11 @@ from tools.commands.viewers.pages import page_faults
 from tools.commands.viewers.refused import rich_report
 
 from aide_compare.base.escapes import shown as escaped
-from aide_compare.base.names import KINDS, SEVERITIES
+from aide_compare.base.names import SEVERITIES
 from aide_compare.lines.json_lines import GRADES
 from aide_compare.lines.report_lines import Refused
 from aide_compare.show.page import page
-from aide_compare.show.page_view import CHOICES, STANDINGS, Seen, View
+from aide_compare.show.page_view import CHOICES, Seen, View
 
 CASES = os.path.join(os.path.dirname(os.path.abspath(__file__)), "views.json")
 REPORTS = 60
@@ -29,30 +29,23 @@ def cases():
         return json.load(file)
 
 
-def seen_of(fields, attributes):
+def seen_of(fields):
     """An entry of the table of cases as filters see it."""
-    severity = SEVERITIES.index(fields["severity"]) if "severity" in fields else 3
-    return Seen(
-        KINDS.index(fields["kind"]),
-        STANDINGS.index(fields.get("standing", "unexplained")),
-        severity,
-        [attributes.index(name) for name in fields["attributes"]],
-        fields.get("reason", ""),
-        fields["path"],
-    )
+    words = {name: [fields[name]] if name in fields else [] for name in ("kind", "severity", "reason")}
+    standing = fields.get("standing", "unexplained")
+    return Seen({**words, "standing": [standing], "attribute": fields["attributes"]}, fields["path"])
 
 
 def try_views(tally):
-    """Each case of the table: what a view finds, and how it is written. Its orders are those of the script."""
+    """Each case of the table: what a view finds. How it is written and in which order it finds only the script knows."""
     table = cases()
     known, CHOICES["attribute"] = CHOICES["attribute"], table["attributes"]
     try:
-        entries = [seen_of(fields, table["attributes"]) for fields in table["entries"]]
+        entries = [seen_of(fields) for fields in table["entries"]]
         for case in table["cases"]:
             view = View(case["view"])
-            found, text = sorted(seen.path for seen in entries if view.fits(seen)), case.get("text", case["view"])
+            found = sorted(seen.path for seen in entries if view.fits(seen))
             tally.add("view %s" % case["view"], [] if found == sorted(case["found"]) else ["it finds %r" % found])
-            tally.add("text of %s" % case["view"], [] if view.text() == text else ["it is %r" % view.text()])
     finally:
         CHOICES["attribute"] = known
 

@@ -3,6 +3,7 @@ import json
 import os
 
 from aide_compare.base.files import Spool
+from aide_compare.base.shown_text import shown_note
 from aide_compare.lines.json_lines import LABELS, Report
 from aide_compare.show.page_heading import head, paragraphs, part_of
 from aide_compare.show.page_items import entries, number
@@ -79,7 +80,7 @@ class PageEntries:
         """What the plain lists leave out."""
         (names, values), count, notes = self.lists.listed(), self.lists.count, []
         if self.view:
-            told = (entries(count), number(self.count), self.view.text())
+            told = (entries(count), number(self.count), shown_note(self.only))
             notes.append("These lists have the %s of %s that fit %s." % told)
         if names < count:
             notes.append("These lists have room for %s of %s; the others are only counted." % (entries(names), number(count)))

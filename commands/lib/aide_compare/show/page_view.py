@@ -3,7 +3,7 @@
 page_logic.js has the same filters for the script, and the orders. One table of cases is tried with both.
 """
 from collections import namedtuple
-from urllib.parse import parse_qsl, quote_plus
+from urllib.parse import parse_qsl
 
 from aide_compare.base.names import KINDS, SEVERITIES
 from aide_compare.lines.json_lines import DIGESTS, LABELS
@@ -23,14 +23,8 @@ ATTRIBUTES = [label for label in LABELS if label not in DIGESTS] + [DIGESTS_NAME
 CHOICES = {"kind": KINDS, "standing": STANDINGS, "severity": SEVERITIES, "attribute": ATTRIBUTES}
 TEXTS = ("reason", "path", "directory")
 
-# An entry as filters see it: places in KINDS, STANDINGS and SEVERITIES (3 if it has no severity); `attributes` are places in
-# ATTRIBUTES; `reason` is its key, "" without one.
-Seen = namedtuple("Seen", "kind standing severity attributes reason path")
-
-
-def quoted(text):
-    """A text as browsers write it in an address, but with commas, slashes and colons as they are."""
-    return quote_plus(text, safe="*,/:").replace("~", "%7E")
+# An entry as filters see it: its words for each of them, and its path as it is shown.
+Seen = namedtuple("Seen", "words path")
 
 
 def fault_of(text):
@@ -44,39 +38,22 @@ def fault_of(text):
 
 
 class View:
-    """Filters. One without choices takes every entry; several choices take what has one of them."""
+    """Filters. One without words takes every entry; several words take what has one of them."""
 
-    def __init__(self, text=""):
-        self.choices, self.order = {name: set() for name in CHOICES}, ""
-        self.reasons, self.path, self.directory = set(), "", ""
+    def __init__(self, text):
+        self.words, self.path, self.directory = {}, "", ""
         for name, value in parse_qsl(text):
             if name in CHOICES:
-                self.choices[name].update(CHOICES[name].index(word) for word in value.split(",") if word in CHOICES[name])
+                self.words.setdefault(name, set()).update(word for word in value.split(",") if word in CHOICES[name])
             elif name == "reason":
-                self.reasons.add(value)
-            elif name in TEXTS or name == "order" and value in ORDERS:
+                self.words.setdefault(name, set()).add(value)
+            elif name in TEXTS:
                 setattr(self, name, value)
-
-    def text(self):
-        """The view as an address has it."""
-        parts = [
-            (name, ",".join(CHOICES[name][place] for place in sorted(places)))
-            for name, places in self.choices.items()
-            if places
-        ]
-        parts += [("reason", reason) for reason in sorted(self.reasons)]
-        parts += [(name, getattr(self, name)) for name in ("path", "directory", "order") if getattr(self, name)]
-        return "&".join("%s=%s" % (name, quoted(value)) for name, value in parts)
 
     def fits(self, seen):
         """Whether an entry is one that is asked for."""
-        kinds, standings, severities, attributes = self.choices.values()
         return (
-            (not kinds or seen.kind in kinds)
-            and (not standings or seen.standing in standings)
-            and (not severities or seen.severity in severities)
-            and (not attributes or not attributes.isdisjoint(seen.attributes))
-            and (not self.reasons or seen.reason in self.reasons)
+            all(not words or not words.isdisjoint(seen.words[name]) for name, words in self.words.items())
             and self.path.lower() in seen.path.lower()
             and (not self.directory or seen.path == self.directory or seen.path.startswith(self.directory + "/"))
         )
@@ -97,9 +74,15 @@ def standing_of(reason):
 
 def key_of(reason):
     """The name of a reason in the address of a page."""
-    return "%s: %s" % (reason.grade, reason.text) if reason else ""
+    return "%s: %s" % (reason.grade, reason.text)
 
 
 def seen_of(entry):
-    severity = 3 if entry.severity is None else entry.severity
-    return Seen(entry.kind, standing_of(entry.reason), severity, attributes_of(entry), key_of(entry.reason), entry.name)
+    words = {
+        "kind": [KINDS[entry.kind]],
+        "standing": [STANDINGS[standing_of(entry.reason)]],
+        "severity": [] if entry.severity is None else [SEVERITIES[entry.severity]],
+        "attribute": [ATTRIBUTES[place] for place in attributes_of(entry)],
+        "reason": [key_of(entry.reason)] if entry.reason else [],
+    }
+    return Seen(words, entry.name)
