@@ -49,7 +49,7 @@ PLANTED = (
     )
     + seen_by(
         "accept.try_refusals",
-        (ACCEPTING, "return digest.startswith(self.digits)", "return True"),
+        (ACCEPTING, "if not offered.sha256.startswith(wish.digits):", "if False:"),
         (ACCEPT, "        if given.state:\n            raise\n", ""),
         (ACCEPT, "        return Status.DEVICE\n    return Status.OK", "    return Status.OK"),
     )
@@ -113,7 +113,7 @@ PLANTED = (
     + seen_by(
         "accept_attacks.try_baseline_at_calls",
         (ACCEPTING, REPLACE, THROUGH_A_LINK),
-        (RIGHTS, "        _become(uid, _group_of(uid), [])\n", ""),
+        (RIGHTS, "        _become(_entry_of(uid), [])\n", ""),
     )
     + seen_by("accept_attacks.try_baseline_in_a_loop", (ACCEPTING, REPLACE, THROUGH_A_LINK))
     + seen_by("accept_attacks.try_folder_at_calls", (ACCEPTING, REPLACE, FOLDER_BY_NAME))

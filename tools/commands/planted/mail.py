@@ -36,8 +36,8 @@ PLANTED = (
         (HINTS, '"cannot open the (old|new) database', '"cannot open the (old) database'),
         (
             "commands/lib/aide_compare/base/rights.py",
-            "    except KeyError:\n        return str",
-            "    except IndexError:\n        return str",
+            "    except KeyError:\n        return pwd",
+            "    except IndexError:\n        return pwd",
         ),
     )
     + seen_by(
@@ -69,8 +69,8 @@ PLANTED = (
             '    raise Fault(\n        Status.DEVICE,\n        "cannot send the mail: %s%s"\n        % (why, "; the system log has a line at priority alert" if is_logged else "; there is no system log either"),\n',
             '    return "cannot send the mail: %s%s" % (\n        why,\n        "; the system log has a line at priority alert" if is_logged else "; there is no system log either",\n',
         ),
-        (SENDING, "limit = time.monotonic() + self.seconds", "limit = time.monotonic() + 60"),
-        (SENDING, "        if status == 0:\n            return None\n", "        return None\n"),
+        (SENDING, "limit, given = time.monotonic() + self.seconds,", "limit, given = time.monotonic() + 60,"),
+        (SENDING, " if status else None\n", " if False else None\n"),
     )
     + seen_by(
         "mail.try_journal",

@@ -1,7 +1,7 @@
 """Bugs of aide-compare: the configuration, the program that it runs, the answer, and what it says."""
 from .plant import seen_by
 
-CONFIGURATION, HINTS, PROGRAM, COMPARISON, RUN, FILES, FOLDERS, UNPACK, TIMES, OPTIONS = (
+CONFIGURATION, HINTS, PROGRAM, COMPARISON, RUN, FILES, FOLDERS, UNPACK, TIMES, OPTIONS, CHILD = (
     "commands/lib/aide_compare/%s.py" % name
     for name in (
         "compare/configuration",
@@ -14,13 +14,15 @@ CONFIGURATION, HINTS, PROGRAM, COMPARISON, RUN, FILES, FOLDERS, UNPACK, TIMES, O
         "compare/unpack",
         "base/times",
         "base/options",
+        "base/child",
     )
 )
 # The state is emptied to find out whether it can be written; or it is written in its place and not in one step.
 EMPTIED = """        self._refuse_other_kinds()
         flags = os.O_WRONLY | os.O_CREAT | os.O_TRUNC | os.O_NOFOLLOW
-        part, name = os.open(self.name, flags, dir_fd=self.folder.fd), None
-        os.close(part)
+        os.close(os.open(self.name, flags, dir_fd=self.folder.fd))
+        part, name = new_file(self.folder.fd, random_name())
+        if name:
 """
 IN_ITS_PLACE = """    def _was_put(self, fill):
         flags = os.O_WRONLY | os.O_CREAT | os.O_TRUNC | os.O_NOFOLLOW
@@ -77,9 +79,9 @@ PLANTED = (
     + seen_by(
         "attacks.try_bounds",
         (
-            PROGRAM,
-            "        resource.setrlimit(resource.RLIMIT_FSIZE,",
-            "        (lambda *_: None)(resource.RLIMIT_FSIZE,",
+            CHILD,
+            "        bound_of(resource.RLIMIT_FSIZE, most)\n",
+            "        pass\n",
         ),
         (
             RUN,
@@ -87,7 +89,7 @@ PLANTED = (
             "            pass\n",
         ),
     )
-    + seen_by("faults.try_signals", (PROGRAM, "    if not end_with(parent):\n", "    if False:\n"))
+    + seen_by("faults.try_signals", (CHILD, "                if end_with(parent):\n", "                if True:\n"))
     + seen_by("age.try_accepted", (COMPARISON, "    if age < -CLOCKS_DIFFER:\n", "    if False:\n"))
     + seen_by("age.try_old_files", (COMPARISON, "            check_age(opened[1], self.request.max_age)\n", ""))
     + seen_by(
@@ -142,7 +144,7 @@ PLANTED = (
     )
     + seen_by(
         "attacks.try_few_descriptors",
-        (PROGRAM, "FIRST_FREE = 10", "FIRST_FREE = 100"),
+        (CHILD, "FIRST_FREE, NOT_STARTED = 10,", "FIRST_FREE, NOT_STARTED = 100,"),
         (FILES, 'Status.DEVICE,\n            "cannot make a', 'Status.DATABASE,\n            "cannot make a'),
     )
     + seen_by(

@@ -146,7 +146,7 @@ def try_version(sandbox):
             b"a proved build: not known: it is not the program that was installed\n",
         ),
         ("sha256=%s\nkit=\033\nproved=\033[2J\n" % digest, b"kit: \\033\na proved build: \\033[2J\n"),
-        ("sha256=%s\n%s" % (digest, "proved=yes\n" * 9999), b"a proved build: y"),
+        ("sha256=%s\n%s" % (digest, "proved=yes\n" * 9999), b"there is no record of how it was built\n"),
     ):
         if record is not None:
             sandbox.write("libexec/aide-compare/aide.build", record)

@@ -1,6 +1,9 @@
-"""Work in a child process that holds nothing but what it needs, and is ended if it takes longer than it may."""
+"""Child processes: a program in the place of one, or work in one that holds nothing but what it needs, and is ended if it takes
+longer than it may."""
 import ctypes
+import fcntl
 import os
+import resource
 import select
 import signal
 import time
@@ -9,6 +12,7 @@ from aide_compare.base.ending import Fault, Status, reason, write_all
 from aide_compare.base.escapes import guarded
 
 MOST_RESULT = 1 << 20
+FIRST_FREE, NOT_STARTED = 10, 127
 PR_SET_PDEATHSIG = 1
 
 
@@ -16,6 +20,46 @@ def end_with(parent):
     """The kernel ends this process when its parent ends. False if that has ended already."""
     ctypes.CDLL(None).prctl(PR_SET_PDEATHSIG, signal.SIGKILL)
     return os.getppid() == parent
+
+
+def bound_of(kind, most):
+    """Bounds what this process may take of something, and leaves its own right to less."""
+    limits = resource.getrlimit(kind)
+    resource.setrlimit(kind, (min([most] + [limit for limit in limits if limit >= 0]), limits[1]))
+
+
+def started(words, given, most=None, own_group=False, environment=None):
+    """The number of the process of a program. `given` are its descriptors by the numbers that they have there. The kernel ends it
+    if this process ends first. No file that it writes gets more than `most` bytes."""
+    parent, places = os.getpid(), {}
+    try:
+        for place, descriptor in given.items():  # Under numbers that are not among those that it is given.
+            places[place] = fcntl.fcntl(descriptor, fcntl.F_DUPFD_CLOEXEC, FIRST_FREE)
+        child = os.fork()
+        if child == 0:
+            try:
+                if own_group:
+                    os.setpgid(0, 0)
+                if end_with(parent):
+                    _become_program(words, places, most, environment or os.environ)
+            finally:
+                os._exit(NOT_STARTED)
+        return child
+    finally:
+        for descriptor in places.values():
+            os.close(descriptor)
+
+
+def _become_program(words, places, most, environment):
+    """In the child: the program takes the place of this process."""
+    for place, descriptor in places.items():
+        os.dup2(descriptor, place)
+    for number in (signal.SIGPIPE, signal.SIGXFSZ):
+        signal.signal(number, signal.SIG_DFL)
+    if most is not None:
+        signal.signal(signal.SIGXFSZ, signal.SIG_IGN)
+        bound_of(resource.RLIMIT_FSIZE, most)
+    os.execvpe(words[0], words, environment)
 
 
 def _close_all_but(kept):

@@ -62,6 +62,30 @@ def open_regular(path, what=""):
         raise Fault(Status.DEVICE, "cannot open %s%s: %s" % (what, shown(path), reason(error)))
 
 
+def read_whole(descriptor, most, what):
+    """The bytes of an open file, at most so many."""
+    blocks, left = [], most + 1
+    try:
+        while left > 0:
+            block = os.read(descriptor, min(left, 1 << 18))
+            if not block:
+                return b"".join(blocks)
+            blocks.append(block)
+            left -= len(block)
+    except OSError as error:
+        raise Fault(Status.DEVICE, "cannot read %s: %s" % (what, reason(error)))
+    raise Fault(Status.DEVICE, "%s has more than %d bytes" % (what, most))
+
+
+def read_file(path, most, what=""):
+    """The bytes of a regular file, at most so many. `what` says what it is, such as "the state file "."""
+    descriptor = open_regular(path, what)
+    try:
+        return read_whole(descriptor, most, what + shown(path))
+    finally:
+        os.close(descriptor)
+
+
 def copy_file(source, target):
     """Writes all bytes of a file to a descriptor, from its beginning."""
     place = 0

@@ -32,38 +32,39 @@ def _class(text):
 
 
 def _parts(piece):
-    """The texts between the stars of a piece, each as a regular expression."""
-    parts, at = [b""], 0
+    """The texts between the stars of a piece, each as regular expressions of one byte."""
+    parts, at = [[]], 0
     while at < len(piece):
         byte = piece[at : at + 1]
         if byte == b"*":
-            parts.append(b"")
+            parts.append([])
         elif byte == b"?":
-            parts[-1] += b"."
+            parts[-1].append(b".")
         elif byte == b"[":
             end = _class_end(piece, at)
             if end is None:
                 raise BadPattern("a class has no end")
-            parts[-1] += _class(piece[at + 1 : end])
+            parts[-1].append(_class(piece[at + 1 : end]))
             at = end
         elif byte == b"\\":
             at += 1
             if at == len(piece):
                 raise BadPattern("a backslash is the last byte of a piece")
-            parts[-1] += re.escape(piece[at : at + 1])
+            parts[-1].append(re.escape(piece[at : at + 1]))
         else:
-            parts[-1] += re.escape(byte)
+            parts[-1].append(re.escape(byte))
         at += 1
     return parts
 
 
 def _test(piece):
     """A test of one piece of a path: each text between stars is looked for once, at its first place, from left to right."""
-    head, *rest = [re.compile(part, re.DOTALL) for part in _parts(piece)]
+    parts = _parts(piece)
+    head, *rest = [re.compile(b"".join(part), re.DOTALL) for part in parts]
     if not rest:
         return lambda name: head.fullmatch(name) is not None
     *middle, tail = rest
-    size = _length(piece)
+    size = len(parts[-1])
 
     def test(name):
         found = head.match(name)
@@ -73,22 +74,6 @@ def _test(piece):
         return bool(found) and found.end() <= end and tail.fullmatch(name, end) is not None
 
     return test
-
-
-def _length(piece):
-    """How many bytes the text after the last star of a piece takes."""
-    last, at, count = 0, 0, 0
-    while at < len(piece):
-        if piece[at : at + 1] == b"*":
-            last = count
-        else:
-            count += 1
-            if piece[at : at + 1] == b"\\":
-                at += 1
-            elif piece[at : at + 1] == b"[":
-                at = _class_end(piece, at)
-        at += 1
-    return count - last
 
 
 class Pattern:

@@ -1,19 +1,15 @@
 """Runs the proved program: found, given its databases as descriptors, and ended when the command ends."""
-import fcntl
 import os
-import resource
 import select
 import signal
 
-from aide_compare.base.child import end_with
 from aide_compare.base import progress
+from aide_compare.base.child import started
 from aide_compare.base.ending import Fault, Status, reason
 from aide_compare.base.escapes import shown
 
 OLD, NEW, CONFIGURATION = 3, 4, 5  # Its descriptors, beside the standard ones.
 DATABASES = "database_in=file:/proc/self/fd/%d\ndatabase_new=file:/proc/self/fd/%d" % (OLD, NEW)
-FIRST_FREE = 10
-NOT_STARTED = 127
 BLOCK, MOST_ERRORS = 1 << 18, 1 << 20
 KNOWN = tuple(range(8)) + (Status.USAGE, Status.CONFIGURATION, Status.DEVICE, Status.MEMORY, Status.DATABASE)
 
@@ -61,26 +57,6 @@ def find_program():
     return find_installed("libexec/aide-compare/aide")
 
 
-def _raised(descriptor):
-    """The same file under a number that is not one of those that the program is given."""
-    return fcntl.fcntl(descriptor, fcntl.F_DUPFD_CLOEXEC, FIRST_FREE)
-
-
-def _become_program(parent, program, words, places, most):
-    """In the child: the program takes the place of this process. The kernel ends it if the command ends first."""
-    if not end_with(parent):
-        return
-    for place, descriptor in places.items():
-        os.dup2(descriptor, place)
-    for number in (signal.SIGPIPE, signal.SIGXFSZ):
-        signal.signal(number, signal.SIG_DFL)
-    if most is not None:
-        signal.signal(signal.SIGXFSZ, signal.SIG_IGN)
-        limits = resource.getrlimit(resource.RLIMIT_FSIZE)
-        resource.setrlimit(resource.RLIMIT_FSIZE, (min([most] + [limit for limit in limits if limit >= 0]), limits[1]))
-    os.execve(program, [program] + words, dict(os.environ, LC_ALL="C"))
-
-
 def _status_of(program, ended):
     """The status by which the program ended; a Fault unless it is one of its own."""
     if os.WIFSIGNALED(ended):
@@ -88,25 +64,6 @@ def _status_of(program, ended):
     if os.WEXITSTATUS(ended) not in KNOWN:
         raise Fault(Status.DEVICE, "%s could not be run: status %d" % (shown(program), os.WEXITSTATUS(ended)))
     return os.WEXITSTATUS(ended)
-
-
-def _started(program, words, given, most):
-    """The number of the process of the program. `given` are descriptors by the numbers that they have there."""
-    places = {}
-    try:
-        for place, descriptor in given.items():
-            places[place] = _raised(descriptor)
-        parent = os.getpid()
-        child = os.fork()
-        if child == 0:
-            try:
-                _become_program(parent, program, words, places, most)
-            finally:
-                os._exit(NOT_STARTED)
-        return child
-    finally:
-        for descriptor in places.values():
-            os.close(descriptor)
 
 
 def _drain(drains, tell, seconds):
@@ -130,7 +87,7 @@ def run_program(program, words, given, most=None, keep=None):
         if keep:
             drains[1] = Drain(most, keep)
         ends = {place: drain.writing for place, drain in drains.items()}
-        child = _started(program, words, {**given, **ends}, most)
+        child = started([program] + words, {**given, **ends}, most, environment=dict(os.environ, LC_ALL="C"))
         for drain in drains.values():
             drain.writing = os.close(drain.writing)
         databases = {place: given[place] for place in (OLD, NEW) if place in given}

@@ -1,19 +1,23 @@
 """Work with the rights of another user, so that a user who can write in a folder gains nothing from what root does there."""
 import os
+import pwd
 
 from aide_compare.base.child import in_child
 from aide_compare.base.ending import Fault, Status, reason
 from aide_compare.base.escapes import shown
 
 
+def _entry_of(uid):
+    """What the machine knows of a user; an entry with the number alone for one that it does not know."""
+    try:
+        return pwd.getpwuid(uid)
+    except KeyError:
+        return pwd.struct_passwd((str(uid), "", uid, uid, "", "/", ""))
+
+
 def user_of(uid):
     """The name of a user, or the number."""
-    import pwd
-
-    try:
-        return pwd.getpwuid(uid).pw_name
-    except KeyError:
-        return str(uid)
+    return _entry_of(uid).pw_name
 
 
 def name_of(uid):
@@ -22,17 +26,9 @@ def name_of(uid):
     return "the user %d" % uid if user == str(uid) else shown(user, 100)
 
 
-def _group_of(uid):
-    import pwd
-
-    try:
-        return pwd.getpwuid(uid).pw_gid
-    except KeyError:
-        return uid
-
-
-def _become(uid, gid, groups):
+def _become(entry, groups):
     """Gives the rights of this process up, and makes sure that they do not come back."""
+    uid, gid = entry.pw_uid, entry.pw_gid
     os.setgroups(groups)
     os.setresgid(gid, gid, gid)
     os.setresuid(uid, uid, uid)
@@ -47,10 +43,17 @@ def _become(uid, gid, groups):
             raise Fault(Status.DEVICE, "the privileges of root cannot be given up")
 
 
+def _become_whole(entry):
+    """The same for good, with the groups and the environment of the user."""
+    try:
+        _become(entry, os.getgrouplist(entry.pw_name, entry.pw_gid))
+    except OSError as error:
+        raise Fault(Status.DEVICE, "cannot become %s: %s" % (name_of(entry.pw_uid), reason(error)))
+    os.environ.update(HOME=entry.pw_dir or "/", USER=entry.pw_name, LOGNAME=entry.pw_name)
+
+
 def give_up(user):
     """This process becomes a user, by name, for good: what --user asks for."""
-    import pwd
-
     try:
         entry = pwd.getpwnam(user)
     except KeyError:
@@ -59,27 +62,12 @@ def give_up(user):
         return
     if os.geteuid() != 0:
         raise Fault(Status.USAGE, "only root can become %s" % shown(user, 100))
-    try:
-        _become(entry.pw_uid, entry.pw_gid, os.getgrouplist(entry.pw_name, entry.pw_gid))
-    except OSError as error:
-        raise Fault(Status.DEVICE, "cannot become %s: %s" % (shown(user, 100), reason(error)))
-    os.environ.update(HOME=entry.pw_dir or "/", USER=entry.pw_name, LOGNAME=entry.pw_name)
+    _become_whole(entry)
 
 
 def become(uid):
-    """This process becomes a user, by number, for good, with the groups of this user."""
-    import pwd
-
-    try:
-        entry = pwd.getpwuid(uid)
-        groups = os.getgrouplist(entry.pw_name, entry.pw_gid)
-    except KeyError:
-        entry, groups = None, []
-    try:
-        _become(uid, _group_of(uid), groups)
-    except OSError as error:
-        raise Fault(Status.DEVICE, "cannot become %s: %s" % (name_of(uid), reason(error)))
-    os.environ.update(HOME=entry.pw_dir if entry else "/", USER=name_of(uid), LOGNAME=name_of(uid))
+    """This process becomes a user, by number, for good."""
+    _become_whole(_entry_of(uid))
 
 
 def with_rights_of(uid, work, seconds=60, keep=()):
@@ -87,7 +75,7 @@ def with_rights_of(uid, work, seconds=60, keep=()):
     are the descriptors that it needs. A Fault of the work is raised here; so is the end of its time."""
 
     def become_and_work():
-        _become(uid, _group_of(uid), [])
+        _become(_entry_of(uid), [])
         return work()
 
     whose = "with the privileges of %s" % name_of(uid)

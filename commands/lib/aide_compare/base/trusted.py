@@ -1,9 +1,9 @@
 """Files of the administrator, which no user but root and the caller may be able to change."""
 import os
 
-from aide_compare.base.ending import Fault, Status, reason
+from aide_compare.base.ending import Fault, Status
 from aide_compare.base.escapes import shown
-from aide_compare.base.files import open_regular
+from aide_compare.base.files import open_regular, read_whole
 from aide_compare.base.folders import open_folder
 
 MOST_LINES = 10000
@@ -22,21 +22,6 @@ def open_trusted(path, what):
     except BaseException:
         os.close(descriptor)
         raise
-
-
-def read_whole(descriptor, most, what):
-    """The bytes of an open file, at most so many."""
-    blocks, left = [], most + 1
-    try:
-        while left > 0:
-            block = os.read(descriptor, min(left, 1 << 18))
-            if not block:
-                return b"".join(blocks)
-            blocks.append(block)
-            left -= len(block)
-    except OSError as error:
-        raise Fault(Status.DEVICE, "cannot read %s: %s" % (what, reason(error)))
-    raise Fault(Status.DEVICE, "%s has more than %d bytes" % (what, most))
 
 
 def lines_of(path, what):

@@ -1,12 +1,9 @@
 """aide-compare accept: a database becomes the baseline if its SHA-256 is the one that was given."""
-import os
-
 from aide_compare.base.ending import Fault, Status, say, write_all
 from aide_compare.base.escapes import shown
 from aide_compare.base.names import KINDS
 from aide_compare.base.options import EVIDENCE, Parser, evidence_of, some_text
 from aide_compare.base.rights import user_of
-from aide_compare.base.patterns import BadPattern, Pattern
 from aide_compare.base.times import date_of
 from aide_compare.commands.accept_steps import MOST_BYTES, Wish, accept, digest_of_former
 from aide_compare.compare.baseline import Baseline
@@ -139,13 +136,6 @@ def _given(arguments):
     raise Fault(Status.USAGE, why, "try: %s --help" % NAME)
 
 
-def _patterns_of(given):
-    try:
-        return [Pattern(os.fsencode(text)) for text in given.keep_open]
-    except BadPattern as fault:
-        raise Fault(Status.USAGE, "--keep-open: %s" % fault)
-
-
 def _print(lines, given):
     if not given.quiet:
         write_all(1, "".join("%s\n" % line for line in lines).encode("utf-8", "backslashreplace"))
@@ -156,10 +146,7 @@ def main(arguments):
     if given.only_packages:
         _print([keep_records_only(given.files[0], given.max_size)], given)
         return Status.OK
-    state, unknown, (new, path) = None, "", given.files
-    wish = Wish(
-        given.sha256, given.max_size, not given.no_packages, _patterns_of(given), given if given.explained_only else None
-    )
+    state, unknown, (new, path), wish = None, "", given.files, Wish(given)
     try:
         state = read_state(given.state or STATE)
     except Fault as fault:

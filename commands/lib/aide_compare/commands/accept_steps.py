@@ -3,12 +3,14 @@ import base64
 import binascii
 import gzip
 import os
+import re
 
 from aide_compare.base.child import in_child
 from aide_compare.base.ending import Fault, Status, write_all
 from aide_compare.base.escapes import shown
 from aide_compare.base.files import copy_file, nameless, reopened
 from aide_compare.base.names import SIDES
+from aide_compare.base.patterns import BadPattern, Pattern
 from aide_compare.base.path_keys import key_of_path
 from aide_compare.base.rights import become
 from aide_compare.compare.baseline import Baseline
@@ -21,36 +23,28 @@ from aide_compare.show.explained import Sources, explain
 from aide_compare.show.told import told_of
 
 MOST_BYTES = 1 << 40
-FEWEST_DIGITS, ALL_DIGITS = 16, 64
-DIGITS = "0123456789abcdef"
 BLOCK, SECONDS_FOR_REASONS = 1 << 18, 6 * 3600
 
 
-class GivenDigest:
-    """The digest on the command line: all 64 hexadecimal digits, or the first of them."""
+def digits_of(text):
+    """The digits of the digest on the command line: all 64 hexadecimal ones, or the first of them."""
+    joined = "".join(text.split())
+    digits = _decoded(joined) if joined.endswith("=") else joined.lower()
+    if not re.fullmatch("[0-9a-f]{16,64}", digits):
+        raise Fault(
+            Status.USAGE,
+            "not a SHA-256: %s; give 16 to 64 hexadecimal digits, or all 44 characters of base64" % (shown(text, 100) or "''"),
+        )
+    return digits
 
-    def __init__(self, text):
-        joined = "".join(text.split())
-        self.digits = self._decoded(joined) if joined.endswith("=") else joined.lower()
-        if self.digits.strip(DIGITS) or not FEWEST_DIGITS <= len(self.digits) <= ALL_DIGITS:
-            raise Fault(
-                Status.USAGE,
-                "not a SHA-256: %s; give 16 to 64 hexadecimal digits, or all 44 characters of base64"
-                % (shown(text, 100) or "''"),
-            )
 
-    @staticmethod
-    def _decoded(text):
-        """The digits of a whole digest in base 64; nothing for all other texts."""
-        try:
-            data = base64.b64decode(text, validate=True)
-        except (binascii.Error, ValueError):
-            return ""
-        is_whole = len(data) == 32 and base64.b64encode(data).decode() == text
-        return data.hex() if is_whole else ""
-
-    def fits(self, digest):
-        return digest.startswith(self.digits)
+def _decoded(text):
+    """The digits of a whole digest in base 64; nothing for all other texts."""
+    try:
+        data = base64.b64decode(text, validate=True)
+    except (binascii.Error, ValueError):
+        return ""
+    return data.hex() if len(data) == 32 and base64.b64encode(data).decode() == text else ""
 
 
 class Offered:
@@ -75,15 +69,22 @@ class Offered:
 
 
 class Wish:
-    """What is asked for: the digest, the most bytes, the folder of the commands, and whether packages' records are kept.
-    `patterns` and the options that name evidence, or None, say what stays open."""
+    """What is asked for: the first digits of the digest, the most bytes, and whether packages' records are kept. `patterns` and
+    the options that name evidence, or None, say what stays open."""
 
-    def __init__(self, digest, most=MOST_BYTES, keeps_records=True, patterns=(), evidence=None):
-        self.digest, self.most, self.keeps_records = GivenDigest(digest), most, keeps_records
-        self.patterns, self.evidence = list(patterns), evidence
+    def __init__(self, given):
+        self.digits, self.most, self.keeps_records = digits_of(given.sha256), given.max_size, not given.no_packages
+        self.patterns, self.evidence = patterns_of(given.keep_open), given if given.explained_only else None
 
     def is_partial(self):
         return bool(self.patterns) or self.evidence is not None
+
+
+def patterns_of(texts):
+    try:
+        return [Pattern(os.fsencode(text)) for text in texts]
+    except BadPattern as fault:
+        raise Fault(Status.USAGE, "--keep-open: %s" % fault)
 
 
 class Accepted:
@@ -177,11 +178,11 @@ def _with_open_part(wish, offered, baseline):
 def accept(wish, new, path):
     """Makes the database `new` the baseline as the Wish says. A database that it does not mean is a Fault of status 24."""
     offered = Offered(new, wish.most)
-    if not wish.digest.fits(offered.sha256):
+    if not offered.sha256.startswith(wish.digits):
         raise Fault(
             Status.DATABASE,
             "refused: %s is not the database that was reported" % shown(new),
-            "the SHA-256 that was given: %s" % wish.digest.digits,
+            "the SHA-256 that was given: %s" % wish.digits,
             "the SHA-256 of the database: %s" % offered.sha256,
         )
     baseline = Baseline(path, SUFFIX if wish.keeps_records else "")

@@ -8,9 +8,8 @@ import time
 from aide_compare.base.child import end_with, kill_group
 from aide_compare.base.ending import Fault, Status, reason, write_all
 from aide_compare.base.escapes import guarded, shown
-from aide_compare.base.files import open_regular
+from aide_compare.base.files import read_file, read_whole
 from aide_compare.base.options import Parser, matching
-from aide_compare.base.trusted import read_whole
 from aide_compare.hosts.fetching import add_fetching, fetch
 from aide_compare.hosts.fleet_store import Place, add_place, check_name, share_of
 from aide_compare.hosts.host_comparison import add_comparison, compare_or_say
@@ -124,11 +123,8 @@ def results(hosts, given):
 
 def hosts_of(path, share):
     """The names in a file, each once, and of these the part that is asked for."""
-    descriptor = 0 if path == "-" else open_regular(path, "the file of hosts ")
-    try:
-        data = read_whole(descriptor, MOST_LIST, "the file of hosts")
-    finally:
-        os.close(descriptor)
+    what = "the file of hosts "
+    data = read_whole(0, MOST_LIST, what) if path == "-" else read_file(path, MOST_LIST, what)
     lines = (line.strip() for line in data.decode("utf-8", "surrogateescape").split("\n"))
     names = list(dict.fromkeys(line for line in lines if line and not line.startswith("#")))
     if not names:

@@ -6,10 +6,11 @@ after it was interrupted.
 import os
 import stat
 import subprocess
+from collections import namedtuple
 
 from aide_compare.base.ending import Fault, Status, reason, write_all
 from aide_compare.base.escapes import shown
-from aide_compare.base.files import Replacement, open_folder, open_regular, reopened
+from aide_compare.base.files import open_folder, read_file, reopened, replace
 from aide_compare.base.options import ALARMS, Parser, some_text
 
 NAME = "aide-compare setup"
@@ -45,33 +46,20 @@ def tell(text):
     write_all(1, (text + "\n").encode("utf-8", "backslashreplace"))
 
 
-def exists(path):
-    return os.path.lexists(path)
-
-
 def shipped(name):
     """The bytes of an example that comes with the commands."""
     path = next((HERE + place + name for place in SHIPPED if os.path.isfile(HERE + place + name)), None)
     if path is None:
         raise Fault(Status.DEVICE, "the example %s did not come with this command" % name)
-    with os.fdopen(open_regular(os.path.realpath(path)), "rb") as file:
-        return file.read(MOST_EXAMPLE)
+    return read_file(os.path.realpath(path), MOST_EXAMPLE)
 
 
-def put(path, data, mode=0o644):
-    file = Replacement(path, mode).begin()
-    try:
-        file.commit(data)
-    finally:
-        file.close()
-
-
-def run(words, seconds=SECONDS):
-    """Runs a program of the system, which writes where this command writes. Its status has to be 0."""
-    tell("    " + " ".join(words))
+def run(words, seconds=SECONDS, output=None):
+    """Runs a program of the system, which writes where this command writes, or elsewhere. Its status has to be 0."""
     try:
         more = {"PATH": PATH, "LC_ALL": "C.UTF-8", "HOME": "/root"}
-        done = subprocess.run(words, stdin=subprocess.DEVNULL, timeout=seconds, env=more, cwd="/")
+        streams = {"stdin": subprocess.DEVNULL, "stdout": output, "stderr": output}
+        done = subprocess.run(words, timeout=seconds, env=more, cwd="/", **streams)
     except OSError as error:
         raise Fault(Status.DEVICE, "cannot run %s: %s" % (words[0], reason(error)))
     except subprocess.TimeoutExpired:
@@ -80,21 +68,22 @@ def run(words, seconds=SECONDS):
         raise Fault(Status.DEVICE, "%s ended with status %d" % (words[0], done.returncode))
 
 
-def answers(words):
-    """Whether a program of the system ends with 0, without a word."""
+def show_and_run(words, seconds=SECONDS):
+    tell("    " + " ".join(words))
+    run(words, seconds)
+
+
+def is_enabled(unit):
+    """Whether systemd has a unit; it says nothing of that itself."""
     try:
-        return not subprocess.run(
-            words, stdin=subprocess.DEVNULL, stdout=-3, stderr=-3, timeout=60, env={"PATH": PATH}
-        ).returncode
-    except (OSError, subprocess.TimeoutExpired):
+        run(["systemctl", "is-enabled", "--quiet", unit], 60, subprocess.DEVNULL)
+        return True
+    except Fault:
         return False
 
 
-class Step:
-    """A step: `what` it makes, whether that `is_done`, how it is made, and what comes after it each time."""
-
-    def __init__(self, what, is_done, make, after=None):
-        self.what, self.is_done, self.make, self.after = what, is_done, make, after
+# A step: `what` it makes, whether that `is_done`, how to `make` it, and what comes `after` it each time.
+Step = namedtuple("Step", "what is_done make after", defaults=(None,))
 
 
 class Machine:
@@ -109,7 +98,7 @@ class Machine:
         except KeyError:
             self.user = pwd.getpwuid(0)
         self.has_systemd = os.path.isdir(SYSTEMD) and not given.cron
-        self.is_debian = exists(ROOT + CONFIGURATIONS[0])
+        self.is_debian = os.path.lexists(ROOT + CONFIGURATIONS[0])
         self.baseline, self.new = DEBIANS if self.is_debian else OTHERS
 
     def defaults(self):
@@ -126,9 +115,9 @@ class Machine:
     def make_baseline(self):
         """Lets AIDE write the first database. What it writes elsewhere than on Debian gets the baseline's name."""
         if self.is_debian:
-            run(["aideinit", "-y"], INIT_SECONDS)
+            show_and_run(["aideinit", "-y"], INIT_SECONDS)
             return
-        run(["aide", "--init"], INIT_SECONDS)
+        show_and_run(["aide", "--init"], INIT_SECONDS)
         with open_folder(DATABASES) as folder:
             if not folder.is_safe():
                 raise Fault(Status.DEVICE, "other users can write in %s" % DATABASES)
@@ -163,7 +152,7 @@ class Machine:
         with open_folder(OWN, make=True) as folder:
             if not folder.is_safe():
                 raise Fault(Status.DEVICE, "other users can write in %s" % OWN)
-            if not exists(os.path.join(OWN, DAILY)):
+            if not os.path.lexists(os.path.join(OWN, DAILY)):
                 os.mkdir(DAILY, 0o755, dir_fd=folder.fd)
             inner = os.open(DAILY, os.O_RDONLY | os.O_DIRECTORY | os.O_NOFOLLOW | os.O_CLOEXEC, dir_fd=folder.fd)
             try:
@@ -172,13 +161,13 @@ class Machine:
                 os.close(inner)
 
     def has_job(self):
-        return answers(["systemctl", "is-enabled", "--quiet", "aide-compare.timer"]) if self.has_systemd else exists(CRON)
+        return is_enabled("aide-compare.timer") if self.has_systemd else os.path.lexists(CRON)
 
     def make_job(self):
         if self.has_systemd:
-            run(["systemctl", "enable", "--now", "aide-compare.timer"])
+            show_and_run(["systemctl", "enable", "--now", "aide-compare.timer"])
         else:
-            put(CRON, shipped("cron/aide-compare.cron.daily"), 0o755)
+            replace(CRON, shipped("cron/aide-compare.cron.daily"), 0o755)
 
     def send_test(self):
         if self.given.no_mail:
@@ -186,7 +175,7 @@ class Machine:
         tell("a test mail%s" % (" to " + shown(self.given.to) if self.given.to else ""))
         to = ["--to=" + self.given.to] if self.given.to else []
         try:
-            run(["aide-compare", "mail", "--test", "--user", self.user.pw_name] + to)
+            show_and_run(["aide-compare", "mail", "--test", "--user", self.user.pw_name] + to)
         except Fault:
             raise Fault(Status.DEVICE, "the test mail was not sent; install a mail system, or go on with --no-mail")
 
@@ -197,19 +186,19 @@ class Machine:
         if self.is_debian:
             yield Step(
                 "paths that change every day: " + WITHOUT,
-                lambda: exists(WITHOUT),
-                lambda: put(WITHOUT, shipped("aide/debian.without")),
+                lambda: os.path.lexists(WITHOUT),
+                lambda: replace(WITHOUT, shipped("aide/debian.without")),
             )
-        yield Step("options of each day: " + DEFAULTS, lambda: exists(DEFAULTS), lambda: put(DEFAULTS, self.defaults()))
+        yield Step("options of each day: " + DEFAULTS, lambda: os.path.lexists(DEFAULTS), lambda: replace(DEFAULTS, self.defaults()))
         yield Step("a directory of %s's: %s/%s" % (self.user.pw_name, OWN, DAILY), self.has_folder, self.make_folder)
         yield Step(job, self.has_job, self.make_job, self.send_test)
-        yield Step("the baseline %s, which takes several minutes" % base, lambda: exists(base), self.make_baseline)
+        yield Step("the baseline %s, which takes several minutes" % base, lambda: os.path.lexists(base), self.make_baseline)
         for name in (self.baseline, self.new):
             what = "%s is %s's" % (os.path.join(DATABASES, name), self.user.pw_name)
             yield Step(what, lambda name=name: self.owns(name), lambda name=name: self.give(name))
         if os.path.isdir(DPKG) or os.path.isdir(RPM):
             records = ["aide-compare", "accept", "--only-packages", base]
-            yield Step("records of the packages: %s.packages" % base, lambda: exists(base + ".packages"), lambda: run(records))
+            yield Step("records of the packages: %s.packages" % base, lambda: os.path.lexists(base + ".packages"), lambda: show_and_run(records))
 
 
 def check(machine):
@@ -251,7 +240,7 @@ def main(arguments):
     given = parser.parse(arguments)
     if given.quiet:  # Also the programs that are run.
         os.dup2(os.open("/dev/null", os.O_WRONLY | os.O_CLOEXEC), 1)
-    if not any(exists(ROOT + path) for path in CONFIGURATIONS):
+    if not any(os.path.lexists(ROOT + path) for path in CONFIGURATIONS):
         raise Fault(Status.DEVICE, "AIDE is not installed here, or has no configuration; on Debian: apt install aide")
     machine = Machine(given)
     if given.check:

@@ -1,45 +1,30 @@
 """aide-compare version: which program the commands run, by its SHA-256, and whether it is known to be a proved build."""
 import hashlib
-import os
 
 from aide_compare import VERSION
 from aide_compare.base.ending import Fault, Status, write_all
 from aide_compare.base.escapes import shown
-from aide_compare.base.files import open_regular
+from aide_compare.base.files import read_file
 from aide_compare.base.options import Parser
 from aide_compare.base.program import find_program
 
-BLOCK, MOST_RECORD = 1 << 20, 4096
+MOST_PROGRAM, MOST_RECORD = 1 << 28, 1 << 16
 RECORD = ".build"  # What packaging/install writes beside the program: its SHA-256, the kit that built it, and how.
 UNKNOWN = "not known: there is no record of how it was built"
-
-
-def sha256_of(path):
-    descriptor, sum_ = open_regular(path, "the program "), hashlib.sha256()
-    try:
-        for block in iter(lambda: os.read(descriptor, BLOCK), b""):
-            sum_.update(block)
-    finally:
-        os.close(descriptor)
-    return sum_.hexdigest()
 
 
 def record_of(path):
     """The lines of the record as a map; an empty one without it."""
     try:
-        descriptor = open_regular(path, "the record ")
+        text = read_file(path, MOST_RECORD, "the record ").decode("utf-8", "replace")
     except Fault:
         return {}
-    try:
-        text = os.read(descriptor, MOST_RECORD).decode("utf-8", "replace")
-    finally:
-        os.close(descriptor)
     return dict(line.split("=", 1) for line in text.splitlines() if "=" in line)
 
 
 def lines():
     program = find_program()
-    digest, record = sha256_of(program), record_of(program + RECORD)
+    digest, record = hashlib.sha256(read_file(program, MOST_PROGRAM, "the program ")).hexdigest(), record_of(program + RECORD)
     kit, proved = record.get("kit") or "not known", record.get("proved") or UNKNOWN
     if record and record.get("sha256") != digest:
         kit, proved = "not known", "not known: it is not the program that was installed"

@@ -2,10 +2,9 @@
 import os
 import re
 import select
-import signal
 import time
 
-from aide_compare.base.child import end_with, ended, kill_group
+from aide_compare.base.child import ended, kill_group, started
 from aide_compare.base.ending import Fault, reason, say
 from aide_compare.base.escapes import shown
 from aide_compare.base.options import matching, size
@@ -30,24 +29,6 @@ def add_fetching(parser):
     path = matching(r"/[A-Za-z0-9._/-]*", "a path that begins with /, of letters, digits and . _ / -")
     parser.add_argument("--max-sent", type=size, default=MOST, metavar="SIZE", help="the most bytes that a host may send (1G)")
     parser.add_argument("--path", type=path, default=PATH, metavar="PATH", help="the file on HOST (%s)" % PATH)
-
-
-def start(words, output, errors):
-    """Starts ssh in a group of its own. The kernel ends it if this process ends first, however that ends."""
-    parent = os.getpid()
-    child = os.fork()
-    if child:
-        return child
-    try:
-        os.setpgid(0, 0)
-        if end_with(parent):
-            os.dup2(output, 1)
-            os.dup2(errors, 2)
-            for number in (signal.SIGPIPE, signal.SIGXFSZ):
-                signal.signal(number, signal.SIG_DFL)
-            os.execvp(words[0], words)
-    finally:
-        os._exit(127)
 
 
 def stop(child):
@@ -103,7 +84,7 @@ class Transfer:
         output, errors = os.pipe(), os.pipe()
         child = None
         try:
-            child = start(words, output[1], errors[1])
+            child = started(words, {1: output[1], 2: errors[1]}, own_group=True)
             for descriptor in (output[1], errors[1]):
                 os.close(descriptor)
             self.receive(output[0], errors[0])

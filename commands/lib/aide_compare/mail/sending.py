@@ -5,9 +5,10 @@ import signal
 import socket
 import time
 
-from aide_compare.base.child import ended
+from aide_compare.base.child import ended, kill_group
 from aide_compare.base.ending import Fault, Status, reason
 from aide_compare.base.escapes import shown
+from aide_compare.base.files import in_memory
 from aide_compare.mail.message import shortened
 from aide_compare.mail.smtp import Smtp
 
@@ -34,74 +35,47 @@ class Sendmail:
 
     def send(self, message):
         """None if the message was taken, otherwise the reason in a few words."""
-        into, writing = os.pipe()
-        reading, out_of = os.pipe()
+        limit, given = time.monotonic() + self.seconds, in_memory(message)
+        reading, writing = os.pipe()
         try:
-            actions = [(os.POSIX_SPAWN_DUP2, into, 0), (os.POSIX_SPAWN_DUP2, out_of, 1), (os.POSIX_SPAWN_DUP2, out_of, 2)]
-            child = os.posix_spawn(
-                self.path,
-                [self.path, "-oi", "-t"],
-                os.environ,
-                file_actions=actions,
-                setpgroup=0,
-                setsigdef=[signal.SIGPIPE, signal.SIGXFSZ],
-            )
+            child = self._started(given, writing)
         except OSError as error:
-            os.close(writing)
             os.close(reading)
             return "sendmail cannot be started: %s" % reason(error)
         finally:
-            os.close(into)
-            os.close(out_of)
-        return self._follow(child, message, writing, reading)
-
-    def _follow(self, child, message, writing, reading):
-        limit = time.monotonic() + self.seconds
-        answer = _exchange(message, writing, reading, limit, lambda: _ended(child))
-        status = _ended(child, limit)
-        if status is None:
-            os.killpg(child, signal.SIGKILL)
-            _ended(child, time.monotonic() + 5)
-            return "sendmail did not end within %d seconds: %s" % (self.seconds, _last_line(answer))
-        if status == 0:
-            return None
-        return "status %d of sendmail: %s" % (status, _last_line(answer))
-
-
-_statuses = {}
-
-
-def _ended(child, limit=0.0):
-    """The status with which a child has ended (128 and its signal), or None if it still runs when the time is over."""
-    status = _statuses.get(child)
-    if status is None:
-        status = _statuses[child] = ended(child, limit)
-    return None if status is None else os.WEXITSTATUS(status) if os.WIFEXITED(status) else 128 + os.WTERMSIG(status)
-
-
-def _exchange(message, writing, reading, limit, is_over):
-    """Writes the message and reads what is said, until both ends are closed, the child has ended, or the time is over."""
-    os.set_blocking(writing, False)
-    left, answer, is_open = memoryview(message), b"", True
-    while is_open and time.monotonic() < limit:
-        if not left and writing is not None:
+            os.close(given)
             os.close(writing)
-            writing = None
-        ready = select.select([reading], [writing] if writing is not None else [], [], 0.1)
-        if ready[0]:
+        answer, status = _answer_of(child, reading, limit)
+        if status is None:
+            kill_group(child)
+            ended(child, time.monotonic() + 5)
+            return "sendmail did not end within %d seconds: %s" % (self.seconds, _last_line(answer))
+        status = os.WEXITSTATUS(status) if os.WIFEXITED(status) else 128 + os.WTERMSIG(status)
+        return "status %d of sendmail: %s" % (status, _last_line(answer)) if status else None
+
+    def _started(self, message, answer):
+        """It lives on if this process is ended: a mail that is on its way should go."""
+        os.lseek(message, 0, os.SEEK_SET)
+        actions = [(os.POSIX_SPAWN_DUP2, descriptor, place) for place, descriptor in ((0, message), (1, answer), (2, answer))]
+        words, signals = [self.path, "-oi", "-t"], [signal.SIGPIPE, signal.SIGXFSZ]
+        return os.posix_spawn(self.path, words, os.environ, file_actions=actions, setpgroup=0, setsigdef=signals)
+
+
+def _answer_of(child, reading, limit):
+    """The last bytes that a child says until it ends, or nobody says anything more; and its wait status, None if it still runs
+    when the time is over."""
+    answer, status = b"", None
+    while time.monotonic() < limit:
+        status = ended(child, 0.0) if status is None else status
+        if select.select([reading], [], [], 0.1 if status is None else 0)[0]:
             block = os.read(reading, 65536)
-            answer, is_open = (answer + block)[-MOST_ANSWER:], bool(block)
-        elif is_over() is not None:
+            answer = (answer + block)[-MOST_ANSWER:]
+            if not block:
+                break
+        elif status is not None:  # What it has started may hold the pipe.
             break
-        if ready[1]:
-            try:
-                left = left[os.write(writing, left[:65536]) :]
-            except BrokenPipeError:  # Its status says why it does not read on.
-                left = left[:0]
-    for descriptor in (writing, reading):
-        if descriptor is not None:
-            os.close(descriptor)
-    return answer
+    os.close(reading)
+    return answer, ended(child, limit) if status is None else status
 
 
 def _last_line(answer):

@@ -10,7 +10,7 @@ import signal
 import time
 from collections import namedtuple
 
-from aide_compare.base.child import in_child
+from aide_compare.base.child import bound_of, in_child
 from aide_compare.base.ending import Fault, Status
 from aide_compare.base.escapes import shown
 
@@ -97,5 +97,4 @@ def _limit_memory(size):
     """Room for some copies of a message of this size and for what a server answers, and for no more."""
     with open("/proc/self/statm") as file:
         most = int(file.read().split()[0]) * resource.getpagesize() + 10 * size + MOST_ANSWERS
-    limits = resource.getrlimit(resource.RLIMIT_AS)
-    resource.setrlimit(resource.RLIMIT_AS, (min([most] + [limit for limit in limits if limit >= 0]), limits[1]))
+    bound_of(resource.RLIMIT_AS, most)

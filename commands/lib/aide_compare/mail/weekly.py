@@ -5,7 +5,7 @@ import time
 
 from aide_compare.base.ending import Fault, Status
 from aide_compare.base.escapes import shown
-from aide_compare.base.files import Replacement, open_regular
+from aide_compare.base.files import Replacement, read_file
 
 DAYS = ("Mon", "Tue", "Wed", "Thu", "Fri", "Sat", "Sun")
 
@@ -14,13 +14,9 @@ def _read(path):
     """The number of quiet runs, the time of the last heartbeat, and the number of explained changes; zeros without such a
     file. One with two numbers is of a time when no changes were explained."""
     try:
-        descriptor = open_regular(path)
+        words = read_file(path, 100).split()
     except Fault:
         return 0, 0, 0
-    try:
-        words = os.read(descriptor, 100).split()
-    finally:
-        os.close(descriptor)
     is_whole = len(words) in (2, 3) and all(word.isdigit() for word in words)
     return tuple(map(int, words + [b"0"]))[:3] if is_whole else (0, 0, 0)
 
