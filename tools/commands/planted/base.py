@@ -79,7 +79,7 @@ PLANTED = (
         ),
         (RIGHTS, "    os.setgroups(groups)\n", ""),
         (CHILD, "        _close_all_but(set(keep) | {writing})\n", ""),
-        (CHILD, "        left = limit - time.monotonic()\n", "        left = 60\n"),
+        (CHILD, "        left = every if deadline is None else deadline - time.monotonic()\n", "        left = 60\n"),
         (CHILD, "guarded(text) + beside", "guarded(text)"),
         (UNPACK, "rest, step = block[at : at + step], min(2 * step, BLOCK)", "rest = block[at:]"),
         (UNPACK, "        if len(first) > 1:\n", "        if first:\n"),

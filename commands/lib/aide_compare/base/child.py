@@ -11,7 +11,7 @@ import time
 from aide_compare.base.ending import Fault, Status, reason, write_all
 from aide_compare.base.escapes import guarded
 
-MOST_RESULT = 1 << 20
+MOST_RESULT, BLOCK = 1 << 20, 1 << 18
 FIRST_FREE, NOT_STARTED = 10, 127
 PR_SET_PDEATHSIG = 1
 
@@ -95,18 +95,38 @@ def _live(work, seconds, writing, keep):
     write_all(writing, answer)
 
 
-def _answer_of(reading, limit):
-    """What the child writes until it ends, or None if the time is over."""
-    answer = b""
-    while len(answer) <= MOST_RESULT:
-        left = limit - time.monotonic()
-        if left <= 0 or not select.select([reading], [], [], left)[0]:
-            return None
-        block = os.read(reading, 65536)
-        if not block:
-            return answer
-        answer += block
-    return None
+def pump(takers, deadline=None, every=None, tell=None):
+    """Gives what comes from each descriptor to its taker until all have ended; False if the time is over before that. Meanwhile
+    it calls `tell` after so many seconds."""
+    waiting = dict(takers)
+    while waiting:
+        left = every if deadline is None else deadline - time.monotonic()
+        if left is not None and left <= 0:
+            return False
+        for descriptor in select.select(list(waiting), [], [], left)[0]:
+            block = os.read(descriptor, BLOCK)
+            if block:
+                waiting[descriptor](block)
+            else:
+                del waiting[descriptor]
+        if tell:
+            tell()
+    return True
+
+
+def _answer_of(reading, deadline):
+    """What the child writes until it ends, or None if the time is over, or if that has no end."""
+    answer = bytearray()
+
+    def take(block):
+        answer.extend(block)
+        if len(answer) > MOST_RESULT:
+            raise OverflowError
+
+    try:
+        return bytes(answer) if pump({reading: take}, deadline) else None
+    except OverflowError:
+        return None
 
 
 def kill_group(child):

@@ -145,8 +145,9 @@ def nameless(room=None):
 
 
 def in_memory(data):
-    """A file of the kernel's with a few bytes, which have no place on a disk."""
+    """A private file of the kernel's with a few bytes, which have no place on a disk."""
     descriptor = os.memfd_create("aide-compare")
+    os.fchmod(descriptor, 0o600)
     write_all(descriptor, data)
     return descriptor
 

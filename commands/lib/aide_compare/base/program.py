@@ -1,16 +1,15 @@
 """Runs the proved program: found, given its databases as descriptors, and ended when the command ends."""
 import os
-import select
 import signal
 
 from aide_compare.base import progress
-from aide_compare.base.child import started
+from aide_compare.base.child import pump, started
 from aide_compare.base.ending import Fault, Status, reason
 from aide_compare.base.escapes import shown
 
 OLD, NEW, CONFIGURATION = 3, 4, 5  # Its descriptors, beside the standard ones.
 DATABASES = "database_in=file:/proc/self/fd/%d\ndatabase_new=file:/proc/self/fd/%d" % (OLD, NEW)
-BLOCK, MOST_ERRORS = 1 << 18, 1 << 20
+MOST_ERRORS = 1 << 20
 KNOWN = tuple(range(8)) + (Status.USAGE, Status.CONFIGURATION, Status.DEVICE, Status.MEMORY, Status.DATABASE)
 
 
@@ -21,12 +20,9 @@ class Drain:
         self.reading, self.writing = os.pipe()
         self.most, self.keep, self.size = most, keep, 0
 
-    def take(self):
-        """Takes what has come; False at the end."""
-        block = os.read(self.reading, BLOCK)
+    def take(self, block):
         self.keep(block[: max(self.most - self.size, 0)])
         self.size += len(block)
-        return bool(block)
 
 
 class Ended:
@@ -66,17 +62,6 @@ def _status_of(program, ended):
     return os.WEXITSTATUS(ended)
 
 
-def _drain(drains, tell, seconds):
-    """Reads all drains to their ends, and meanwhile tells how far the program is."""
-    waiting = {drain.reading: drain for drain in drains}
-    while waiting:
-        for reading in select.select(list(waiting), [], [], seconds)[0]:
-            if not waiting[reading].take():
-                del waiting[reading]
-        if tell:
-            tell()
-
-
 def run_program(program, words, given, most=None, keep=None):
     """Runs the program to its end. `given` are the descriptors of its report, 1, of the databases, 3 and 4, and of the
     configuration, 5. No file that it writes gets more than `most` bytes. With `keep` the report comes through a pipe, and its
@@ -91,7 +76,8 @@ def run_program(program, words, given, most=None, keep=None):
         for drain in drains.values():
             drain.writing = os.close(drain.writing)
         databases = {place: given[place] for place in (OLD, NEW) if place in given}
-        _drain(drains.values(), *progress.watched(child, databases))
+        tell, every = progress.watched(child, databases)
+        pump({drain.reading: drain.take for drain in drains.values()}, every=every, tell=tell)
         ended, child = os.waitpid(child, 0)[1], None
         progress.done("the program has run")
         return Ended(_status_of(program, ended), b"".join(lines), drains[1].size if keep else 0)

@@ -1,14 +1,13 @@
 """Fetches the database of a host by ssh, with a bound on bytes, error lines and time."""
 import os
 import re
-import select
 import time
 
-from aide_compare.base.child import ended, kill_group, started
+from aide_compare.base.child import ended, kill_group, pump, started
 from aide_compare.base.ending import Fault, reason, say
 from aide_compare.base.escapes import shown
 from aide_compare.base.options import matching, size
-from aide_compare.hosts.fleet_store import BLOCK, Part, no_room, same_bytes, seconds_left
+from aide_compare.hosts.fleet_store import Part, no_room, same_bytes
 
 PATH, MOST, MOST_ERRORS = "/var/lib/aide/aide.db.new", 1 << 30, 65536
 STOP_SECONDS = 10
@@ -60,19 +59,6 @@ class Transfer:
         if len(self.errors) > MOST_ERRORS:
             raise self.place.fault("sent more than %d bytes of errors" % MOST_ERRORS)
 
-    def receive(self, output, errors):
-        takers = {output: self.take_output, errors: self.take_errors}
-        while takers:
-            ready = select.select(list(takers), [], [], max(seconds_left(self.deadline), 0))[0]
-            if not ready or seconds_left(self.deadline) <= 0:
-                raise self.too_slow()
-            for descriptor in ready:
-                block = os.read(descriptor, BLOCK)
-                if block:
-                    takers[descriptor](block)
-                else:
-                    del takers[descriptor]
-
     def end(self, child):
         """The status of ssh, which may go on after it has closed its output."""
         status = ended(child, self.deadline)
@@ -87,7 +73,8 @@ class Transfer:
             child = started(words, {1: output[1], 2: errors[1]}, own_group=True)
             for descriptor in (output[1], errors[1]):
                 os.close(descriptor)
-            self.receive(output[0], errors[0])
+            if not pump({output[0]: self.take_output, errors[0]: self.take_errors}, self.deadline):
+                raise self.too_slow()
             status, child = self.end(child), None
             return status
         finally:
