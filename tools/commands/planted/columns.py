@@ -3,6 +3,9 @@ from .plant import seen_by
 
 LIB = "commands/lib/aide_compare/"
 COLUMNS, MAIL, MESSAGE = LIB + "compare/columns.py", LIB + "commands/mail.py", LIB + "mail/message.py"
+STATUS = LIB + "commands/status.py"
+# The state says that a mail has told them before it is sent.
+TOLD_BEFORE = "        keep_told(alarm, state, kept)\n        send(way, alarm.message.data())\n"
 
 PLANTED = seen_by(
     "columns.try_columns",
@@ -15,10 +18,12 @@ PLANTED = seen_by(
     (COLUMNS, 're.split(b"[ \\t]+", spec)', "spec.split()"),
     (MAIL, "        if self.unknown(state):\n            return False\n", ""),
     (MAIL, "and name not in self.known]", "]"),
-    (
-        MAIL,
-        "self.known = given, Held(), None",
-        "self.known = given, Held(), []",
-    ),
+    (MAIL, "self.known = given, Held(), None", "self.known = given, Held(), []"),
+    (MAIL, "    keep_told(alarm, state, kept)\n", ""),
+    (MAIL, "        send(way, alarm.message.data())\n    keep_told(alarm, state, kept)\n", TOLD_BEFORE),
+    (MAIL, "if state.status > 7 or name in skipped]", "if name in skipped]"),
+    (STATUS, """name.replace("\\\\", "\\\\\\\\").replace('"', '\\\\"')""", "name"),
+    (STATUS, 'counts += " (%s)" % skipped if skipped else ""', "pass"),
+    (STATUS, "filter(None, (text, not_compared(skipped_names(state))))", "[text]"),
     (MESSAGE, 're.sub(r"[^A-Za-z0-9._#-]", "?", name)', "name"),
 )

@@ -17,6 +17,14 @@ PLANTED = (
         (FRONT, "len(arguments) == 1 or bool(", "bool("),
         (FRONT, "near = difflib.get_close_matches(word, names, 1)", "near = sorted(names)"),
     )
+    + seen_by(
+        "front.try_common",
+        (LIB + "commands/sort.py", "    if not given.quiet:\n", "    if True:\n"),
+        (LIB + "commands/accept.py", "    if not given.quiet:\n", "    if True:\n"),
+        (LIB + "commands/hosts_report.py", "(is_alarm or not given.quiet)", "not given.quiet"),
+        (LIB + "commands/hosts_report.py", "    if len(on_stdout) + (given.format is not None) > 1:\n", "    if False:\n"),
+        (LIB + "show/colours.py", "if colour and are_wanted(choice) else line", "if colour else line"),
+    )
     + seen_by("front.try_help", (FRONT, "(*HOSTS[word])(", '(*HOSTS["fetch"])('))
     + seen_by(
         "front.try_version",
