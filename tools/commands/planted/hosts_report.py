@@ -138,7 +138,7 @@ PLANTED = (
     + seen_by(
         "hosts_quiet.try_records",
         (LIB + "hosts/fetching.py", "    place.remove(RECORDS)", "    pass"),
-        (LIB + "commands/hosts.py", "        part.write(mark_of(digest, digest))\n", ""),
+        (LIB + "commands/hosts.py", "BASELINES, mark_of(digest, digest))", "BASELINES)"),
     )
     + seen_by(
         "hosts_quiet.try_reasons",

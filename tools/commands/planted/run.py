@@ -259,8 +259,8 @@ PLANTED = (
         "attacks.try_broken_off",
         (
             "commands/lib/aide_compare/base/ending.py",
-            "if isinstance(error, MemoryError) else Fault",
-            "if not isinstance(error, MemoryError) else Fault",
+            "    if isinstance(error, MemoryError):\n",
+            "    if False:\n",
         ),
     )
     + seen_by(

@@ -8,7 +8,7 @@ import select
 import signal
 import time
 
-from aide_compare.base.ending import Fault, Status, reason, write_all
+from aide_compare.base.ending import Fault, Status, fault_of, write_all
 from aide_compare.base.escapes import guarded
 
 MOST_RESULT, BLOCK = 1 << 20, 1 << 18
@@ -84,14 +84,9 @@ def _live(work, seconds, writing, keep):
         signal.setitimer(signal.ITIMER_REAL, seconds + 5)
         _close_all_but(set(keep) | {writing})
         answer = b"=" + bytes(work() or b"")
-    except Fault as fault:
-        answer = b"!%d %s" % (fault.status, fault.text.encode("utf-8", "backslashreplace"))
-    except MemoryError:
-        answer = b"!22 out of memory"
-    except OSError as error:
-        answer = b"!18 " + reason(error).encode("utf-8", "backslashreplace")
     except BaseException as error:
-        answer = b"!18 " + ("%s: %s" % (type(error).__name__, error)).encode("utf-8", "backslashreplace")
+        fault = fault_of(error)
+        answer = b"!%d %s" % (fault.status, fault.text.encode("utf-8", "backslashreplace"))
     write_all(writing, answer)
 
 

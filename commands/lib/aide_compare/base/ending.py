@@ -66,6 +66,11 @@ def write_blocks(descriptor, parts, block=1 << 18):
             waiting, room = [], block
 
 
+def tell(*lines):
+    """Writes lines to standard output."""
+    write_all(1, "".join(line + "\n" for line in lines).encode("utf-8", "backslashreplace"))
+
+
 def say(text):
     """Writes a line with the name of the command to standard error. If that cannot be written, nothing else changes."""
     try:
@@ -101,17 +106,18 @@ def reason(error):
 
 
 def fault_of(error):
-    """The Fault that an exception means: itself, no memory, or a call of the system that failed."""
+    """The Fault that an exception means: itself, no memory, a call of the system that failed, or a mistake of this program."""
     if isinstance(error, Fault):
         return error
-    return Fault(Status.MEMORY, "out of memory") if isinstance(error, MemoryError) else Fault(Status.DEVICE, reason(error))
+    if isinstance(error, MemoryError):
+        return Fault(Status.MEMORY, "out of memory")
+    if isinstance(error, OSError):
+        return Fault(Status.DEVICE, reason(error))
+    return Fault(Status.DEVICE, "a fault of this command: %s: %s" % (type(error).__name__, guarded(str(error))[:300]))
 
 
 def why_of(error):
-    """What an exception means, in words. One that is no Fault of the machine is a mistake of this program."""
-    if isinstance(error, (Fault, MemoryError, OSError)):
-        return fault_of(error).text
-    return "a fault of this command: %s: %s" % (type(error).__name__, guarded(str(error))[:300])
+    return fault_of(error).text
 
 
 def _status_of(main):
@@ -125,20 +131,16 @@ def _status_of(main):
         return status if isinstance(status, int) else Status.DEVICE
     except Done:
         return Status.OK
-    except Fault as fault:
-        for text in (fault.text,) + fault.more:
-            say(text)
-        return fault.status
-    except MemoryError:
-        say("out of memory")
-        return Status.MEMORY
     except OSError as error:
         name = error.filename
         where = ": " + guarded(os.fsdecode(name)) if isinstance(name, (str, bytes)) else ""
         say("a call of the system failed%s: %s" % (where, reason(error)))
+        return Status.DEVICE
     except BaseException as error:  # Also KeyboardInterrupt, SystemExit and RecursionError.
-        say(why_of(error))
-    return Status.DEVICE
+        fault = fault_of(error)
+        for text in (fault.text,) + fault.more:
+            say(text)
+        return fault.status
 
 
 def called(name):

@@ -1,5 +1,5 @@
 """aide-compare accept: a database becomes the baseline if its SHA-256 is the one that was given."""
-from aide_compare.base.ending import Fault, Status, say, write_all
+from aide_compare.base.ending import Fault, Status, say, tell
 from aide_compare.base.escapes import shown
 from aide_compare.base.names import KINDS
 from aide_compare.base.options import EVIDENCE, Parser, evidence_of, some_text
@@ -136,15 +136,12 @@ def _given(arguments):
     raise Fault(Status.USAGE, why, "try: %s --help" % NAME)
 
 
-def _print(lines, given):
-    if not given.quiet:
-        write_all(1, "".join("%s\n" % line for line in lines).encode("utf-8", "backslashreplace"))
-
-
 def main(arguments):
     given = _given(arguments)
     if given.only_packages:
-        _print([keep_records_only(given.files[0], given.max_size)], given)
+        line = keep_records_only(given.files[0], given.max_size)
+        if not given.quiet:
+            tell(line)
         return Status.OK
     state, unknown, (new, path), wish = None, "", given.files, Wish(given)
     try:
@@ -156,7 +153,8 @@ def main(arguments):
     done = accept(wish, new, path)
     counts = _counts(state, done) if state else unknown
     try:
-        _print(_told(done, path, new, counts), given)
+        if not given.quiet:
+            tell(*_told(done, path, new, counts))
     except OSError:
         say("%s is the baseline, but that could not be printed" % shown(new))
         return Status.DEVICE

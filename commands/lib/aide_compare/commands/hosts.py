@@ -2,7 +2,7 @@
 import os
 import time
 
-from aide_compare.base.ending import Fault, Status, say, write_all
+from aide_compare.base.ending import Fault, Status, say, tell
 from aide_compare.base.files import copy_file, open_regular
 from aide_compare.base.options import Parser, some_text
 from aide_compare.base.times import date_of
@@ -11,7 +11,7 @@ from aide_compare.compare.soundness import refuse_unsound
 from aide_compare.compare.state import read_state
 from aide_compare.compare.unpack import copy_database, digest_of, open_database
 from aide_compare.hosts.fetching import add_fetching, fetch
-from aide_compare.hosts.fleet_store import Part, Place, add_place, check_name, no_room
+from aide_compare.hosts.fleet_store import Place, add_place, check_name, no_room
 from aide_compare.hosts.host_comparison import MOST_BASELINE, add_comparison, compare_or_say
 from aide_compare.hosts.host_reasons import BASELINES, NEWEST, exclusions_of
 from aide_compare.reasons.kept_records import mark_of
@@ -83,27 +83,22 @@ def accept_first(place, given):
     refused = place.fault("has a baseline already; nothing was accepted", Status.DATABASE)
     if place.has("aide.db"):
         raise refused
-    part, source = Part(place.fd), open_regular(place.file("aide.db.new"))
+    copy = copy_database("new", place.file("aide.db.new"), given.max_size)
+    refuse_unsound(copy)
     try:
-        copy = copy_database("new", place.file("aide.db.new"), given.max_size)
-        refuse_unsound(copy)
-        copy_file(source, part.fd)
-        part.keep("aide.db", replace=False)
+        place.copy("aide.db.new", "aide.db", replace=False)
     except FileExistsError:
         raise refused
     except OSError as error:
         raise place.fault("cannot keep its baseline: %s" % no_room(error))
-    finally:
-        os.close(source)
-        part.close()
     keep_records(place)
-    tell(place, given, "SHA-256 %s" % copy.sha256)
+    tell_of(place, given, "SHA-256 %s" % copy.sha256)
     return Status.OK
 
 
-def tell(place, given, text):
+def tell_of(place, given, text):
     if not given.quiet:
-        write_all(1, ("%s: %s: %s\n" % (NAME + "accept", place.host, text)).encode())
+        tell("%s: %s: %s" % (NAME + "accept", place.host, text))
 
 
 def say_what(place, given):
@@ -114,7 +109,7 @@ def say_what(place, given):
         return
     if state.counts and state.new_sha256.startswith(given.sha256.lower()):
         words = (date_of(state.time),) + state.counts
-        tell(place, given, "compared %s: added %d, removed %d, changed %d" % words)
+        tell_of(place, given, "compared %s: added %d, removed %d, changed %d" % words)
 
 
 def keep_records(place):
@@ -124,16 +119,10 @@ def keep_records(place):
     if not place.has(NEWEST):
         return
     digest = digest_of(open_database("old", place.file("aide.db")), MOST_BASELINE)
-    part, source = Part(place.fd), open_regular(place.file(NEWEST))
     try:
-        copy_file(source, part.fd)
-        part.write(mark_of(digest, digest))
-        part.keep(BASELINES)
+        place.copy(NEWEST, BASELINES, mark_of(digest, digest))
     except OSError as error:
         raise place.fault("is accepted, but its packages' records cannot be kept: %s" % no_room(error))
-    finally:
-        os.close(source)
-        part.close()
 
 
 def accept_next(place, given):

@@ -6,7 +6,7 @@ import signal
 import time
 
 from aide_compare.base.child import end_with, kill_group
-from aide_compare.base.ending import Fault, Status, reason, write_all
+from aide_compare.base.ending import Fault, Status, fault_of, tell, write_all
 from aide_compare.base.escapes import guarded, shown
 from aide_compare.base.files import read_file, read_whole
 from aide_compare.base.options import Parser, matching
@@ -32,12 +32,9 @@ def one_host(host, given):
         if not given.no_fetch:
             fetch(place, given, deadline, given.jobs)
         state = compare_or_say(place, given, given.jobs, deadline)
-    except Fault as fault:
+    except (Fault, OSError, MemoryError) as error:
+        fault = fault_of(error)
         return int(fault.status), False, fault.text
-    except OSError as error:
-        return int(Status.DEVICE), False, reason(error)
-    except MemoryError:
-        return int(Status.MEMORY), False, "out of memory"
     if state.status == 0:
         return 0, True, "no differences"
     if state.status > 7:
@@ -149,11 +146,10 @@ def compare_all(hosts, given):
         is_alarm = is_alarm or is_told
         if is_told or not given.quiet:
             name = shown(host, 200).replace(" ", "\\040")
-            line = in_colour("%s %d %s\n" % (name, status, text), RED if status > 7 else YELLOW if is_told else "", given.color)
-            write_all(1, line.encode("utf-8", "backslashreplace"))
+            colour = RED if status > 7 else YELLOW if is_told else ""
+            tell(in_colour("%s %d %s" % (name, status, text), colour, given.color))
     if is_alarm or not given.quiet:
-        words = "%d hosts: %d without differences, %d with, %d not compared\n" % ((len(hosts),) + tuple(counts))
-        write_all(1, words.encode())
+        tell("%d hosts: %d without differences, %d with, %d not compared" % (len(hosts), *counts))
     return worst
 
 

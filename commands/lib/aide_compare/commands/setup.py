@@ -8,7 +8,7 @@ import stat
 import subprocess
 from collections import namedtuple
 
-from aide_compare.base.ending import Fault, Status, reason, write_all
+from aide_compare.base.ending import Fault, Status, reason, tell
 from aide_compare.base.escapes import shown
 from aide_compare.base.files import open_folder, read_file, reopened, replace
 from aide_compare.base.options import ALARMS, Parser, some_text
@@ -40,10 +40,6 @@ TEXT = """\
 --weekly Mon
 """
 ONLY_UNEXPLAINED = "# Without this line all changes are mailed, what nothing explains first.\n--alarm unexplained\n"
-
-
-def tell(text):
-    write_all(1, (text + "\n").encode("utf-8", "backslashreplace"))
 
 
 def shipped(name):

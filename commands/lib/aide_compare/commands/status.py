@@ -4,7 +4,7 @@ import json
 import os
 
 from aide_compare.base.defaults import CHECK, defaults_for
-from aide_compare.base.ending import Done, Fault, Status, reason, write_all
+from aide_compare.base.ending import Done, Fault, Status, reason, tell, write_all
 from aide_compare.base.escapes import guarded, shown
 from aide_compare.base.files import replace
 from aide_compare.base.names import SEVERITIES
@@ -117,11 +117,6 @@ def form_of(arguments):
     return found if found in FORMS else "line"
 
 
-def write_text(text):
-    write_all(1, text.encode("utf-8", "backslashreplace"))
-    return Status.OK
-
-
 def line_of(path, most_age):
     """The line. Its first two words say whether anybody has to read on."""
     try:
@@ -146,7 +141,8 @@ def write_line(given):
     line = guarded(line_of(given.state, given.max_age))[:MOST]
     if given.quiet and line.startswith("no difference:"):
         return Status.OK
-    return write_text(painted(line, given.color) + "\n")
+    tell(painted(line, given.color))
+    return Status.OK
 
 
 def write_json(given):
@@ -154,7 +150,8 @@ def write_json(given):
     state = read_state(given.state)
     skipped = skipped_of(state)
     known = {**{key: getattr(state, key) for key in KEYS}, **state.more, **({"skipped": skipped} if skipped else {})}
-    return write_text(json.dumps(known, sort_keys=True) + "\n")
+    tell(json.dumps(known, sort_keys=True))
+    return Status.OK
 
 
 def metrics_of(state):
@@ -169,8 +166,9 @@ def metrics_of(state):
 def write_metrics(given):
     text = metrics_of(read_state(given.state))
     if given.output == "-":
-        return write_text(text)
-    replace(given.output, text.encode(), what="the metrics")
+        write_all(1, text.encode())
+    else:
+        replace(given.output, text.encode(), what="the metrics")
     return Status.OK
 
 
@@ -224,7 +222,7 @@ def judged(given):
 def answer(status, text, numbers=""):
     """Prints the line. A bar begins the numbers, so the text has none."""
     line = guarded(text)[:MOST_OF_CHECK].replace("|", "!")
-    write_text("AIDE %s: %s%s\n" % (WORDS[status], line, "|" + numbers if numbers else ""))
+    tell("AIDE %s: %s%s" % (WORDS[status], line, "|" + numbers if numbers else ""))
     return status
 
 

@@ -2,7 +2,7 @@
 import hashlib
 
 from aide_compare import VERSION
-from aide_compare.base.ending import Fault, Status, write_all
+from aide_compare.base.ending import Fault, Status, tell
 from aide_compare.base.escapes import shown
 from aide_compare.base.files import read_file
 from aide_compare.base.options import Parser
@@ -42,6 +42,5 @@ def main(arguments):
         "print the version alone",
         epilog="Status: 0 printed; 15 bad arguments; 18 the program cannot be read.",
     ).parse(arguments)
-    told = ["aide-compare %s" % VERSION, *([] if given.quiet else lines())]
-    write_all(1, "".join(line + "\n" for line in told).encode("utf-8", "backslashreplace"))
+    tell("aide-compare %s" % VERSION, *([] if given.quiet else lines()))
     return Status.OK

@@ -7,7 +7,7 @@ import re
 import time
 
 from aide_compare.base.ending import Fault, Status, reason, say, write_all
-from aide_compare.base.files import is_locked, new_file, open_regular, replace, unlink
+from aide_compare.base.files import copy_file, is_locked, new_file, open_regular, replace, unlink
 from aide_compare.base.folders import open_folder
 from aide_compare.base.options import duration, some_text
 from aide_compare.compare.state import State
@@ -139,6 +139,17 @@ class Place:
 
     def remove(self, name):
         unlink(name, self.fd)
+
+    def copy(self, source, name, more=b"", replace=True):
+        """Makes a copy of a file of this host, with more bytes at its end."""
+        part, descriptor = Part(self.fd), open_regular(self.file(source))
+        try:
+            copy_file(descriptor, part.fd)
+            part.write(more)
+            part.keep(name, replace)
+        finally:
+            os.close(descriptor)
+            part.close()
 
     def room(self, jobs):
         """The most bytes that this host may take now: with so many others at work, something is left for each of them."""

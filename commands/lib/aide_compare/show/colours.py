@@ -24,7 +24,7 @@ def painted(line, choice):
 
 def in_colour(line, colour, choice):
     """A line in a colour, where that is wanted; without a colour as it is."""
-    return colour + line.rstrip("\n") + PLAIN + "\n" * line.endswith("\n") if colour and are_wanted(choice) else line
+    return colour + line + PLAIN if colour and are_wanted(choice) else line
 
 
 def severity_in_colour(line, choice):
