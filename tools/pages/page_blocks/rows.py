@@ -7,7 +7,7 @@ from .pages import HERE
 
 README, EXAMPLES, RUN, MAIN = "README.md", "examples/README.md", "man/aide-compare-compare.1", "man/aide-compare-program.8"
 FRONT, CONF, HOSTS = "man/aide-compare.1", "man/aide-compare.conf.5", "man/aide-compare-hosts.1"
-JSON, REPORT = "man/aide-compare-json.1", "man/aide-compare-hosts-report.1"
+JSON = "man/aide-compare-json.1"
 
 
 class Row:
@@ -260,21 +260,21 @@ ROWS = [
         prepare=expectations.compare_host,
     ),
     Commands(
-        REPORT,
+        HOSTS,
         "The changes of today, those on one host first:",
         [7],
         expectations.prints("aide on 1 hosts: 1 differ, 0 not compared, 0 without differences\n\nHosts that differ:"),
         prepare=expectations.compare_host,
     ),
     Commands(
-        REPORT,
+        HOSTS,
         "What is new or changed below one directory, with all hosts that have it:",
         [7],
         expectations.prints("aide on 1 hosts: 1 differ"),
         prepare=expectations.compare_host,
     ),
     Commands(
-        REPORT,
+        HOSTS,
         "One mail for all hosts, after they were compared:",
         [7, 7],
         expectations.is_mailed_for_hosts,
