@@ -33,7 +33,7 @@ def manual_pages():
 def plain(line):
     """A line of a manual page without its macro, those that follow in the line, and its escapes."""
     if re.match(r"\.[A-Z][a-z]\b", line):
-        line = re.sub(r" (?:Ar|Fl|No|Pa|Xr)(?= )", "", line[4:])
+        line = re.sub(r" (?:Ar|Fl|No|Pa|Xr)(?= )| (?=[.,:;](?: |$))", "", line[4:])
     for escape, letters in ESCAPES:
         line = line.replace(escape, letters)
     return line
