@@ -40,6 +40,7 @@ OTHER_PAGES = [
     "man1/lsattr.1",
     "man1/sort.1",
     "man1/ssh.1",
+    "man1/systemctl.1",
     "man1/xargs.1",
     "man1/zcat.1",
     "man2/gethostname.2",
@@ -49,6 +50,11 @@ OTHER_PAGES = [
     "man8/sendmail.8",
     "man8/cron.8",
 ]
+# What mandoc says of what is meant: lines as wide as all others of the repository, and a first page that begins with examples.
+MEANT = re.compile(
+    r": STYLE: input text line longer than 80 bytes: |"
+    r"/aide-compare\.1:\d+:\d+: WARNING: sections out of conventional order: Sh DESCRIPTION$"
+)
 
 
 class Trial(Scratch, Tally):
@@ -132,7 +138,8 @@ def try_pages(trial):
         done = subprocess.run(
             ["mandoc", "-T", "lint", "-W", "style", *pages], capture_output=True, text=True, env=surroundings
         )
-        trial.holds("mandoc -T lint", done.stdout == "", done.stdout)
+        found = [line for line in done.stdout.splitlines() if not MEANT.search(line)]
+        trial.holds("mandoc -T lint", not found, found)
     else:
         print("skipped: mandoc is not installed")
 
