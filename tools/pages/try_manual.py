@@ -117,9 +117,14 @@ def section(page, title, macro="Sh"):
 
 
 def try_pages(trial):
-    """The pages are without a warning, where the programs that say so are installed."""
+    """No line is wide, and the pages are without a warning, where the programs that say so are installed."""
+    pages = sorted(glob.glob(os.path.join(HERE, "man", "*.[1-8]")))
+    for page in pages:
+        with open(page) as file:
+            wide = [line for line in file if len(line.rstrip("\n")) > 127]
+        trial.holds("lines of at most 127 columns in " + page, not wide, wide)
     if shutil.which("man"):
-        for page in (PAGE, CONF_PAGE):
+        for page in pages:
             done = subprocess.run(
                 ["man", "--warnings", "-E", "UTF-8", "-l", "-Tutf8", "-Z", page], capture_output=True, text=True
             )
@@ -127,7 +132,6 @@ def try_pages(trial):
     else:
         print("skipped: man is not installed")
     if shutil.which("mandoc"):
-        pages = sorted(glob.glob(os.path.join(HERE, "man", "*.[1-8]")))
         for page in pages:
             os.makedirs(trial.path("man/man" + page[-1]), exist_ok=True)
             shutil.copy(page, trial.path("man/man" + page[-1]))
