@@ -110,7 +110,7 @@ class Pair:
         self.more_columns, self.sections = list(more_columns), sections
 
     def openings(self, level):
-        """How often a run opens each database: for two passes, and once for each list and for the details, or for the lines."""
+        """How often a run opens each database: for two passes, and once for each list and the details, or for the lines."""
         if level == "lines":
             return 3 if self.sections else 2
         return 2 if level == "minimal" else 2 + self.sections

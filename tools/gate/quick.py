@@ -1,7 +1,7 @@
 """A verdict in minutes: the checks of the files, the formats, and all trials that prove nothing and do not run for long.
 
-Without PROGRAM the trials run with unproved programs, which `tools/build_unproved` makes of the sources as they are. The last line is
-'N passed, M failed'. This is no gate: only `tools/test` proves what it runs.
+Without PROGRAM the trials run with unproved programs, which `tools/build_unproved` makes of the sources as they are. The last
+line is 'N passed, M failed'. This is no gate: only `tools/test` proves what it runs.
 """
 import concurrent.futures
 import sys

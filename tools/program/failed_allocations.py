@@ -10,9 +10,9 @@ those of a command line that is not understood. There the parser looks for names
 The sessions are the stored cases, the examples at each report level, long arguments, paths and configurations, and random
 ones.
 
-With --lines the same is done with the program that writes lines of JSON, over the examples at one level, the long and the random
-sessions. With --in-memory another program is tried, crates/aide_in_memory. It runs sessions over files in memory. Each call that
-is refused memory has to say so, and is made once more. So with one refusal the program has to print what is stored beside
+With --lines the same is done with the program that writes lines of JSON, over the examples at one level, the long and the
+random sessions. With --in-memory another program is tried, crates/aide_in_memory. It runs sessions over files in memory. Each
+call that is refused memory has to say so, and is made once more. So with one refusal the program has to print what is stored beside
 it; with all later ones refused too it has to end with status 22 behind a front of that.
 
 The library is built by a C compiler of the machine or by that of the toolchain; with neither one trial fails. The last

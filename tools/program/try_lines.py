@@ -4,8 +4,8 @@
 It tries the stored cases, random sessions, the tables of configurations, names of each byte, values of every attribute,
 lines of the greatest length, and outputs that fail. Each answer has to be that of tools/oracle/lines.py, and Python's
 `json` has to read it. With --report a second program is run, which writes the report of the same words: both have to
-print the same on standard error and to end with the same status. With --pairs the databases below a folder are compared
-too, each with the next one of its folder. The last line is 'N passed, M failed'.
+print the same on standard error and to end with the same status. With --pairs only the databases below a folder are
+compared, each with the next one beside it. The last line is 'N passed, M failed'.
 """
 import base64
 import gzip
@@ -216,10 +216,9 @@ def try_sizes(lines):
         for label, words in both_jobs(folder):
             want = wanted_lines(words)
             for most in [*range(0, len(want.output), 7), len(want.output) - 1, len(want.output)]:
+                before = limited(resource.RLIMIT_FSIZE, most)
                 with open(folder.at("out"), "wb") as out:
-                    answer = run(
-                        lines.program, words, stdout=out, restore_signals=False, preexec_fn=limited(resource.RLIMIT_FSIZE, most)
-                    )
+                    answer = run(lines.program, words, stdout=out, restore_signals=False, preexec_fn=before)
                 with open(folder.at("out"), "rb") as out:
                     given = Answer(out.read(), answer.errors, answer.status)
                 wanted = want if most == len(want.output) else Answer(want.output[:most], NOT_WRITTEN, 18)
