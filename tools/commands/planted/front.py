@@ -30,6 +30,7 @@ PLANTED = (
         "front.try_version",
         (VERSION, 'record.get("sha256") != digest', "not digest"),
         (VERSION, "shown(proved, 200)", "proved"),
+        (VERSION, "find_lines())]", "find_program())]"),
     )
     + seen_by(
         "front.try_forms",

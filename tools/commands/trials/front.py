@@ -9,6 +9,7 @@ from .sandbox import DIFFER, NEW, OLD, sha256
 TOOL = "aide-compare"
 SUBCOMMANDS = "compare json page reasons mail accept status sort setup version".split()
 HOSTS = "fetch compare compare-one accept report".split()
+LINES_PROGRAM = b"program of lines: "
 # A program in place of the proved one: it tells its arguments, and which signals it ignores.
 TELLS = 'printf "%s\\n" "$@"; grep SigIgn /proc/self/status; exit 5'
 SIGPIPE = 1 << 12
@@ -133,10 +134,21 @@ def try_program(sandbox):
 
 
 def try_version(sandbox):
-    """The program that is run, and what its record says of it, if that is of this program."""
-    with open(sandbox.program, "rb") as file:
+    """The programs that are run, and what the record of each says of it, if that is of this program."""
+    try_record(sandbox, sandbox.program, lambda output: output.partition(LINES_PROGRAM)[0])
+    try_record(sandbox, sandbox.lines_program, lambda output: b"program: " + output.partition(LINES_PROGRAM)[2])
+    sandbox.expect("an argument too many", sandbox.call(TOOL, "version", "x"), 15, b"", b"aide-compare version: ")
+    os.rename(sandbox.lines_program, sandbox.lines_program + ".away")
+    answer = sandbox.call(TOOL, "version")
+    sandbox.expect("no program of lines", answer, 18, b"", b"cannot find " + sandbox.lines_program.encode())
+    os.rename(sandbox.lines_program + ".away", sandbox.lines_program)
+
+
+def try_record(sandbox, program, part):
+    """What the version says of a program by each record beside it; `part` takes this from the output."""
+    with open(program, "rb") as file:
         digest = sha256(file.read())
-    first = b"program: %s\nSHA-256: %s\n" % (sandbox.program.encode(), digest.encode())
+    first = b"program: %s\nSHA-256: %s\n" % (program.encode(), digest.encode())
     for record, last in (
         (None, b"kit: not known\na proved build: not known: there is no record of how it was built\n"),
         ("sha256=%s\nkit=k 1\nproved=yes\n" % digest, b"kit: k 1\na proved build: yes\n"),
@@ -149,12 +161,13 @@ def try_version(sandbox):
         ("sha256=%s\n%s" % (digest, "proved=yes\n" * 9999), b"there is no record of how it was built\n"),
     ):
         if record is not None:
-            sandbox.write("libexec/aide-compare/aide.build", record)
+            sandbox.write(program + ".build", record)
         for words in (["version"], ["--version"]):
             answer = sandbox.call(TOOL, *words)
-            sandbox.expect("the version: %.40r" % record, answer, 0, [b"aide-compare ", first, last], b"")
-    os.remove(sandbox.path("libexec/aide-compare/aide.build"))
-    sandbox.expect("an argument too many", sandbox.call(TOOL, "version", "x"), 15, b"", b"aide-compare version: ")
+            good = answer.status == 0 and answer.output.startswith(b"aide-compare ") and not answer.errors
+            said = part(answer.output)
+            sandbox.holds("the version: %.40r" % record, good and first in said and last in said, answer)
+    os.remove(program + ".build")
 
 
 def try_forms(sandbox):

@@ -9,6 +9,7 @@ import sys
 
 from tools.lib.apart import has_own_mounts
 from tools.lib.scratch import TOP as HERE, Scratch
+from tools.lib.tally import lines_program_of
 
 # Only for a tool that hangs: on a machine with much other work a run may take minutes.
 TIME_LIMIT = 300
@@ -71,6 +72,7 @@ class Sandbox(Scratch):
         os.chmod(self.room, 0o1777)
         os.makedirs(self.path("libexec/aide-compare"))
         self.program = shutil.copy(os.fsdecode(program), self.path("libexec/aide-compare/aide"))
+        self.lines_program = shutil.copy(lines_program_of(program), self.path("libexec/aide-compare/aide_lines"))
         for folder in ("bin", "nagios"):
             for name in os.listdir(os.path.join(HERE, "commands", folder)):
                 shutil.copy(os.path.join(HERE, "commands", folder, name), self.path("bin/" + name))

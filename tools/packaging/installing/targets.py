@@ -3,6 +3,7 @@ import os
 import shutil
 import subprocess
 
+from tools.lib.tally import lines_program_of
 from tools.packaging.installing.trial import files, rights, tree
 
 DOCUMENTS = "share/doc/aide-compare"
@@ -11,6 +12,7 @@ MANIFEST = "lib/aide-compare/installed"
 KNOWN = [
     "bin/aide-compare",
     "libexec/aide-compare/aide",
+    "libexec/aide-compare/aide_lines",
     "lib/systemd/system/aide-compare.service",
     "lib/systemd/system/aide-compare.timer",
     "lib/systemd/system/aide-compare-mail.service",
@@ -42,9 +44,12 @@ FOLDERS = {
     "examples/small_tree": DOCUMENTS + "/examples/small_tree",
 }
 
+PROGRAMS = ("libexec/aide-compare/aide", "libexec/aide-compare/aide_lines")
+
 # What packaging/install makes.
 MADE = {
     "libexec/aide-compare/aide.build": 0o644,
+    "libexec/aide-compare/aide_lines.build": 0o644,
     "share/bash-completion/completions/aide-compare": 0o644,
     "share/zsh/site-functions/_aide-compare": 0o644,
     "share/fish/vendor_completions.d/aide-compare.fish": 0o644,
@@ -72,7 +77,7 @@ def target_of(path):
 
 def wanted_modes(source):
     """The permissions of each file that is to be installed, by its path below the prefix."""
-    wanted = {"libexec/aide-compare/aide": 0o755, MANIFEST: 0o644, **MADE}
+    wanted = {**{path: 0o755 for path in PROGRAMS}, MANIFEST: 0o644, **MADE}
     for path, (mode, _) in files(tree(source)).items():
         mode = 0o755 if mode & 0o100 else 0o644
         target = target_of(path)
@@ -97,8 +102,9 @@ def try_targets(trial):
     for path, (mode, data) in sorted(found.items()):
         if data is None:
             trial.holds("the mode of the folder " + path, mode == 0o755, show(mode))
-    with open(trial.program, "rb") as file:
-        trial.holds("the program is installed as it is", found[prefix + "libexec/aide-compare/aide"][1] == file.read())
+    for program, target in zip((trial.program, lines_program_of(trial.program)), PROGRAMS):
+        with open(program, "rb") as file:
+            trial.holds(target + " is installed as it is", found[prefix + target][1] == file.read())
     for target, mode in sorted(wanted.items()):
         if mode == 0o755 and target.startswith("bin/"):
             trial.holds("the name of the command " + target, target[4:].startswith("aide-compare"))
@@ -242,41 +248,56 @@ def try_refusals(trial):
         trial.holds(
             "refused: " + " ".join(words), done[0] == 2 and done[1] == "" and not os.path.exists(trial.path("refused")), done
         )
-    done = trial.install("--destdir", trial.path("refused"), "--program", trial.path("nowhere"))
-    trial.holds("a program that is not there", done[0] == 1 and not os.path.exists(trial.path("refused")), done)
+    alone = trial.write("alone/aide", "a program\n", 0o755)
+    for program, missing in (
+        (trial.path("aide-nowhere"), trial.path("aide-nowhere")),
+        (alone, alone + "_lines"),
+        (trial.path("nowhere"), "has to begin with aide"),
+    ):
+        done = trial.install("--destdir", trial.path("refused"), "--program", program)
+        good = done[0] == 1 and missing in done[2] and not os.path.exists(trial.path("refused"))
+        trial.holds("a program that is not there: " + missing, good, done)
     done = trial.install("--help")
     trial.holds("--help", done[0] == 0 and "--uninstall" in done[1] and "8 to 13 minutes" in done[1], done)
 
 
 def try_build(trial):
-    """Without a built program, or with an old one, it is built first."""
+    """A program that is not built, or that is old, is built first."""
     source = trial.copy("unbuilt")
-    code = trial.write("unbuilt/crates/aide/src/main.rt", "//! A program.\n")
-    built = os.path.join(source, "crates/aide/out/aide")
-    calls = trial.path("calls")
+    for name in ("aide", "aide_lines"):
+        trial.write("unbuilt/crates/%s/src/main.rt" % name, "//! A program.\n")
+    built, lines_built = (os.path.join(source, "crates/%s/out/%s" % (name, name)) for name in ("aide", "aide_lines"))
+    calls, programs = trial.path("calls"), os.path.dirname(trial.program)
     trial.write(
-        "stubs/rt", '#!/bin/sh\necho "$PWD $*" >> "%s"\nmkdir -p out && cp "%s" out/aide\n' % (calls, trial.program), 0o755
+        "stubs/rt",
+        '#!/bin/sh\necho "$PWD $*" >> "%s"\nmkdir -p out && cp "%s/${PWD##*/}" out/\n' % (calls, programs),
+        0o755,
     )
     words = ["--destdir", trial.path("built")]
     done = trial.install(*words, source=source, env=trial.plain())
     good = done[0] == 1 and "rt" in done[2] and "--program" in done[2] and not os.path.exists(trial.path("built"))
     trial.holds("no program and no rt", good, done)
     surroundings = dict(os.environ, PATH=trial.path("stubs") + ":" + trial.plain_path)
-    for name, wanted in (("no program", 1), ("a program that was built after its sources", 1), ("an old program", 2)):
-        if name == "an old program":
-            os.utime(built, (1, 1))
+    for name, old, wanted in (
+        ("no programs", None, ["aide", "aide_lines"]),
+        ("programs that were built after their sources", None, []),
+        ("an old program", built, ["aide"]),
+        ("an old program of lines", lines_built, ["aide_lines"]),
+    ):
+        if old:
+            os.utime(old, (1, 1))
+        trial.write("calls", "")
         done = trial.install(*words, source=source, env=surroundings)
         with open(calls) as file:
             lines = [line for line in file.read().splitlines() if " run " in line]
-        trial.holds(name, done[0] == 0 and len(lines) == wanted, (done, lines))
-        trial.holds(
-            "it says how long it takes: " + name,
-            ("8 to 13 minutes" in done[2]) == (name != "a program that was built after its sources"),
-            done,
-        )
-    trial.holds("how rt is called", lines[-1] == os.path.dirname(os.path.dirname(code)) + " run -- -D -c /dev/null", lines)
-    with open(trial.path("built/usr/local/libexec/aide-compare/aide"), "rb") as one, open(trial.program, "rb") as two:
-        trial.holds("what was built is installed", one.read() == two.read())
+        called = ["%s/crates/%s run -- -D -c /dev/null" % (source, crate) for crate in wanted]
+        trial.holds("how rt is called: " + name, done[0] == 0 and lines == called, (done, lines))
+        trial.holds("it says how long it takes: " + name, ("8 to 13 minutes" in done[2]) == bool(wanted), done)
+    for program, target in zip((trial.program, lines_program_of(trial.program)), PROGRAMS):
+        with open(trial.path("built/usr/local", target), "rb") as one, open(program, "rb") as two:
+            trial.holds("what was built is installed: " + target, one.read() == two.read())
+    done = trial.run([trial.path("built/usr/local/bin/aide-compare"), "--version"])
+    trial.holds("both were proved here", done[0] == 0 and done[1].count("a proved build: yes\n") == 2, done)
     os.remove(built)
     script = os.path.join(source, "packaging", "make_package")
     done = trial.run(["sh", script, "--output", trial.path("unbuilt/out")], env=surroundings)

@@ -5,6 +5,7 @@ import pwd
 import re
 import shutil
 
+from tools.lib.tally import lines_program_of
 from tools.packaging.installing.completions import HOSTS, SUBCOMMANDS
 from tools.packaging.installing.targets import DOCUMENTS
 from tools.packaging.installing.trial import HERE, texts, tree
@@ -43,12 +44,15 @@ def try_programs(trial):
 
 
 def try_version_of(trial, command):
-    """The version says which program is run. It is not known to be proved: it was named by --program."""
-    with open(trial.program, "rb") as file:
-        digest = hashlib.sha256(file.read()).hexdigest()
+    """The version says which programs are run. They are not known to be proved: they were named by --program."""
+    digests = []
+    for program in (trial.program, lines_program_of(trial.program)):
+        with open(program, "rb") as file:
+            digests.append(hashlib.sha256(file.read()).hexdigest())
     done = trial.run([command, "--version"])
-    good = done[0] == 0 and done[1].startswith("aide-compare %s\n" % trial.version) and "\nSHA-256: %s\n" % digest in done[1]
-    trial.holds("the version", good and done[1].endswith("a proved build: not known: it was named by --program\n"), done)
+    good = done[0] == 0 and done[1].startswith("aide-compare %s\n" % trial.version)
+    trial.holds("the version", good and re.findall("\nSHA-256: (.*)\n", done[1]) == digests, done)
+    trial.holds("they were named", done[1].count("a proved build: not known: it was named by --program\n") == 2, done)
 
 
 def try_pages(trial):
@@ -193,13 +197,15 @@ def try_version(trial):
 
 def try_unproved(trial):
     """A program that is not proved, by its name, marks the version of each command, and is never packed."""
-    program = shutil.copy(trial.program, trial.path("aide-unproved"))
+    program = trial.copied_programs(trial.program, "unproved programs", "aide-unproved")
     done = trial.install("--destdir", trial.path("unproved"), "--program", program)
     trial.holds("an unproved program is installed", done[0] == 0, done)
     done = trial.run([trial.path("unproved/usr/local/bin/aide-compare"), "--version"])
     trial.holds(
         "the version says so",
-        done[0] == 0 and done[1].startswith("aide-compare %s, unproved\n" % trial.version) and done[1].endswith(": no\n"),
+        done[0] == 0
+        and done[1].startswith("aide-compare %s, unproved\n" % trial.version)
+        and done[1].count("a proved build: no\n") == 2,
         done,
     )
     script = os.path.join(trial.source, "packaging", "make_package")

@@ -5,7 +5,7 @@ import stat
 import subprocess
 
 from tools.lib.scratch import TOP as HERE, Scratch
-from tools.lib.tally import Tally
+from tools.lib.tally import Tally, lines_program_of
 
 PARTS = [
     "commands",
@@ -31,11 +31,17 @@ class Trial(Scratch, Tally):
     def __init__(self, program):
         Scratch.__init__(self, "try-install-")
         Tally.__init__(self)
-        self.program = shutil.copy(program, self.path("program"))
+        self.program = self.copied_programs(program, "built programs", "aide")
         self.source = self.copy("source")
         with open(os.path.join(self.source, "VERSION")) as file:
             self.version = file.read().strip()
         self.plain_path = self.make_plain_path()
+
+    def copied_programs(self, program, folder, name):
+        """The path of a copy of the program in a new folder, with the program of lines beside it."""
+        os.mkdir(self.path(folder))
+        shutil.copy(lines_program_of(program), self.path(folder, name.replace("aide", "aide_lines")))
+        return shutil.copy(program, self.path(folder, name))
 
     def copy(self, name):
         """A copy of the parts of the repository that are installed or that install."""

@@ -52,7 +52,8 @@ def entries(report):
 def try_install(trial, page):
     text = page.text("install")
     trial.holds("install: the command that was run", text == "packaging/install\n", text)
-    for name in ("bin/aide-compare", "libexec/aide-compare/aide", "lib/nagios/plugins/check_aide_compare"):
+    programs = ["libexec/aide-compare/" + name for name in ("aide", "aide_lines")]
+    for name in ("bin/aide-compare", *programs, "lib/nagios/plugins/check_aide_compare"):
         trial.holds("installed: " + name, os.access(trial.path("/usr/local/" + name), os.X_OK))
     done = trial.run(["aide-compare", "-D", "-c", "/dev/null"])
     trial.holds("the installed program", done == (0, "", ""), done)

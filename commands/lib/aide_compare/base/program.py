@@ -49,8 +49,13 @@ def find_front():
 
 
 def find_program():
-    """The path of the proved program."""
+    """The path of the proved program that writes reports."""
     return find_installed("libexec/aide-compare/aide")
+
+
+def find_lines():
+    """The path of the proved program that writes lines of JSON, and what a configuration says."""
+    return find_installed("libexec/aide-compare/aide_lines")
 
 
 def _status_of(program, ended):
