@@ -294,7 +294,8 @@ def waits_for_input(process):
 
 
 def try_secrecy(sandbox):
-    """Whatever the umask, the copies and the configuration have no name and can be opened by their owner only."""
+    """Whatever the umask, the copies and the configuration have no name and can be opened by their owner only. A configuration is
+    in memory."""
     program = sandbox.program
     sandbox.write("conf", "report_url=stdout\n")
     os.rename(program, program + ".away")
@@ -307,7 +308,8 @@ def try_secrecy(sandbox):
     for mask in (0, 0o22, 0o77):
         answer = sandbox.call(TOOL, "-c", "conf", "old.db", "new.db.gz", before=UMASK % mask)
         lines = sandbox.read("modes").decode().splitlines()
-        deleted = [line for line in lines if line.startswith(sandbox.room + "/#") and line.endswith(" (deleted)")]
+        places = (sandbox.room + "/#", "/memfd:")
+        deleted = [line for line in lines if line.startswith(places) and line.endswith(" (deleted)")]
         good = answer.status == 7 and lines[:3] == ["600-0"] * 3 and len(set(deleted)) == 3
         sandbox.holds("private files under the umask %o" % mask, good, lines)
     os.remove(program)
