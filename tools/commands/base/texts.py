@@ -112,7 +112,7 @@ def try_words(tally, _):
         ("changed with the times of before", (old, kept), "size 5 -> 6"),
         ("has other blocks", (moved, kept), "blocks"),
     ):
-        expect(tally, "what %s, and when" % label, entry_words.words_of(*pair), want)
+        expect(tally, "what %s, and when" % label, entry_words.entry_words(*pair), want)
 
 
 def try_options(tally, _):

@@ -35,7 +35,7 @@ PLANTED = (
     )
     + seen_by(
         RUNS % "try_records",
-        (EXPLAINING, '                why = misfit(path, comparison.copies["old"].sha256)', '                why = ""'),
+        (EXPLAINING, '                why = mismatch(path, comparison.copies["old"].sha256)', '                why = ""'),
         (RECORDS, "            file.write(mark_of(digest, accepted))\n", ""),
         (RECORDS, "            return digest_in(descriptor) == self.digest", "            return False"),
     )
@@ -64,7 +64,7 @@ PLANTED = (
             "for key, count in ()",
         ),
         (BRIEF, "        if change.reason is None:", '        if change.reason is None and change.severity != "high":'),
-        (WORDS, "return words_of_both(old, new)", "return words_of_both(old, old)"),
+        (WORDS, "differ = differences(old, new)", "differ = differences(old, old)"),
         (OUTPUTS, "PRIVATE = 0o600", "PRIVATE = 0o644"),
     )
     + seen_by("run.try_counts", (COMPARISON, "self.texts.config == self.given.config or", "True or"))

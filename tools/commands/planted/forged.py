@@ -89,7 +89,7 @@ PLANTED = (
         "forged.try_between",
         (DPKG, "            self.doubted.append(name)\n", "            pass\n"),
         (EVIDENCE, "Packages([old], beside + [new], Archive", "Packages([old], [new], Archive"),
-        (KEPT, "if digest_in(descriptor) != accepted:", "if True:"),
+        (KEPT, "if digest_in(file.fileno()) == accepted:", "if False:"),
     )
     + seen_by(
         "forged.try_new_packages",

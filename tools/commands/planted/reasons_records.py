@@ -1,6 +1,8 @@
 """Bugs of aide-compare reasons: which files of packages' records are kept and believed, and what bounds them."""
 from .plant import seen_by
-from .reasons import RECORDS
+from .reasons import LIB, RECORDS
+
+KEPT_RECORDS = LIB + "kept_records.py"
 
 PLANTED = (
     seen_by(
@@ -31,10 +33,7 @@ PLANTED = (
     )
     + seen_by(
         "reasons_records.try_of_that_time",
-        (
-            "commands/lib/aide_compare/reasons/kept_records.py",
-            "else mark_of(digest, accepted)",
-            "else mark_of(accepted, accepted)",
-        ),
+        (KEPT_RECORDS, "else mark_of(digest, accepted)", "else mark_of(accepted, accepted)"),
+        (KEPT_RECORDS, "if digest_in(file.fileno()) == accepted:", "if True:"),
     )
 )

@@ -7,8 +7,9 @@ import gzip
 import io
 import os
 import re
+from contextlib import suppress
 
-from aide_compare.base.ending import Fault, reason, write_all
+from aide_compare.base.ending import Fault, why_of, write_all
 from aide_compare.base.escapes import shown
 from aide_compare.base.files import nameless, open_regular
 
@@ -52,27 +53,6 @@ def records_for(digest, accepted):
         raise
 
 
-def _of_that_time(path, digest, accepted):
-    """A descriptor of a copy of records that belong to the database `accepted`, for the baseline with this digest, or None."""
-    from aide_compare.reasons.packed import Refuted, copied
-    from aide_compare.reasons.records import MOST_ALL
-
-    if path is None or not os.path.lexists(path):
-        return None
-    descriptor = open_regular(path, "the packages' records ")
-    try:
-        if digest_in(descriptor) != accepted:
-            return None
-        target = copied(descriptor, None, MOST_ALL)[0]
-        os.lseek(target, 0, os.SEEK_END)
-        write_all(target, b"" if digest == accepted else mark_of(digest, accepted))
-        return target
-    except Refuted:
-        return None
-    finally:
-        os.close(descriptor)
-
-
 def digest_in(descriptor):
     """The digest of the baseline to which records belong; "" if they do not say."""
     size = os.fstat(descriptor).st_size
@@ -80,14 +60,32 @@ def digest_in(descriptor):
     return found.group(1).decode() if found else ""
 
 
-def misfit(path, digest):
+def _opened(path):
+    """Records that were kept, as an open file."""
+    return open(open_regular(path, "the packages' records "), "rb", buffering=0)
+
+
+def _of_that_time(path, digest, accepted):
+    """A descriptor of a copy of records that belong to the database `accepted`, for the baseline with this digest, or None."""
+    from aide_compare.reasons.packed import Refuted, copied
+    from aide_compare.reasons.records import MOST_ALL
+
+    if path is None or not os.path.lexists(path):
+        return None
+    with _opened(path) as file, suppress(Refuted):
+        if digest_in(file.fileno()) == accepted:
+            target = copied(file.fileno(), None, MOST_ALL)[0]
+            os.lseek(target, 0, os.SEEK_END)
+            write_all(target, b"" if digest == accepted else mark_of(digest, accepted))
+            return target
+    return None
+
+
+def mismatch(path, digest):
     """Why the records at a path are not those of the time of a baseline with this digest; "" if nothing speaks against it.
     Records that name no baseline are the caller's own. A Fault if they cannot be opened."""
-    descriptor = open_regular(path, "the packages' records ")
-    try:
-        found = digest_in(descriptor)
-    finally:
-        os.close(descriptor)
+    with _opened(path) as file:
+        found = digest_in(file.fileno())
     return "" if found in ("", digest) else "they belong to another baseline; aide-compare accept writes them anew"
 
 
@@ -99,25 +97,22 @@ class Records:
     def __init__(self, baseline, digest, accepted=None, beside=None):
         """`accepted` is the digest of the database of which the baseline was made, and `beside` is where records of its time
         may be. They are taken rather than those of now, in which a later upgrade is."""
-        self.baseline, self.digest, self.why, self.fd = baseline, digest, "", None
-        self.time = "now"
+        self.baseline, self.digest, self.why, self.fd, self.time = baseline, digest, "", None, "now"
         try:
             self.fd = _of_that_time(beside, digest, accepted or digest)
-            self.time = "now" if self.fd is None else "the database's time"
-            self.fd = records_for(digest, accepted or digest) if self.fd is None else self.fd
-        except Fault as fault:
-            self.why = fault.text
-        except OSError as error:
-            self.why = reason(error)
+            if self.fd is None:
+                self.fd = records_for(digest, accepted or digest)
+            else:
+                self.time = "the database's time"
+        except (Fault, OSError) as error:
+            self.why = why_of(error)
 
     def are_there(self):
         descriptor = self.baseline.reading_beside(SUFFIX)
         if descriptor is None:
             return False
-        try:
+        with open(descriptor, "rb", buffering=0):
             return digest_in(descriptor) == self.digest
-        finally:
-            os.close(descriptor)
 
     def keep(self):
         """Writes the records, if there are any. Returns a line that says what was done; nothing without dpkg and rpm."""

@@ -78,20 +78,17 @@ class RpmRecords:
 
     def _copy_to(self, folder):
         """Copies the database into a folder, and notes the digests of the copy."""
-        source = open_regular(self.path, "rpm's database ")
-        target = os.open(WHOLE, os.O_WRONLY | os.O_CREAT | os.O_EXCL | os.O_CLOEXEC, 0o600, dir_fd=folder)
-        try:
-            hashes, left = Hashes(STRONG), MOST_DATABASE
-            for block in iter(lambda: os.read(source, 1 << 20), b""):
-                left -= len(block)
-                if left < 0:
-                    raise Refuted("the database is too large")
-                hashes.update(block)
-                write_all(target, block)
-            self.digests = hashes.digests()
-        finally:
-            os.close(source)
-            os.close(target)
+        hashes, left = Hashes(STRONG), MOST_DATABASE
+        with open(open_regular(self.path, "rpm's database "), "rb", buffering=0) as source:
+            flags = os.O_WRONLY | os.O_CREAT | os.O_EXCL | os.O_CLOEXEC
+            with open(os.open(WHOLE, flags, 0o600, dir_fd=folder), "wb", buffering=0) as target:
+                for block in iter(lambda: source.read(1 << 20), b""):
+                    left -= len(block)
+                    if left < 0:
+                        raise Refuted("the database is too large")
+                    hashes.update(block)
+                    write_all(target.fileno(), block)
+        self.digests = hashes.digests()
 
     def _asked(self, folder):
         """A private file with what rpm says of the database in a folder, and the status of rpm."""
@@ -108,8 +105,7 @@ class RpmRecords:
                 return target, process.wait()
             finally:
                 timer.cancel()
-                if process.poll() is None:
-                    process.kill()
+                process.kill()
 
     def close(self):
         """There is nothing to close."""

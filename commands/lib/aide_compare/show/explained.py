@@ -15,7 +15,7 @@ from aide_compare.lines.report_parts import read_report
 from aide_compare.lines.report_written import Values
 from aide_compare.reasons.evidence import Evidence, evidence_of
 from aide_compare.reasons.explainer import Explainer, members_of
-from aide_compare.reasons.kept_records import SUFFIX, misfit
+from aide_compare.reasons.kept_records import SUFFIX, mismatch
 from aide_compare.reasons.tables import Severity
 from aide_compare.show.brief import brief, unjudged
 
@@ -44,7 +44,7 @@ class Sources:
         path = self.given.packages or (kept if self.finds and os.path.lexists(kept) else None)
         if path:
             try:
-                why = misfit(path, comparison.copies["old"].sha256)
+                why = mismatch(path, comparison.copies["old"].sha256)
                 if not why:
                     return self._evidence(packages=path, packages_beside=self._beside_new(comparison))
             except Fault as fault:
@@ -58,7 +58,7 @@ class Sources:
         path = comparison.new + SUFFIX
         try:
             is_kept = not self.given.packages_now and os.path.lexists(path)
-            return path if is_kept and not misfit(path, comparison.copies["new"].sha256) else None
+            return path if is_kept and not mismatch(path, comparison.copies["new"].sha256) else None
         except Fault:
             return None
 

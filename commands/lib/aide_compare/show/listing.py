@@ -12,7 +12,7 @@ from collections import Counter
 from aide_compare.base.escapes import shown
 from aide_compare.compare.reason_counts import counted, most_frequent
 from aide_compare.reasons.entries import differences
-from aide_compare.reasons.entry_words import words_of
+from aide_compare.reasons.entry_words import entry_words
 from aide_compare.reasons.parents import has_other_names
 
 # Lines of one severity for root's changes, for those of system users, and for those of all others.
@@ -129,7 +129,7 @@ def group_lines(changes, shares, folders):
         if folders.counts(change):
             continue
         if shares.takes(change):
-            words = words_of(*folders.read(change))
+            words = entry_words(*folders.read(change))
             path = shown(change.path, MOST_PATHS[group_of_owner(change.owner)])
             yield "%-7s  %s%s" % (kind_of(change), path, words and ": " + words)
             folders.named.update([change.folder()] if change.is_replaced else [])
