@@ -20,7 +20,7 @@ PLANTED = (
     + seen_by(
         "front.try_common",
         (LIB + "commands/sort.py", "    if not given.quiet:\n", "    if True:\n"),
-        (LIB + "commands/accept.py", "        if not given.quiet:\n            tell(*_told", "        if True:\n            tell(*_told"),
+        (LIB + "commands/accept.py", ":\n            tell(*_told", " or True:\n            tell(*_told"),
         (LIB + "commands/hosts_report.py", "(is_alarm or not given.quiet)", "not given.quiet"),
         (LIB + "commands/hosts_report.py", "    if len(on_stdout) + (given.format is not None) > 1:\n", "    if False:\n"),
         (LIB + "show/colours.py", "if colour and are_wanted(choice) else line", "if colour else line"),

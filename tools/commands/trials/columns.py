@@ -41,7 +41,8 @@ def try_places(sandbox):
 
 def try_status(sandbox):
     """Each form of the status has the names."""
-    sandbox.write("odd.db", OLD.replace(b"fstype", b'a"b').replace(b"size\n", b"size c\\d\n").replace(b"4096\n", b"4096 1\n").replace(b" 5\n", b" 5 1\n"))
+    odd = OLD.replace(b"fstype", b'a"b').replace(b"size\n", b"size c\\d\n")
+    sandbox.write("odd.db", odd.replace(b"4096\n", b"4096 1\n").replace(b" 5\n", b" 5 1\n"))
     for names, told, labels, listed in (
         (("o.db", "same.db"), b"the column fstype is not compared", [b"fstype"], {"old": ["fstype"], "new": ["fstype"]}),
         (

@@ -61,10 +61,12 @@ def try_common(sandbox):
         sandbox.expect("the common words of " + word, sandbox.call(TOOL, *word.split(), "--help"), 0, wanted, b"")
         sandbox.expect("a colour of " + word, sandbox.call(TOOL, *word.split(), "--color", "odd"), 15, b"", b"'odd'")
     sandbox.write("base.db", OLD)
-    sandbox.expect("accept", sandbox.call(TOOL, "accept", "-q", "--no-packages", "--sha256", sha256(NEW), "new.db", "base.db"), 0, b"", b"")
+    words = ["accept", "-q", "--no-packages", "--sha256", sha256(NEW), "new.db", "base.db"]
+    sandbox.expect("accept", sandbox.call(TOOL, *words), 0, b"", b"")
     sandbox.holds("it was accepted", sandbox.read("base.db") == NEW)
     sandbox.expect("sort", sandbox.call(TOOL, "sort", "-q", "old.db"), 0, OLD, b"")
-    sandbox.expect("sort with -v", sandbox.call(TOOL, "sort", "-v", "old.db"), 0, OLD, b"aide-compare sort: the lines are in order: ")
+    told = b"aide-compare sort: the lines are in order: "
+    sandbox.expect("sort with -v", sandbox.call(TOOL, "sort", "-v", "old.db"), 0, OLD, told)
     sandbox.expect("version", sandbox.call(TOOL, "version", "-q"), 0, b"aide-compare ", b"")
     sandbox.holds("one line", sandbox.call(TOOL, "version", "--quiet").output.count(b"\n") == 1)
     sandbox.call(TOOL, "--state", "state", "old.db", "old.db")

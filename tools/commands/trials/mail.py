@@ -395,14 +395,15 @@ def try_weight(sandbox):
         sandbox.write(name, HEAD + b"".join(b"/x/%05d 36 100644 %d\n" % (at, at + more) for at in range(6000)) + END)
     sandbox.write("large", "database_in=file:%s\ndatabase_new=file:%s\n" % (sandbox.path("o.db"), sandbox.path("n.db")))
     unit = ["--reasons", "--queue", "queue", "--max-age", "50h", "--state", "state"]
+    short = ["-A", "report_level=summary"]
     for label, words, wanted in (
         ("a mail with a page", ["--html", "--reasons", "--queue", "queue", "old.db", "new.db"], (7, 2, 4)),
         ("the unit's mail", [*unit, "-c", "conf"], (7, 2, 5)),
-        ("a mail with a list of its own", ["--reasons", *unit[1:3], "-A", "report_level=summary", "old.db", "new.db"], (7, 3, 5)),
+        ("a mail with a list of its own", ["--reasons", *unit[1:3], *short, "old.db", "new.db"], (7, 3, 5)),
         ("a mail by sendmail", ["--reasons", "old.db", "new.db"], (7, 3, 3)),
         ("a large one of the unit", [*unit, "-c", "large"], (4, 2, 6)),
         ("a large one without some paths", [*unit, "-c", "large", "--exclude", "/y"], (4, 2, 8)),
-        ("a large one with a list of its own", [*unit, "-c", "large", "-A", "report_level=summary"], (4, 3, 7)),
+        ("a large one with a list of its own", [*unit, "-c", "large", *short], (4, 3, 7)),
     ):
         found = weight_of(sandbox, *words)
         sandbox.holds("%s takes so many processes and files" % label, found == wanted, found)

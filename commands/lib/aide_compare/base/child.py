@@ -1,5 +1,4 @@
-"""Child processes: a program in the place of one, or work in one that holds nothing but what it needs, and is ended if it takes
-longer than it may."""
+"""Child processes: a program, or work that holds nothing but what it needs, and is ended if it takes longer than it may."""
 import ctypes
 import fcntl
 import os
@@ -29,8 +28,8 @@ def bound_of(kind, most):
 
 
 def started(words, given, most=None, own_group=False, environment=None):
-    """The number of the process of a program. `given` are its descriptors by the numbers that they have there. The kernel ends it
-    if this process ends first. No file that it writes gets more than `most` bytes."""
+    """The number of the process of a program. `given` are its descriptors by the numbers that they have there. The kernel ends
+    it if this process ends first. No file that it writes gets more than `most` bytes."""
     parent, places = os.getpid(), {}
     try:
         for place, descriptor in given.items():  # Under numbers that are not among those that it is given.
@@ -91,8 +90,8 @@ def _live(work, seconds, writing, keep):
 
 
 def pump(takers, deadline=None, every=None, tell=None):
-    """Gives what comes from each descriptor to its taker until all have ended; False if the time is over before that. Meanwhile
-    it calls `tell` after so many seconds."""
+    """Gives what comes from each descriptor to its taker until all have ended; False if the time is over before that.
+    Meanwhile it calls `tell` now and then: `every` so many seconds."""
     waiting = dict(takers)
     while waiting:
         left = every if deadline is None else deadline - time.monotonic()

@@ -65,7 +65,7 @@ def _texts(metavar, text):
     return _text(metavar, text, action="append", default=[])
 
 
-# The words that several commands have: each means the same in all of them. What is left out here is of the command, as a default.
+# The words that several commands have: each means the same in all of them. What is left out here is of the command.
 COMMON = {
     "config": _text("CONF", "the configuration"),
     "after": {
@@ -79,9 +79,9 @@ COMMON = {
     "max-report": {"metavar": "SIZE", "type": size, "help": "the most bytes of a report"},
     "max-mail": {"metavar": "SIZE", "type": size, "default": 1 << 20, "help": "cut a mail that would be larger (1M)"},
     "max-age": {"metavar": "TIME", "type": duration},
-    "exclude-from": _texts("FILE", "leave out the entries whose paths the lines of FILE name, as debian.without; it says how many"),
+    "exclude-from": _texts("FILE", "leave out the entries whose paths FILE names, as debian.without; it says how many"),
     "exclude": _texts("PATTERN", "the same for one line"),
-    "keep-open": _texts("PATTERN", "all but the changes of these paths, as in '/etc/**': the baseline keeps their former entries"),
+    "keep-open": _texts("PATTERN", "all but the changes of these paths, as in '/etc/**', whose former entries stay"),
     "reasons": {
         "action": "store_true",
         "help": "say which changes packages, logs and rules explain, and which nothing does",

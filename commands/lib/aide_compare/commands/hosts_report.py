@@ -177,19 +177,10 @@ def options():
         metavar="DIR",
         help="where the reports are kept (%s); given N times: the Kth one is that of --share K/N" % STORE,
     )
-    add(
-        "--order",
-        choices=("path", "rare", "common"),
-        help="changes by path (as JSON), on the fewest hosts first (as text), or on the most",
-    )
-    add(
-        "--only-path",
-        type=pattern,
-        action="append",
-        default=[],
-        metavar="PATTERN",
-        help="only changes of these paths, as in /usr/local/**",
-    )
+    orders = "changes by path (as JSON), on the fewest hosts first (as text), or on the most"
+    add("--order", choices=("path", "rare", "common"), help=orders)
+    paths = {"metavar": "PATTERN", "type": pattern, "action": "append", "default": []}
+    add("--only-path", help="only changes of these paths, as in /usr/local/**", **paths)
     count = matching("[1-9][0-9]{0,4}|100000", "a number from 1 to 100000", int)
     add("--max-hosts", type=count, default=20, metavar="N", help="how many hosts of a change are named (20)")
     parser.take("max-age", default=AGE, help="a host that was compared longer ago counts as not compared (26h; 0: no limit)")

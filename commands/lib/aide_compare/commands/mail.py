@@ -69,8 +69,8 @@ def without_state(words):
 
 
 class Alarm:
-    """Puts the mail together, if what came out is an alarm. `known` are the columns that are not compared and that mails have told
-    already, as the state of the last run says; None if no state is kept that a next run can see."""
+    """Puts the mail together, if what came out is an alarm. `known` are the columns that mails have told, of those that are not
+    compared, as the state of the last run says; None if no state is kept that a next run can see."""
 
     def __init__(self, given):
         self.given, self.message, self.known = given, Held(), None

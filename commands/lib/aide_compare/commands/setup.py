@@ -64,6 +64,11 @@ def run(words, seconds=SECONDS, output=None):
         raise Fault(Status.DEVICE, "%s ended with status %d" % (words[0], done.returncode))
 
 
+def is_there(path):
+    """Whether there is something by a path, asked when it matters."""
+    return lambda: os.path.lexists(path)
+
+
 def show_and_run(words, seconds=SECONDS):
     tell("    " + " ".join(words))
     run(words, seconds)
@@ -182,19 +187,20 @@ class Machine:
         if self.is_debian:
             yield Step(
                 "paths that change every day: " + WITHOUT,
-                lambda: os.path.lexists(WITHOUT),
+                is_there(WITHOUT),
                 lambda: replace(WITHOUT, shipped("aide/debian.without")),
             )
-        yield Step("options of each day: " + DEFAULTS, lambda: os.path.lexists(DEFAULTS), lambda: replace(DEFAULTS, self.defaults()))
+        yield Step("options of each day: " + DEFAULTS, is_there(DEFAULTS), lambda: replace(DEFAULTS, self.defaults()))
         yield Step("a directory of %s's: %s/%s" % (self.user.pw_name, OWN, DAILY), self.has_folder, self.make_folder)
         yield Step(job, self.has_job, self.make_job, self.send_test)
-        yield Step("the baseline %s, which takes several minutes" % base, lambda: os.path.lexists(base), self.make_baseline)
+        yield Step("the baseline %s, which takes several minutes" % base, is_there(base), self.make_baseline)
         for name in (self.baseline, self.new):
             what = "%s is %s's" % (os.path.join(DATABASES, name), self.user.pw_name)
             yield Step(what, lambda name=name: self.owns(name), lambda name=name: self.give(name))
         if os.path.isdir(DPKG) or os.path.isdir(RPM):
             records = ["aide-compare", "accept", "--only-packages", base]
-            yield Step("records of the packages: %s.packages" % base, lambda: os.path.lexists(base + ".packages"), lambda: show_and_run(records))
+            kept = base + ".packages"
+            yield Step("records of the packages: " + kept, is_there(kept), lambda: show_and_run(records))
 
 
 def check(machine):
