@@ -17,7 +17,7 @@ from aide_compare.compare.baseline import Baseline
 from aide_compare.compare.comparison import Comparison, Request
 from aide_compare.compare.kept_open import Listed, Patterns, keep_open
 from aide_compare.compare.soundness import refuse_unsound
-from aide_compare.compare.unpack import GZIP, Copy, Opened, copy_opened, copy_packed, digest_of, open_database
+from aide_compare.compare.unpack import GZIP, Copy, Opened, copy_opened, copy_packed, database_digest, open_database
 from aide_compare.reasons.kept_records import SUFFIX, Records
 from aide_compare.show.explained import Sources, explain
 from aide_compare.show.told import told_of
@@ -102,7 +102,7 @@ def digest_of_former(baseline, most):
     if descriptor is None:
         return None if baseline.former is None else ""
     try:
-        return digest_of(Opened("old", baseline.path, descriptor), most)
+        return database_digest(Opened("old", baseline.path, descriptor), most)
     except Fault:
         return ""
     finally:

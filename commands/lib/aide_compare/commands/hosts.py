@@ -9,7 +9,7 @@ from aide_compare.base.times import date_of
 from aide_compare.commands import accept
 from aide_compare.compare.soundness import refuse_unsound
 from aide_compare.compare.state import read_state
-from aide_compare.compare.unpack import copy_database, digest_of, open_database
+from aide_compare.compare.unpack import copy_database, database_digest, open_database
 from aide_compare.hosts.fetching import add_fetching, fetch
 from aide_compare.hosts.fleet_store import Place, add_place, check_name, no_room
 from aide_compare.hosts.host_comparison import MOST_BASELINE, add_comparison, compare_or_say
@@ -118,7 +118,7 @@ def keep_records(place):
     place.remove(BASELINES)
     if not place.has(NEWEST):
         return
-    digest = digest_of(open_database("old", place.file("aide.db")), MOST_BASELINE)
+    digest = database_digest(open_database("old", place.file("aide.db")), MOST_BASELINE)
     try:
         place.copy(NEWEST, BASELINES, mark_of(digest, digest))
     except OSError as error:

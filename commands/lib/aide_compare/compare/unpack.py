@@ -197,7 +197,7 @@ def copy_packed(opened, most):
         os.close(opened.fd)
 
 
-def digest_of(opened, most):
+def database_digest(opened, most):
     """The SHA-256 of the unpacked bytes of an open database, in base 16, without a copy of them. It stays open."""
     target = _Target(opened, most)
     _fill(target, opened, most)

@@ -32,7 +32,7 @@ def part_of(name):
         return file.read()
 
 
-def digest_of(text):
+def policy_name(text):
     """The name that a content policy has for a script or style."""
     return "sha256-" + base64.b64encode(hashlib.sha256(text.encode()).digest()).decode()
 
@@ -40,7 +40,7 @@ def digest_of(text):
 def beginning(title, script="", **parts):
     """The beginning of a page, up to the entries. `title` is a text; the parts are markup."""
     style = part_of("page.css")
-    policy = POLICY % digest_of(style) + ("; script-src '%s'" % digest_of(script) if script else "")
+    policy = POLICY % policy_name(style) + ("; script-src '%s'" % policy_name(script) if script else "")
     parts = {"heading": escape(title), "databases": "", **parts, "title": escape(title), "style": style, "policy": policy}
     return (part_of("page.html") % parts).encode("utf-8", "backslashreplace")
 
