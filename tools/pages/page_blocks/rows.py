@@ -345,6 +345,7 @@ ROWS = [
         RUN, "A line that means programs too begins with a reason:", "it is no command", "tools/commands/trials/without.py"
     ),
     Elsewhere(RUN, "/etc/aide-compare/defaults has options ...", "it is no command", "tools/commands/trials/hands.py"),
+    Elsewhere(MAIN, "A second program, ...", "lines of JSON, which are compared", "tools/pages/try_manual.py"),
 ]
 ROWS += [
     Elsewhere(MAIN, "Cm %s ..." % level, "a report, which is compared level for level", "tools/pages/try_manual.py")
