@@ -45,7 +45,7 @@ def trials(program, lines, in_memory):
         exactly(732, "tools.program.try_fields", program),
         exactly(804, "tools.program.try_line_definitions"),
         at_least(3480, "tools.program.try_lines", lines, "--report", program),
-        at_least(1600, "tools.program.failed_allocations", program, "--lines", lines, "--in-memory", in_memory),
+        at_least(1690, "tools.program.failed_allocations", program, "--lines", lines, "--in-memory", in_memory),
         at_least(610, "tools.program.failed_calls", program, "--lines", lines),
         at_least(735, "tools.pages.try_manual", program),
         at_least(1500, "tools.packaging.try_install", program),

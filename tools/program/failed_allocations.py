@@ -239,7 +239,7 @@ def try_allocations(program, top, given, tally):
     print("seed %d" % given.seed, flush=True)
     try_sessions(Refuser(program, library, wanted), list(sessions(top, given.seed, given.sessions)), given.jobs, tally)
     if given.lines:
-        known = list(sessions_of_lines(os.path.join(top, b"lines"), given.seed, given.sessions))
+        known = list(sessions_of_lines(os.path.join(top, b"program of lines"), given.seed, given.sessions))
         try_sessions(Refuser(program_of(given.lines), library, wanted_lines), known, given.jobs, tally)
     if given.in_memory:
         stored = os.path.join(os.path.dirname(os.path.dirname(os.path.abspath(given.in_memory))), "stdout")
