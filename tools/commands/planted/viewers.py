@@ -35,6 +35,7 @@ PLANTED = (
             "0 if reason is None else 2",
         ),
         (LIB + "show/page_heading.py", "(text, HINT)", '(text, "")'),
+        (LIB + "show/page_heading.py", "if type(given.get(key)) is int", "if key in given"),
         (
             LIB + "base/shown_text.py",
             "text if usual and len(text) <= NOTE_LIMIT else shown_note(text, NOTE_LIMIT)",

@@ -133,6 +133,8 @@ def try_reasons(seed, tally):
     objects = objects_of(rich_report({"report_level": "summary"}))
     objects[0]["reasons"] = {"explained": 4, "not_verified": 1, "unexplained": 3, "high": 2, "medium": 0, "low": 2}
     tally.add("reasons without entries", card_faults(page_of(objects), objects[0]["reasons"]))
+    objects[0]["reasons"].update(explained_dpkg="4", explained_rpm=3)
+    tally.holds("a count that is none", "Explained by: rpm 3<" in page_of(objects), page_of(objects)[-1500:])
 
 
 def try_blank_ends(tally):

@@ -78,14 +78,11 @@ function choiceButton(name, { value, text, count, kind }) {
 
 // A row of buttons that are pressed or not, for the choices of a filter. Arrow keys go from one to the next.
 function showChoices(name, title, all) {
-  const row = make('span', { class: 'choices' });
   const buttons = all.filter(({ count }) => count).map((choice) => choiceButton(name, choice));
-  const hidden = name === 'reason' ? buttons.slice(REASONS) : [];
-  find(name).hidden = !buttons.length;
+  const hidden = name === 'reason' ? buttons.slice(REASONS) : [], row = make('span', { class: 'choices' }, ...buttons);
   if (!buttons.length) return;
-  for (const button of hidden) button.hidden = true;
   buttons[0].tabIndex = 0;
-  row.append(...buttons);
+  for (const button of hidden) button.hidden = true;
   if (hidden.length) {
     const more = make('button', { type: 'button', tabindex: -1 }, number(hidden.length) + ' more');
     more.addEventListener('click', () => {
@@ -97,7 +94,8 @@ function showChoices(name, title, all) {
   }
   row.addEventListener('keydown', (event) =>
     moveFocus(event, row, [...row.children].filter((one) => !one.hidden), ['ArrowLeft', 'ArrowRight']));
-  find(name).append(make('span', { class: 'name' }, title), row);
+  find('filters').append(make('div', { class: 'row', id: name, role: 'toolbar', 'aria-label': title },
+    make('span', { class: 'name' }, title), row));
 }
 
 function makeFilters() {

@@ -139,12 +139,13 @@ function sectionItem(entry, count) {
 
 // The entries of a page, with a heading where a section begins, and how many entries that has on all pages.
 function listItems(from, count) {
-  const items = [], sizes = new Map(), hasSections = shownOrder === 'importance';
-  if (hasSections) for (const entry of matching) sizes.set(sectionOf(entry), (sizes.get(sectionOf(entry)) || 0) + 1);
-  let section = -1;
-  for (const entry of matching.slice(from, from + count)) {
-    if (hasSections && sectionOf(entry) !== section) items.push(sectionItem(entry, sizes.get(section = sectionOf(entry))));
-    items.push(entryItem(entry));
-  }
+  const shown = matching.slice(from, from + count);
+  if (shownOrder !== 'importance') return shown.map(entryItem);
+  const sizes = new Map(), items = [];
+  for (const entry of matching) sizes.set(sectionOf(entry), (sizes.get(sectionOf(entry)) || 0) + 1);
+  shown.forEach((entry, place) => {
+    const section = sectionOf(entry), begins = !place || sectionOf(shown[place - 1]) !== section;
+    items.push(...begins ? [sectionItem(entry, sizes.get(section))] : [], entryItem(entry));
+  });
   return items;
 }

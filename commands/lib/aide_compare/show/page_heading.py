@@ -87,7 +87,8 @@ def counts(report):
     narrow screen has this line in their place, as a link to them."""
     summary, reasons, changes, text = report.summary, None, report.changes(), ""
     if "reasons" in summary:
-        reasons = ReasonCounts(**{key: summary["reasons"].get(key, 0) for key in KEYS + GRADE_KEYS})
+        given = summary["reasons"]
+        reasons = ReasonCounts(**{key: given[key] for key in KEYS + GRADE_KEYS if type(given.get(key)) is int})
         text += cards((*card, getattr(reasons, name)) for card, name in zip(CARDS, STANDINGS))
     if changes is not None:
         rows = [(kind, kind.capitalize(), summary[kind]) for kind in KINDS]
