@@ -30,13 +30,12 @@ class Sources:
 
     def __init__(self, given, finds=True):
         self.given, self.finds = given, finds
-        self._evidence_without_packages()
+        self._evidence()
 
-    def _evidence_without_packages(self):
-        return self._evidence(packages=None, packages_now=None, archive=[])
-
-    def _evidence(self, **others):
-        return evidence_of(argparse.Namespace(**{**vars(self.given), **others}))
+    def _evidence(self, packages=None, beside=None):
+        """The evidence with these records of packages; without any no package explains a change."""
+        others = {"packages_beside": beside} if packages else {"packages_now": None, "archive": []}
+        return evidence_of(argparse.Namespace(**{**vars(self.given), "packages": packages, **others}))
 
     def evidence(self, comparison):
         """The evidence for a comparison. The records are opened after the old database, so they are never older than it is."""
@@ -46,11 +45,11 @@ class Sources:
             try:
                 why = mismatch(path, comparison.copies["old"].sha256)
                 if not why:
-                    return self._evidence(packages=path, packages_beside=self._beside_new(comparison))
+                    return self._evidence(path, self._beside_new(comparison))
             except Fault as fault:
                 why = fault.text
             comparison.doubts.append("no package explains a change: %s: %s" % (shown(path), why))
-        return self._evidence_without_packages()
+        return self._evidence()
 
     def _beside_new(self, comparison):
         """The records that were kept when AIDE wrote the new database, if they are there. Its digests decide on each of them,

@@ -60,11 +60,9 @@ class PageEntries:
     def cut(self, room):
         """Keeps of the packed entries what fits in a room; what matters most comes first."""
         first, second = (stream.layers for stream in self.streams)
-        for layers, name in (
-            *((first, "index"), (first, "values"), (second, "index"), (second, "values")),
-            *((first, "digests"), (second, "digests")),
-        ):
-            room -= layers[name].cut(room)
+        entries_and_values = (first["index"], first["values"], second["index"], second["values"])
+        for layer in (*entries_and_values, first["digests"], second["digests"]):
+            room -= layer.cut(room)
 
     def data(self):
         """What the script needs beside the packed entries."""
