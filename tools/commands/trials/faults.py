@@ -289,8 +289,8 @@ def try_signals(sandbox):
 
 
 def waits_for_input(process):
-    """Whether the command has opened its private files and reads what comes."""
-    return waits(process.pid, "pipe", lambda names: sum("(deleted)" in name for name in names) == 2)
+    """Whether the command has opened its private files, with the one that becomes the state, and reads what comes."""
+    return waits(process.pid, "pipe", lambda names: sum("(deleted)" in name for name in names) == 3)
 
 
 def try_secrecy(sandbox):
