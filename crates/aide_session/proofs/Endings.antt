@@ -165,7 +165,7 @@ given_answer named (Ok report) = refl
 given_answer named (Err fault) = refl
 
 -- an answer over what stands at both paths is that of a run
-compared_by : (w : Writing) (options : Options) (named : Named) (old new : Option (List ℕ)) (a : Answer)
+pub compared_by : (w : Writing) (options : Options) (named : Named) (old new : Option (List ℕ)) (a : Answer)
     → IsComparedBy w options named old new a
     → (r : Result Report RunFault) × RunsOverBy limits (w.over (asked_by options named)) old new r × (a ≡ answer_by named r)
 compared_by w options named None new a is = (Err (Open Old), refl, is)

@@ -1,18 +1,22 @@
--- What the answer to arguments is, step by step, from what a caller knows of them and of the files.
-use Rattle.std.specs.Prelude.{ℕ, Option, Some, List, Result, Ok, Bool}
+-- What the answer to arguments is, step by step, from what a caller knows of them and of the files, and that there is one
+-- and only one.
+use Rattle.std.specs.Prelude.{◌≡◌, ℕ, Option, Some, List, Result, Ok, Bool}
 use Rattle.std.proofs.Common.{refl, sym}
 use Rattle.std.proofs.Math.Path.{subst}
 use Rattle.aide_conf.specs.Settings.{Configured}
 use Rattle.aide_conf.specs.ReadResult.{ReadsAs}
 use Rattle.aide_db.specs.declared.fault.DbFault.{DbFault}
 use Rattle.aide_report.specs.Runs.{Report, Runs, RunsBy}
-use Rattle.aide_session.specs.Answer.{Named, need_of, limits, asked_by, answer_of_run, IsAnswer, IsAnswerBy}
+use Rattle.aide_session.specs.Answer.{Answer, Named, need_of, limits, asked_by, answer_of_run, IsAnswer, IsAnswerBy}
 use Rattle.aide_session.specs.Answer.{ComparesBy, IsJobAnswerBy, IsReadAnswerBy, IsSizedAnswerBy}
 use Rattle.aide_session.specs.Answer.{IsTextAnswerBy, IsWordsAnswerBy}
 use Rattle.aide_session.specs.Asks.{Asks}
+use Rattle.aide_session.specs.Existence.{HasSessionAnswerBy, TellsNamed}
 use Rattle.aide_session.specs.Files.{Files}
 use Rattle.aide_session.specs.Writing.{Writing, the_report}
 use Rattle.aide_words.specs.Job.{JobText}
+use Rattle.aide_session.proofs.Existence.{answered}
+use Rattle.aide_session.proofs.Uniqueness.{one_answer}
 
 -- If the arguments ask for a comparison of two texts, its right answer is the answer to the arguments, whatever is
 -- to be written.
@@ -49,3 +53,13 @@ pub answer_of_what_is_asked : (files : Files) (words : List (List ℕ)) (named :
     (old new : List ℕ) (run : Result Report DbFault) → Asks files words named settings old new
     → Runs limits (asked_by settings.options named) old new run → IsAnswer files words named (answer_of_run run)
 answer_of_what_is_asked = answer_by_what_is_asked the_report
+
+-- If it is known what is at the paths that are named, the arguments have an answer, whatever is to be written.
+pub arguments_have_an_answer : (w : Writing) (files : Files) (words : List (List ℕ)) → TellsNamed files words
+    → HasSessionAnswerBy w files words
+arguments_have_an_answer = answered
+
+-- They have only one.
+pub no_arguments_have_two_answers : (w : Writing) (files : Files) (words : List (List ℕ)) (named other : Named)
+    (a b : Answer) → IsAnswerBy w files words named a → IsAnswerBy w files words other b → a ≡ b
+no_arguments_have_two_answers = one_answer

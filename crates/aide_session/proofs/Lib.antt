@@ -6,6 +6,7 @@ mod AnswerSteps
 mod PutLemmas
 mod Closings
 mod Existence
+mod Uniqueness
 mod Pages
 mod HeldLemmas
 mod JobReadings
