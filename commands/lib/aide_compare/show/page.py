@@ -118,8 +118,9 @@ def blocks_of(file):
 
 def page(lines, title, is_plain, only=""):
     """Yields the page of a report, when all of its lines have been read and are good."""
-    contents, lists = PageEntries(is_plain, only), Spool()
-    report, title = Report(lines, contents.take, contents.begin), os.fsencode(title or "")
+    contents = PageEntries(is_plain, only)
+    report = Report(lines, contents.take, contents.begin)
+    title, lists = os.fsencode(title or ""), Spool()
     for part in contents.lists.parts() if report.count else ():
         lists.write(part)
     notes = contents.notes_of_lists()
