@@ -1,7 +1,7 @@
 //! Runs in which each allocation fails in turn.
+use super::refused::whole_trial;
 use super::trial::{Trial, assert_serves, database, line_at};
-use super::{NEW, OLD, REPORT, SAME, assert_answer, assert_well, options_of, pair, run_over};
-use aide_conf::Options;
+use super::{Call, SAME, assert_answer, assert_well, options_of, pair};
 use aide_db::{DbFaultKind, Desk, Side};
 use aide_faults::{Journal, NotedSources, Pace, PlannedSources, Refusing, SidePlan};
 use aide_report::{MemorySink, Outcome, RunFault};
@@ -9,15 +9,10 @@ use std::alloc::{AllocError, Allocator, Global};
 use std::process::Abort;
 use std::test::Fail;
 
-/// Sources of two databases that give a byte at a time. So an allocation fails at the byte that was given last.
-fn slow_sources<'a>(trial: &Trial<'a>) -> PlannedSources<'a> {
+/// Sources of the two databases. If they give a byte at a time, an allocation fails at the byte that was given last.
+fn sources_of<'a>(trial: &Trial<'a>, pace: Pace) -> PlannedSources<'a> {
     let old = SidePlan::plain(trial.old);
-    PlannedSources::new(old, SidePlan::plain(trial.new), Pace::new(1))
-}
-
-/// The two databases of all tests.
-fn plain_sources() -> PlannedSources<'static> {
-    PlannedSources::new(SidePlan::plain(OLD), SidePlan::plain(NEW), Pace::new(4096))
+    PlannedSources::new(old, SidePlan::plain(trial.new), pace)
 }
 
 /// How many allocations were refused in a run, and how many of them came after the first reading of both sides.
@@ -41,8 +36,8 @@ fn run_slowly<A: Allocator + Copy>(
     journal: &Journal,
     out: &mut MemorySink<Global>,
 ) -> (Result<Outcome, RunFault>, u64) {
-    let mut sources = NotedSources::new(slow_sources(trial), journal);
-    let answer = run_over(trial.options, desk, &mut sources, out);
+    let mut sources = NotedSources::new(sources_of(trial, Pace::new(1)), journal);
+    let answer = trial.run(desk, &mut sources, out);
     (answer, sources.into_inner().openings(Side::New))
 }
 
@@ -67,7 +62,13 @@ fn refuse_one(rt: &impl Abort, alloc: Global, trial: &Trial<'_>, growth: u64) ->
     Some(openings)
 }
 
-/// Refuses each allocation of a run in turn.
+/// Refuses each allocation of a run in turn. There are some.
+pub(super) fn refuse_all(rt: &impl Abort, alloc: Global, trial: &Trial<'_>) {
+    let refusals = refuse_each(rt, alloc, trial);
+    assert!(rt; refusals.all > 3 && refusals.all < 1000, "{refusals:?}");
+}
+
+/// Refuses each allocation of a run in turn, and counts them.
 fn refuse_each(rt: &impl Abort, alloc: Global, trial: &Trial<'_>) -> Refusals {
     let mut refusals = Refusals { all: 0, late: 0 };
     for growth in 0..1000 {
@@ -85,35 +86,27 @@ fn refuse_each(rt: &impl Abort, alloc: Global, trial: &Trial<'_>) -> Refusals {
 
 #[test]
 fn each_growth_refused_in_turn(rt: HostRuntime) {
-    let trial = Trial {
-        options: options_of(&rt, rt.alloc(), b""),
-        old: OLD,
-        new: NEW,
-        report: REPORT,
-        openings: 6,
-    };
-    let refusals = refuse_each(&rt, rt.alloc(), &trial);
-    assert!(rt; refusals.all > 3 && refusals.all < 1000, "{refusals:?}");
+    refuse_all(&rt, rt.alloc(), &whole_trial(&rt, rt.alloc()));
 }
 
 /// Refuses each allocation of a run with the options of a row in turn.
-fn refuse_each_at(rt: &impl Abort, alloc: Global, row: &pair::LevelRow, report: &[u8]) -> Refusals {
+fn refuse_all_at(rt: &impl Abort, alloc: Global, row: &pair::LevelRow, report: &[u8]) {
     let trial = Trial {
+        call: Call::Run,
         options: options_of(rt, alloc, row.options),
         old: pair::OLD,
         new: pair::NEW,
         report,
         openings: row.openings,
     };
-    refuse_each(rt, alloc, &trial)
+    refuse_all(rt, alloc, &trial);
 }
 
 #[test]
 fn each_growth_refused_at_each_level(rt: HostRuntime) -> Result<(), Fail> {
     for row in &pair::LEVELS {
         let report = row.report(rt.alloc())?;
-        let refusals = refuse_each_at(&rt, rt.alloc(), row, &report);
-        assert!(rt; refusals.all > 3 && refusals.all < 1000, "{refusals:?}");
+        refuse_all_at(&rt, rt.alloc(), row, &report);
     }
     Ok(())
 }
@@ -131,6 +124,7 @@ fn short_and_long(alloc: Global) -> Result<Vec<u8>, AllocError> {
 fn growths_of_the_counting_pass(rt: HostRuntime) -> Result<(), Fail> {
     let text = short_and_long(rt.alloc())?;
     let trial = Trial {
+        call: Call::Run,
         options: options_of(&rt, rt.alloc(), b"report_level=minimal"),
         old: &text,
         new: &text,
@@ -143,39 +137,44 @@ fn growths_of_the_counting_pass(rt: HostRuntime) -> Result<(), Fail> {
 }
 
 /// Refuses an allocation of the sink, and checks the fault and the bytes that went out. Returns whether there is such
-/// an allocation. Without one the report is whole.
+/// an allocation. Without one all has gone out.
 fn refuse_sink(
     rt: &impl Abort,
     alloc: Global,
-    options: Options,
+    trial: &Trial<'_>,
     desk: &mut Desk<Global>,
     growth: u64,
 ) -> bool {
     let refusing = Refusing::new(alloc, growth);
     let mut out = MemorySink::new(&refusing);
-    let answer = run_over(options, desk, &mut plain_sources(), &mut out);
+    let mut sources = sources_of(trial, Pace::new(4096));
+    let answer = trial.run(desk, &mut sources, &mut out);
     let sent = out.bytes();
+    assert!(rt; trial.report.starts_with(sent));
     if !refusing.has_refused() {
         assert_well(rt, answer);
-        assert!(rt; sent == REPORT);
+        assert!(rt; sent.len() == trial.report.len());
         return false;
     }
     let written = sent.len() as u64;
     assert_answer(rt, answer, Err(RunFault::Write { written }));
-    assert!(rt; REPORT.starts_with(sent));
     true
 }
 
-#[test]
-fn each_growth_of_the_sink_refused_in_turn(rt: HostRuntime) {
-    let options = options_of(&rt, rt.alloc(), b"");
-    let mut desk = Desk::new(rt.alloc());
+/// Refuses each allocation of the sink in turn. There are some.
+pub(super) fn refuse_each_of_the_sink(rt: &impl Abort, alloc: Global, trial: &Trial<'_>) {
+    let mut desk = Desk::new(alloc);
     let mut refusals = 0u64;
     for growth in 0..1000 {
-        if !refuse_sink(&rt, rt.alloc(), options, &mut desk, growth) {
+        if !refuse_sink(rt, alloc, trial, &mut desk, growth) {
             break;
         }
         refusals = refusals.saturating_add(1);
     }
     assert!(rt; refusals > 0 && refusals < 1000, "{refusals}");
+}
+
+#[test]
+fn each_growth_of_the_sink_refused_in_turn(rt: HostRuntime) {
+    refuse_each_of_the_sink(&rt, rt.alloc(), &whole_trial(&rt, rt.alloc()));
 }

@@ -1,12 +1,14 @@
 //! Runs that write lines of JSON. The lines are those of the plain program in `tools/oracle`.
-use super::rows::CountingWriter;
-use super::{OLD, assert_openings, options_of};
-use aide_conf::{Options, Task};
-use aide_db::{Desk, Limits, Sources};
-use aide_faults::{PACES, Pace, PlannedSources, SidePlan};
-use aide_report::{Outcome, RunFault, Sink, WriteSink, run_lines};
-use std::alloc::{Allocator, Global};
+use super::growths::{refuse_all, refuse_each_of_the_sink};
+use super::refused::{break_readings, cut_and_damage, refuse_openings, replace_databases};
+use super::rows::assert_written;
+use super::stumbling::stumble_at_each_byte;
+use super::trial::Trial;
+use super::written::{cut_once, cut_report};
+use super::{Call, OLD, options_of};
+use std::alloc::Global;
 use std::process::Abort;
+use std::test::Fail;
 
 /// A database with a column that is skipped.
 const NEW: &[u8] = b"@@begin_db\n@@db_spec name attr colour perm size\n/a 36 7 100644 5\n\
@@ -37,75 +39,67 @@ const SAME: &[u8] =
 \"skipped\":[3]}}\n\
 {\"end\":true,\"total\":2,\"added\":0,\"removed\":0,\"changed\":0,\"status\":0}\n";
 
-/// An old database, the lines over it and the new one, the status, and how often each side is opened.
-struct Row {
-    old: &'static [u8],
-    lines: &'static [u8],
-    status: u8,
-    openings: u64,
-}
-
-const ROWS: [Row; 2] = [
-    Row {
-        old: OLD,
-        lines: DIFFERENT,
-        status: 7,
-        openings: 3,
-    },
-    Row {
-        old: NEW,
-        lines: SAME,
-        status: 0,
-        openings: 2,
-    },
-];
-
-/// A run over these sources that writes lines.
-fn run_over<S: Sources, W: Sink, A: Allocator + Copy>(
-    options: Options,
-    desk: &mut Desk<A>,
-    sources: &mut S,
-    out: &mut W,
-) -> Result<Outcome, RunFault> {
-    let task = Task {
-        old_path: "/old",
-        new_path: "/new",
-        options,
-    };
-    let limits = Limits {
-        line: 65_536,
-        bytes: 1_048_576,
-    };
-    run_lines(&task, limits, desk, sources, out)
-}
-
-/// Runs at a pace, and checks the status, the lines, the openings and the flush.
-fn assert_lines(
+/// A run that writes lines over this old database and the new one, its lines, and how often it opens each side.
+fn trial_of(
     rt: &impl Abort,
     alloc: Global,
-    options: Options,
-    desk: &mut Desk<Global>,
-    row: &Row,
-    pace: Pace,
-) {
-    let old = SidePlan::plain(row.old);
-    let mut sources = PlannedSources::new(old, SidePlan::plain(NEW), pace);
-    let mut out = WriteSink::new(CountingWriter::new(alloc, pace));
-    match run_over(options, desk, &mut sources, &mut out) {
-        Ok(outcome) => assert!(rt; outcome.status() == row.status),
-        Err(fault) => assert!(rt; false, "{fault:?}"),
+    old: &'static [u8],
+    lines: &'static [u8],
+    openings: u64,
+) -> Trial<'static> {
+    Trial {
+        call: Call::RunLines,
+        options: options_of(rt, alloc, b"report_level=minimal"),
+        old,
+        new: NEW,
+        report: lines,
+        openings,
     }
-    assert!(rt; out.into_inner().is_done_with(row.lines), "{pace:?}");
-    assert_openings(rt, &sources, row.openings, row.openings);
+}
+
+/// Over two databases that differ.
+fn differing(rt: &impl Abort, alloc: Global) -> Trial<'static> {
+    trial_of(rt, alloc, OLD, DIFFERENT, 3)
+}
+
+/// Over the same database at both sides.
+fn alike(rt: &impl Abort, alloc: Global) -> Trial<'static> {
+    trial_of(rt, alloc, NEW, SAME, 2)
 }
 
 #[test]
 fn lines_at_each_pace(rt: HostRuntime) {
-    let options = options_of(&rt, rt.alloc(), b"report_level=minimal");
-    let mut desk = Desk::new(rt.alloc());
-    for row in &ROWS {
-        for pace in &PACES {
-            assert_lines(&rt, rt.alloc(), options, &mut desk, row, *pace);
-        }
-    }
+    assert_written(&rt, rt.alloc(), &differing(&rt, rt.alloc()));
+    assert_written(&rt, rt.alloc(), &alike(&rt, rt.alloc()));
+}
+
+#[test]
+fn lines_over_sides_that_fail(rt: HostRuntime) {
+    let trial = differing(&rt, rt.alloc());
+    refuse_openings(&rt, rt.alloc(), &trial);
+    break_readings(&rt, rt.alloc(), &trial, false);
+    break_readings(&rt, rt.alloc(), &trial, true);
+}
+
+#[test]
+fn lines_over_sides_that_change(rt: HostRuntime) -> Result<(), Fail> {
+    let trial = differing(&rt, rt.alloc());
+    replace_databases(&rt, rt.alloc(), &trial);
+    cut_and_damage(&rt, rt.alloc(), &trial)
+}
+
+#[test]
+fn lines_to_a_sink_that_fails(rt: HostRuntime) {
+    let trial = differing(&rt, rt.alloc());
+    cut_report(&rt, rt.alloc(), &trial);
+    cut_once(&rt, rt.alloc(), &trial);
+    stumble_at_each_byte(&rt, rt.alloc(), &trial);
+    cut_once(&rt, rt.alloc(), &alike(&rt, rt.alloc()));
+}
+
+#[test]
+fn lines_without_memory(rt: HostRuntime) {
+    let trial = differing(&rt, rt.alloc());
+    refuse_all(&rt, rt.alloc(), &trial);
+    refuse_each_of_the_sink(&rt, rt.alloc(), &trial);
 }

@@ -1,6 +1,6 @@
 //! Databases that are unsound, cannot be opened or read, or change between two openings.
 use super::trial::{Trial, Wrong, assert_stops, database, line_at};
-use super::{DIFFERENT, NEW, OLD, REPORT, SAME, options_of};
+use super::{Call, DIFFERENT, NEW, OLD, REPORT, SAME, options_of};
 use aide_db::{DbFaultKind as Kind, Side};
 use aide_faults::{Broken, Change, SidePlan};
 use aide_report::RunFault;
@@ -113,6 +113,7 @@ const UNSOUND: [Unsound; 9] = [
 #[test]
 fn unsound_databases(rt: HostRuntime) {
     let trial = Trial {
+        call: Call::Run,
         options: options_of(&rt, rt.alloc(), b"report_level=minimal"),
         old: OLD,
         new: NEW,
@@ -255,9 +256,17 @@ const OTHERS: [Other; 6] = [
     },
 ];
 
+/// Replaces a database by each of the others, from each opening after the first one on.
+pub(super) fn replace_databases(rt: &impl Abort, alloc: Global, trial: &Trial<'_>) {
+    for other in &OTHERS {
+        change_side(rt, alloc, trial, other.side, other.bytes);
+    }
+}
+
 /// The two databases of all tests, at the default level.
 pub(super) fn whole_trial(rt: &impl Abort, alloc: Global) -> Trial<'static> {
     Trial {
+        call: Call::Run,
         options: options_of(rt, alloc, b""),
         old: OLD,
         new: NEW,
@@ -269,6 +278,7 @@ pub(super) fn whole_trial(rt: &impl Abort, alloc: Global) -> Trial<'static> {
 /// The same database on both sides.
 fn same_trial(rt: &impl Abort, alloc: Global) -> Trial<'static> {
     Trial {
+        call: Call::Run,
         options: options_of(rt, alloc, b"report_level=minimal"),
         old: OLD,
         new: OLD,
@@ -295,10 +305,7 @@ fn each_reading_broken_once(rt: HostRuntime) {
 
 #[test]
 fn databases_replaced(rt: HostRuntime) {
-    let trial = whole_trial(&rt, rt.alloc());
-    for other in &OTHERS {
-        change_side(&rt, rt.alloc(), &trial, other.side, other.bytes);
-    }
+    replace_databases(&rt, rt.alloc(), &whole_trial(&rt, rt.alloc()));
 }
 
 #[test]

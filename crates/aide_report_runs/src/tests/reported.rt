@@ -1,4 +1,6 @@
-//! Parts of a report: its overview, and the sections that cost an opening of both sides.
+//! Parts of a report or of lines: what is said of the outcome first, and what costs an opening of both sides.
+use super::Call;
+use super::trial::Trial;
 
 /// The last bytes of the title lines of a section of entries. After them both sides are opened.
 const ADDED: &[u8] = b"Added entries:\n---------------------------------------------------\n\n";
@@ -23,14 +25,17 @@ fn bytes_before(text: &[u8], part: &[u8]) -> usize {
     text.len()
 }
 
-/// The head and the summary: all that comes before the first section.
-pub(super) fn overview_of(report: &[u8]) -> &[u8] {
-    report
-        .split_at(bytes_before(report, RULE).min(report.len()))
-        .0
+/// All that comes before the first section: the head and the summary. Of lines, the first one.
+pub(super) fn overview_of(call: Call, report: &[u8]) -> &[u8] {
+    let bytes = match call {
+        Call::Run => bytes_before(report, RULE),
+        Call::RunLines => bytes_before(report, b"\n").saturating_add(1),
+    };
+    report.split_at(bytes.min(report.len())).0
 }
 
-/// After how many bytes of a report the title lines of each section of entries have gone out.
+/// After how many bytes of a report the title lines of each section of entries have gone out. If a run writes lines and
+/// opens both sides a third time, it does so after the first line.
 #[derive(Clone, Copy)]
 pub(super) struct Titles {
     added: usize,
@@ -40,9 +45,24 @@ pub(super) struct Titles {
 }
 
 impl Titles {
-    /// Those of a report. A section that is not there is opened after all bytes.
-    pub(super) fn of(report: &[u8]) -> Titles {
+    /// Those of a trial. A section that is not there is opened after all bytes.
+    pub(super) fn of(trial: &Trial<'_>) -> Titles {
+        let report = trial.report;
         let end = |title: &[u8]| bytes_before(report, title).saturating_add(title.len());
+        if let Call::RunLines = trial.call {
+            let first = overview_of(Call::RunLines, report).len();
+            let added = if trial.openings > 2 {
+                first
+            } else {
+                usize::MAX
+            };
+            return Titles {
+                added,
+                removed: usize::MAX,
+                changed: usize::MAX,
+                details: usize::MAX,
+            };
+        }
         Titles {
             added: end(ADDED),
             removed: end(REMOVED),

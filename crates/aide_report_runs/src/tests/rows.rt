@@ -1,6 +1,6 @@
 //! A run over two sound databases, and its right answer.
 use super::trial::Trial;
-use super::{assert_answer, assert_openings, options_of, run_over};
+use super::{Call, assert_answer, assert_openings, options_of};
 use aide_db::Desk;
 use aide_faults::{PACES, Pace, PlannedSources, SidePlan};
 use aide_report::{Outcome, RunFault, WriteSink};
@@ -84,7 +84,7 @@ fn written_at(
     let old = SidePlan::plain(trial.old);
     let mut sources = PlannedSources::new(old, SidePlan::plain(trial.new), pace);
     let mut out = WriteSink::new(CountingWriter::new(alloc, pace));
-    let answer = run_over(trial.options, desk, &mut sources, &mut out);
+    let answer = trial.run(desk, &mut sources, &mut out);
     assert!(rt; out.into_inner().is_done_with(trial.report), "{pace:?}");
     assert_openings(rt, &sources, trial.openings, trial.openings);
     answer
@@ -93,6 +93,7 @@ fn written_at(
 /// Runs at each pace of reading and writing, and checks the whole answer.
 pub(super) fn assert_reported(rt: &impl Abort, alloc: Global, row: &Row) {
     let trial = Trial {
+        call: Call::Run,
         options: options_of(rt, alloc, row.options),
         old: row.old,
         new: row.new,

@@ -2,7 +2,7 @@
 use super::refused::whole_trial;
 use super::reported::Titles;
 use super::trial::Trial;
-use super::{assert_answer, assert_openings, run_over};
+use super::{assert_answer, assert_openings};
 use aide_db::Desk;
 use aide_faults::{Pace, PlannedSources, SidePlan};
 use aide_report::{RunFault, WriteSink};
@@ -99,7 +99,7 @@ fn assert_last<A: Allocator + Copy>(
     let (old, new) = (SidePlan::plain(trial.old), SidePlan::plain(trial.new));
     let mut sources = PlannedSources::new(old, new, Pace::new(4096));
     let mut out = WriteSink::new(writer);
-    let answer = run_over(trial.options, &mut desk, &mut sources, &mut out);
+    let answer = trial.run(&mut desk, &mut sources, &mut out);
     let written = front.len() as u64;
     assert_answer(rt, answer, Err(RunFault::Write { written }));
     assert!(rt; out.flushes() == 0);
@@ -108,21 +108,20 @@ fn assert_last<A: Allocator + Copy>(
     assert_openings(rt, &sources, openings, openings);
 }
 
-/// Lets the writer stumble at each byte of a report and at the flush.
-fn stumble_at_each_byte(rt: &impl Abort, alloc: Global, trial: &Trial<'_>, stumble: Stumble) {
-    let titles = Titles::of(trial.report);
+/// Lets the writer stumble in each way, at each byte of what a run writes and at the flush.
+pub(super) fn stumble_at_each_byte(rt: &impl Abort, alloc: Global, trial: &Trial<'_>) {
+    let titles = Titles::of(trial);
     for sound in 0..trial.report.len().saturating_add(1) {
         let (front, _) = trial.report.split_at(sound.min(trial.report.len()));
         let openings = titles.openings_at(sound);
-        let writer = StumblingWriter::new(alloc, Pace::new(7), sound as u64, stumble);
-        assert_last(rt, alloc, trial, front, openings, writer);
+        for stumble in &STUMBLES {
+            let writer = StumblingWriter::new(alloc, Pace::new(7), sound as u64, *stumble);
+            assert_last(rt, alloc, trial, front, openings, writer);
+        }
     }
 }
 
 #[test]
 fn nothing_is_written_after_a_stumble(rt: HostRuntime) {
-    let trial = whole_trial(&rt, rt.alloc());
-    for stumble in &STUMBLES {
-        stumble_at_each_byte(&rt, rt.alloc(), &trial, *stumble);
-    }
+    stumble_at_each_byte(&rt, rt.alloc(), &whole_trial(&rt, rt.alloc()));
 }

@@ -1,16 +1,17 @@
 //! A run over two databases in which something fails or changes, and then a good run over the same desk.
 use super::reported::overview_of;
-use super::{assert_answer, assert_openings, assert_well, run_over};
+use super::{Call, assert_answer, assert_openings, assert_well};
 use aide_conf::Options;
-use aide_db::{DbFault, DbFaultKind, Desk, Side};
+use aide_db::{DbFault, DbFaultKind, Desk, Side, Sources};
 use aide_faults::{Pace, PlannedSink, PlannedSources, SidePlan};
-use aide_report::{MemorySink, RunFault};
+use aide_report::{MemorySink, Outcome, RunFault, Sink};
 use std::alloc::{Allocator, Global};
 use std::process::Abort;
 
-/// Two sound databases, the options of a run over them, its report, and how often it opens each side.
+/// A call, two sound databases, the options of a run over them, its report or lines, and how often it opens each side.
 #[derive(Clone, Copy)]
 pub(super) struct Trial<'a> {
+    pub(super) call: Call,
     pub(super) options: Options,
     pub(super) old: &'a [u8],
     pub(super) new: &'a [u8],
@@ -29,6 +30,16 @@ pub(super) struct Wrong<'a> {
 }
 
 impl<'a> Trial<'a> {
+    /// The run over these sources.
+    pub(super) fn run<S: Sources, W: Sink, A: Allocator + Copy>(
+        self,
+        desk: &mut Desk<A>,
+        sources: &mut S,
+        out: &mut W,
+    ) -> Result<Outcome, RunFault> {
+        self.call.over(self.options, desk, sources, out)
+    }
+
     /// The fault of a side in an opening. The plans of both sides are still without a failure.
     pub(super) fn wrong(self, side: Side, opening: u64, fault: RunFault) -> Wrong<'a> {
         Wrong {
@@ -51,11 +62,13 @@ impl<'a> Trial<'a> {
         }
     }
 
-    /// Whether these bytes may have gone out before a run ended with this fault. They are a front of the report. If a
-    /// database has changed since the second opening, they begin with the head and the summary of the outcome.
+    /// Whether these bytes may have gone out before a run ended with this fault. They are a front of the report or the
+    /// lines. If a database has changed since the second opening, they begin with what is said of the outcome.
     fn may_have_sent(self, bytes: &[u8], fault: RunFault, openings: u64) -> bool {
         match fault {
-            RunFault::Changed(_) if openings > 2 => bytes.starts_with(overview_of(self.report)),
+            RunFault::Changed(_) if openings > 2 => {
+                bytes.starts_with(overview_of(self.call, self.report))
+            }
             _ => self.report.starts_with(bytes),
         }
     }
@@ -99,7 +112,7 @@ pub(super) fn assert_stops(rt: &impl Abort, alloc: Global, trial: &Trial<'_>, wr
     let mut sources = PlannedSources::new(wrong.old, wrong.new, pace);
     let space = if wrong.old_openings > 2 { u64::MAX } else { 0 };
     let mut out = PlannedSink::new(MemorySink::new(alloc), pace, space, space > 0);
-    let answer = run_over(trial.options, &mut desk, &mut sources, &mut out);
+    let answer = trial.run(&mut desk, &mut sources, &mut out);
     assert_answer(rt, answer, Err(wrong.fault));
     let sent = out.inner().bytes();
     assert!(rt; out.failures() == 0 && sources.failures() == failures_of(wrong.fault));
@@ -121,7 +134,7 @@ pub(super) fn assert_serves<A: Allocator + Copy>(
     let old = SidePlan::plain(trial.old);
     let mut sources = PlannedSources::new(old, SidePlan::plain(trial.new), Pace::new(4096));
     let mut out = MemorySink::new(alloc);
-    let answer = run_over(trial.options, desk, &mut sources, &mut out);
+    let answer = trial.run(desk, &mut sources, &mut out);
     assert_well(rt, answer);
     assert!(rt; out.bytes() == trial.report, "the same desk again");
     assert_openings(rt, &sources, trial.openings, trial.openings);
