@@ -26,6 +26,7 @@ PLANTED = (
             "fd:\n                pass\n            os.re",
         ),
         (SETUP, "os.path.isdir(DPKG) or os.path.isdir(RPM)", "os.path.isdir(DPKG)"),
+        (SETUP, "    if given.quiet:  # Also", "    if False:  # Also"),
         (SETUP, "        if self.is_debian:\n            show_and_run", "        if True:\n            show_and_run"),
     )
     + seen_by(

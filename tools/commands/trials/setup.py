@@ -67,6 +67,7 @@ def try_steps(sandbox):
     sandbox.expect("setup --dry-run", sandbox.call(TOOL, "--dry-run"), 0, [b"1. paths", b"the timer"], b"")
     sandbox.holds("--dry-run changes nothing", made(sandbox)[0] == before, made(sandbox))
     sandbox.expect("setup --check, before", sandbox.call(TOOL, "--check"), 18, [b"missing: the baseline", b"6 things"], b"")
+    sandbox.expect("setup --check -q", sandbox.call(TOOL, "--check", "-q"), 18, b"", b"")
     done = sandbox.call(TOOL, "--to", "a@example.org")
     sandbox.expect("setup", done, 0, [b"4. the timer", b"5. the baseline"], b"")
     found, calls = made(sandbox)
@@ -87,6 +88,8 @@ def try_steps(sandbox):
     sandbox.expect("setup again, for root's mail", sandbox.call(TOOL), 0, b"a test mail\n", b"")
     calls = made(sandbox)[1]
     sandbox.holds("a mail to root", calls[-1:] == ["mail --test --user %s" % pwd.getpwuid(NOBODY).pw_name], calls)
+    sandbox.expect("setup again, without a word", sandbox.call(TOOL, "-q"), 0, b"", b"")
+    sandbox.holds("with one more mail", made(sandbox)[1][-1:] == calls[-1:], made(sandbox)[1])
     again = sandbox.call(TOOL, "--no-mail")
     sandbox.holds("each step is passed over the second time", again.output.count(b": is there") == 8, again)
     sandbox.holds("what an administrator wrote stays", sandbox.read("root/etc/aide-compare/defaults") == b"--reasons\n")
