@@ -15,7 +15,7 @@ PLANTED = (
         (DPKG, 'names = ("diversions",) + tuple', "names = tuple"),
         (DPKG, 'for kind in ("list", "md5sums"))', 'for kind in ("md5sums",))'),
         (DPKG, 'for kind in ("list", "md5sums"))', 'for kind in ("list",))'),
-        (DPKG, 'return not any(name.endswith(".list") for name in self.records.doubted)', "return True"),
+        (DPKG, 'return not any(name.endswith(".list") for name in self.doubted) and', "return"),
         (DPKG, 'is_needed = kind == "list" and package.is_there', "is_needed = False"),
         (DPKG, "for night in (self.old, self.new))", "for night in (self.new,))"),
         (DPKG, "for night in (self.old, self.new))", "for night in (self.old,))"),

@@ -21,7 +21,7 @@ PLANTED = (
         (COMPILED, "differences(old, new) <= CONTENT", "True"),
         (COMPILED, "if text is None or source is None or seconds is None:", "if text is None or source is None:"),
         (COMPILED, "if change.new_at is None and source.new_at is None:", "if change.new_at is None:"),
-        (CONTENT, "and hashes.digests() == known else", "else"),
+        (CONTENT, "and digests_of(known, [text]) == known else", "else"),
         (CONTENT, "if not has_strong(known):", "if not known:"),
         (EXPLAINER, "        Compiled(changes, self.read).explain()\n", ""),
     )

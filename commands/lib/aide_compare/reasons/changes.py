@@ -1,5 +1,5 @@
 """The changes of a report and the reasons for them, kept small: there may be 100,000 in memory."""
-from collections import Counter, namedtuple
+from collections import namedtuple
 from functools import lru_cache
 
 from aide_compare.compare.reason_counts import ReasonCounts
@@ -44,10 +44,10 @@ class Change:
 
 def counts_by_reason(changes):
     """The ReasonCounts of changes. What is explained also counts by its grade; what is not, or not verified, by its severity."""
-    counts = Counter(dict.fromkeys(ReasonCounts._fields, 0))
+    counts = dict.fromkeys(ReasonCounts._fields, 0)
     for change in changes:
-        if change.is_verified():
-            counts.update(("explained", "explained_" + change.reason.grade))
-        else:
-            counts.update(("not_verified" if change.reason else "unexplained", change.severity))
+        reason = change.reason
+        kind = "unexplained" if reason is None else "explained" if reason.verified else "not_verified"
+        counts[kind] += 1
+        counts["explained_" + reason.grade if kind == "explained" else change.severity] += 1
     return ReasonCounts(**counts)

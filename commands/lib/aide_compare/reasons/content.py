@@ -14,18 +14,13 @@ STRONG = ("sha256", "sha512", "sha3_256", "sha3_512")
 BLOCK = 1 << 18
 
 
-class Hashes:
-    """Several digests of the same bytes."""
-
-    def __init__(self, columns):
-        self.hashes = {column: hashlib.new(column) for column in columns}
-
-    def update(self, data):
-        for each in self.hashes.values():
-            each.update(data)
-
-    def digests(self):
-        return {column: each.digest() for column, each in self.hashes.items()}
+def digests_of(columns, blocks):
+    """Several digests of the same bytes, by their columns."""
+    hashes = {column: hashlib.new(column) for column in columns}
+    for block in blocks:
+        for each in hashes.values():
+            each.update(block)
+    return {column: each.digest() for column, each in hashes.items()}
 
 
 def do_agree(given, wanted):
@@ -45,9 +40,7 @@ def bytes_of(path, entry, most):
             text = file.read(most + 1)
     except (Fault, OSError):
         return None
-    hashes = Hashes(known)
-    hashes.update(text)
-    return text if len(text) <= most and hashes.digests() == known else None
+    return text if len(text) <= most and digests_of(known, [text]) == known else None
 
 
 class Contents:
@@ -70,23 +63,22 @@ class Contents:
         size = entry.number("size")
         if not known.keys() & COMPUTED or (size or 0) > self.left:
             return False
-        found = self._digests(path, columns)
-        return found is not None and do_agree(found, known) and do_agree(found, wanted)
-
-    def _digests(self, path, columns):
-        """The digests of a file, or None if it cannot be read whole."""
-        hashes = Hashes(columns)
         try:
-            with open(open_regular(os.fsdecode(path)), "rb", buffering=0) as file:
-                while self.left > 0:
-                    block = file.read(min(BLOCK, self.left))
-                    if not block:
-                        return hashes.digests()
-                    hashes.update(block)
-                    self.left -= len(block)
+            found = digests_of(columns, self._blocks(path))
         except (Fault, OSError):
-            pass
-        return None
+            return False
+        return do_agree(found, known) and do_agree(found, wanted)
+
+    def _blocks(self, path):
+        """The bytes of a file, which is read whole or not at all."""
+        with open(open_regular(os.fsdecode(path)), "rb", buffering=0) as file:
+            while self.left > 0:
+                block = file.read(min(BLOCK, self.left))
+                if not block:
+                    return
+                self.left -= len(block)
+                yield block
+        raise OSError("no more may be read")
 
 
 def strong_digest(entry):
@@ -108,9 +100,7 @@ class Vouched:
     def has(self, path, text):
         """Whether these bytes are the content of the file, as the database has it."""
         digest = self.digests.get(path)
-        hashes = Hashes(digest[:1] if digest else ())
-        hashes.update(text)
-        return self.fits(path, hashes.digests())
+        return self.fits(path, digests_of(digest[:1] if digest else (), [text]))
 
     def fits(self, path, digests):
         """Whether the file has the digest among these that the database has of it."""

@@ -5,7 +5,7 @@ import stat
 import tarfile
 from collections import namedtuple
 
-from aide_compare.reasons.content import Hashes
+from aide_compare.reasons.content import digests_of
 from aide_compare.reasons.packed import BLOCK, Bounded, Refuted, copied, members, unpacked
 
 MAGIC = b"!<arch>\n"
@@ -43,20 +43,19 @@ def _path_of_name(name):
     return b"/" + (path[2:] if path.startswith(b"./") else path.lstrip(b"/"))
 
 
-def _digests(file, place, columns):
-    """The digests of the content of a member."""
+def _content(file, place):
+    """The content of a member, in blocks."""
     if place is None:
         raise Refuted("a hard link to nothing")
-    before, (offset, left), hashes = file.tell(), place, Hashes(columns)
+    before, (offset, left) = file.tell(), place
     file.seek(offset)
     while left > 0:
         block = file.read(min(BLOCK, left))
         if not block:
             raise Refuted("cut short")
-        hashes.update(block)
         left -= len(block)
+        yield block
     file.seek(before)
-    return hashes.digests()
 
 
 def _read_part(name, file, wants, columns, found):
@@ -76,7 +75,7 @@ def _read_part(name, file, wants, columns, found):
             found.links[path] = os.fsencode(member.linkname)
         elif is_file:
             place = places.get(path if member.isreg() else _path_of_name(member.linkname))
-            digests = _digests(file, place, columns)
+            digests = digests_of(columns, _content(file, place))
             if is_data:
                 found.digests[path] = digests
             else:

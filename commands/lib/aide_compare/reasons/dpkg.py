@@ -51,16 +51,23 @@ def packages_of(status):
     return found
 
 
-class RecordsOfNight:
-    """dpkg's records of one night from several places: of each file, the first text for which the database vouches."""
+class DpkgNight:
+    """dpkg's records of one night, from several places: of each file, the first text for which the database of that night
+    vouches. `doubted` are the files that were read and for which it does not; `diversions` the paths that files of packages
+    were moved to."""
 
     def __init__(self, places, database):
-        self.places, self.doubted = places, []
+        self.places, self.doubted, self.usr = places, [], usr_of(database)
         self.names = frozenset(name for place in places for name in place.names)
         self.vouched = Vouched(database, {FOLDER + name.encode("ascii") for name in self.names})
+        self.packages, self.diverted = packages_of(self._read("status")), {}
+        lines = self._read("diversions").split(b"\n")
+        for source, target, package in zip(lines[::3], lines[1::3], lines[2::3]):
+            self.diverted[self.usr(source)] = (self.usr(target), package)
+        self.diversions = frozenset(target for target, _ in self.diverted.values())
 
-    def read(self, name):
-        """The bytes of a file. Those that nothing vouches for are given too, and the file is `doubted` from then on."""
+    def _read(self, name):
+        """The bytes of a file. Those that nothing vouches for are given too."""
         texts, path = [], FOLDER + name.encode("ascii")
         for place in self.places:
             if name in place.names:
@@ -79,19 +86,6 @@ class RecordsOfNight:
         """Why not all that was read counts; "" if all does."""
         return self.vouched.why_not(FOLDER + self.doubted[0].encode("ascii")) if self.doubted else ""
 
-
-class DpkgNight:
-    """dpkg's records of one night, beside the database of that night, which vouches for them or not. `diversions` are the
-    paths that files of packages were moved to."""
-
-    def __init__(self, places, database):
-        self.records, self.usr = RecordsOfNight(places, database), usr_of(database)
-        self.packages, self.diverted = packages_of(self.records.read("status")), {}
-        lines = self.records.read("diversions").split(b"\n")
-        for source, target, package in zip(lines[::3], lines[1::3], lines[2::3]):
-            self.diverted[self.usr(source)] = (self.usr(target), package)
-        self.diversions = frozenset(target for target, _ in self.diverted.values())
-
     def place_of(self, path, package):
         """Where a file of a package is: a diversion moves it, unless it is of the package that diverts."""
         path = self.usr(path)
@@ -102,26 +96,23 @@ class DpkgNight:
         """The name of a file of dpkg about a package."""
         bases = (package.name + b":" + package.arch, package.name)
         names = ["info/%s.%s" % (base.decode("ascii", "replace"), kind) for base in bases]
-        return next((name for name in names if name in self.records.names), names[-1])
+        return next((name for name in names if name in self.names), names[-1])
 
     def _lines(self, package, kind):
         """The lines of such a file. Each package that is there has a list, but perhaps no digests."""
         name = self._name(package, kind)
         is_needed = kind == "list" and package.is_there
-        text = self.records.read(name) if name in self.records.names or is_needed else b""
+        text = self._read(name) if name in self.names or is_needed else b""
         return text.split(b"\n")
 
     def vouches_for(self, package):
         """Whether the database vouches for all that was read of a package, but for what status says."""
         names = ("diversions",) + tuple(self._name(package, kind) for kind in ("list", "md5sums"))
-        return not self.records.is_doubted(*names)
-
-    def vouches_for_diversions(self):
-        return not self.records.is_doubted("diversions")
+        return not self.is_doubted(*names)
 
     def vouches_for_lists(self):
-        """Whether it vouches for all lists of paths that were read."""
-        return not any(name.endswith(".list") for name in self.records.doubted)
+        """Whether it vouches for all lists of paths that were read, and for where files were moved to."""
+        return not any(name.endswith(".list") for name in self.doubted) and not self.is_doubted("diversions")
 
     def paths(self, package):
         """The paths of a package."""
@@ -217,7 +208,7 @@ class Gathered:
 
     def are_versions_sure(self):
         """Whether both databases vouch for what says which packages there are, and in which versions."""
-        return not any(night.records.is_doubted("status") for night in (self.old, self.new))
+        return not any(night.is_doubted("status") for night in (self.old, self.new))
 
     def is_sure_now(self, path):
         """Whether the databases vouch for all that says that the packages with this path changed, and have it."""
@@ -226,8 +217,8 @@ class Gathered:
     def is_sure_gone(self, path):
         """Whether they vouch for all that says that the path went with its packages, and that no other one has it."""
         is_owned = all(self.old.vouches_for(package) for package in self.before[path])
-        return is_owned and self.are_versions_sure() and self.new.vouches_for_lists() and self.new.vouches_for_diversions()
+        return is_owned and self.are_versions_sure() and self.new.vouches_for_lists()
 
     def doubt(self):
         """Why not all that dpkg's records say counts; "" if all that was read does."""
-        return self.new.records.doubt() or self.old.records.doubt()
+        return self.new.doubt() or self.old.doubt()

@@ -90,8 +90,8 @@ class Explainer:
 
     def read(self, change):
         """What the databases say of a change: the old entry and the new one, None for one that is not there."""
-        pairs = (self.old, change.old_at), (self.new, change.new_at)
-        return tuple(None if place is None else database.at(place) for database, place in pairs)
+        old = None if change.old_at is None else self.old.at(change.old_at)
+        return old, None if change.new_at is None else self.new.at(change.new_at)
 
     def _explain_each(self, changes, explain):
         for change in changes:

@@ -9,7 +9,7 @@ from aide_compare.base.files import open_regular
 from aide_compare.base.folders import open_folder
 from aide_compare.base.private_room import PrivateRoom
 from aide_compare.base.trusted import read_whole
-from aide_compare.reasons.content import STRONG, Hashes
+from aide_compare.reasons.content import STRONG, digests_of
 from aide_compare.reasons.packed import Refuted, copied
 
 RPM = "/usr/bin/rpm"
@@ -78,17 +78,20 @@ class RpmRecords:
 
     def _copy_to(self, folder):
         """Copies the database into a folder, and notes the digests of the copy."""
-        hashes, left = Hashes(STRONG), MOST_DATABASE
+        flags = os.O_WRONLY | os.O_CREAT | os.O_EXCL | os.O_CLOEXEC
         with open(open_regular(self.path, "rpm's database "), "rb", buffering=0) as source:
-            flags = os.O_WRONLY | os.O_CREAT | os.O_EXCL | os.O_CLOEXEC
             with open(os.open(WHOLE, flags, 0o600, dir_fd=folder), "wb", buffering=0) as target:
-                for block in iter(lambda: source.read(1 << 20), b""):
-                    left -= len(block)
-                    if left < 0:
-                        raise Refuted("the database is too large")
-                    hashes.update(block)
-                    write_all(target.fileno(), block)
-        self.digests = hashes.digests()
+                self.digests = digests_of(STRONG, self._copied(source, target.fileno()))
+
+    @staticmethod
+    def _copied(source, target):
+        left = MOST_DATABASE
+        for block in iter(lambda: source.read(1 << 20), b""):
+            left -= len(block)
+            if left < 0:
+                raise Refuted("the database is too large")
+            write_all(target, block)
+            yield block
 
     def _asked(self, folder):
         """A private file with what rpm says of the database in a folder, and the status of rpm."""
