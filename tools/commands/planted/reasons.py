@@ -122,7 +122,11 @@ PLANTED = (
     )
     + seen_by(
         "reasons_packages.try_links",
-        (PACKAGES, "is_packages = any(owner in self.known.now[path] for owner in self._owners_of_target(path, new))", "is_packages = True"),
+        (
+            PACKAGES,
+            "is_packages = any(owner in self.known.now[path] for owner in self._owners_of_target(path, new))",
+            "is_packages = True",
+        ),
     )
     + seen_by(
         "reasons_packages.try_removed",
@@ -170,14 +174,22 @@ PLANTED = (
     + seen_by(
         "reasons_places.try_folders",
         (PARENTS, "text + more, worst == VERIFIED,", "text, True,"),
-        (PARENTS, ' or not has_other_names(old, new, differ - {"inode"})', ' or (is_anew and not has_other_names(old, new, differ - {"inode"}))'),
+        (
+            PARENTS,
+            ' or not has_other_names(old, new, differ - {"inode"})',
+            ' or (is_anew and not has_other_names(old, new, differ - {"inode"}))',
+        ),
         (PARENTS, "return None not in flags and flags[0] ^ flags[1] == INDEX", "return True"),
         (PARENTS, "return None not in flags and flags[0]", "return flags[0]"),
         (PARENTS, " and change.new_at is not None and", " and"),
         (PARENTS, "if change.is_open() and", "if change.reason is None and"),
         (PARENTS, "else ALL_NAMES, worst)", "else ALL_NAMES, NOT_VERIFIED if is_anew else worst)"),
         (PARENTS, "if worst is None:", "if worst is None and not is_anew:"),
-        (PARENTS, ' or not has_other_names(old, new, differ - {"inode"})', ' or (not is_anew and not has_other_names(old, new, differ))'),
+        (
+            PARENTS,
+            ' or not has_other_names(old, new, differ - {"inode"})',
+            " or (not is_anew and not has_other_names(old, new, differ))",
+        ),
     )
     + seen_by(
         "reasons_places.try_rules",

@@ -11,7 +11,11 @@ PLANTED = (
         "reasons_compiled.try_compiled",
         (COMPILED, "text[HEAD:] == code or is_same(text[HEAD:], code)", "True"),
         (COMPILED, "text[HEAD:] == code or is_same(text[HEAD:], code)", "text[HEAD:] == code"),
-        (COMPILED, '    if text[:HEAD] != _head(source, seconds, int.from_bytes(text[4:8], "little")):\n        return False\n', ""),
+        (
+            COMPILED,
+            '    if text[:HEAD] != _head(source, seconds, int.from_bytes(text[4:8], "little")):\n        return False\n',
+            "",
+        ),
         (COMPILED, 'int(found.group(4) or b"0")', "0"),
         (COMPILED, "source.is_verified() and change", "change"),
         (COMPILED, "pair.change.is_never = True", "pass"),

@@ -149,7 +149,7 @@ class Renames:
                 source.reason = self._left(source, change)
 
     def _renamed(self, change, new):
-        """The file of this folder that has this name now, and had another one; the reason is given if all else is as it was."""
+        """The file of this folder that has this name now, and had another one; a reason is given if all else is as before."""
         source = self.by_inode.get((change.folder(), new.field("inode")))
         if source is None:
             return None

@@ -43,7 +43,7 @@ class Change:
 
 
 def counts_by_reason(changes):
-    """The ReasonCounts of changes. What is explained also counts by its grade; what is not, or not verified, by its severity."""
+    """The ReasonCounts of changes: of what is explained by its grade too, of what is not, or not verified, by its severity."""
     counts = dict.fromkeys(ReasonCounts._fields, 0)
     for change in changes:
         reason = change.reason

@@ -1,8 +1,8 @@
 """What programs make of files of packages: verified if there is nothing in it but what is verified already.
 
-The certificates that OpenSSL trusts are, as update-ca-certificates makes them, links to those of packages, by their names and by
-sums, and one file with all of them. What comes from elsewhere is somebody's own authority, who may then be anybody. dpkg's lists
-of digests say what the new database has.
+The certificates that OpenSSL trusts are, as update-ca-certificates makes them, links to those of packages, by their names and
+by sums, and one file with all of them. What comes from elsewhere is somebody's own authority, who may then be anybody. dpkg's
+lists of digests say what the new database has.
 """
 import re
 

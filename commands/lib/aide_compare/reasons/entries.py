@@ -225,7 +225,7 @@ def entries_at(database, paths):
 
 
 def usr_of(database):
-    """A function that gives a path as it is with the folders followed that are links to the same name in /usr, such as /bin."""
+    """A function that gives a path with the folders followed that are links to the same name in /usr, such as /bin."""
     found = entries_at(database, MERGED)
     merged = {path: b"/usr" + path for path, entry in found if entry.link() in (b"usr" + path, b"/usr" + path)}
 

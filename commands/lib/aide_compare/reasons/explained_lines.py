@@ -46,7 +46,7 @@ class UnexplainedLines:
         return fields
 
     def entries(self):
-        """Yields the objects of the entries. UnexplainedLines that are missing, or are none of aide-compare json, are refused."""
+        """Yields the objects of the entries. Lines that are missing, or are none of aide-compare json, are refused."""
         for fields in iter(self._next, None):
             if fields.get("record") == "entry" and not self.databases:
                 self._judge(fields)

@@ -28,8 +28,8 @@ def package_words(package):
 
 
 class ChangedPackages:
-    """The packages of dpkg or rpm that changed between the two nights. `gather` comes first: it reads what their records say of
-    the changes. `linked` are the new names of files that have several."""
+    """The packages of dpkg or rpm that changed between the two nights. `gather` comes first: it reads what their records say
+    of the changes. `linked` are the new names of files that have several."""
 
     def __init__(self):
         self.contents, self.linked = Contents(), {}
