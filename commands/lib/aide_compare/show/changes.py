@@ -1,0 +1,105 @@
+"""The changes of lines as a text for people: each with its values, or only the first paths where all would be too much."""
+from collections import Counter
+
+from aide_compare.base.escapes import guarded, shown
+from aide_compare.base.names import KINDS, SIDES
+from aide_compare.lines.attributes import FORMS, STRENGTH
+from aide_compare.lines.reader import Refused, bytes_of, counts_in
+from aide_compare.lines.texts import texts_of, values_of
+
+MOST_VALUE = 200
+MOST_PATHS = 1000
+# How many paths of one folder a cut list has, how many below the first two pieces of a path, and how many folders it counts.
+FOLDER_SHARE, TREE_SHARE, MOST_FOLDERS = 20, 100, 10
+# What was removed or changed comes before what was added, since everybody can add files somewhere.
+ORDER = ("changed", "removed", "added")
+
+
+def head_of(summary):
+    """What a text begins with."""
+    lines = ["Total number of entries: %d" % summary["total"]]
+    lines += ["%-25s%d" % (kind.capitalize() + " entries:", count) for kind, count in zip(KINDS, counts_in(summary))]
+    return "The two databases differ.\n\nSummary:\n" + "".join("  %s\n" % line for line in lines)
+
+
+def _shown(value, text):
+    """A value for people; None if there is none."""
+    if text is not None or isinstance(value, int):
+        return guarded(str(value if text is None else text)[:MOST_VALUE])
+    return None if value is None else shown(value, MOST_VALUE)
+
+
+def values_in(fields, others=()):
+    """For each attribute of a change its name and both values for people, None for one that is not there. Of the digests the
+    strongest says as much as all, and the type is said already unless it changed. `others`: attributes that it has too."""
+    old, new = (values_of(fields, side) for side in SIDES)
+    texts, labels = texts_of(fields), {*old, *new, *others}
+    digest = next((label for label in STRENGTH if label in labels), None)
+    for label in FORMS:
+        is_said = label == "Type" and fields["kind"] != "changed" or label in STRENGTH and label != digest
+        if label in labels and not is_said:
+            yield (label, *(_shown(values.get(label), each.get(label)) for values, each in zip((old, new), texts)))
+
+
+def change_lines(fields):
+    """The lines of a change. The path stands last in its line, so that no path can look like the words of another one."""
+    yield "%s %s: %s\n" % (fields["kind"], fields.get("type", "Entry"), shown(bytes_of(fields, "path")))
+    for label, old, new in values_in(fields):
+        if fields["kind"] == "changed":
+            yield "    %-10s %s -> %s\n" % (label, "none" if old is None else old, "none" if new is None else new)
+        else:
+            yield "    %-10s %s\n" % (label, old if new is None else new)
+
+
+def changes_text(reader):
+    """Yields the text of all changes of a Reader."""
+    yield head_of(reader.summary)
+    for _, fields in reader:
+        yield "\n" + "".join(change_lines(fields))
+
+
+class CutList:
+    """The first paths of a kind. A folder, and the tree below the first two pieces of a path, has a share of it, so that
+    nobody fills it with files of his own."""
+
+    def __init__(self):
+        self.lines, self.shares, self.rest = [], Counter(), Counter()
+
+    def add(self, fields):
+        path = bytes_of(fields, "path")
+        folder, tree = path.rpartition(b"/")[0] or b"/", b"/".join(path.split(b"/")[:3])
+        if len(self.lines) < MOST_PATHS and self.shares[folder] < FOLDER_SHARE and self.shares[b"", tree] < TREE_SHARE:
+            self.shares.update((folder, (b"", tree)))
+            self.lines.append("%s: %s\n" % (fields["summary"], shown(path, MOST_PATHS)))
+        else:
+            self.rest.update([folder] if folder in self.shares else [])
+
+    def folders(self):
+        """Lines for the folders of which most is left out."""
+        for folder, count in sorted(self.rest.items(), key=lambda pair: (-pair[1], pair[0]))[:MOST_FOLDERS]:
+            yield "%s: %d more\n" % (shown(folder, MOST_PATHS), count)
+
+
+def cut_text(reader, most, command):
+    """The beginning of a text of at most about so many bytes: the first paths of each kind."""
+    lists, room, paths = {kind: CutList() for kind in KINDS}, most, 0
+    try:
+        for _, fields in reader:
+            lists[fields["kind"]].add(fields)
+    except Refused:  # They were cut, and those that are there are told.
+        pass
+    text = head_of(reader.summary)
+    for kind in ORDER:
+        found = lists[kind]
+        text += "\n%s entries:\n\n" % kind.capitalize() if found.lines else ""
+        for place, line in enumerate(found.lines[: MOST_PATHS - paths] + list(found.folders())):
+            room -= len(line.encode("utf-8", "backslashreplace"))
+            if room < 0:
+                break
+            text += line
+            paths += place < len(found.lines)
+    total = sum(counts_in(reader.summary))
+    return text + (
+        "\nThis mail is cut: %d paths are listed, %d are left out, and no values are shown.\n"
+        "This command prints the whole report:\n    %s\n" % (paths, total - paths, command)
+    )
