@@ -87,7 +87,6 @@ _aide_compare() {
     fi
     case $kind in
         text) _aide_compare_text "$word" "$name" ;;
-        level) mapfile -t COMPREPLY < <(compgen -W "@LEVELS@" -- "$word") ;;
         =*) mapfile -t COMPREPLY < <(compgen -W "${kind//[=,]/ }" -- "$word") ;;
         host) mapfile -t COMPREPLY < <(compgen -A hostname -- "$word") ;;
         user) mapfile -t COMPREPLY < <(compgen -u -- "$word") ;;

@@ -24,7 +24,7 @@ from tools.commands.trials.age import try_age
 from tools.commands.trials.attacks import try_attacks
 from tools.commands.trials.bounded import try_bounded
 from tools.commands.trials.columns import try_columns
-from tools.commands.trials.cut_reports import try_cut_reports
+from tools.commands.trials.cut_lines import try_cut_lines
 from tools.commands.trials.explained import try_explained
 from tools.commands.trials.explained_readers import try_explained_readers
 from tools.commands.trials.fleet import try_fleet
@@ -85,7 +85,7 @@ TRIALS = [
     try_hosts_ends,
     try_hosts_quiet,
     try_hosts_shares,
-    try_cut_reports,
+    try_cut_lines,
     try_faults,
     try_accept,
     try_accept_partly,
@@ -110,12 +110,12 @@ TRIALS = [
 ]
 
 
-def try_base(trial, tally):
+def try_base(trial, tally, program):
     """The trials of some modules that the commands share. They fork, so they run before any thread is started."""
     folder = tempfile.mkdtemp(prefix="try-base-")
     os.chmod(folder, 0o755)
     try:
-        trial(tally, folder)
+        trial(tally, folder, *[program] * (trial is try_configurations))
     except Exception:
         tally.add(trial.__name__, [traceback.format_exc()])
     finally:
@@ -146,7 +146,7 @@ def main():
     program, tally = program_of(wanted.program), Tally()
     for trial in BASE:
         if wanted.only in (None, trial.__name__):
-            try_base(trial, tally)
+            try_base(trial, tally, program)
     chosen = [trial for trial in TRIALS if not (wanted.quick and trial in LONG)]
     given = [(program, trial, tally) for trial in chosen if wanted.only in (None, trial.__name__)]
     for _ in side_by_side(4, try_one, given):

@@ -17,7 +17,7 @@ from tools.source.check_docs import TOP, tracked
 PACKAGE = "aide_compare"
 ROOT = "commands/lib/" + PACKAGE + "/"
 # From below to above.
-LAYERS = ("base", "compare", "lines", "reasons", "show", "mail", "hosts", "commands")
+LAYERS = ("base", "lines", "compare", "reasons", "show", "mail", "hosts", "commands")
 
 
 def modules():

@@ -1,11 +1,17 @@
-"""The configurations that the commands read, beside the definitions: both find the same two databases."""
+"""The databases that a configuration names: the commands ask the program for them, and find those of the definitions."""
 import random
+import re
+from unittest import mock
 
+from tools.lib.tally import lines_program_of
 from tools.oracle import configuration as oracle
 
-from aide_compare.compare.configuration import Texts
+from aide_compare.base.ending import Fault
+from aide_compare.compare import comparison
+from aide_compare.compare.comparison import Comparison, Request
+from aide_compare.compare.configuration import Texts, databases_of
 
-SEED, COUNT, LEAST_ACCEPTED = 20261126, 12000, 1200
+SEED, COUNT, LEAST_ACCEPTED = 20261126, 500, 12
 LINES = (
     b"@@define A 1",
     b"@@define A file:/x",
@@ -26,6 +32,10 @@ LINES = (
 )
 # The language knows blanks and tabs; the others are blanks to Python only.
 BLANKS = (b" ", b"\t", b"\x0c", b"\x0b", b"\r")
+# Behind this word a form feed is a part of it, so that the program refuses the line, and no block is divided.
+FORM_FEED = b"@@ifdef A\ndatabase_in=file:/a\n@@else\x0c\n@@endif\ndatabase_in=file:/b\ndatabase_new=file:/c\n"
+WRITTEN = b"database_in=file:/a\ndatabase_out=file:/c\n"
+NAMED = re.compile(rb"(?m)^[ \t]*database(?:_in)?[ \t]*=")
 
 
 def random_line(source):
@@ -37,19 +47,36 @@ def random_line(source):
     return line.replace(b" ", blank, 1) if way < 0.3 else line
 
 
-def try_configurations(tally, _):
-    """Random texts that the definitions accept: the paths that the commands read are those of the definitions."""
-    source, accepted, faults = random.Random(SEED), 0, []
-    for _ in range(COUNT):
-        text = b"".join(random_line(source) + b"\n" for _ in range(source.randint(1, 9)))
-        wanted = oracle.read(b"", text, b"", False)
-        if isinstance(wanted, oracle.Fault):
-            continue
-        accepted += 1
-        values = Texts(b"", text, b"").databases()[0]
-        for name in ("database_in", "database_new"):
-            given = values.get(name.encode(), b"")[len(b"file:") :] or None
-            if given != (wanted[name] or None):
-                faults.append("%s of %r: wanted %r, given %r" % (name, text, wanted[name], given))
-    tally.add("configurations read by the commands (seed %d)" % SEED, faults[:5])
-    tally.holds("configurations that are accepted", accepted >= LEAST_ACCEPTED, accepted)
+def asked(program):
+    """What asks the program for the databases of a text, as a comparison does: their paths, or None where there are none."""
+    one = Comparison(Request(configuration="conf"))
+
+    def databases(text):
+        try:
+            with mock.patch.object(comparison, "find_lines", lambda: program):
+                return databases_of(Texts(b"", text, b""), "conf", one.settings)
+        except Fault as fault:
+            return "twice" if "twice" in fault.text else None
+
+    return databases
+
+
+def wanted_of(text):
+    """What the definitions say: both paths, None if one is missing or both are the same."""
+    settings = oracle.read(b"", text, b"", False)
+    found = () if isinstance(settings, oracle.Fault) else (settings["database_in"], settings["database_new"])
+    return tuple(path.decode() for path in found) if None not in found and len(set(found)) == 2 else None
+
+
+def try_configurations(tally, _, program):
+    """Random texts: the paths that a comparison finds are those of the definitions, unless a side is named twice."""
+    source, accepted, faults, databases = random.Random(SEED), 0, [], asked(lines_program_of(program))
+    texts = [b"".join(random_line(source) + b"\n" for _ in range(source.randint(1, 9))) for _ in range(COUNT)]
+    for text in texts + [FORM_FEED, FORM_FEED.replace(b"\x0c", b"")]:
+        wanted, given = wanted_of(text), databases(text)
+        accepted += wanted is not None
+        if given not in (wanted, "twice") or given == "twice" and len(NAMED.findall(text)) < 2 and text.count(b"_new") < 2:
+            faults.append("%r: wanted %r, given %r" % (text, wanted, given))
+    tally.add("databases of configurations (seed %d)" % SEED, faults[:5])
+    tally.holds("configurations with two databases", accepted >= LEAST_ACCEPTED, accepted)
+    tally.holds("what AIDE writes is compared next", databases(WRITTEN) == ("/a", "/c"), databases(WRITTEN))

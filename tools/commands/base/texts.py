@@ -1,5 +1,4 @@
-"""Escapes, times, the command line, the state file, the head of reports, and how a command ends."""
-import base64
+"""Escapes, times, the command line, the state file, statuses, and how a command ends."""
 import json
 import os
 import subprocess
@@ -11,8 +10,8 @@ from tools.oracle.configuration import BOOL_OPTIONS, SET_OPTIONS
 
 from aide_compare import VERSION
 from aide_compare.base import ending, escapes, options, times
-from aide_compare.compare import configuration, reports, state
-from aide_compare.lines import attributes
+from aide_compare.compare import configuration, state
+from aide_compare.lines import attributes, reader
 from aide_compare.reasons import entries, entry_words
 
 ESCAPED = (
@@ -42,22 +41,23 @@ NO_TIMES = ("", "x", "h", "1h2", "1.5h", "-1", "+1", " 1", "1 ", "1_0", "\u0663"
 
 
 def try_texts(tally, folder):
-    for part in (try_escapes, try_times, try_words, try_options, try_state, try_reports, try_ends, try_tables):
+    for part in (try_escapes, try_times, try_words, try_options, try_state, try_statuses, try_ends, try_tables):
         part(tally, folder)
 
 
 def try_tables(tally, _):
     """The tables of attributes say the same: each digest is in the order of strength, in the reasons and in the schema. The
-    options that report_url=stdout fixes are those of the definitions."""
+    options of the definitions are none that is misspelt."""
     labels = [label for label, form in attributes.FORMS.items() if isinstance(form, tuple)]
     columns = sorted(label.lower().replace("-", "_").replace("/", "_") for label in labels)
     with open(os.path.join(TOP, "contrib", "json", "aide-compare-lines.schema.json"), encoding="utf-8") as file:
         schema = json.load(file)
     expect(tally, "digests by strength", sorted(attributes.STRENGTH), sorted(labels))
     expect(tally, "digests of the reasons", sorted(attributes.DIGEST_COLUMNS), columns)
-    expect(tally, "attributes of the schema", list(schema["$defs"]["attributes"]["properties"]), list(attributes.FORMS))
-    names = sorted(name.encode() for name in ["report_level"] + BOOL_OPTIONS + SET_OPTIONS)
-    expect(tally, "options of the report", sorted(configuration.REPORT_OPTIONS), names)
+    names = [name for name in schema["$defs"]["side"]["properties"] if not name.endswith("_hex")]
+    expect(tally, "attributes of the schema", names, list(attributes.FORMS))
+    names = {name.encode() for name in ["report_level", "report_url", "report_format"] + BOOL_OPTIONS + SET_OPTIONS}
+    expect(tally, "options of the report", sorted(names - configuration.OPTIONS), [])
 
 
 def try_escapes(tally, _):
@@ -179,34 +179,11 @@ def try_state(tally, _):
         expect(tally, "a state with %.40r for %.40r" % (new, old), found, "refused")
 
 
-def try_reports(tally, _):
-    head = (
-        b"AIDE found differences between the two databases.\n\nSummary:\n  Total number of entries: 3\n"
-        b"  Added entries:           1\n  Removed entries:         20\n  Changed entries:         300\n"
-    )
-    expect(tally, "counts", reports.counts_of(head), (1, 20, 300))
-    for text in (b"", head[:60], head[:-1], head.replace(b"Added", b"added"), b"x" + head, head.replace(b"\n\nS", b"\nS")):
-        expect(tally, "no counts in %.40r" % text, reports.counts_of(text), None)
-    expect(
-        tally,
-        "statuses",
-        [reports.status_of(counts) for counts in ((0, 0, 0), (9, 0, 0), (0, 9, 0), (0, 0, 9), (1, 1, 1))],
-        [0, 1, 2, 4, 7],
-    )
-    old, new = bytes(range(32)), bytes(range(100, 132))
-    for label, text in (("64", lambda data: base64.b64encode(data).decode()), ("16", bytes.hex)):
-        tail = DIGESTS % (text(old)[:32], text(old)[32:], text(new)[:32], text(new)[32:])
-        expect(tally, "digests in base " + label, reports.digests_of(b"x\n" + tail.encode()), [old.hex(), new.hex()])
-        for cut in (tail[:-1], tail + "\n", tail.replace("Old", "New"), tail.replace("attributes", "names"), ""):
-            expect(tally, "no digests in %.40r" % cut, reports.digests_of(cut.encode()), [])
+def try_statuses(tally, _):
+    given = [reader.status_of(counts) for counts in ((0, 0, 0), (9, 0, 0), (0, 9, 0), (0, 0, 9), (1, 1, 1))]
+    expect(tally, "statuses", given, [0, 1, 2, 4, 7])
 
 
-DIGESTS = (
-    "\nThe attributes of the databases:\n"
-    + "-" * 51
-    + "\n\n"
-    + "".join(side + " database: /proc/self/fd/3\n  SHA256    : %s\n              %s\n" for side in ("Old", "New"))
-)
 END = """import sys
 sys.path.insert(0, %r)
 from aide_compare.base.ending import *

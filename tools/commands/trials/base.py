@@ -17,5 +17,5 @@ def in_sandbox(part):
 
 try_files = in_sandbox(files.try_files)
 try_escapes, try_times, try_options = map(in_sandbox, (texts.try_escapes, texts.try_times, texts.try_options))
-try_state, try_reports, try_ends = map(in_sandbox, (texts.try_state, texts.try_reports, texts.try_ends))
+try_state, try_statuses, try_ends = map(in_sandbox, (texts.try_state, texts.try_statuses, texts.try_ends))
 try_tables = in_sandbox(texts.try_tables)

@@ -28,8 +28,8 @@ def try_places(sandbox):
     sandbox.holds("the state has its name", good, state)
     first = json.loads(sandbox.read("lines").split(b"\n")[0])
     sandbox.holds("so has the first line", first.get("skipped") == {"old": ["fstype"], "new": ["fstype"]}, first)
-    lines = sandbox.call("aide-compare json", "--state", "state", text=answer.output).output
-    sandbox.holds("and that of a report", json.loads(lines.split(b"\n")[0])["skipped"] == first.get("skipped"), lines)
+    lines = sandbox.call("aide-compare json", "o.db", "same.db").output
+    sandbox.holds("and that of aide-compare json", json.loads(lines.split(b"\n")[0])["skipped"] == first.get("skipped"), lines)
     page = sandbox.call("aide-compare page", "lines").output
     sandbox.holds("and a page", b"The column fstype is not compared" in page, page[:300])
     answer = sandbox.call(TOOL, "o.db", "more.db")

@@ -52,14 +52,33 @@ def call(sandbox, *words):
     return answer.status, mail.subject(message), None if message is None else mail.body(message).decode()
 
 
+CHANGES = """removed File: /etc/gone
+    Size       5
+    Perm       -rw-r--r--
+    UID        0
+    GID        0
+
+changed File: /etc/plain
+    Perm       -rw-r--r-- -> -rw-------
+
+changed File: /srv/log
+    Size       5 -> 9
+
+added File: /usr/.x y
+    Size       7
+    Perm       -rwsr-xr-x
+    UID        0
+    GID        0
+"""
+
+
 def try_mails(sandbox):
-    """The subject has the counts. The mail begins with what nothing explains, then comes the command, then the report."""
+    """The subject has the counts. The mail begins with what nothing explains, then comes the command, then all changes."""
     prepare(sandbox)
-    report = sandbox.call("aide-compare", "o.db", "n.db").output.decode()
     status, subject, text = call(sandbox, *REASONS, "o.db", "n.db")
     sandbox.holds("the subject", (status, subject) == (7, mail.SUBJECT + WORDS), (status, subject))
     accept = "aide-compare accept --sha256 %s" % sha256(explained.NEW)
-    places = [text.find(part) for part in (BRIEF, "New database: n.db", accept, report)]
+    places = [text.find(part) for part in (BRIEF, "New database: n.db", accept, "The two databases differ.", CHANGES)]
     sandbox.holds("the order of a mail", places[0] == 0 and -1 not in places and places == sorted(places), text)
     sandbox.holds("the counts are told once", text.count("unexplained") == 1, text)
     status, subject, text = call(sandbox, "o.db", "n.db")

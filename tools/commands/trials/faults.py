@@ -16,7 +16,7 @@ SIGNALS = ["HUP", "INT", "QUIT", "TERM", "KILL"]
 
 
 def try_faults(sandbox):
-    for trial in (try_limits, try_damage, try_files, try_rooms, try_programs, try_closed_errors, try_secrecy):
+    for trial in (try_limits, try_damage, try_files, try_rooms, try_programs, try_lines_program, try_closed_errors, try_secrecy):
         trial(sandbox)
 
 
@@ -232,6 +232,45 @@ def running(word):
         except OSError:
             pass
     return found
+
+
+def try_lines_program(sandbox):
+    """A program of lines that does not start, is cut, or says what is not borne out: nothing was compared, and no brief, no
+    lines and no alarm rest on it."""
+    program = sandbox.lines_program
+    os.rename(program, program + ".away")
+    whole = '"%s.away" "$@"' % program
+    answer = sandbox.call(TOOL, "-q", "--state", "state", "old.db", "new.db")
+    sandbox.expect("no program of lines", answer, 18, b"", b"cannot find " + program.encode())
+    for label, body, said in (
+        ("a loader that ends with 1", 'echo "GLIBC_2.34 not found" >&2; exit 1', b"does not run here: GLIBC_2.34 not found"),
+        ("no lines", "exit 4", b"ended with status 4, but its answer does not say so"),
+        ("other lines", 'echo "{}"; exit 7', b"its answer does not say so"),
+        ("lines without an end", whole + " | head -n 3; exit 7", b"its answer does not say so"),
+        ("lines with something after the end", whole + "; echo; exit 7", b"its answer does not say so"),
+        ("another end", whole + """ | sed 's/"end":true,"total":3/"end":true,"total":4/'; exit 7""", b"does not say so"),
+        ("another status", whole + "; exit 3", b"ended with status 3, but its answer does not say so"),
+        ("differences without a status", whole + "; exit 0", b"its answer does not say so"),
+        ("a status of another program", whole + "; exit 99", b"could not be run: status 99"),
+        ("a signal", "kill -9 $$", b"ended by signal 9"),
+    ):
+        sandbox.stub("aide_lines", body, "libexec/aide-compare")
+        for words in (["-q", "--state", "state"], ["--brief"], ["-q", "--json", "lines"]):
+            answer = sandbox.call(TOOL, *words, "old.db", "new.db")
+            sandbox.expect("%s, with %s" % (label, words[-1]), answer, 18, b"", said)
+        sandbox.holds("the state then", sandbox.state()["status"] == "18" and not sandbox.read("lines"), sandbox.state())
+    sandbox.stub("aide_lines", 'echo "{}"', "libexec/aide-compare")
+    sandbox.write("conf", "database_in=file:/a\n")
+    answer = sandbox.call(TOOL, "-c", "conf")
+    sandbox.expect("another answer on a configuration", answer, 18, b"", b"its answer does not say so")
+    os.remove(program)
+    os.rename(program + ".away", program)
+    os.rename(sandbox.program, sandbox.program + ".away")
+    sandbox.stub("aide", '"%s.away" "$@"; echo "aide: odd" >&2; exit 7' % sandbox.program, "libexec/aide-compare")
+    answer = sandbox.call(TOOL, "--state", "state", "old.db", "new.db")
+    sandbox.expect("a report with other error lines", answer, 18, b"", b"does not run here: aide: odd")
+    os.remove(sandbox.program)
+    os.rename(sandbox.program + ".away", sandbox.program)
 
 
 def try_signals(sandbox):

@@ -101,7 +101,7 @@ def try_fleet(sandbox):
 
 
 def try_hostile(sandbox):
-    """One host sends some kB whose report has hundreds of MB: it is compared, its report is cut, and the others are as always."""
+    """One host sends some kB whose changes have hundreds of MB: it is compared, its lines are cut, and the others are as always."""
     fleet = Fleet(sandbox)
     fleet.put("evil", hostile(), links(b"x"))
     sandbox.write("hosts", "".join("%s\n" % host for host in ("evil",) + PAIR))
@@ -112,10 +112,9 @@ def try_hostile(sandbox):
     good = all(lines.get(host) == "7 added 1, removed 1, changed 2" for host in PAIR)
     sandbox.holds("one hostile host and six others", good and status == 7, (output, errors))
     sandbox.holds("the hostile host is compared", lines.get("evil") == "4 added 0, removed 0, changed 60", lines)
-    report = sandbox.path("store/hosts/evil/report")
-    tail = open(report, "rb").read()[-200:]
+    tail = sandbox.read("store/hosts/evil/lines")[-200:]
     sandbox.holds("what it takes of the store", fleet.size("evil") < 3 << 20, fleet.size("evil"))
-    sandbox.holds("its report says that it was cut", b"aide-compare hosts compare-one: cut here: the report has" in tail, tail)
+    sandbox.holds("its lines say that they were cut", b'\n{"cut":{"bytes":' in tail and b',"most":2097152}}\n' in tail, tail)
     state = fleet.state("evil")
     sandbox.holds("its state has the counts", "\nchanged=60\n" in state, state)
     fleet.put("bomb", gzip.compress(bytes(80 << 20)))

@@ -127,19 +127,18 @@ def try_same(sandbox):
         and sorted(got[3:]) == [("added", "/usr/.x", 1, ["www4"]), ("added", "/usr/.x", 3, most)],
         got,
     )
-    found = {(each["path"], each["hosts"]): {"attributes": {}, "per_host": [], **each} for each in changes}
+    none = {"old": {}, "new": {}, "per_host": []}
+    found = {(each["path"], each["hosts"]): {**none, **each} for each in changes}
     folder, file, same, other = (
-        found.get(key, {"attributes": {}, "per_host": []})
-        for key in (("/d", 4), ("/etc/p", 4), ("/usr/.x", 3), ("/usr/.x", 1))
+        found.get(key, none) for key in (("/d", 4), ("/etc/p", 4), ("/usr/.x", 3), ("/usr/.x", 1))
     )
-    good = folder["per_host"] == ["Size"] and list(folder["attributes"]) == ["Perm"]
+    good = folder["per_host"] == ["Size"] and (folder["old"], folder["new"]) == ({"Perm": "0755"}, {"Perm": "0700"})
     sandbox.holds("a folder's size is its own", good, folder)
-    values = list(file["attributes"].values())
-    good = file["per_host"] == ["Inode"] and values and all("old" not in both and "new" in both for both in values)
+    good = file["per_host"] == ["Inode"] and not file["old"] and file["old_various"] == list(file["new"]) == ["Perm", "SHA256"]
     sandbox.holds("old values that are not the same", good, file)
-    good = "SHA256" in same["attributes"] and not {"Inode", "Mtime"} & set(same["attributes"])
+    good = "SHA256" in same["new"] and not {"Inode", "Mtime"} & set(same["new"]) and "summary" not in same
     sandbox.holds("values of three hosts", good and {"Inode", "Mtime"} <= set(same["per_host"]), same)
-    good = other["attributes"].get("Inode", {}).get("new") == 4 and not other["per_host"]
+    good = other["new"].get("Inode") == 4 and not other["per_host"] and "summary" in other
     sandbox.holds("values of one host", good, other)
 
 
@@ -190,8 +189,8 @@ def try_not_compared(sandbox):
         text = sandbox.read("store/states/" + name).decode()
         sandbox.write("store/states/" + name, re.sub("\ntime=.*", "\ntime=%d" % (time.time() + seconds), text))
     sandbox.write("store/states/odd", "status=0\n")
-    os.rename(sandbox.path("store/hosts/linked/report"), sandbox.path("elsewhere"))
-    os.symlink(sandbox.path("elsewhere"), sandbox.path("store/hosts/linked/report"))
+    os.rename(sandbox.path("store/hosts/linked/lines"), sandbox.path("elsewhere"))
+    os.symlink(sandbox.path("elsewhere"), sandbox.path("store/hosts/linked/lines"))
     sandbox.write("hosts", "good1\nunknown\nstale\nahead\nodd\nbusy\nnever\na..b\nlinked\n")
     lock = subprocess.Popen(["flock", sandbox.path("store/hosts/busy/lock"), "sleep", "100"], start_new_session=True)
     try:
@@ -234,8 +233,8 @@ def try_broken(sandbox):
         make(sandbox.path("store/hosts/%s/lock" % name))
     shutil.rmtree(sandbox.path("store/hosts/good3"))
     sandbox.write("store/hosts/good3", "")
-    os.remove(sandbox.path("store/hosts/good4/report"))
-    os.symlink("/proc/self/mem", sandbox.path("store/hosts/good4/report"))
+    os.remove(sandbox.path("store/hosts/good4/lines"))
+    os.symlink("/proc/self/mem", sandbox.path("store/hosts/good4/lines"))
     summary, found, changes = hosts.objects()
     counts = [summary.get(key) for key in ("differ", "not_compared", "not_listed", "changes")]
     sandbox.holds("broken hosts", counts == [2, 3, 1, 4], (summary, found))

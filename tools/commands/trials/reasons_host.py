@@ -155,16 +155,20 @@ def packed(files):
     return gzip.compress(target.getvalue(), mtime=0)
 
 
-def put_path(fields, path):
+def path_member(path):
+    """The member of a path, as lines have it."""
     try:
-        fields["path"] = path.decode()
+        return {"path": path.decode()}
     except UnicodeDecodeError:
-        fields.update(path=path.decode("utf-8", "replace"), path_hex=path.hex())
-    return fields
+        return {"path_hex": path.hex()}
+
+
+def path_of(fields):
+    return bytes.fromhex(fields["path_hex"]) if "path_hex" in fields else fields["path"].encode()
 
 
 def lines_of(old, new):
-    """The lines of aide-compare json for two nights, at the level list_entries."""
+    """The lines of two nights, without values."""
     objects, kinds = [], {"added": 0, "removed": 0, "changed": 0}
     wholes = old.whole(), new.whole()
     for path in sorted(wholes[0].keys() | wholes[1].keys(), key=lambda path: path.split(b"/")):
@@ -173,18 +177,13 @@ def lines_of(old, new):
             continue
         kind = "changed" if before and after else "added" if after else "removed"
         kinds[kind] += 1
-        objects.append(put_path({"record": "entry", "kind": kind}, path))
-    ends = [{"record": "database", "side": side, "path": "/" + side, "sha256": "0" * 64} for side in ("old", "new")]
-    summary = {
-        "record": "summary",
-        "format": 1,
-        "differences": bool(objects),
-        "total": 9,
-        **kinds,
-        "levels": ["list_entries"],
-        "lines": len(objects) + 3,
-    }
-    return b"".join(json.dumps(fields, separators=(",", ":")).encode() + b"\n" for fields in [summary] + objects + ends)
+        objects.append({"kind": kind, **path_member(path), "summary": "f".ljust(18)})
+    counts = {"total": len(wholes[1]), **kinds}
+    databases = {side: {"path": "/" + side, "sha256": "0" * 64, "skipped": []} for side in ("old", "new")}
+    summary = {"format": 2, "differences": bool(objects), **counts, "entries": len(objects), **databases}
+    status = sum(bit for bit, count in zip((1, 2, 4), kinds.values()) if count)
+    whole = [summary, *objects, {"end": True, **counts, "status": status}]
+    return b"".join(json.dumps(fields, separators=(",", ":")).encode() + b"\n" for fields in whole)
 
 
 class Host:
@@ -219,9 +218,8 @@ class Host:
         sandbox.holds("reasons are given", answer.status == 0 and not sandbox.leftovers(), (answer, sandbox.leftovers()))
         found = {}
         for fields in objects:
-            if fields["record"] == "entry":
-                path = bytes.fromhex(fields["path_hex"]) if "path_hex" in fields else fields["path"].encode()
-                found[path] = in_short(fields.get("reason"))
+            if "kind" in fields:
+                found[path_of(fields)] = in_short(fields.get("reason"))
         for (label, path), want in wanted.items():
             sandbox.holds(
                 "%s: %s" % (label, path.decode("utf-8", "replace")),

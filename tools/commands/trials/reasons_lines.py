@@ -12,7 +12,6 @@ from .reasons_host import LOG, NAME, NO_COUNTS, Entry, Host, lines_of
 from .sandbox import HERE, NEW, OLD
 
 OURS = ("severity", "reason", "reasons")
-LEVELS = ("list_entries", "changed_attributes", "added_removed_entries")
 GIVEN = ("--databases", "o.db", "n.db")
 
 
@@ -41,7 +40,7 @@ def random_database(numbers, paths):
 
 
 def try_same(sandbox):
-    """Random reports of each level: the lines are the same, but for the members that are added at their ends."""
+    """Random changes: the lines are the same, but for the members that are added at their ends."""
     numbers = random.Random(20261126)
     for number in range(24):
         paths = {
@@ -53,14 +52,12 @@ def try_same(sandbox):
         }
         for name in ("o.db", "n.db"):
             sandbox.write(name, random_database(numbers, paths))
-        level = LEVELS[number % len(LEVELS)]
-        report = sandbox.call("aide-compare", "o.db", "n.db", "-B", "report_level=" + level)
-        before = sandbox.call("aide-compare json", text=report.output)
+        before = sandbox.call("aide-compare json", *(["--no-text"] if number % 3 else ["--full"]), "o.db", "n.db")
         sandbox.write("rules", b"size,perm /a* any\nadded,removed,size /** text \xff\n")
         answer = sandbox.call(NAME, *GIVEN, *(("--rules", "rules") if number % 2 else ()), text=before.output)
         lines = answer.output.splitlines(True)
         objects = [json.loads(line) for line in lines]
-        sandbox.holds("random report %d" % number, report.status in range(1, 8) and answer.status == 0, (report, answer))
+        sandbox.holds("random changes %d" % number, before.status in range(1, 8) and answer.status == 0, (before, answer))
         same = b"".join(without_ours(line) for line in lines) == before.output
         sandbox.holds("its lines are the same", same and len(objects) > 10, (before.output[:300], answer.output[:300]))
         counts = counts_of(objects)
@@ -73,7 +70,7 @@ def try_same(sandbox):
     same = b"".join(map(without_ours, answer.output.splitlines(True))) == before.output.replace(b'"kind":"', b'"kind": "')
     sandbox.holds("lines with other blanks", same and answer.status == 0, answer)
     sandbox.write("same.db", OLD)
-    empty = sandbox.call("aide-compare json", text=sandbox.call("aide-compare", "same.db", "same.db").output)
+    empty = sandbox.call("aide-compare json", "same.db", "same.db")
     answer = sandbox.call(NAME, "--databases", "same.db", "same.db", text=empty.output)
     sandbox.expect("no difference", answer, 0, [b'"reasons":{"explained":0,"not_verified":0,"unexplained":0,"high":0,'])
 
@@ -82,7 +79,7 @@ def counts_of(objects):
     """The counts of the entries, from their own members."""
     counts = dict(NO_COUNTS)
     for fields in objects:
-        if fields["record"] == "entry":
+        if "kind" in fields:
             reason = fields.get("reason")
             kind = "unexplained" if reason is None else "explained" if reason["verified"] else "not_verified"
             counts[kind] += 1
@@ -91,12 +88,12 @@ def counts_of(objects):
 
 
 def try_damage(sandbox):
-    """What is no whole report of these databases is refused, and nothing is written."""
+    """Lines that are not whole, or are not of these databases, are refused, and nothing is written."""
     sandbox.write("o.db", OLD)
     sandbox.write("n.db", NEW)
-    lines = sandbox.call("aide-compare json", text=sandbox.call("aide-compare", "o.db", "n.db").output).output
+    lines = sandbox.call("aide-compare json", "o.db", "n.db").output
     parts = lines.splitlines(True)
-    sandbox.expect("a whole report", sandbox.call(NAME, *GIVEN, text=lines), 0, [b'"severity":"medium"'])
+    sandbox.expect("whole lines", sandbox.call(NAME, *GIVEN, text=lines), 0, [b'"severity":"medium"'])
     cases = {
         "cut": lines[:-1],
         "an entry too few": b"".join(parts[:1] + parts[2:]),
@@ -110,24 +107,22 @@ def try_damage(sandbox):
         "a path without a slash": lines.replace(b'"/a"', b'"a"'),
         "no path": lines.replace(b'"path":"/a"', b'"pat":"/a"'),
         "a severity already": sandbox.call(NAME, *GIVEN, text=lines).output,
-        "the first entry after the databases": b"".join(parts[:1] + parts[2:] + parts[1:2]),
-        "the last entry after the databases": b"".join(parts[:-3] + parts[-2:] + parts[-3:-2]),
-        "the last entry between the databases": b"".join(parts[:-3] + parts[-2:-1] + parts[-3:-2] + parts[-1:]),
+        "the last change after the end": b"".join(parts[:-2] + parts[-1:] + parts[-2:-1]),
+        "no end": b"".join(parts[:-1]),
+        "another status at the end": lines.replace(b'"status":7}', b'"status":6}'),
     }
     for label, text in cases.items():
-        sandbox.expect(label, sandbox.call(NAME, *GIVEN, text=text), 65, b"", [b"line "])
+        sandbox.expect(label, sandbox.call(NAME, *GIVEN, text=text), 65, b"", [b"line " if text else b"nothing was given"])
     for label, words in (
         ("databases of another report", ("--databases", "n.db", "n.db")),
         ("swapped", ("--databases", "n.db", "o.db")),
     ):
         sandbox.expect(label, sandbox.call(NAME, *words, text=lines), 24, b"", [b"not those of the report"])
-    doubtful = lines.replace(b'"kind":"added","path":"/a"', b'"kind":"changed","path":"/a","uncertain":["kind"]')
-    answer = sandbox.call(NAME, *GIVEN, text=doubtful)
-    sandbox.expect(
-        "an entry of which the kind is uncertain", answer, 0, [b'"kind":"changed","path":"/a","uncertain":["kind"],']
-    )
-    answer = sandbox.call(NAME, *GIVEN, text=doubtful.replace(b'"/a"', b'"/aa"'))
-    sandbox.expect("an uncertain one that is nowhere", answer, 24, b"", [b"not those of the report"])
+    for label, text in (
+        ("another kind", lines.replace(b'"kind":"added","path":"/a"', b'"kind":"changed","path":"/a"')),
+        ("another path", lines.replace(b'"path":"/a"', b'"path":"/aa"')),
+    ):
+        sandbox.expect(label, sandbox.call(NAME, *GIVEN, text=text), 24, b"", [b"not those of the report"])
     sandbox.write("short.db", NEW.replace(b"/a 36 100644 5", b"/a 36 100644"))
     sandbox.expect(
         "a line that lacks a field", sandbox.call(NAME, "--databases", "o.db", "short.db", text=lines), 24, b"", [b"fields"]
@@ -279,8 +274,8 @@ def try_interface(sandbox):
     with open(sandbox.path("old.host"), "rb") as old, open(sandbox.path("new.host"), "rb") as new:
         explainer = Explainer(old.fileno(), new.fileno(), evidence_of(SimpleNamespace(archive=[], keyring=[], **none)))
         given = [
-            {"record": "entry", "kind": "removed", "path": "/b"},
-            {"record": "entry", "kind": "changed", "path": "/var/log/a"},
+            {"kind": "removed", "path": "/b"},
+            {"kind": "changed", "path": "/var/log/a"},
         ]
         found = [members_of(change) for change in explainer.judge(iter(given))]
     reason = {"class": "growing", "text": "grew, content not verified", "verified": False, "grade": "databases"}

@@ -100,8 +100,7 @@ def explained(sandbox, name, parts):
         extra |= more
         sandbox.write("%s.db" % side, "@@begin_db\n@@db_spec %s\n%s@@end_db\n" % (" ".join(COLUMNS), text))
         sandbox.write("%s.packages" % side, packed(records))
-    report = sandbox.call("aide-compare", "old.db", "new.db", "-B", "report_level=changed_attributes")
-    lines = sandbox.call("aide-compare json", text=report.output).output
+    lines = sandbox.call("aide-compare json", "old.db", "new.db").output
     answer = sandbox.call(
         NAME, "--databases", "old.db", "new.db", "--packages", "old.packages", "--packages-now", "new.packages", text=lines
     )
@@ -118,7 +117,7 @@ def try_nights(sandbox):
         found = {
             fields["path"]: "%s %s" % (in_short(fields.get("reason")), fields["severity"])
             for fields in objects
-            if fields["record"] == "entry" and fields["path"].encode() not in extra
+            if "kind" in fields and fields["path"].encode() not in extra
         }
         wanted = wanted_of(parts)
         for path in sorted(found.keys() | wanted.keys()):

@@ -102,7 +102,7 @@ def expect(sandbox, host, wanted, old, new, **more):
     answer = ask(sandbox, host, old, new, **more)
     sandbox.holds("reasons are given", answer.status == 0 and not sandbox.leftovers(), answer)
     objects = [json.loads(text) for text in answer.output.splitlines()] if answer.status == 0 else []
-    found = {each["path"].encode(): in_short(each.get("reason")) for each in objects if each["record"] == "entry"}
+    found = {each["path"].encode(): in_short(each.get("reason")) for each in objects if "kind" in each}
     for (label, path), want in wanted.items():
         got = found.get(path, "no change")
         sandbox.holds("%s: %s" % (label, path.decode()), got == want, (got, want))

@@ -162,6 +162,11 @@ def try_configurations(sandbox):
             "database_in=file:@@{D}/old.db\ndatabase_new=file:@@{D}/new.db",
             ("-B", "@@define D " + sandbox.root),
         ),
+        (
+            "two of a side in blocks, and one of -B",
+            "@@ifdef X\ndatabase_in=file:/no\n@@else\n" + databases % "database_new" + "@@endif\n",
+            ("-B", "database_in=file:/other"),
+        ),
         ("a database of -A", "database_in=file:/no\ndatabase_new=file:/no", ("-A", databases % "database_new")),
         ("a rule and a comment", "# database_in=file:/no\n/etc R\n!/database_in=file:/no\n" + databases % "database_new", ()),
     ):
@@ -174,7 +179,7 @@ def try_configurations(sandbox):
         ("no new one", "database_in=file:/x", b"conf names no new database"),
         ("two of a side", databases % "database_new" + "database_in=file:/other", b"names the old database twice"),
         ("one for both", "database_in=file:/x\ndatabase_out=file:/x", b"one file as the old and as the new database: /x"),
-        ("an output to elsewhere", "database_in=file:/x\ndatabase_out=stdout", b"no file: stdout"),
+        ("an output to elsewhere", "database_in=file:/x\ndatabase_out=stdout", b"conf names a database that is no file"),
         ("a fault", "database_in=file:/x\nreport_level=1", b"aide: config:2: bad value\n"),
     ):
         sandbox.write("conf", text)
@@ -328,28 +333,33 @@ def try_counts(sandbox):
             b"",
             [b"aide: config:2: bad value", b"line 2: report_level=nonsense"],
         )
+    sandbox.write("faulty", "report_url=stdout\n")
+    answer = sandbox.call(TOOL, "-c", "faulty", "old.db", "new.db", "-A", "\nreport_level=nonsense")
+    sandbox.expect("a fault in -A", answer, 17, b"", [b"aide: after:2: bad value\n", b"line 2: report_level=nonsense\n"])
 
 
 def try_runs(sandbox):
-    """The program compares once. Only a report of the level minimal has no counts, so that a state needs a second run."""
-    program = sandbox.program
-    os.rename(program, program + ".away")
-    sandbox.stub(
-        "aide",
-        '[ "$1" != -E ] || echo x >> "%s"; exec "%s.away" "$@"' % (sandbox.path("ran"), program),
-        "libexec/aide-compare",
-    )
+    """Each program compares once: one for the report if that is printed, one for the changes if anything needs these."""
+    for program, name in ((sandbox.program, "aide"), (sandbox.lines_program, "aide_lines")):
+        os.rename(program, program + ".away")
+        text = 'echo "%s$1" >> "%s"; exec "%s.away" "$@"' % (name, sandbox.path("ran"), program)
+        sandbox.stub(name, text, "libexec/aide-compare")
+    sandbox.write("conf", "database_in=file:%s\ndatabase_new=file:%s\n" % (sandbox.path("old.db"), sandbox.path("new.db")))
     for words, runs in (
-        (["--state", "state"], 1),
-        (["--state", "state", "-A", "report_level=summary"], 1),
-        (["--state", "state", "-A", "report_level=minimal"], 2),
-        (["-A", "report_level=minimal"], 1),
+        (["old.db", "new.db"], ["aide-E"]),
+        (["-q", "old.db", "new.db"], ["aide-E"]),
+        (["--state", "state", "old.db", "new.db"], ["aide_lines-E", "aide-E"]),
+        (["--state", "state", "-A", "report_level=minimal", "old.db", "new.db"], ["aide_lines-E", "aide-E"]),
+        (["--state", "state", "-q", "--json", "lines", "old.db", "new.db"], ["aide_lines-E"]),
+        (["--reasons", "--brief", "old.db", "new.db"], ["aide_lines-E"]),
+        (["-q", "--state", "state", "-c", "conf"], ["aide_lines-D", "aide_lines-E"]),
     ):
         sandbox.write("ran", "")
-        answer = sandbox.call(TOOL, "old.db", "new.db", *words)
-        found = sandbox.read("ran").count(b"x")
-        sandbox.holds("%d runs with %r" % (runs, words), answer.status == 7 and found == runs, (found, answer))
-    os.rename(program + ".away", program)
+        answer = sandbox.call(TOOL, *words)
+        found = sandbox.read("ran").decode().split()
+        sandbox.holds("the runs with %r" % words, answer.status == 7 and found == runs, (found, answer))
+    for program in (sandbox.program, sandbox.lines_program):
+        os.rename(program + ".away", program)
 
 
 def try_state_faults(sandbox):

@@ -9,8 +9,6 @@ PLAIN_PATH = re.compile(rb"[!-\[\]-~]*")
 # Letters by their class, and yet blank.
 BLANK_LETTERS = "\u115f\u1160\u2800\u3164\uffa0"
 TRIPLES = ["---", "--x", "-w-", "-wx", "r--", "r-x", "rw-", "rwx"]
-NOTES = {"blanks": "perhaps with blanks at its end", "empty": "no link name, an empty one, or no such attribute"}
-NOTE_LIMIT = 4000
 
 
 def octal(character):
@@ -66,31 +64,3 @@ def shown_note(text, most=200):
 def shown_date(date):
     """A time as JSON has it, such as 2026-11-24T06:00:00Z, as people read it."""
     return date.replace("T", " ").replace("Z", " UTC")
-
-
-def note_of(label, fields, side, usual):
-    """What people read in place of a value: the value decoded, the date of a time, or permissions in letters.
-
-    `usual` says that every text of the object is shown as it is.
-    """
-    value, text = fields[side], fields.get(side + "_text")
-    if value is None:
-        return ""
-    if text is not None:
-        return text if usual and len(text) <= NOTE_LIMIT else shown_note(text, NOTE_LIMIT)
-    if type(value) is int:
-        date = fields.get(side + "_time")
-        return shown_date(date) if date else ""
-    return letters_of(value) if label == "Perm" else ""
-
-
-def doubt_of(fields, side):
-    """What the report leaves open of a value."""
-    doubts = fields.get("uncertain")
-    return "; ".join(note for doubt, note in NOTES.items() if "%s-%s" % (side, doubt) in doubts) if doubts else ""
-
-
-def notes_of(label, fields, usual):
-    """Four notes: what people read in place of the old value and of the new one, and what is open of each."""
-    notes = [note_of(label, fields, "old", usual), note_of(label, fields, "new", usual)]
-    return notes + [doubt_of(fields, "old"), doubt_of(fields, "new")] if "uncertain" in fields else notes

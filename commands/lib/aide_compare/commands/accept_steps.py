@@ -132,7 +132,7 @@ def _write_unexplained(evidence, path, copies, target):
     comparison = Comparison(Request(old=path, new=copies[1].name, copies=dict(zip(SIDES, copies)))).run()
     if comparison.status > 7:
         raise comparison.fault or Fault(Status(comparison.status), "refused: nothing was compared, so nothing is explained")
-    explained = explain(comparison, sources, with_details=False)
+    explained = explain(comparison, sources)
     if explained is None:
         raise Fault(Status.DEVICE, "refused, all would stay open: %s" % comparison.doubts[-1])
     for change in explained.changes:

@@ -61,18 +61,20 @@ def exclusions_of(given):
 
 class Task:
     """A comparison as the options ask for it, and what is written of it. `given` are the options.
-    `with_details`: whoever is told of the changes wants all lines of them. `weighs`: he wants what people read first."""
+    `reads_lines`: whoever is told of the comparison reads its lines. `makes_page`: he makes a page of them. `weighs`: he wants
+    what people read first."""
 
-    def __init__(self, given, with_details=False, weighs=False):
+    def __init__(self, given, reads_lines=False, makes_page=False, weighs=False):
         if evidence_of(given) and not given.reasons:
             raise Fault(Status.USAGE, "%s needs --reasons" % evidence_of(given), TRY)
         self.handing = Handing() if os.geteuid() == 0 and not given.user else None
-        self.request, self.wanted = self._request(given, weighs), None
-        if given.reasons or given.json or given.page or with_details or weighs:
+        explains = bool(given.reasons or given.json or given.page or makes_page or weighs)
+        self.request, self.wanted = self._request(given, explains or reads_lines or given.state is not None), None
+        if explains:
             # The modules for it are more than all others together.
             from aide_compare.show.explained import Wanted
 
-            self.wanted = Wanted(given, self.made, with_details, weighs)
+            self.wanted = Wanted(given, self.made, weighs)
         self.state = self.made(Replacement(given.state, what="the state file").begin()) if given.state else None
 
     def made(self, output):
@@ -83,7 +85,7 @@ class Task:
         """Whether this process compares for its parent, with the rights of another user."""
         return self.handing is not None and self.handing.owner is not None
 
-    def _request(self, given, weighs):
+    def _request(self, given, lines):
         if len(given.databases) not in (0, 2):
             few = "name both databases, OLD and NEW, or none"
             many = "more than two databases: %s" % shown(given.databases[-1] if given.databases else "", 200)
@@ -100,8 +102,7 @@ class Task:
             max_size=given.max_size,
             max_age=given.max_age,
             max_report=given.max_report,
-            max_list=given.max_report,
-            counts=given.state is not None or given.reasons or weighs,
+            lines=lines,
             exclusions=exclusions_of(given),
             handing=self.handing,
         )
@@ -184,8 +185,10 @@ class Printer:
             if text:
                 write_all(1, coloured(text) if self.has_colours else text)
                 write_all(1, self.more.encode("utf-8", "backslashreplace"))
-            elif comparison.report is not None and comparison.status <= 7:
-                copy_file(comparison.report, 1)
+            elif comparison.status <= 7:
+                report = comparison.report()
+                if comparison.status <= 7:
+                    copy_file(report, 1)
         except OSError as error:
             raise Fault(Status.DEVICE, "cannot write the report: %s" % reason(error))
 

@@ -2,7 +2,7 @@
 import os
 import time
 
-from aide_compare.base.ending import Fault, Status, say, tell
+from aide_compare.base.ending import Fault, Status, say, tell, write_all
 from aide_compare.base.files import copy_file, open_regular
 from aide_compare.base.options import Parser, some_text
 from aide_compare.base.times import date_of
@@ -10,11 +10,14 @@ from aide_compare.commands import accept
 from aide_compare.compare.soundness import refuse_unsound
 from aide_compare.compare.state import read_state
 from aide_compare.compare.unpack import copy_database, database_digest, open_database
+from aide_compare.hosts.cut_lines import size_before_cut
 from aide_compare.hosts.fetching import add_fetching, fetch
 from aide_compare.hosts.fleet_store import Place, add_place, check_name, no_room
 from aide_compare.hosts.host_comparison import MOST_BASELINE, add_comparison, compare_or_say
 from aide_compare.hosts.host_reasons import BASELINES, NEWEST, exclusions_of
+from aide_compare.lines.reader import Refused, reader_over
 from aide_compare.reasons.kept_records import mark_of
+from aide_compare.show.changes import changes_text
 
 NAME = "aide-compare hosts "
 
@@ -55,13 +58,25 @@ def print_file(path, target):
     os.close(descriptor)
 
 
+def print_changes(place):
+    """Prints the changes that were kept, for people."""
+    descriptor = open_regular(place.file("lines"))
+    try:
+        for text in changes_text(reader_over(descriptor)):
+            write_all(1, text.encode("utf-8", "backslashreplace"))
+    except Refused:
+        size = size_before_cut(descriptor)
+        say("%s: the changes were cut: their lines have %s bytes, and --max-report allows fewer" % (place.host, size))
+    os.close(descriptor)
+
+
 def compare_one(arguments):
     parser = parser_of(
         "compare-one",
-        "Compares the database that was fetched from HOST with its baseline, prints the report and keeps it.",
+        "Compares the database that was fetched from HOST with its baseline, prints the changes and keeps them.",
         "Status: that of aide-compare. 18 also means that there is no baseline\n"
         "yet, or that AIDE has written no new database on HOST for too long.",
-        quiet="print neither report nor notes: only why nothing was compared",
+        quiet="print neither changes nor notes: only why nothing was compared",
     )
     add_comparison(parser)
     given = parser.parse(arguments)
@@ -70,8 +85,8 @@ def compare_one(arguments):
     state = compare_or_say(place, given, 1, deadline)
     if not given.quiet:
         print_file(place.file("errors"), 2)
-        print_file(place.file("report"), 1)
         if 0 < state.status <= 7:
+            print_changes(place)
             say("to accept it: aide-compare hosts accept --sha256 %s %s" % (state.new_sha256, place.host))
     elif state.status > 7:
         say(state.error)

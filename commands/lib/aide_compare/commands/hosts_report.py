@@ -15,13 +15,14 @@ from aide_compare.commands.hosts_compare import hosts_of
 from aide_compare.commands.mail import add_sending
 from aide_compare.compare.outputs import Output
 from aide_compare.hosts.fleet_store import STORE, share_of
-from aide_compare.hosts.host_changes import ChangeLines, encoded, path_in, same_changes, standing_of
+from aide_compare.hosts.host_changes import ChangeLines, encoded, same_changes, standing_of
 from aide_compare.hosts.hosts_read import CUT, WHOLE, read_host
+from aide_compare.lines.reader import bytes_of
 from aide_compare.show.reading import AGE
 
 NAME = "aide-compare hosts report"
 FORMATS = ("text", "json", "page")
-FORMAT = 1
+FORMAT = 2
 BLOCK = 1 << 18
 GREATEST = 10**12
 LEAST_MAIL = 16 << 10
@@ -47,7 +48,7 @@ def whole_command(given):
 
 
 def is_wanted(fields, patterns):
-    pieces = path_in(fields)[1:].split(b"/")
+    pieces = bytes_of(fields, "path")[1:].split(b"/")
     return not patterns or any(each.matches(pieces) for each in patterns)
 
 

@@ -1,27 +1,19 @@
-"""aide-compare json: a report of aide-compare as JSON."""
-from aide_compare.base.files import Spool
+"""aide-compare json: the changes between two databases as JSON, one object a line."""
 from aide_compare.base.options import some_text
-from aide_compare.commands.streams import BLOCK, convert, parser_of
+from aide_compare.commands.streams import parser_of_changes, write_changes
 
 NAME = "aide-compare json"
-DESCRIPTION = "Reads a report of aide-compare and writes it as JSON, one object a line."
+DESCRIPTION = "Writes the changes between two databases as JSON, one object a line, or reads such lines and adds to them."
 EPILOG = """The manual page aide-compare-json(1) describes the objects.
-Example: aide-compare --state state old.gz new.gz | aide-compare json --full --state state"""
+Status: that of aide-compare-compare(1) for two databases.
+Example: aide-compare json --full old.gz new.gz"""
 
 
 def _options():
-    from aide_compare.lines.json_members import member
-    from aide_compare.lines.report_parts import LEVELS
+    from aide_compare.show.occasion import member
 
-    parser = parser_of(NAME, "the report", DESCRIPTION, EPILOG)
+    parser = parser_of_changes(NAME, DESCRIPTION, EPILOG)
     add = parser.add_argument
-    add(
-        "--least",
-        choices=LEVELS,
-        metavar="LEVEL",
-        help="refuse a report of a lower level; from database_attributes on, every cut is seen",
-    )
-    add("--empty", action="store_true", help="take an empty report for one without differences (report_quiet)")
     add(
         "--format",
         choices=("lines", "aide"),
@@ -39,111 +31,35 @@ def _options():
         metavar="NAME=VALUE",
         help="an additional member for each line, such as site=berlin",
     )
-    parser.take("state", help="the state file of this comparison: names, times and status")
-    add("--old", metavar="NAME", type=some_text, help="the name of the old database, instead of the one in the report")
+    parser.take("state", help="for lines, the state file of this comparison: names and times")
+    add("--old", metavar="NAME", type=some_text, help="the name of the old database, instead of the one in the lines")
     add("--new", metavar="NAME", type=some_text, help="the name of the new database")
     add("--names", action="store_true", help="the names that this host has for numbers of users and groups, as texts")
     add("--no-text", action="store_true", help="only the exact values, without the texts for people")
     return parser
 
 
-class _Form:
-    """One of the two forms. The entries wait in private files, since the summary comes first and is known last."""
-
-    def __init__(self, source, given):
-        from aide_compare.lines.report_lines import Lines
-        from aide_compare.lines.report_parts import judge, read_report
-
-        self.given, self.count, self.databases = given, 0, []
-        self.begin()
-        for fields in read_report(Lines(source), *self.how()):
-            if fields["record"] == "entry":
-                self.add(fields)
-                self.count += 1
-            elif fields["record"] == "database":
-                self.databases.append(fields)
-            else:
-                self.summary = fields
-        judge(self.summary, given.least, given.empty)
-
-    def complete(self, occasion):
-        """Adds what is known of the comparison: names, and members for each line, which are returned."""
-        from aide_compare.lines.json_members import members
-
-        occasion.read()
-        occasion.check(self.summary, self.databases)
-        for fields in self.databases:
-            occasion.name(fields)
-        self.summary["lines"] = 1 + self.count + len(self.databases)
-        self.summary.update(occasion.beside())
-        full = occasion.members(self.summary, self.databases) if self.given.full else {}
-        return {**full, **members(self.given.members)}
-
-
-class _Lines(_Form):
-    """One object a line."""
-
-    def how(self):
-        from aide_compare.lines.report_written import Values
-
-        return Values(not self.given.no_text, self.given.names), True
-
-    def begin(self):
-        from aide_compare.lines.report_json import LineWriter
-
-        self.body, self.writer = Spool(), LineWriter()
-
-    def add(self, fields):
-        self.body.write(self.writer.line(fields))
-
-    def write(self, target, occasion):
-        members = self.complete(occasion)
-        from aide_compare.lines.report_json import LineWriter
-
-        writer = LineWriter(members)
-        target.write(writer.line(self.summary))
-        self.body.seek(0)
-        if members:
-            end = writer.more + b"}\n"
-            for lines in iter(lambda: self.body.readlines(BLOCK), []):  # A newline stands only at the end of a line.
-                target.write(b"".join(lines).replace(b"}\n", end))
-        else:
-            for block in iter(lambda: self.body.read(BLOCK), b""):
-                target.write(block)
-        for fields in self.databases:
-            target.write(writer.line(fields))
-
-
-class _Aide(_Form):
-    """The one object that AIDE writes."""
-
-    def how(self):
-        return ()
-
-    def begin(self):
-        from aide_compare.lines.json_aide import AideObject
-
-        self.whole = AideObject()
-
-    def add(self, fields):
-        self.whole.add(fields)
-
-    def write(self, target, occasion):
-        members = self.complete(occasion)
-        self.whole.write(target, self.summary, self.databases, members, occasion.state and occasion.state.time)
-
-
-def _write(source, target, given):
-    from aide_compare.lines.json_members import Occasion
-
-    occasion = Occasion(given.state, given.old, given.new)
-    form = {"lines": _Lines, "aide": _Aide}[given.format](source, given)
-    form.write(target, occasion)
-
-
 def main(arguments):
-    from aide_compare.lines.json_members import members
+    from aide_compare.show.added import Adding, added_lines
+    from aide_compare.show.occasion import members, occasion_of_file
 
     given = _options().parse(arguments)
-    members(given.members)
-    return convert(given.file, lambda source, target: _write(source, target, given))
+    more = members(given.members)
+
+    def occasion_of_lines(summary):
+        occasion = occasion_of_file(given.state, (given.old, given.new))
+        if given.state:
+            occasion.check(summary, given.state)
+        return occasion
+
+    def parts_of(reader, occasion_of):
+        occasion = occasion_of(reader.summary)
+        if given.format == "aide":
+            from aide_compare.lines.json_aide import aide_parts
+
+            full = occasion.members(reader.summary) if given.full else {}
+            ended = occasion.state and occasion.state.time
+            return aide_parts(reader, occasion.summary(reader.summary), {**full, **more}, ended)
+        return added_lines(reader, occasion, Adding(not given.no_text, given.names, given.full, more))
+
+    return write_changes(given, parts_of, occasion_of_lines)

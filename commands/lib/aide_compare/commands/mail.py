@@ -99,7 +99,7 @@ class Alarm:
         if comparison.status == Status.USAGE:  # Who has typed it sees it at once.
             write_all(2, told.encode("utf-8", "backslashreplace"))
         if not self.is_quiet(state):
-            result = Result(state, comparison.report, told, explained.brief() if explained else b"")
+            result = Result(state, comparison, told, explained.brief() if explained else b"")
             self.message.commit(self._message_of(result, explained))
 
     def _told(self, comparison):
@@ -110,7 +110,7 @@ class Alarm:
         given = self.given
         command = shlex.join([find_front(), "--format", "report", *without_state(given.words)])
         text, page = text_of(result, given.max_mail, command), None
-        if given.html and result.size:
+        if given.html and result.differs:
             page, why = page_of(explained, given.max_mail)
             text += clean(("\n%s: there is no page: %s\n" % (NAME, why)).encode()) if page is None else b""
         if given.fault:
@@ -120,13 +120,15 @@ class Alarm:
 
 def page_of(explained, most):
     """The plain page of the changes, or None with the reason: an alarm is not lost if there can be no page."""
+    from aide_compare.lines.reader import reader_over
+    from aide_compare.show.added import written
     from aide_compare.show.page import page
 
     parts, room = [], most // 2
     try:
         if explained is None or explained.entries.size > most:
-            return None, "the changes are not known" if explained is None else "the report is too large for one"
-        for part in page(explained.lines(), "File changes on %s" % host(), is_plain=True):
+            return None, "the changes are not known" if explained is None else "the changes are too many for one"
+        for part in page(reader_over(written(explained.lines())), "File changes on %s" % host(), is_plain=True):
             parts.append(part)
             room -= len(part)
             if room < 0:
@@ -178,7 +180,7 @@ def compared(given, alarm):
     try:
         if given.refusal:
             raise given.refusal
-        task = compare.Task(given.run, with_details=given.html)
+        task = compare.Task(given.run, reads_lines=True, makes_page=given.html)
         task.state, alarm.message = task.state or task.made(Held()), task.made(alarm.message)
         status, state = task.carry_out(alarm)
     except (Fault, MemoryError, OSError) as error:

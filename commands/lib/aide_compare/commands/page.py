@@ -1,27 +1,16 @@
-"""aide-compare page: a page to look at from the lines of aide-compare json."""
+"""aide-compare page: the changes between two databases as a page to look at."""
 from aide_compare.base.escapes import shown
-from aide_compare.commands.streams import convert, parser_of
-
-
-def _write_page(source, target, given):
-    import gc
-    from aide_compare.lines.json_lines import LINE_LIMIT
-    from aide_compare.show.page import page
-
-    gc.disable()  # Entries have no cycles, and looking for cycles takes a tenth of the time.
-    lines = iter(lambda: source.readline(LINE_LIMIT), b"")
-    for part in page(lines, given.title, given.plain, given.only):
-        target.write(part)
+from aide_compare.commands.streams import parser_of_changes, write_changes
+from aide_compare.lines.reader import reader_over
 
 
 def main(arguments):
     from aide_compare.show.page_view import fault_of
 
-    parser = parser_of(
+    parser = parser_of_changes(
         "aide-compare page",
-        "the lines",
-        "Makes a page to look at from the lines of aide-compare json.",
-        "Example: aide-compare old.gz new.gz | aide-compare json | aide-compare page > page.html",
+        "Makes a page to look at of the changes between two databases, or of the lines of aide-compare json.",
+        "Example: aide-compare page old.gz new.gz > page.html",
     )
     parser.add_argument("--title", metavar="TEXT", help="the heading of the page, such as the name of the host")
     parser.add_argument("--plain", action="store_true", help="no script: the lists only, as for mail")
@@ -35,4 +24,17 @@ def main(arguments):
     fault = fault_of(given.only)
     if fault is not None:
         parser.error("no such filter: %s" % shown(fault, 100))
-    return convert(given.file, lambda source, target: _write_page(source, target, given))
+
+    def parts_of(reader, occasion_of):
+        import gc
+        from aide_compare.show.page import page
+
+        gc.disable()  # Entries have no cycles, and looking for cycles takes a tenth of the time.
+        occasion = occasion_of(reader.summary)
+        if occasion:
+            from aide_compare.show.added import Adding, added_lines, written
+
+            reader = reader_over(written(added_lines(reader, occasion, Adding())))
+        return page(reader, given.title, given.plain, given.only)
+
+    return write_changes(given, parts_of, lambda _: None)

@@ -28,7 +28,7 @@ def main(arguments):
         NAME,
         "the lines",
         "Adds a severity to each entry of aide-compare json, and a reason where evidence explains it.",
-        "Example: aide-compare old.gz new.gz | aide-compare json | %s --databases old.gz new.gz" % NAME,
+        "Example: aide-compare json old.gz new.gz | %s --databases old.gz new.gz" % NAME,
     )
     parser.add_argument("--databases", nargs=2, metavar=("OLD", "NEW"), required=True, help="the databases that were compared")
     parser.take("max-size", default=MOST_DATABASE, help="refuse a database that has more bytes unpacked (4G)")

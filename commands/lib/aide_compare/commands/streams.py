@@ -1,21 +1,32 @@
-"""What the commands share that read one stream, lines or a report, and write another."""
+"""What the commands share that read lines, or compare two databases for them, and write another stream."""
 import os
 import stat
 
-from aide_compare.base.ending import Fault, Status, reason
+from aide_compare.base.ending import Fault, Status, reason, write_all
 from aide_compare.base.escapes import shown
-from aide_compare.base.files import open_regular
-from aide_compare.base.options import Parser
-from aide_compare.lines.report_lines import Refused
+from aide_compare.base.files import Spool, open_regular
+from aide_compare.base.options import Parser, some_text
+from aide_compare.lines.reader import BLOCK, Reader, Refused, reader_over
 
 REFUSED = 65
-BLOCK = 1 << 18
 STREAMS = ("-", "/dev/stdin")
 
 
-def parser_of(name, what, does, more):
-    parser = Parser(name, does, epilog=more)
+def parser_of(name, what, does, more, usage=None):
+    parser = Parser(name, does, epilog=more, usage=usage)
     parser.add_argument("file", nargs="?", default="-", help='%s; standard input if it is left out or "-"' % what)
+    return parser
+
+
+def parser_of_changes(name, does, more):
+    """The options of a command that takes two databases, or lines."""
+    usage = "%(prog)s [OPTIONS] [LINES]\n       %(prog)s [OPTIONS] OLD NEW"
+    parser = Parser(name, does, epilog=more, usage=usage)
+    more = {"nargs": "*", "metavar": "OLD NEW", "type": some_text}
+    parser.add_argument("files", help='two databases, or one file of lines; "-" is standard input', **more)
+    parser.take("config", help="the configuration for the two databases (/dev/null)")
+    parser.take("after", "before", "exclude-from", "exclude")
+    parser.take("max-size", default=1 << 40)
     return parser
 
 
@@ -40,3 +51,55 @@ def convert(path, work):
     except OSError as error:
         raise Fault(Status.DEVICE, "cannot read or write: %s" % reason(error)) from None
     return Status.OK
+
+
+def write_whole(parts, target):
+    """Writes parts when all of them are known, so that nothing is written of what is refused."""
+    spool = Spool()
+    for part in parts:
+        spool.write(part)
+    spool.seek(0)
+    for block in iter(lambda: spool.read(BLOCK), b""):
+        target.write(block)
+
+
+def _compared(given):
+    """The Comparison of two databases, after whatever it says."""
+    from aide_compare.compare.comparison import Comparison, Request
+    from aide_compare.compare.exclusions import Exclusions, read_exclusions
+    from aide_compare.show.told import told_of
+
+    old, new = given.files
+    if old == new == "-":
+        raise Fault(Status.USAGE, "standard input has one database only")
+    names = {name: getattr(given, name) for name in ("before", "after", "max_size")}
+    left_out = Exclusions(read_exclusions(given.exclude_from, given.exclude)) if given.exclude_from or given.exclude else None
+    comparison = Comparison(Request(old=old, new=new, configuration=given.config, exclusions=left_out, **names)).run()
+    if comparison.fault:
+        raise comparison.fault
+    if comparison.status > 7 or not given.quiet:
+        write_all(2, told_of(comparison).encode("utf-8", "backslashreplace"))
+    if comparison.is_cut:
+        raise Fault(Status.DEVICE, "the changes have more than %d bytes" % comparison.request.max_report)
+    return comparison
+
+
+def write_changes(given, parts_of, occasion_of_lines):
+    """Writes `parts_of(reader, occasion)` of two databases or of lines. The status is that of the comparison, or 0."""
+    if len(given.files) > 2 or len(given.files) < 2 and (given.config or given.before or given.after):
+        raise Fault(Status.USAGE, "name two databases, OLD and NEW, or one file of lines")
+    if len(given.files) < 2:
+        path = given.files[0] if given.files else "-"
+        return convert(path, lambda source, target: write_whole(parts_of(Reader(source), occasion_of_lines), target))
+    comparison = _compared(given)
+    if comparison.status > 7:
+        return comparison.status
+    from aide_compare.show.occasion import occasion_of
+
+    parts = parts_of(reader_over(comparison.lines), lambda _: occasion_of(comparison))
+    try:
+        with open(1, "wb", buffering=BLOCK, closefd=False) as target:
+            target.writelines(parts)
+    except OSError as error:
+        raise Fault(Status.DEVICE, "cannot read or write: %s" % reason(error)) from None
+    return comparison.status

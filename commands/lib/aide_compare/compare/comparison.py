@@ -1,5 +1,7 @@
-"""The one engine: two databases made ready, the proved program run over them, and its answer checked. It gives a value, and no
-text for people."""
+"""The one engine: two databases made ready, the proved programs run over them, and their answers checked. It gives a value,
+and no text for people."""
+import io
+import json
 import os
 import re
 import time
@@ -8,39 +10,37 @@ from aide_compare.base.ending import Fault, Status, fault_of, write_all
 from aide_compare.base.escapes import shown, shown_lines
 from aide_compare.base.files import in_memory, nameless
 from aide_compare.base.names import SIDES
-from aide_compare.base.program import CONFIGURATION, DATABASES, NEW, OLD, find_program, run_program
+from aide_compare.base.program import CONFIGURATION, DATABASES, NEW, OLD, find_lines, find_program, run_program
 from aide_compare.base.times import age_in_words
 from aide_compare.compare.columns import notes_of, skipped_in, texts_for_state
 from aide_compare.compare.configuration import (
+    URLS,
     Texts,
     databases_of,
     default_configuration,
     defining_host,
+    options_in,
     read_configuration,
     without_includes,
 )
 from aide_compare.compare.hints import hints_of
-from aide_compare.compare.reports import DIFFER, END_BYTES, HEAD_BYTES, SAME, counts_of, digests_of, lists_entries, status_of
 from aide_compare.compare.state import State
 from aide_compare.compare.unpack import copy_opened, open_database
 from aide_compare.compare.exclusions import cut_copy
+from aide_compare.lines.reader import FORMAT, Reader, Refused, counts_in, end_line, status_of
 
-CLOCKS_DIFFER, SMALL = 600, 1 << 20
-SUMMARY = b"\nreport_level=summary\nreport_quiet=no\n"
-ENTRIES = b"\nreport_level=list_entries\nreport_quiet=no\n"
-# One list with a word for each entry is read from the databases most cheaply; two lists with letters say more.
-PLAIN_LIST = ENTRIES + b"report_grouped=no\nreport_summarize_changes=no\n"
-LETTERS_LIST = ENTRIES + b"report_grouped=yes\nreport_summarize_changes=yes\n"
+CLOCKS_DIFFER, MOST_SETTINGS, HEAD_BYTES, LEAST_LINES = 600, 1 << 16, 1 << 16, 1 << 12
+HEADS = (b"AIDE found NO differences between the two databases.\n", b"AIDE found differences between the two databases.\n")
 
 
 class Request:
     """What is to be compared. `old` and `new` are paths, or None if the configuration names both. `before` and `after` are
-    the texts of -B and -A. `counts`: the counts are wanted at every level. `exclusions`: the Exclusions of the entries that are left
-    out, or None. `handing`: the Handing of a run of root's, or None. `copies`: by side the Copy of a database, if there is one
-    already. `report`: a descriptor for a report that is cut after `max_report` bytes; a longer one is refused otherwise."""
+    the texts of -B and -A. `exclusions`: the Exclusions of the entries that are left out, or None. `handing`: the Handing of a
+    run of root's, or None. `copies`: by side the Copy of a database, if there is one already. `lines`: the changes are wanted,
+    and not only the report. `target`: a descriptor for their lines, of which the first `max_report` bytes are kept."""
 
-    old = new = configuration = before = after = exclusions = handing = report = None
-    max_size, max_report, max_list, max_age, counts, copies = 1 << 40, 1 << 30, 1 << 30, 0, True, {}
+    old = new = configuration = before = after = exclusions = handing = target = None
+    max_size, max_report, max_age, lines, copies = 1 << 40, 1 << 30, 0, True, {}
 
     def __init__(self, **given):
         vars(self).update(given)
@@ -49,21 +49,23 @@ class Request:
 
 
 class Comparison:
-    """What came out: the `status`, the `fault` that ended it (None if the program has), a descriptor of the `report` and its
-    `size`, the `errors` of the program and the `hints` that explain them, `notes` on what was passed over and `doubts` on what
-    was not explained, the `counts` (None if there are none) and the ReasonCounts, `reasons`. By side: the names, the `copies`,
-    the descriptors of what was `compared`, the LeftOut and the columns that were `skipped`, as far as there are any."""
+    """What came out: the `status`, the `fault` that ended it (None if the program has), a descriptor of the `lines` and their
+    `size`, their `summary` and the `counts` (None if no lines were wanted), the `errors` of the program and the `hints` that
+    explain them, `notes` on what was passed over and `doubts` on what was not explained, and the ReasonCounts, `reasons`. By
+    side: the names, the `copies`, the descriptors of what was `compared`, the LeftOut and the columns that were `skipped`, as
+    far as there are any."""
 
     def __init__(self, request):
         self.request, self.old, self.new = request, request.old, request.new
-        self.status, self.fault, self.report, self.size, self.errors = None, None, None, 0, b""
+        self.status, self.fault, self.lines, self.size, self.errors = None, None, None, 0, b""
         self.hints, self.notes, self.doubts, self.counts, self.reasons = [], [], [], None, None
+        self.summary, self._report = None, None
         self.copies, self.compared, self.left_out, self.skipped, self.time = {}, {}, {}, {}, int(time.time())
 
     def run(self):
         """Compares. What ends it is told by the status and the `fault`, never by an exception."""
         try:
-            self.program, self.texts = find_program(), self._read_texts()
+            self.texts = self._read_texts()
             if self._is_sound() and self._has_databases():
                 self._compare()
         except (Fault, MemoryError, OSError) as error:
@@ -112,28 +114,46 @@ class Comparison:
             self.notes.append("%s: %s passed over, the first: %s" % (shown(path), lines, shown(included[0], 200)))
         before, after = ((text or "").encode("utf-8", "surrogateescape") for text in (request.before, request.after))
         self.given = Texts(before, config, after)
-        return self.given.unfixed(("config",)) if after else self.given
+        return self.given
 
     def _is_sound(self):
-        """Whether the configuration as it was given is right: a comparison does not see the lines that -A replaces."""
-        return self.texts.config == self.given.config or self._is_right(self.given, b"")
+        """Whether the configuration is right if -A gives options. A line for a report to standard output settles those of the
+        report: it is taken out of the file, and what it has settled is said before -A."""
+        texts = self.given
+        if not texts.after or not URLS.search(texts.config):
+            return True
+        if self.settings(texts) is None:
+            return False
+        settled = self.settings(Texts(texts.before, texts.config, b""))
+        if settled is not None:
+            changed = texts.replaced(URLS, b"")
+            self.texts = Texts(changed.before, changed.config, options_in(settled) + texts.after)
+        return True
 
-    def _is_right(self, texts, after):
-        """Whether the program takes a configuration."""
-        self.status, self.errors, _ = self._run("-D", texts, after)
-        if self.differs:
-            raise self._odd_answer()
-        return self.status == 0
+    def settings(self, texts):
+        """What the program says of a configuration, None if it refuses it."""
+        found = []
+        status, errors, _ = self._run(find_lines(), "-D", texts, b"", found.append, MOST_SETTINGS)
+        self._end_with(status, errors, texts)
+        if status > 7:
+            return None
+        try:
+            said = json.loads(b"".join(found))
+            if said["format"] == FORMAT:
+                return said
+        except (ValueError, KeyError, TypeError):
+            pass
+        raise self._odd_answer(find_lines())
 
     def _has_databases(self):
         """Finds the databases and copies them. What the program refuses in a configuration that names them is told first."""
         try:
             if self.old is None:
-                self.old, self.new = databases_of(defining_host(self.texts)[0], self.request.configuration)
+                self.old, self.new = databases_of(self.texts, self.request.configuration, self.settings)
             self._copy()
             return True
         except Fault:
-            if self.request.old is not None or self._is_right(self.texts, self.texts.after):
+            if self.request.old is not None or self.settings(self.texts) is not None:
                 raise
             return False
 
@@ -157,86 +177,90 @@ class Comparison:
         self.notes += self.left_out[side].words(side)
 
     def _compare(self):
-        request, options = self.request, self.texts.after + b"\n" + DATABASES.encode()
-        self.report = nameless() if request.report is None else request.report
-        self.status, self.errors, self.size = self._run(
-            "-E", self.texts, options, self.report, request.max_report, is_cut=request.report is not None
-        )
-        if self.status == Status.DEVICE and self.size >= request.max_report:
-            raise Fault(Status.DEVICE, "the report has more than %d bytes; --max-report allows more" % request.max_report)
-        if self.status > 7:
+        if self.request.lines:
+            self._run_for_lines()
+        else:
+            self.report()
+        if self.status <= 7:
+            self.skipped = skipped_in(self.errors, self.compared)
+            self.notes += [*self.given.misspelt(self.request.configuration, self._is_group), *notes_of(self.skipped)]
+
+    def _run_for_lines(self):
+        """Takes the lines of aide_lines, of which those beyond a limit are only counted."""
+        self.lines = nameless() if self.request.target is None else self.request.target
+        program, keep = find_lines(), lambda data: write_all(self.lines, data)
+        status, errors, self.size = self._run(program, "-E", self.texts, DATABASES.encode(), keep, self._most_lines)
+        self._end_with(status, errors, self.texts)
+        if status > 7:
             return
-        self.skipped = skipped_in(self.errors, self.compared)
-        self.notes += [*self.given.misspelt(request.configuration), *notes_of(self.skipped)]
-        head = os.pread(self.report, HEAD_BYTES, 0)
-        self.counts = (0, 0, 0) if self.status == 0 else counts_of(head)
-        if self.counts is None and request.counts:
-            self.counts = self._counted()
-        is_odd = self.counts and status_of(self.counts) != self.status
-        if is_odd or not (head.startswith(DIFFER) if self.status else head.startswith(SAME) or not head):
-            raise self._odd_answer()
-        if not request.exclusions and not self.is_cut:
-            for side, digest in zip(SIDES, digests_of(os.pread(self.report, END_BYTES, max(self.size - END_BYTES, 0)))):
-                self.copies[side].take_digest(digest)
+        try:
+            self.summary = Reader(io.BytesIO(os.pread(self.lines, HEAD_BYTES, 0))).summary
+        except Refused:
+            raise self._odd_answer(program)
+        self.counts, end = counts_in(self.summary), end_line(self.summary)
+        has_end = self.is_cut or os.pread(self.lines, len(end), self.size - len(end)) == end
+        if status_of(self.counts) != self.status or not has_end:
+            raise self._odd_answer(program)
+        for side in SIDES if not self.request.exclusions else ():
+            self.copies[side].take_digest(self.summary[side]["sha256"])
+
+    def report(self):
+        """A descriptor of the program's own report, which is written when it is asked for first."""
+        if self._report is None:
+            self._report, most = nameless(), self.request.max_report
+            status, errors, size = self._run(find_program(), "-E", self.texts, DATABASES.encode(), self._report, most)
+            if status == Status.DEVICE and size >= most:
+                raise Fault(Status.DEVICE, "the report has more than %d bytes; --max-report allows more" % most)
+            is_other = self.request.lines and (status, errors) != (self.status, self.errors)
+            self._end_with(status, errors, self.texts)
+            head = os.pread(self._report, len(HEADS[0]), 0)
+            is_odd = is_other or not (head.startswith(HEADS[status > 0]) or not head and not status)
+            if status <= 7 and is_odd:
+                raise self._odd_answer(find_program())
+        return self._report
 
     @property
     def is_cut(self):
-        """Whether the report is longer than what was kept of it."""
-        return self.size > self.request.max_report
+        """Whether there are more lines than were kept."""
+        return self.size > self._most_lines
 
-    def _odd_answer(self):
+    @property
+    def _most_lines(self):
+        """How many bytes of lines are kept: at least the summary."""
+        return max(self.request.max_report, LEAST_LINES)
+
+    def _odd_answer(self, program):
         """The Fault for a status that is not borne out: a loader that refuses the program ends with 1, as added entries do."""
         said = shown(self.errors.split(b"\n")[0], 300)
-        why = "does not run here: %s" % said if said else "ended with status %d, but its report does not say so" % self.status
-        return Fault(Status.DEVICE, "%s %s" % (shown(self.program), why))
+        why = "does not run here: %s" % said if said else "ended with status %d, but its answer does not say so" % self.status
+        return Fault(Status.DEVICE, "%s %s" % (shown(program), why))
 
-    def _counted(self):
-        """The counts by a second run at the level summary: only the level minimal has none. None if it ends otherwise."""
-        report, status = self._run_again(SUMMARY, 1 << 16)
-        try:
-            return counts_of(os.pread(report, HEAD_BYTES, 0)) if self.status == status else None
-        finally:
-            os.close(report)
-
-    def listed(self, with_details):
-        """A descriptor of a report that lists the entries that differ: the report itself if it has a list, and details are
-        wanted or it is small; otherwise that of a second run, which has no details and so is read many times faster."""
-        has_list = not self.is_cut and lists_entries(os.pread(self.report, HEAD_BYTES, 0))
-        if self.status == 0 or (has_list and (with_details or self.size <= SMALL)):
-            return self.report
-        report, status = self._run_again(LETTERS_LIST if with_details else PLAIN_LIST, self.request.max_list)
-        counts = counts_of(os.pread(report, HEAD_BYTES, 0))
-        if status == self.status and self.counts in (None, counts):
-            return report
-        os.close(report)
-        raise Fault(Status.DEVICE, "the list of the entries is not that of the report")
-
-    def _run_again(self, options, most):
-        """A second run with the same databases and other options of the report: what it printed, and its status."""
-        texts, report = self.texts.unfixed(("before", "config", "after")), nameless()
-        try:
-            return report, self._run("-E", texts, texts.after + options + DATABASES.encode(), report, most)[0]
-        except BaseException:
-            os.close(report)
-            raise
-
-    def _run(self, job, texts, after, report=None, most=0, is_cut=False):
-        """Runs the program: its status, its error lines, and the bytes of its report, which may be cut, or is not kept."""
+    def _run(self, program, job, texts, options, target, most):
+        """Runs a program: its status, its error lines, and how many bytes it has written. The target is a descriptor, or is
+        given the first bytes."""
         defined, moved = defining_host(texts)
         given = dict(zip((OLD, NEW), (self.compared[side] for side in SIDES if side in self.compared)))
-        words = [job, "-c", "/dev/null", b"--after=" + after] + ([b"--before=" + defined.before] if defined.before else [])
-        keep = (lambda data: write_all(report, data)) if is_cut else (lambda data: None) if report is None else None
+        words = [job, "-c", "/dev/null", b"--after=" + texts.after + (b"\n" + options if options else b"")]
+        words += [b"--before=" + defined.before] if defined.before else []
+        keep = target if callable(target) else None
         try:
             if defined.config:
                 given[CONFIGURATION], words[2] = in_memory(defined.config), "/proc/self/fd/%d" % CONFIGURATION
-            ended = run_program(self.program, words, given if keep else {1: report, **given}, most, keep)
+            ended = run_program(program, words, given if keep else {1: target, **given}, most, keep)
         finally:
             if CONFIGURATION in given:
                 os.close(given[CONFIGURATION])
-        errors = _moved_back(ended.errors, moved)
-        if ended.status > 7:
-            self.hints = hints_of(errors, texts, self.request.configuration, self.copies)
-        return ended.status, errors, ended.size if keep else os.fstat(report).st_size
+        return ended.status, _moved_back(ended.errors, moved), ended.size if keep else os.fstat(target).st_size
+
+    def _end_with(self, status, errors, texts):
+        """A program has ended so over these texts."""
+        self.status, self.errors = status, errors
+        self.hints = hints_of(errors, texts, self.request.configuration, self.copies) if status > 7 else []
+
+    def _is_group(self, name):
+        """Whether the texts define a group of this name: only then an option can have it as its value."""
+        texts = Texts(self.given.before, self.given.config, self.given.after + b"\nreport_force_attrs=" + name)
+        return self._run(find_lines(), "-D", texts, b"", lambda data: None, MOST_SETTINGS)[0] == 0
 
 
 def _moved_back(errors, count):

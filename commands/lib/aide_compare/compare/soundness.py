@@ -10,9 +10,8 @@ def refuse_unsound(copy, other=None):
     """A Fault of status 24 if the program finds a fault in an unpacked database.
     `other` is the former one, if that has to be sound too. The copies are those of unpack.py."""
     copies = {"old": other or copy, "new": copy}
-    found = Comparison(
-        Request(old="", copies=copies, before="report_level=minimal", counts=False, max_report=MOST_REPORT)
-    ).run()
+    shortest = {"before": "report_level=minimal", "lines": False, "max_report": MOST_REPORT}
+    found = Comparison(Request(old="", copies=copies, **shortest)).run()
     if found.fault:
         raise found.fault
     if found.status > 7:

@@ -5,7 +5,7 @@ from aide_compare.base.files import read_file
 from aide_compare.base.names import KINDS
 from aide_compare.base.times import date_of
 from aide_compare.compare.reason_counts import counts_of_keys
-from aide_compare.compare.reports import status_of
+from aide_compare.lines.reader import status_of
 
 MOST_BYTES = 65536
 NUMBERS = ("status", "time") + KINDS + ("old_written", "new_written")

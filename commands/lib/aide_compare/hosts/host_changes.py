@@ -1,4 +1,4 @@
-"""The changes that the report of a host lists, each with what makes it the same change as one on another host.
+"""The changes that the lines of a host list, each with what makes it the same change as one on another host.
 
 Two hosts have the same change if path, kind and type are the same, and the new values too. Values that are of one host do not
 count: times, inodes, and what the file system makes of a file.
@@ -6,9 +6,10 @@ count: times, inodes, and what the file system makes of a file.
 import hashlib
 import json
 
-from aide_compare.base.names import SEVERITIES
+from aide_compare.base.names import SEVERITIES, SIDES
 from aide_compare.base.path_keys import key_of
 from aide_compare.lines.attributes import FORMS
+from aide_compare.lines.reader import bytes_of
 
 OWN = frozenset(["Bcount", "Atime", "Mtime", "Ctime", "Inode", "Linkcount"])
 LABELS = list(FORMS)
@@ -21,17 +22,18 @@ def own_labels(fields):
     return OWN | {"Size"} if fields.get("type") == "Directory" else OWN
 
 
-def path_in(fields):
-    return bytes.fromhex(fields["path_hex"]) if "path_hex" in fields else fields["path"].encode()
-
-
 def digest_of(values):
     return hashlib.sha256(encoded(values).encode()).hexdigest()[:32].encode()
 
 
-def values_of(attributes, side):
-    """The values of a side that may be those of other hosts too."""
-    return [[label, both[side], both.get(side + "_hex")] for label, both in attributes.items()]
+def label_of(name):
+    """The attribute that a member of a side is of."""
+    return name[:-4] if name.endswith("_hex") else name
+
+
+def without(side, labels):
+    """A side without the values of some attributes."""
+    return {name: value for name, value in side.items() if label_of(name) not in labels}
 
 
 def standing_of(fields):
@@ -47,19 +49,18 @@ def is_explained(fields):
 
 
 class Line:
-    """An entry of a report as a line to be sorted: by its path, and then by what makes it the same change."""
+    """A change as a line to be sorted: by its path, and then by what makes it the same change."""
 
     def __init__(self, fields):
-        own, attributes = own_labels(fields), fields.get("attributes")
-        shared = {label: both for label, both in (attributes or {}).items() if label not in own}
-        # Without values, the letters are all that says what has changed.
-        new = values_of(shared, "new") if attributes is not None else fields.get("summary")
+        own, old, new = own_labels(fields), fields.get("old", {}), fields.get("new", {})
+        labels = {label_of(name) for name in (*old, *new)}
+        what = [fields["kind"], fields.get("type"), sorted(labels - own), without(new, own)]
         self.key = b"%s\0%s" % (
-            key_of(path_in(fields).replace(b"%", b"%25")),
-            digest_of([fields["kind"], fields.get("type"), new, fields.get("severity"), fields.get("reason")]),
+            key_of(bytes_of(fields, "path").replace(b"%", b"%25")),
+            digest_of([*what, fields.get("severity"), fields.get("reason")]),
         )
-        self.old = digest_of(values_of(shared, "old"))
-        self.own = sum(1 << LABELS.index(label) for label in attributes or () if label in own)
+        self.old = digest_of(without(old, own))
+        self.own = sum(1 << LABELS.index(label) for label in labels & own)
         self.fields = fields
 
     def text(self, host, has_body):
@@ -97,19 +98,17 @@ class Same:
             self.names.append(name)
 
     def fields(self):
-        """Its object. Values that are of one host are shown if there is only one; so are old values that are not the same."""
-        fields = {**json.loads(self.body), "record": "change"}
-        if self.count > 1 and "attributes" in fields:
+        """Its object. Values that are of one host are shown if there is only one; of old values that are not the same, only
+        the names of their attributes."""
+        fields = {"record": "change", **json.loads(self.body)}
+        if self.count > 1:
             fields.pop("summary", None)
             per_host = [label for place, label in enumerate(LABELS) if self.own >> place & 1]
-            fields["attributes"] = {
-                label: self._shared(both) for label, both in fields["attributes"].items() if label not in per_host
-            }
+            fields.update({side: without(fields[side], per_host) for side in SIDES if side in fields})
             fields.update({"per_host": per_host} if per_host else {})
+            if not self.is_old_same:
+                fields["old_various"] = [label_of(name) for name in fields.pop("old")]
         return {**fields, "hosts": self.count, "names": self.names}
-
-    def _shared(self, both):
-        return both if self.is_old_same else {key: value for key, value in both.items() if not key.startswith("old")}
 
 
 def same_changes(lines, names, most):

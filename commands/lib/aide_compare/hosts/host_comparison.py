@@ -10,14 +10,12 @@ from aide_compare.compare.comparison import Comparison, Request
 from aide_compare.compare.state import State
 from aide_compare.compare.unpack import copy_database
 from aide_compare.hosts.fleet_store import Part, no_room, seconds_left
+from aide_compare.hosts.cut_lines import cut
 from aide_compare.hosts.host_reasons import VALUES, exclusions_of, explain_host, most_lines
-from aide_compare.lines.cut_reports import CUT_WORDS
 from aide_compare.show.told import told_of
 
 MOST_BASELINE, LEAST_BOUND, MOST_REPORT = 4 << 30, 64 << 20, 4 << 20
 MOST_AHEAD, SAME_FOR = 600, 50 * 3600
-# The level at which an added file has its values, so that the report can tell whether it is the same one on two hosts.
-LEVEL = "report_level=added_removed_entries"
 
 
 def add_comparison(parser):
@@ -56,29 +54,36 @@ def copied(place, given):
 
 
 def compared(place, given, part, jobs):
-    """The Comparison, with its report in the part: cut, if it is longer than this host may have. The level comes first, so
-    that the configuration or the caller may name another one."""
-    most = min(given.max_report, place.room(jobs))
+    """The Comparison, with its lines in the part: cut, if they are longer than this host may have."""
     comparison = Comparison(
         Request(
             old=place.file("aide.db"),
             new=place.file("aide.db.new"),
             configuration=given.config,
-            before="\n".join(filter(None, (LEVEL, given.before))),
+            before=given.before,
             after=given.after,
             copies=dict(zip(SIDES, copied(place, given))),
             exclusions=exclusions_of(given),
-            report=part.fd,
-            max_report=most,
-            max_list=most_lines(place, jobs),
+            target=part.fd,
+            max_report=most_lines(place, jobs) if given.reasons else most_kept(place, given, jobs),
         )
     ).run()
-    part.size = os.fstat(part.fd).st_size
     if comparison.fault:
         raise place.fault(comparison.fault.text, comparison.fault.status)
-    if comparison.is_cut:
-        part.write(b"\n" + (CUT_WORDS % (comparison.size, most)).encode())
     return comparison
+
+
+def most_kept(place, given, jobs):
+    """How many bytes of lines are kept of a host, if nothing explains them."""
+    return min(given.max_report, place.room(jobs))
+
+
+def keep_lines(place, given, comparison, part, jobs):
+    """Keeps the lines of the changes: with their reasons, if these were found out, and otherwise as far as they have room."""
+    if given.reasons and comparison.differs and explain_host(place, given, comparison, jobs):
+        return
+    cut(part.fd, comparison.size, most_kept(place, given, jobs))
+    part.keep("lines")
 
 
 def stale_text(place, seconds):
@@ -101,7 +106,7 @@ def keep_text(place, name, data):
 
 
 def compare(place, given, jobs=1):
-    """Compares under the lock of the host, and keeps report, errors and state. Returns the State."""
+    """Compares under the lock of the host, and keeps lines, errors and state. Returns the State."""
     for name, text in (
         ("aide.db.new", "nothing was fetched yet; see aide-compare hosts fetch --help"),
         ("aide.db", "there is no baseline yet; see aide-compare hosts accept --help"),
@@ -112,8 +117,7 @@ def compare(place, given, jobs=1):
     try:
         comparison = compared(place, given, part, jobs)
         place.remove("lines")
-        if given.reasons and comparison.differs:
-            explain_host(place, given, comparison, jobs)
+        keep_lines(place, given, comparison, part, jobs)
         state = comparison.state()
         stale = stale_text(place, given.same_for)
         if stale:
@@ -122,11 +126,10 @@ def compare(place, given, jobs=1):
             state = State(int(Status.DEVICE), state.time, error="%s: %s%s" % (place.host, stale, found), **known)
         told = told_of(comparison) + (state.error + "\n" if stale else "")
         keep_text(place, "errors", told.encode("utf-8", "backslashreplace"))
-        part.keep("report")
         place.write_state(state)
         return state
     except OSError as error:
-        raise place.fault("cannot keep its report: %s" % no_room(error))
+        raise place.fault("cannot keep its lines: %s" % no_room(error))
     finally:
         part.close()
 

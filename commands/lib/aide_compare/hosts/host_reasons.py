@@ -48,18 +48,20 @@ def _bounded(lines, most):
 
 
 def explain_host(place, given, comparison, jobs):
-    """Finds out what explains the changes, and keeps their lines. Without reasons every change is an alarm."""
+    """Finds out what explains the changes, and keeps their lines; whether it has. Without reasons every change is an alarm."""
     part = Part(place.fd)
     try:
         if not comparison.counts or sum(comparison.counts) > MOST_CHANGES:
             raise Fault(Status.DEVICE, "there are more than %d changes" % MOST_CHANGES)
-        explained = explain(comparison, _sources(place, given, comparison), with_details=True)
+        explained = explain(comparison, _sources(place, given, comparison))
         if explained:
             with open(os.dup(part.fd), "wb", BLOCK) as file:
                 file.writelines(_bounded(explained.lines(), most_lines(place, jobs)))
             part.keep("lines")
+        return explained is not None
     except Fault as fault:
         comparison.reasons = None
         comparison.doubts.append("the changes are not explained: %s" % fault.text)
+        return False
     finally:
         part.close()

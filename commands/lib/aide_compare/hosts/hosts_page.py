@@ -2,15 +2,15 @@
 from html import escape
 
 from aide_compare.base.files import Spool
-from aide_compare.base.names import KINDS, SEVERITIES, SIDES
+from aide_compare.base.names import KINDS, SEVERITIES
 from aide_compare.base.shown_text import shown_note, shown_path
-from aide_compare.hosts.host_changes import path_in
 from aide_compare.hosts.hosts_text import ORDERS, Share, headline, host_lists, names_of, reason_words
-from aide_compare.lines.decoded import decoded
-from aide_compare.lines.json_lines import LABELS, Entry, rows_of
+from aide_compare.lines.reader import bytes_of
+from aide_compare.lines.texts import texts_of
 from aide_compare.show.page import blocks_of
 from aide_compare.show.page_heading import beginning, cards
 from aide_compare.show.page_items import VARIOUS, head_of, item, number, table
+from aide_compare.show.rows import LABELS, Entry, rows_of
 
 # The most bytes of a page, and of each of its lists of hosts.
 MOST, MOST_LIST, RESERVE = 20000000, 1500000, 8000
@@ -18,25 +18,14 @@ MOST_WHY, MOST_COMMAND = 1000, 4000
 CARDS = (("all", "Hosts", "hosts"), ("changed", "Differ", "differ"), ("removed", "Not compared", "not_compared"))
 
 
-def with_texts(label, both, kind):
-    """The values of an attribute with their texts for people; an old one that is not the same on all hosts is none here."""
-    fields = {"old": None, **both}
-    for side in SIDES:
-        value = bytes.fromhex(fields[side + "_hex"]) if side + "_hex" in fields else fields[side]
-        text = None if value is None or side + "_text" in fields else decoded(label, value, kind)
-        fields.update({} if text is None else {side + "_text": text})
-    return fields
-
-
 def entry_of(fields):
-    """A change as the entry of a page."""
-    attributes, path = fields.get("attributes", {}), path_in(fields)
-    rows, digests = rows_of({label: with_texts(label, both, fields.get("type")) for label, both in attributes.items()}, False)
+    """A change as the entry of a page. An old value that is not the same on all hosts is none here."""
+    path, various = bytes_of(fields, "path"), dict.fromkeys(fields.get("old_various", ()))
+    rows, digests = rows_of({**fields.get("old", {}), **various}, fields.get("new", {}), texts_of(fields))
     for row in rows + digests:
-        row[1] = row[1] if "old" in attributes[LABELS[row[0]]] else VARIOUS
+        row[1] = VARIOUS if LABELS[row[0]] in various else row[1]
     severity = SEVERITIES.index(fields["severity"]) if "severity" in fields else None
-    kind, is_doubtful = KINDS.index(fields["kind"]), "uncertain" in fields
-    return Entry(kind, is_doubtful, path, None, shown_path(path), "", rows, digests, severity, None, 0)
+    return Entry(KINDS.index(fields["kind"]), path, None, shown_path(path), "", rows, digests, severity, None, 0)
 
 
 def item_of(fields, hosts):

@@ -1,7 +1,6 @@
-"""What the store knows of each host of a file: its state, and the changes of the report that was kept of it."""
+"""What the store knows of each host of a file: its state, and the changes in the lines that were kept of it."""
 import errno
 import fcntl
-import json
 import os
 import time
 
@@ -9,22 +8,20 @@ from aide_compare.base.ending import Fault, Status, reason
 from aide_compare.base.escapes import shown
 from aide_compare.base.files import open_regular
 from aide_compare.base.times import age_in_words, date_of
-from aide_compare.compare.reports import HEAD_BYTES, counts_of
+from aide_compare.hosts.cut_lines import size_before_cut
 from aide_compare.hosts.fleet_store import Place, check_name
-from aide_compare.lines.cut_reports import KeptReport
-from aide_compare.lines.report_lines import Lines, Refused
-from aide_compare.lines.report_parts import read_report
+from aide_compare.lines.reader import Refused, counts_in, reader_over
 from aide_compare.show.reading import Reading
 
-MEMBERS = frozenset("record kind path path_hex summary type attributes uncertain severity reason".split())
-WHOLE, CUT, NO_LIST, UNREADABLE = "whole", "cut", "no list", "unreadable"
+MEMBERS = frozenset("kind path path_hex summary type old new severity reason".split())
+WHOLE, CUT, UNREADABLE = "whole", "cut", "unreadable"
 # What a disk says of a place that is damaged, and a file system of the network of a file that is gone there.
 DAMAGED = (errno.EIO, errno.EBADMSG, errno.EUCLEAN, errno.ESTALE)
 
 
 class Host:
     """A host: its name, its status, what that says, its state (None if there is none that counts), how many of its changes are
-    listed, and what its report is: one of the words above, or None if there are no differences."""
+    listed, and what its lines are: one of the words above, or None if there are no differences."""
 
     def __init__(self, name, status, text, state=None):
         self.name, self.status, self.state = name, int(status), state
@@ -68,55 +65,37 @@ def state_of(place, name, age):
     return Host(name, state.status, state.error, state)
 
 
-def entries_of(host, report, descriptor):
-    """Yields the objects of the entries in a report, and sets what it is. Of a cut one all are given that are whole."""
-    counts = counts_of(os.pread(descriptor, HEAD_BYTES, 0))
-    host.report = WHOLE if counts else NO_LIST
-    if counts != host.state.counts and counts:
-        host.report = UNREADABLE  # It is the report of another run.
-        return
+def entries_of(host, descriptor):
+    """Yields the objects of the changes in the lines that were kept, and sets what these are."""
+    host.report = CUT if size_before_cut(descriptor) else UNREADABLE
     try:
-        for fields in read_report(Lines(report)):
-            if fields["record"] == "entry":
-                host.listed += 1
-                yield fields
+        reader = reader_over(descriptor)
+        if counts_in(reader.summary) != host.state.counts:
+            host.report = UNREADABLE  # They are the lines of another run.
+            return
+        for _, fields in reader:
+            host.listed += 1
+            yield {name: value for name, value in fields.items() if name in MEMBERS}
+        host.report = WHOLE
     except Refused:
-        host.report = CUT if report.size else UNREADABLE
-    if host.report == WHOLE and host.listed != sum(counts):
-        host.report = NO_LIST
-
-
-def lines_of(host, place):
-    """Yields the objects of the changes with their reasons, from the lines that were kept."""
-    with open(open_regular(place.file("lines")), "rb") as file:
-        for line in file:
-            fields = json.loads(line)
-            if fields["record"] == "entry":
-                host.listed += 1
-                yield {name: value for name, value in fields.items() if name in MEMBERS}
-    host.report = WHOLE if host.listed == sum(host.state.counts) else NO_LIST
+        pass
 
 
 def changes_of(host, place):
     """Yields the objects of the changes of a host."""
-    if host.state.reasons and place.has("lines"):
-        yield from lines_of(host, place)
-        return
     try:
-        descriptor = open_regular(place.file("report"))
+        descriptor = open_regular(place.file("lines"))
     except Fault:
         host.report = UNREADABLE
         return
-    report = None
     try:
-        report = KeptReport(descriptor)
-        yield from entries_of(host, report, descriptor)
+        yield from entries_of(host, descriptor)
     except OSError as error:
         if error.errno not in DAMAGED:  # No room for what is read, for one, is no fault of this host.
             raise
         host.report = UNREADABLE
     finally:
-        report.close() if report else os.close(descriptor)
+        os.close(descriptor)
 
 
 def read_host(name, store, given, take):

@@ -3,16 +3,15 @@ from collections import Counter
 
 from aide_compare.base.escapes import guarded, shown
 from aide_compare.compare.reason_counts import counted, most_frequent
-from aide_compare.hosts.host_changes import is_explained, path_in
-from aide_compare.hosts.hosts_read import CUT, NO_LIST, UNREADABLE
-from aide_compare.lines.attributes import STRENGTH
-from aide_compare.lines.decoded import decoded
+from aide_compare.hosts.host_changes import is_explained
+from aide_compare.hosts.hosts_read import CUT, UNREADABLE
+from aide_compare.lines.reader import bytes_of
+from aide_compare.show.changes import MOST_VALUE, values_in
 
-MOST_VALUE, MOST_REASONS = 200, 100
+MOST_REASONS = 100
 WHY = {
-    CUT: ("its report was cut (--max-report of aide-compare hosts compare)", ", not all with values"),
-    NO_LIST: ("its report has no list of them", ""),
-    UNREADABLE: ("its report cannot be read", ""),
+    CUT: "its changes were cut (--max-report of aide-compare hosts compare)",
+    UNREADABLE: "its changes cannot be read",
 }
 ORDERS = {
     "path": "in the order of paths",
@@ -35,8 +34,7 @@ def counts_text(fields):
 
 def not_listed(fields):
     total = "?" if fields["added"] is None else fields["added"] + fields["removed"] + fields["changed"]
-    why, more = WHY[fields["report"]]
-    return "%s: %s; %d of %s changes are listed below%s" % (fields["host"], why, fields["listed"], total, more)
+    return "%s: %s; %d of %s changes are listed below" % (fields["host"], WHY[fields["report"]], fields["listed"], total)
 
 
 def host_lists(hosts):
@@ -84,35 +82,20 @@ class Share:
         return has_room
 
 
-def value_of(both, side, label, kind):
-    """A value for people, or None if the entry has none or it is not the same on all hosts. `kind` is the type of the file."""
-    value = both.get(side)
-    if value is None:
-        return None
-    value = bytes.fromhex(both[side + "_hex"]) if side + "_hex" in both else value
-    text = both.get(side + "_text") or decoded(label, value, kind)
-    if text or both.get(side + "_time"):
-        return guarded(str(text)[:MOST_VALUE] if text else str(both[side + "_time"]))
-    return str(value) if isinstance(value, int) else shown(value, MOST_VALUE)
-
-
 def values(fields):
-    """The attributes of a change, one by one. One digest says as much as all of them, and the type is said already."""
-    attributes = fields.get("attributes", {})
-    digest = next((label for label in STRENGTH if label in attributes), None)
-    for label, both in attributes.items():
-        if label == "Type" and fields["kind"] != "changed" or label in STRENGTH and label != digest:
-            continue
-        old, new = (value_of(both, side, label, fields.get("type")) for side in ("old", "new"))
+    """The values of a change, one by one. An old one that is not the same on all hosts has no value here."""
+    various = fields.get("old_various", ())
+    for label, old, new in values_in(fields, various):
+        old = "(various)" if label in various else old
         if fields["kind"] == "changed":
-            yield "%s %s -> %s" % (label, "none" if old is None and "old" in both else old or "(various)", new or "none")
+            yield "%s %s -> %s" % (label, old or "none", new or "none")
         else:
-            yield "%s %s" % (label, new if fields["kind"] == "added" else old or "(various)")
+            yield "%s %s" % (label, new if fields["kind"] == "added" else old)
 
 
 def change_lines(fields, hosts):
     """The lines of a change. The path stands last in its line, so that no path can look like another line's words."""
-    told = (fields["kind"], fields["hosts"], hosts, fields.get("type", "Entry"), shown(path_in(fields)))
+    told = (fields["kind"], fields["hosts"], hosts, fields.get("type", "Entry"), shown(bytes_of(fields, "path")))
     yield "%s on %d of %d hosts: %s %s" % told
     line = ", ".join(values(fields)) or shown(fields.get("summary") or "", 18)
     own = "of each host: " + ", ".join(fields["per_host"]) if fields.get("per_host") else ""

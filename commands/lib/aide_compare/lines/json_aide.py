@@ -1,16 +1,18 @@
-"""A report as the one object that AIDE 0.18 writes with report_format=json, with the same names."""
+"""The changes as the one object that AIDE 0.18 writes with report_format=json, with the same names."""
 import base64
 import json
 import re
 
 from aide_compare.base.files import Spool
-from aide_compare.base.names import KINDS
+from aide_compare.base.names import KINDS, SIDES
+from aide_compare.lines.attributes import FORMS
 from aide_compare.lines.decoded import decoded
 from aide_compare.lines.decoded_acl import acl_lists
 from aide_compare.lines.decoded_base import exact_bytes
 from aide_compare.lines.decoded_xattrs import attributes_of
+from aide_compare.lines.reader import BLOCK, Refused, bytes_of
+from aide_compare.lines.texts import kinds_of, values_of
 
-BLOCK = 1 << 18
 OUTLINES = {
     True: "AIDE found differences between the two databases!!",
     False: "AIDE found NO differences between the two databases. Looks okay!!",
@@ -25,15 +27,10 @@ NAMES = {
     "Linkcount": "link_count",
     "Caps": "capabilities",
 }
-# The level that AIDE does not name, since it is its own.
-USUAL_LEVEL = "changed_attributes"
+# Lines have what a report of this level shows.
+LEVEL = "added_removed_entries"
 GRAPHIC = re.compile(rb"[!-~]*\0?")
 encode = json.JSONEncoder(indent=2).encode
-
-
-def exact(fields, key):
-    """The bytes of a path or value."""
-    return bytes.fromhex(fields[key + "_hex"]) if key + "_hex" in fields else exact_bytes(fields[key])
 
 
 def name_of(data):
@@ -65,39 +62,41 @@ def xattrs_value(data, other):
     return lines_or_line(lines)
 
 
-def value_of(label, fields, side, kind):
-    """A value as AIDE writes it; as the report has it if it does not decode."""
-    value, made = fields[side], None
-    if label in ("Atime", "Mtime", "Ctime"):
-        made = decoded(label, value)
-    elif label == "Perm":
+def value_of(label, value, kind, other):
+    """A value as AIDE writes it; as the lines have it if it does not decode. `other` is that of the other side."""
+    made = None
+    if label in ("Atime", "Mtime", "Ctime", "Perm", "SELinux", "E2FSAttrs", "Caps"):
         made = decoded(label, value, kind)
     elif label == "Lname":
-        made = name_of(exact(fields, side))
+        made = name_of(exact_bytes(value))
     elif label == "ACL":
-        made = acl_value(exact(fields, side))
+        made = acl_value(exact_bytes(value))
     elif label == "XAttrs":
-        other = "new" if side == "old" else "old"
-        made = xattrs_value(exact(fields, side), None if fields[other] is None else exact(fields, other))
-    elif label in ("SELinux", "E2FSAttrs", "Caps"):
-        made = decoded(label, exact(fields, side))
-    return value if made is None else made
+        made = xattrs_value(exact_bytes(value), None if other is None else exact_bytes(other))
+    elif isinstance(FORMS.get(label), tuple):
+        made = base64.b64encode(bytes.fromhex(value)).decode()
+    if made is None:
+        return name_of(value) if isinstance(value, bytes) else value
+    return made
 
 
 def details_of(fields):
     """The attributes of an entry by AIDE's names, without the sides that have no value."""
-    attributes, kind, found = fields["attributes"], fields.get("type"), {}
-    kind = None if fields.get("summary", "").startswith("!") else kind
-    kinds = {side: attributes.get("Type", {}).get(side) or kind for side in ("old", "new")}
-    for label, sides in attributes.items():
-        found[NAMES.get(label) or re.sub("[/-]", "_", label.lower())] = {
-            side: value_of(label, sides, side, kinds[side]) for side in ("old", "new") if sides[side] is not None
-        }
+    both, found = [values_of(fields, side) for side in SIDES], {}
+    kinds = kinds_of(fields, both)
+    for label in FORMS:
+        sides = {}
+        for place, side in enumerate(SIDES):
+            value = both[place].get(label)
+            if value is not None:
+                sides[side] = value_of(label, value, kinds[place], both[1 - place].get(label))
+        if sides:
+            found[NAMES.get(label) or re.sub("[/-]", "_", label.lower())] = sides
     return found
 
 
 class _Part:
-    """An object or a list of the whole one, in a private file."""
+    """An object in the whole one, in a private file."""
 
     def __init__(self):
         self.file, self.count = Spool(), 0
@@ -106,64 +105,65 @@ class _Part:
         self.file.write((",\n    " if self.count else "\n    ").encode() + text.replace("\n", "\n    ").encode())
         self.count += 1
 
-    def write(self, name, is_list, target):
-        target.write(('  "%s": %s' % (name, "[" if is_list else "{")).encode())
+    def written(self, name):
+        yield ('  "%s": {' % name).encode()
         self.file.seek(0)
-        for block in iter(lambda: self.file.read(BLOCK), b""):
-            target.write(block)
-        target.write(b"\n  " + (b"]" if is_list else b"}"))
+        yield from iter(lambda: self.file.read(BLOCK), b"")
+        yield b"\n  }"
 
 
 class AideObject:
-    """The whole object: its parts are kept until the summary is known."""
+    """The whole object: its parts are kept until all changes are known."""
 
     def __init__(self):
-        self.parts, self.has_summaries = {}, True
+        self.parts = {}
 
     def add(self, fields):
-        """Takes an entry."""
-        path, summary = encode(name_of(exact(fields, "path"))), fields.get("summary")
-        self.has_summaries = summary is not None
-        for name in (fields["kind"], "entries"):
-            self.part(name).add("%s: %s" % (path, encode(summary)) if summary is not None else path)
-        if "attributes" in fields:
-            self.part("details").add("%s: %s" % (path, encode(details_of(fields))))
+        """Takes a change."""
+        path = encode(name_of(bytes_of(fields, "path")))
+        self._part(fields["kind"]).add("%s: %s" % (path, encode(fields["summary"])))
+        details = details_of(fields)
+        if details:
+            self._part("details").add("%s: %s" % (path, encode(details)))
 
-    def part(self, name):
+    def _part(self, name):
         if name not in self.parts:
             self.parts[name] = _Part()
         return self.parts[name]
 
-    def write(self, target, summary, databases, members, ended):
-        """Writes the object. `ended` is when the comparison ended, None if that is not known."""
-        whole = {"outline": OUTLINES[summary["differences"]], **members}
-        levels = summary["levels"] or []
-        if len(levels) == 1 and levels != [USUAL_LEVEL] and levels != ["minimal"]:
-            whole["report_level"] = levels[0]
-        if summary["total"] is not None:
-            kinds = KINDS if summary["differences"] else ()
-            whole["number_of_entries"] = {kind: summary[kind] for kind in ("total",) + kinds}
+    def written(self, summary, members, ended):
+        """Yields the object. `ended` is when the comparison ended, None if that is not known."""
+        whole = {"outline": OUTLINES[summary["differences"]], **members, "report_level": LEVEL}
+        kinds = KINDS if summary["differences"] else ()
+        whole["number_of_entries"] = {kind: summary[kind] for kind in ("total",) + kinds}
         texts = ['  "%s": %s' % (name, encode(value).replace("\n", "\n  ")) for name, value in whole.items()]
-        target.write(("{\n" + ",\n".join(texts)).encode())
-        for name in (KINDS if summary["grouped"] is not False else ("entries",)) + ("details",):
+        yield ("{\n" + ",\n".join(texts)).encode()
+        for name in KINDS + ("details",):
             if name in self.parts:
-                target.write(b",\n")
-                self.parts[name].write(name, name != "details" and not self.has_summaries, target)
-        self.end(target, summary, databases, ended)
+                yield b",\n"
+                yield from self.parts[name].written(name)
+        yield from self._end(summary, ended)
 
     @staticmethod
-    def end(target, summary, databases, ended):
+    def _end(summary, ended):
         """The databases, which may have the same name, and the time."""
-        if databases:
-            texts = [
-                '    %s: {\n      "sha256": "%s"\n    }' % (encode(name_of(exact(fields, "path"))), digest(fields, summary))
-                for fields in databases
-            ]
-            target.write((',\n  "databases": {\n' + ",\n".join(texts) + "\n  }").encode())
+        texts = []
+        for side in SIDES:
+            digest = base64.b64encode(bytes.fromhex(summary[side]["sha256"])).decode()
+            name = encode(name_of(bytes_of(summary[side], "path")))
+            texts.append('    %s: {\n      "sha256": "%s"\n    }' % (name, digest))
+        yield (',\n  "databases": {\n' + ",\n".join(texts) + "\n  }").encode()
         if ended is not None:
-            target.write((',\n  "end_time": %s' % encode(decoded("Mtime", ended))).encode())
-        target.write(b"\n}\n")
+            yield (',\n  "end_time": %s' % encode(decoded("Mtime", ended))).encode()
+        yield b"\n}\n"
 
 
-def digest(fields, summary):
-    return fields["sha256"] if summary["base16"] else base64.b64encode(bytes.fromhex(fields["sha256"])).decode()
+def aide_parts(reader, summary, members, ended):
+    """Yields the object for the changes of a Reader, after it has read all of them. `summary` names the databases."""
+    whole = AideObject()
+    for _, fields in reader:
+        try:
+            whole.add(fields)
+        except (ValueError, KeyError, TypeError, AttributeError):
+            raise Refused(reader.number, "this is not a line of aide-compare json") from None
+    yield from whole.written(summary, members, ended)

@@ -1,4 +1,4 @@
-"""The mails of aide-compare mail: built from a report and its error lines, and never larger than allowed.
+"""The mails of aide-compare mail: built from changes and error lines, and never larger than allowed.
 
 The text is written by the rules of RFC 5322 and MIME. The package email of the standard library takes 60 ms to load and adds
 nothing here: each header is ASCII of our own, and the text is one part.
@@ -7,20 +7,13 @@ import os
 import re
 import shlex
 import time
-from collections import Counter
 
 from aide_compare.base.escapes import shown_lines
 from aide_compare.base.times import date_of
 from aide_compare.compare.columns import not_compared
-from aide_compare.lines.cut_reports import KINDS, TITLES, TOGETHER, kind_in_line
-from aide_compare.lines.report_lines import RULE
+from aide_compare.lines.reader import reader_over
+from aide_compare.show.changes import changes_text, cut_text
 
-MOST_PATHS = 1000
-MOST_LINE = 1000
-# How many paths of one folder a cut list has, how many below the first two pieces of a path, and how many folders it counts.
-FOLDER_SHARE, TREE_SHARE, MOST_FOLDERS = 20, 100, 10
-# What was removed or changed comes before what was added, since everybody can add files somewhere.
-ORDER = (b"changed", b"removed", b"added")
 BITS = ((1, "added"), (2, "removed"), (4, "changed"))
 
 
@@ -56,12 +49,12 @@ def subject(state, columns=()):
 
 
 class Result:
-    """What a mail tells: the State, the report (a descriptor and its size), the lines that were told, and the bytes of what
-    people read first; there is none without --reasons."""
+    """What a mail tells: the State, the lines of the changes (a descriptor, and whether they are cut), the lines that were
+    told, and the bytes of what people read first; there is none without --reasons."""
 
-    def __init__(self, state, report, told, brief=b""):
-        self.state, self.report, self.told, self.brief = state, report, told, brief
-        self.size = os.fstat(report).st_size if 1 <= state.status <= 7 else 0
+    def __init__(self, state, comparison, told, brief=b""):
+        self.state, self.told, self.brief = state, told, brief
+        self.lines, self.is_cut, self.differs = comparison.lines, comparison.is_cut, 1 <= state.status <= 7
 
 
 def opening(state):
@@ -88,109 +81,30 @@ def beginning(brief, most):
     text = clean(brief)
     if len(text) <= most:
         return text
-    return text[: text.rfind(b"\n", 0, most) + 1] + b"  ... (the report below has all)\n\n"
+    return text[: text.rfind(b"\n", 0, most) + 1] + b"  ... (the list below has more)\n\n"
 
 
-class CutList:
-    """The first paths of a list in a report. A folder, and the tree below the first two pieces of a path, has a share of it, so
-    that nobody fills it with files of his own."""
-
-    def __init__(self):
-        self.lines, self.shares, self.rest, self.left_out = [], Counter(), Counter(), 0
-
-    def add(self, line):
-        path = line[line.find(b": /") + 2 :].rstrip(b"\n")
-        folder, tree = path.rpartition(b"/")[0] or b"/", b"/".join(path.split(b"/")[:3])
-        if len(self.lines) < MOST_PATHS and self.shares[folder] < FOLDER_SHARE and self.shares[b"", tree] < TREE_SHARE:
-            self.shares.update((folder, (b"", tree)))
-            self.lines.append(line)
-        else:
-            self.left_out += 1
-            self.rest.update([folder] if folder in self.shares else [])
-
-    def folders(self):
-        """Lines for the folders of which most is left out."""
-        for folder, count in sorted(self.rest.items(), key=lambda pair: (-pair[1], pair[0]))[:MOST_FOLDERS]:
-            yield b"%s: %d more\n" % (folder, count)
-
-
-class CutReport:
-    """The beginning of a report that is too large: its head, and the first paths of its lists."""
-
-    def __init__(self, result, most):
-        self.head, self.lists, self.room, self.paths = [], {kind: CutList() for kind in KINDS}, most, 0
-        with open(os.dup(result.report), "rb") as file:
-            file.seek(0)
-            self._read(file)
-
-    def _read(self, file):
-        title, is_title = None, False
-        for line in self._lines(file):
-            if line[:-1] == RULE:
-                is_title = not is_title
-            elif is_title:
-                title = line[:-1]
-                if title not in TITLES and title != TOGETHER:
-                    return
-            elif title is None:
-                self.head.append(line)
-            elif line != b"\n":
-                self.lists[kind_in_line(line, title)].add(line)
-
-    def _lines(self, file):
-        """Each line, or its first bytes if it is long: a line may have 12 MB."""
-        is_start = True
-        while True:
-            line = file.readline(MOST_LINE)
-            if not line:
-                return
-            if is_start:
-                yield line if line.endswith(b"\n") else line + b"...\n"
-            is_start = line.endswith(b"\n")
-
-    def _fits(self, line):
-        """Whether there is room for a line, which then is taken: escaped, it has at most four times its bytes."""
-        size = 4 * len(line)
-        if size > self.room:
-            return False
-        self.room -= size
-        return True
-
-    def _listed(self):
-        """The lists, each with its title."""
-        for kind in ORDER:
-            found = self.lists[kind]
-            if found.lines:
-                yield b"\n%s entries:\n\n" % kind.capitalize()
-            for line in found.lines[: MOST_PATHS - self.paths]:
-                if self._fits(line):
-                    self.paths += 1
-                    yield line
-            yield from filter(self._fits, found.folders())
-
-    def text(self, command):
-        lines = [line for line in self.head if self._fits(line)] + list(self._listed())
-        total = sum(len(found.lines) + found.left_out for found in self.lists.values())
-        return (
-            b"".join(lines)
-            + (
-                "\nThis mail is cut: %d paths are listed, %d are left out, and no details are shown.\n"
-                "This command prints the whole report:\n    %s\n" % (self.paths, total - self.paths, command)
-            ).encode()
-        )
+def _changes(result, room, command):
+    """The text of the changes: whole if it has room, and otherwise the first paths."""
+    text, length = [], 0
+    for part in changes_text(reader_over(result.lines)) if not result.is_cut else ():
+        text.append(clean(part.encode("utf-8", "backslashreplace")))
+        length += len(text[-1])
+        if length > room:
+            break
+    if text and length <= room:
+        return b"".join(text)
+    return clean(cut_text(reader_over(result.lines), room - room // 4, command).encode("utf-8", "backslashreplace"))
 
 
 def text_of(result, most, command):
     """The text of the mail, in bytes: whole if it fits, cut otherwise. All bytes of others are escaped."""
     told = result.told.encode("utf-8", "surrogateescape")[: most // 8 + 1].strip(b"\n")
-    if not result.size:
+    if not result.differs:
         return clean(told + b"\n")
     first = beginning(result.brief, most // 2)
     room = most - most // 4 - len(first)
-    report = os.pread(result.report, room + 1, 0) if result.size <= room else b""
-    text = clean(report) if report else b""
-    if not text or len(text) > room:
-        text = clean(CutReport(result, room - room // 4).text(command))
+    text = _changes(result, room, command)
     tail = clean(b"\n" + told + b"\n") if told else b""
     return first + clean(opening(result.state).encode("utf-8", "surrogateescape")) + text + tail
 

@@ -1,27 +1,22 @@
 """The changes of a comparison, explained and written for people and for programs, after the report went out untouched."""
 import argparse
-import json
 import os
 
 from aide_compare.base import progress
 from aide_compare.base.ending import Fault, Status, why_of
 from aide_compare.base.escapes import shown
-from aide_compare.base.files import Spool, nameless
+from aide_compare.base.files import nameless
 from aide_compare.compare.outputs import Output
-from aide_compare.lines.json_members import Occasion
-from aide_compare.lines.report_json import LineWriter
-from aide_compare.lines.report_lines import Lines, Refused
-from aide_compare.lines.report_parts import read_report
-from aide_compare.lines.report_written import Values
+from aide_compare.show.added import Adding, added_lines, written
+from aide_compare.show.occasion import occasion_of
+from aide_compare.lines.reader import Refused, reader_over
 from aide_compare.reasons.evidence import Evidence, evidence_of
 from aide_compare.reasons.explainer import Explainer, members_of
 from aide_compare.reasons.kept_records import SUFFIX, mismatch
 from aide_compare.reasons.tables import Severity
 from aide_compare.show.brief import brief, unjudged
 
-BLOCK = 1 << 18
 MOST_WEIGHED = 200000  # Each takes half a kilobyte of memory. Of more the report is printed, which takes none.
-ENCODE = json.JSONEncoder(separators=(",", ":")).encode
 
 
 class Sources:
@@ -64,30 +59,32 @@ class Sources:
 
 class Wanted:
     """What a run is asked for beside its report: the places of --json and --page, and the Sources of --reasons, None
-    without this option. `made` is given each output. `with_details`: all values are wanted. `weighs`: so are severities."""
+    without this option. `made` is given each output. `weighs`: severities are wanted."""
 
-    def __init__(self, given, made, with_details, weighs):
+    def __init__(self, given, made, weighs):
         self.lines = made(Output(given.json, "the lines").begin()) if given.json else None
         self.page = made(Output(given.page, "the page").begin()) if given.page else None
         self.sources = Sources(given) if given.reasons else None
-        self.with_details, self.weighs = with_details or bool(given.json or given.page), weighs
+        self.weighs = weighs
 
     def explain(self, comparison):
         """Explains a comparison and writes what is wanted. Returns the Explained, None if the changes are not explained."""
         weighs = self.weighs and sum(comparison.counts or ()) <= MOST_WEIGHED
-        if not (weighs or self.sources or self.with_details):
-            return None
-        explained = explain(comparison, self.sources, self.with_details, weighs)
+        explained = explain(comparison, self.sources, weighs)
         if explained is None:
             self.write_nothing()
             return None
+        if self.lines or self.page:
+            self._write(written(explained.lines()))
+        return explained
+
+    def _write(self, lines):
         if self.lines:
-            self.lines.commit_copy(written(explained.lines()))
+            self.lines.commit_copy(lines)
         if self.page:
             from aide_compare.show.page import page
 
-            self.page.commit_copy(written(page(explained.lines(), None, is_plain=False)))
-        return explained
+            self.page.commit_copy(written(page(reader_over(lines), None, is_plain=False)))
 
     def write_nothing(self):
         """Without a comparison both files are empty, so that nobody reads those of an earlier one."""
@@ -96,67 +93,42 @@ class Wanted:
                 output.commit_copy(nameless())
 
 
-def written(parts):
-    """A descriptor of a private file that has these parts."""
-    target = nameless()
-    with os.fdopen(os.dup(target), "wb", BLOCK) as file:
-        file.writelines(parts)
-    return target
-
-
 class Entries:
-    """The objects of a report: its entries one by one, which are kept as lines in a private file; and when they are read, the
-    `size` of these lines, the `summary` and the `others`."""
+    """The changes of a comparison, one by one from its lines; and these lines with what the commands add."""
 
-    def __init__(self, comparison, with_details):
-        self.file, self.kept = open(os.dup(comparison.listed(with_details)), "rb", BLOCK), Spool()
-        self.others, self.summary, self.count, self.size = [], None, 0, 0
-        self.occasion = Occasion(None, comparison.old, comparison.new)
-        self.occasion.state = comparison.state()
-        self.full = self.occasion.members(None, ())
+    def __init__(self, comparison):
+        if comparison.is_cut:
+            most = comparison.request.max_report
+            raise Refused(0, "its lines have more than %d bytes; --max-report allows more" % most)
+        self.descriptor, self.size = comparison.lines, comparison.size
+        self.occasion = occasion_of(comparison)
+
+    def reader(self):
+        return reader_over(self.descriptor)
 
     def __iter__(self):
-        self.file.seek(0)
-        writer = LineWriter(self.full)
-        with self.file:
-            for self.count, fields in enumerate(read_report(Lines(self.file), Values(), by_shapes=True), 1):
-                if fields["record"] == "entry":
-                    self.kept.write(writer.line(fields))
-                    yield fields
-                elif fields["record"] == "summary":
-                    self.summary = fields
-                else:
-                    self.occasion.name(fields)
-                    self.others.append({**fields, **self.full})
-        self.size = self.kept.tell()
+        for _, fields in self.reader():
+            yield fields
 
-    def lines(self, reasons, members):
-        """All lines, as aide-compare json --full and aide-compare reasons write them. The summary says what was left
-        out or not compared, and has the counts of the reasons, if any; each entry has its `members`, if any."""
-        summary = {**self.summary, "lines": self.count, **self.occasion.beside(), **self.full}
-        yield ENCODE({**summary, **({"reasons": reasons} if reasons else {})}).encode() + b"\n"
-        self.kept.seek(0)
-        for line in self.kept:
-            yield line if members is None else line[:-2] + b"," + ENCODE(next(members)).encode()[1:] + b"\n"
-        for fields in self.others:
-            yield ENCODE(fields).encode() + b"\n"
+    def lines(self, reasons=None, members=None):
+        """All lines, as aide-compare json --full and aide-compare reasons write them. The summary has the counts of the
+        reasons, if any; each change has its `members`, if any."""
+        return added_lines(self.reader(), self.occasion, Adding(reasons=reasons, members=members))
 
 
 class Explained:
     """The entries of a comparison; with `sources` the changes as the explainer has them, and their counts; and if it `weighs`
     the changes with their severity only."""
 
-    def __init__(self, comparison, sources, with_details, weighs):
-        self.entries, self.changes, self.counts = Entries(comparison, with_details), None, None
+    def __init__(self, comparison, sources, weighs):
+        self.entries, self.changes, self.counts = Entries(comparison), None, None
         if sources is None and not weighs:
-            for _ in self.entries:
-                pass
             return
         evidence = sources.evidence(comparison) if sources else Evidence(None, Severity())
         self.explainer = Explainer(comparison.compared["old"], comparison.compared["new"], evidence)
         self.changes = (self.explainer.judge if sources else self.explainer.weigh)(self.entries)
         if not self.explainer.counts.fits(sum(comparison.counts)):
-            raise Fault(Status.DEVICE, "the counts of the reasons are not those of the report")
+            raise Fault(Status.DEVICE, "the counts of the reasons are not those of the changes")
         self.counts = self.explainer.counts if sources else None
         doubt = self.explainer.evidence.doubt()
         if doubt:
@@ -165,7 +137,7 @@ class Explained:
     def lines(self):
         """The lines of all changes, with their reasons if there are any."""
         if self.counts is None:
-            return self.entries.lines(None, None)
+            return self.entries.lines()
         return self.entries.lines(self.counts._asdict(), map(members_of, self.changes))
 
     def brief(self):
@@ -177,13 +149,13 @@ class Explained:
         return text.encode("utf-8", "backslashreplace")
 
 
-def explain(comparison, sources, with_details, weighs=False):
+def explain(comparison, sources, weighs=False):
     """The Explained of a comparison, which gets the ReasonCounts. None, and then a line says why the changes are not explained:
     the comparison stands as it is, and without reasons every change is an alarm."""
     try:
-        explained = Explained(comparison, sources, with_details, weighs)
+        explained = Explained(comparison, sources, weighs)
     except Refused as refused:
-        why = "the report: %s" % refused
+        why = str(refused)
     except Exception as error:  # A fault in the search for reasons must not cost the alarm.
         why = why_of(error)
     else:

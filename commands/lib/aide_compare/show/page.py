@@ -4,12 +4,12 @@ import os
 
 from aide_compare.base.files import Spool
 from aide_compare.base.shown_text import shown_note
-from aide_compare.lines.json_lines import LABELS, Report
 from aide_compare.show.page_heading import head, paragraphs, part_of
 from aide_compare.show.page_items import entries, number
 from aide_compare.show.page_lists import GRADES, FolderLists, ReasonLists
 from aide_compare.show.page_streams import LAYERS, Stream
 from aide_compare.show.page_view import CHOICES, ORDERS, View, key_of, seen_of, standing_of
+from aide_compare.show.rows import LABELS, Report
 
 SCRIPTS = ("page_logic.js", "page_entries.js", "page_tree.js", "page.js")
 # The most bytes of a page; how many of them its lists have, those with values and all; and the same beside a script.
@@ -116,11 +116,10 @@ def blocks_of(file):
     yield from iter(lambda: file.read(BLOCK), b"")
 
 
-def page(lines, title, is_plain, only=""):
-    """Yields the page of a report, when all of its lines have been read and are good."""
-    contents = PageEntries(is_plain, only)
-    report = Report(lines, contents.take, contents.begin)
-    title, lists = os.fsencode(title or ""), Spool()
+def page(reader, title, is_plain, only=""):
+    """Yields the page of the lines of a Reader, when all of them have been read and are good."""
+    contents, lists = PageEntries(is_plain, only), Spool()
+    report, title = Report(reader, contents.take, contents.begin), os.fsencode(title or "")
     for part in contents.lists.parts() if report.count else ():
         lists.write(part)
     notes = contents.notes_of_lists()

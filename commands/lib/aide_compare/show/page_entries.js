@@ -74,14 +74,14 @@ function opening(details, chunk, content) {
   return details;
 }
 
-function cell(value, note, doubt) {
+function cell(value, note) {
   if (value === null) return make('td', { class: 'none' }, 'none');
   const shown = note && note !== value ? make('details', {}, make('summary', {}, note), value) : value;
-  return make('td', {}, shown, ...doubt ? [make('small', {}, doubt)] : []);
+  return make('td', {}, shown);
 }
 
-const lineOf = ([label, before, after, noteBefore, noteAfter, doubtBefore, doubtAfter]) => make('tr', {},
-  make('th', { scope: 'row' }, labels[label]), cell(before, noteBefore, doubtBefore), cell(after, noteAfter, doubtAfter));
+const lineOf = ([label, before, after, noteBefore, noteAfter]) => make('tr', {},
+  make('th', { scope: 'row' }, labels[label]), cell(before, noteBefore), cell(after, noteAfter));
 
 const tableOf = (rows) => make('table', {},
   make('thead', {}, make('tr', {}, ...['Attribute', 'Old', 'New'].map((name) => make('th', { scope: 'col' }, name)))),
@@ -102,8 +102,7 @@ function valuesOf(entry) {
 function headOf(entry) {
   const { kind, severity, known, facts, path } = entry, cut = path.lastIndexOf('/') + 1;
   const head = make('span', { class: 'head' });
-  if (entry.doubtful) head.title = 'The report leaves open whether this entry was changed.';
-  head.append(make('b', { class: 'kind ' + KINDS[kind] }, KINDS[kind] + (entry.doubtful ? '?' : '')), ' ');
+  head.append(make('b', { class: 'kind ' + KINDS[kind] }, KINDS[kind]), ' ');
   if (severity < 3) head.append(make('em', { class: choices.severity[severity] }, choices.severity[severity]), ' ');
   head.append(make('code', {}, make('span', { class: 'dim' }, path.slice(0, cut)),
     make('span', { class: 'name-part' }, path.slice(cut))), ' ');

@@ -7,8 +7,9 @@ from html import escape
 from aide_compare.base.names import KINDS, SEVERITIES, SIDES
 from aide_compare.base.shown_text import shown, shown_date, shown_note
 from aide_compare.compare.reason_counts import GRADE_KEYS, KEYS, ReasonCounts
-from aide_compare.lines.json_lines import DATE, bytes_of
+from aide_compare.lines.reader import bytes_of
 from aide_compare.show.page_items import entries, number
+from aide_compare.show.rows import DATE
 from aide_compare.show.page_view import STANDINGS
 
 HERE = os.path.dirname(os.path.abspath(__file__))
@@ -16,8 +17,8 @@ POLICY = "default-src 'none'; base-uri 'none'; form-action 'none'; style-src '%s
 OUTCOMES = {True: "The two databases differ", False: "No differences between the two databases"}
 CARDS = (("unexplained", "Not explained"), ("unverified", "Explained, not verified"), ("explained", "Explained"))
 KNOWN = set(
-    """record format differences total added removed changed levels grouped summarized base16 lines uncertain reasons
-    left_out skipped host @timestamp old_time new_time old_digest new_digest""".split()
+    """format differences total added removed changed entries old new reasons left_out skipped host @timestamp status old_time
+    new_time old_digest new_digest""".split()
 )
 MOST_MEMBERS, MOST_LETTERS = 20, 5000
 HINT = (
@@ -62,18 +63,18 @@ def facts(summary):
     return '<dl class="facts">%s</dl>\n' % text if text else ""
 
 
-def databases(report):
+def databases(summary):
     """The databases, with the time of each if the summary has it."""
     lines = ""
-    for fields in report.databases:
-        time = member(report.summary, fields["side"] + "_time")
+    for side in SIDES:
+        fields, time = summary[side], member(summary, side + "_time")
         lines += "<dt>%s</dt><dd><code>%s</code>%s<small>SHA-256 <code>%s</code></small></dd>" % (
-            fields["side"].capitalize(),
+            side.capitalize(),
             escape(shown(bytes_of(fields, "path")[:MOST_LETTERS])),
             " <span>of %s</span>" % escape(time) if time else "",
             fields["sha256"],
         )
-    return '<details class="databases"><summary>Databases</summary><dl>%s</dl></details>\n' % lines if lines else ""
+    return '<details class="databases"><summary>Databases</summary><dl>%s</dl></details>\n' % lines
 
 
 def cards(rows):
@@ -83,19 +84,16 @@ def cards(rows):
 
 
 def counts(report):
-    """The counts of what is explained and of each kind, as far as the lines have them, and how many entries to look at: a
-    narrow screen has this line in their place, as a link to them."""
-    summary, reasons, changes, text = report.summary, None, report.changes(), ""
+    """The counts of what is explained, if that was asked, and of each kind, and how many entries to look at: a narrow screen
+    has this line in their place, as a link to them."""
+    summary, reasons, text = report.summary, None, ""
     if "reasons" in summary:
         given = summary["reasons"]
         reasons = ReasonCounts(**{key: given[key] for key in KEYS + GRADE_KEYS if type(given.get(key)) is int})
         text += cards((*card, getattr(reasons, name)) for card, name in zip(CARDS, STANDINGS))
-    if changes is not None:
-        rows = [(kind, kind.capitalize(), summary[kind]) for kind in KINDS]
-        text += cards(rows + [("all", "Entries in the new database", summary["total"])])
-    if not text:
-        return ""
-    count = changes if reasons is None else reasons.unanswered
+    rows = [(kind, kind.capitalize(), summary[kind]) for kind in KINDS]
+    text += cards(rows + [("all", "Entries in the new database", summary["total"])])
+    count = report.count if reasons is None else reasons.unanswered
     look = '<p class="look"><a href="#content">%s to look at</a></p>\n' % number(count) if count else ""
     return '<div class="cards">%s</div>\n%s%s' % (text, worth(reasons) if reasons else "", look)
 
@@ -127,10 +125,6 @@ def skipped(value):
 def remarks(report, more):
     """What a reader should know of what is missing."""
     found = [left_out(report.summary.get("left_out")), *skipped(report.summary.get("skipped"))]
-    if "uncertain" in report.summary:
-        found.append("The report ends after its first part. A report that was cut there looks the same.")
-    elif report.changes() and not report.count:
-        found.append("A report of this level lists no entries.")
     return paragraphs(found + more)
 
 
@@ -142,13 +136,13 @@ def head(report, title, script, more):
     """The beginning of the page of a report. Without a title it has that of the host."""
     summary, host = report.summary, member(report.summary, "host")
     title = shown(title[:MOST_LETTERS]) if title else "File changes on %s" % host if host else "File changes"
-    kinds = "" if report.changes() is None else ": " + ", ".join("%s %s" % (number(summary[kind]), kind) for kind in KINDS)
+    kinds = ": " + ", ".join("%s %s" % (number(summary[kind]), kind) for kind in KINDS)
     return beginning(
         title,
         script,
         heading=escape(title + kinds),
         outcome=OUTCOMES[summary["differences"]],
-        databases=facts(summary) + databases(report),
+        databases=facts(summary) + databases(summary),
         counts=counts(report),
         remarks=remarks(report, more),
     )

@@ -3,8 +3,8 @@ from html import escape
 
 from aide_compare.base.files import Spool
 from aide_compare.base.names import KINDS, SEVERITIES
-from aide_compare.lines.json_lines import LABELS, PLACES
 from aide_compare.show.page_view import DIGESTS_NAME
+from aide_compare.show.rows import LABELS, PLACES
 
 # In place of an old value, if hosts with the same change had several. No text of a host is this object.
 VARIOUS = type("Various", (str,), {})("various")
@@ -25,17 +25,16 @@ def entries(count):
     return numbered(count, "entry", "entries")
 
 
-def cell(value, note="", doubt=""):
+def cell(value, note=""):
     """A value. If people read something else in its place, the exact one is its title."""
     if value is None or value is VARIOUS:
         return '<td class="none">' + (value or "none")
-    text = '<td title="%s">%s' % (escape(value), escape(note)) if note and note != value else "<td>" + escape(value)
-    return "%s<small>%s</small>" % (text, escape(doubt)) if doubt else text
+    return '<td title="%s">%s' % (escape(value), escape(note)) if note and note != value else "<td>" + escape(value)
 
 
 def line_of(row):
-    place, old, new, old_note, new_note, old_doubt, new_doubt = (row + [""] * 4)[:7]
-    return '<tr><th scope="row">%s%s%s' % (LABELS[place], cell(old, old_note, old_doubt), cell(new, new_note, new_doubt))
+    place, old, new, old_note, new_note = (row + [""] * 2)[:5]
+    return '<tr><th scope="row">%s%s%s' % (LABELS[place], cell(old, old_note), cell(new, new_note))
 
 
 def table(entry):
@@ -67,7 +66,7 @@ def facts_of(entry):
 def head_of(entry, name, reason):
     """What is seen of an entry while it is closed. A reason is given if the list has no heading with it."""
     kind = KINDS[entry.kind]
-    text = '<b class="%s">%s</b> ' % (kind, kind + (" or changed" if entry.doubtful else ""))
+    text = '<b class="%s">%s</b> ' % (kind, kind)
     if entry.severity is not None:
         severity = SEVERITIES[entry.severity]
         text += '<em class="%s">%s</em> ' % (severity, severity)

@@ -65,7 +65,7 @@ function entryOf(line, before, groups) {
   const [gap, marks, group, growth, signs, facts, path] = line.split('\t');
   const known = group === '' ? null : groups[Number(group)];
   return {
-    place: before + Number(gap), kind: Number(marks[0]), doubtful: marks[1] === '1', severity: Number(marks[2]),
+    place: before + Number(gap), kind: Number(marks[0]), severity: Number(marks[1]),
     standing: known ? known.standing : 0, group: known ? known.rank : 0, reason: known ? known.key : '', known,
     growth: Number(growth), attributes: [...signs].reduce((all, sign) => all | 1 << parseInt(sign, 36), 0),
     facts, path, folded: path.toLowerCase(), node: null,

@@ -76,7 +76,7 @@ class Stream:
     def add(self, entry, place, group):
         """Adds the entry at a place of all; `group` is the number of its reason, "" without one."""
         signs = "".join(SIGNS[attribute] for attribute in attributes_of(entry))
-        marks = "%d%d%d" % (entry.kind, entry.doubtful, 3 if entry.severity is None else entry.severity)
+        marks = "%d%d" % (entry.kind, 3 if entry.severity is None else entry.severity)
         line = "%d\t%s\t%s\t%d\t%s\t%s\t%s" % (
             place - self.last,
             marks,

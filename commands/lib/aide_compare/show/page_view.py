@@ -6,7 +6,7 @@ from collections import namedtuple
 from urllib.parse import parse_qsl
 
 from aide_compare.base.names import KINDS, SEVERITIES
-from aide_compare.lines.json_lines import DIGESTS, LABELS
+from aide_compare.show.rows import DIGESTS, LABELS
 
 # How an entry stands: nothing explains it, something does that was not verified, or something does.
 STANDINGS = ["unexplained", "not_verified", "explained"]
