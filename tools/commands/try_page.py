@@ -22,7 +22,7 @@ from tools.commands.viewers.in_browser import (
     try_without_script,
 )
 from tools.commands.viewers.large_page import try_large
-from tools.commands.viewers.samples import demo_lines, demo_report, hostile_lines, lines_of, page_of
+from tools.commands.viewers.samples import demo_changes, demo_lines, hostile_lines, lines_of, page_of
 from tools.lib.tally import Tally
 
 
@@ -43,7 +43,7 @@ def main():
     print("%s, %s" % (browser.version(), platform.platform()), flush=True)
     with tempfile.TemporaryDirectory() as folder:
         demo = write(os.path.join(folder, "demo.html"), page_of(demo_lines()))
-        simple = write(os.path.join(folder, "simple.html"), page_of(lines_of(demo_report()), "--title", "Changes"))
+        simple = write(os.path.join(folder, "simple.html"), page_of(lines_of(demo_changes()), "--title", "Changes"))
         plain = write(os.path.join(folder, "plain.html"), page_of(demo_lines(), "--plain"))
         hostile = write(os.path.join(folder, "hostile.html"), page_of(hostile_lines()))
         try_views(browser, tally)

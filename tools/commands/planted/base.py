@@ -6,7 +6,7 @@ from .plant import seen_by
     TIMES,
     OPTIONS,
     STATE,
-    REPORTS,
+    READER,
     ENDING,
     CONFIGURATION,
     FOLDERS,
@@ -23,7 +23,7 @@ from .plant import seen_by
         "base/times",
         "base/options",
         "compare/state",
-        "compare/reports",
+        "lines/reader",
         "base/ending",
         "compare/configuration",
         "base/folders",
@@ -51,14 +51,7 @@ PLANTED = (
         "base.try_state",
         (STATE, 'text.strip("0123456789abcdef")', 'text.strip("0123456789abcdefABCDEF")'),
     )
-    + seen_by(
-        "base.try_reports",
-        (
-            REPORTS,
-            "def counts_of(head):",
-            "def counts_of(head):\n    return next((tuple(map(int, found)) for found in COUNTS.findall(head)), None)",
-        ),
-    )
+    + seen_by("base.try_statuses", (READER, "zip((1, 2, 4), counts)", "zip((1, 2, 8), counts)"))
     + seen_by(
         "base.try_ends",
         (ENDING, "return status if isinstance(status, int) else Status.DEVICE", "return status or Status.OK"),
@@ -68,7 +61,7 @@ PLANTED = (
             "",
         ),
     )
-    + seen_by("base.try_tables", (CONFIGURATION, '        b"report_base16",\n', ""))
+    + seen_by("base.try_tables", (CONFIGURATION, "report_summarize_changes report_base16 report_quiet", "report_summarize_changes report_quiet"))
     + seen_by(
         "base.try_files",
         (FOLDERS, "self._passed_on = owners if is_sticky else self.others", "self._passed_on = self.others"),

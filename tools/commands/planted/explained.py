@@ -41,13 +41,10 @@ PLANTED = (
     )
     + seen_by(
         RUNS % "try_lines",
-        ("commands/lib/aide_compare/lines/json_members.py", '{"left_out": self.left_out(), ', "{"),
+        ("commands/lib/aide_compare/show/occasion.py", '{"left_out": self.left_out(), ', "{"),
         (EXPLAINING, "map(members_of, self.changes)", "map(members_of, self.changes[::-1])"),
     )
-    + seen_by(
-        RUNS % "try_levels",
-        (COMPARISON, "has_list = not self.is_cut and lists_entries(", "has_list = bool("),
-    )
+    + seen_by("attacks.try_fixed_reports", (COMPARISON, "options_in(settled) + texts.after", "texts.after"))
     + seen_by(
         RUNS % "try_outputs",
         (RUN, "            self.wanted.write_nothing()\n        teller", "            pass\n        teller"),
@@ -67,7 +64,7 @@ PLANTED = (
         (WORDS, "differ = differences(old, new)", "differ = differences(old, old)"),
         (OUTPUTS, "PRIVATE = 0o600", "PRIVATE = 0o644"),
     )
-    + seen_by("run.try_counts", (COMPARISON, "self.texts.config == self.given.config or", "True or"))
+    + seen_by("run.try_counts", (COMPARISON, "        if self.settings(texts) is None:\n            return False\n", ""))
     + seen_by(
         RUNS % "try_many",
         (LISTING, "FOLDER_SHARE, OWNER_SHARE, MOST_FOLDERS = 20", "FOLDER_SHARE, OWNER_SHARE, MOST_FOLDERS = 2000"),
@@ -115,8 +112,8 @@ PLANTED = (
         READERS % "try_cut",
         (
             MESSAGE,
-            '    return text[: text.rfind(b"\\n", 0, most) + 1] + b"  ... (the report below has all)\\n\\n"\n',
-            '    return text[:most] + b"  ... (the report below has all)\\n\\n"\n',
+            '    return text[: text.rfind(b"\\n", 0, most) + 1] + b"  ... (the list below has more)\\n\\n"\n',
+            '    return text[:most] + b"  ... (the list below has more)\\n\\n"\n',
         ),
     )
     + seen_by(READERS % "try_sign_of_life", (WEEKLY, "    changes += explained\n", ""))
@@ -128,5 +125,5 @@ PLANTED = (
             "counts",
         ),
     )
-    + seen_by(READERS % "try_pages", (EXPLAINING, '{"reasons": reasons} if reasons else {}', "{}"))
+    + seen_by(READERS % "try_pages", ("commands/lib/aide_compare/show/added.py", '{"reasons": adding.reasons} if adding.reasons else {}', "{}"))
 )

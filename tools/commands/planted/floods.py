@@ -1,9 +1,9 @@
 """Bugs of what people read first: its order, its shares, and the files that have the content of before."""
 from .plant import seen_by
 
-LISTING, MESSAGE, EXPLAINER, DATABASES, ENTRIES = (
+LISTING, CHANGES, EXPLAINER, DATABASES, ENTRIES = (
     "commands/lib/aide_compare/%s.py" % name
-    for name in ("show/listing", "mail/message", "reasons/explainer", "reasons/by_databases", "reasons/entries")
+    for name in ("show/listing", "show/changes", "reasons/explainer", "reasons/by_databases", "reasons/entries")
 )
 PLANTED = (
     seen_by(
@@ -49,8 +49,8 @@ PLANTED = (
     )
     + seen_by(
         "floods.try_cut_lists",
-        (MESSAGE, 'ORDER = (b"changed", b"removed", b"added")', 'ORDER = (b"added", b"removed", b"changed")'),
-        (MESSAGE, "            self.rest.update([folder] if folder in self.shares else [])\n", ""),
+        (CHANGES, 'ORDER = ("changed", "removed", "added")', 'ORDER = ("added", "removed", "changed")'),
+        (CHANGES, "            self.rest.update([folder] if folder in self.shares else [])\n", ""),
     )
     + seen_by(
         "floods.try_same_content",

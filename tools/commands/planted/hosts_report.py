@@ -23,16 +23,12 @@ PLANTED = (
         ),
         (
             LIB + "hosts/host_changes.py",
-            'digest_of([fields["kind"], fields.get("type"), new,',
-            'digest_of([fields["kind"], fields.get("type"),',
+            "sorted(labels - own), without(new, own)]",
+            "sorted(labels - own)]",
         ),
         (LIB + "hosts/host_changes.py", "self.is_old_same &= old == self.old", "pass"),
         (LIB + "hosts/host_changes.py", "self.own |= own", "pass"),
-        (
-            LIB + "hosts/host_comparison.py",
-            "filter(None, (LEVEL, given.before))",
-            "filter(None, (given.before,))",
-        ),
+        (LIB + "hosts/host_changes.py", 'fields["old_various"] = [label_of(name) for name in fields.pop("old")]', "pass"),
     )
     + seen_by(
         "hosts_report.try_mail",
@@ -52,8 +48,8 @@ PLANTED = (
         (LIB + "hosts/host_changes.py", '.replace(b"%", b"%25")', ""),
         (
             LIB + "hosts/hosts_text.py",
-            'fields.get("type", "Entry"), shown(path_in(fields)))',
-            'fields.get("type", "Entry"), path_in(fields).decode("utf-8", "replace"))',
+            'fields.get("type", "Entry"), shown(bytes_of(fields, "path")))',
+            'fields.get("type", "Entry"), bytes_of(fields, "path").decode("utf-8", "replace"))',
         ),
     )
     + seen_by(
@@ -63,10 +59,9 @@ PLANTED = (
         (LIB + "commands/mail.py", 'metavar="HOST[:PORT]", type=server', 'metavar="HOST[:PORT]", type=some_text'),
     )
     + seen_by(
-        "cut_reports.try_every_cut",
-        (LIB + "lines/cut_reports.py", "        if place > size:\n            break\n", ""),
-        (LIB + "lines/cut_reports.py", 'line.startswith(kind + b": /")', "False"),
-        (LIB + "hosts/hosts_read.py", "host.report = CUT if report.size else UNREADABLE", "host.report = UNREADABLE"),
+        "cut_lines.try_every_cut",
+        (LIB + "hosts/cut_lines.py", '.rfind(b"\\n") + 1\n    os.ftruncate', '.rfind(b"\\n")\n    os.ftruncate'),
+        (LIB + "hosts/hosts_read.py", "CUT if size_before_cut(descriptor) else UNREADABLE", "UNREADABLE"),
     )
     + seen_by(
         "hosts_report.try_broken",
@@ -77,8 +72,9 @@ PLANTED = (
         ),
     )
     + seen_by(
-        "cut_reports.try_cut_stream",
-        (LIB + "hosts/hosts_read.py", "if counts != host.state.counts and counts:", "if False:"),
+        "cut_lines.try_cut_stream",
+        (LIB + "hosts/hosts_read.py", "if counts_in(reader.summary) != host.state.counts:", "if False:"),
+        (LIB + "commands/hosts.py", "    except Refused:\n        size", "    except Fault:\n        size"),
     )
     + seen_by(
         "hosts_report.try_not_compared",
@@ -107,7 +103,7 @@ PLANTED = (
     )
     + seen_by(
         "hosts_page.try_values",
-        (LIB + "hosts/hosts_page.py", 'row[1] if "old" in attributes[LABELS[row[0]]] else VARIOUS', "row[1]"),
+        (LIB + "hosts/hosts_page.py", "VARIOUS if LABELS[row[0]] in various else row[1]", "row[1]"),
         (LIB + "hosts/hosts_text.py", 'if each["status"] > 7', "if False"),
         (LIB + "hosts/hosts_text.py", 'fields["hosts"] - len(fields["names"])', "0"),
         (LIB + "hosts/hosts_page.py", '"Not compared", "not_compared")', '"Not compared", "hosts")'),

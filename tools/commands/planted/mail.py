@@ -1,11 +1,12 @@
 """Bugs of aide-compare mail."""
 from .plant import seen_by
 
-MAIL, MESSAGE, SENDING, SMTP, CHILD, QUEUE, WEEKLY, HINTS, COMPARISON, FILES = (
+MAIL, MESSAGE, CHANGES, SENDING, SMTP, CHILD, QUEUE, WEEKLY, HINTS, COMPARISON, FILES = (
     "commands/lib/aide_compare/%s.py" % name
     for name in (
         "commands/mail",
         "mail/message",
+        "show/changes",
         "mail/sending",
         "mail/smtp",
         "base/child",
@@ -42,8 +43,8 @@ PLANTED = (
     )
     + seen_by(
         "mail.try_bounds",
-        (MESSAGE, "MOST_PATHS = 1000", "MOST_PATHS = 10**9"),
-        (MESSAGE, "            self.left_out += 1\n", ""),
+        (CHANGES, "MOST_PATHS = 1000", "MOST_PATHS = 10**9"),
+        (CHANGES, "(paths, total - paths, command)", "(paths, 0, command)"),
     )
     + seen_by(
         "mail.try_hostile",
@@ -99,7 +100,7 @@ PLANTED = (
     )
     + seen_by(
         "mail.try_room",
-        (MESSAGE, "if 1 <= state.status <= 7 else 0", "if report is not None else 0"),
+        (MESSAGE, "comparison.is_cut, 1 <= state.status <= 7", "comparison.is_cut, True"),
     )
     + seen_by(
         "mail.try_units",
@@ -133,6 +134,6 @@ PLANTED = (
     + seen_by("smtp.try_places", (SMTP, "len(port) <= 5 and 0 < int(port) < 65536", "int(port) < 65536"))
     + seen_by(
         "mail.try_bounds",
-        (MESSAGE, "                if title not in TITLES and title != TOGETHER:\n                    return\n", ""),
+        (MESSAGE, "    if text and length <= room:\n", "    if text:\n"),
     )
 )

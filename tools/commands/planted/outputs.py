@@ -15,7 +15,7 @@ PLANTED = (
             'FORMATS, STDOUT = ("report", "brief"), ("-",)',
         ),
         (RUN, "len(taken) + (given.format is not None) > 1", "len(taken) > 1"),
-        (EXPLAINING, "page(explained.lines(), None, is_plain=False)", "page(explained.lines(), None, is_plain=True)"),
+        (EXPLAINING, "page(reader_over(lines), None, is_plain=False)", "page(reader_over(lines), None, is_plain=True)"),
         (EXPLAINING, "for output in (self.lines, self.page):", "for output in (self.lines,):"),
     )
     + seen_by(
@@ -56,6 +56,6 @@ PLANTED = (
         (RUN, "    if not given.quiet:\n        progress", "    if True:\n        progress"),
     )
     + seen_by(
-        "explained.try_no_reasons", (RUN, "            elif comparison.report is not None and", "            elif False and")
+        "explained.try_no_reasons", (RUN, "            elif comparison.status <= 7:\n", "            elif False:\n")
     )
 )

@@ -2,6 +2,7 @@
 from .plant import seen_by
 
 LIB = "commands/lib/aide_compare/reasons/"
+READER = "commands/lib/aide_compare/lines/reader.py"
 DATABASES, ENTRIES, PACKAGES, MADE, PARENTS, PROTECTED, TABLES, DPKG, DEB, INDEXES, ARCHIVE = (
     LIB + name + ".py"
     for name in (
@@ -237,7 +238,7 @@ PLANTED = (
     )
     + seen_by(
         "reasons_lines.try_same",
-        (LINES, 'end = line.rindex(b"}")', 'line, end = ENCODE(json.loads(line)).encode() + b"\\n", -2'),
+        (READER, 'end = line.rindex(b"}")', 'line, end = ENCODE(json.loads(line)).encode() + b"\\n", -2'),
         (EXPLAINER, "counts_by_reason(changes)", "counts_by_reason(changes[:0])"),
     )
     + seen_by(

@@ -49,11 +49,13 @@ PLANTED = (
     )
     + seen_by(
         "run.try_configurations",
-        (CONFIGURATION, '(b"database_new", b"database_out"), values', '(b"database_out", b"database_new"), values'),
+        (CONFIGURATION, 'if said["database_new"] is None:', "if True:"),
+        (CONFIGURATION, "if len(found - {None}) > 1:", "if False:"),
+        (CONFIGURATION, "NAMED.sub(b\"\", texts.before)", "texts.before"),
     )
     + seen_by(
         "attacks.try_fixed_reports",
-        (COMPARISON, 'return self.given.unfixed(("config",)) if after else self.given', "return self.given"),
+        (COMPARISON, 'changed = texts.replaced(URLS, b"")', "changed = texts"),
     )
     + seen_by(
         "hints.try_database_hints",
@@ -73,7 +75,7 @@ PLANTED = (
             "        return Status.OK\n",
         ),
         (COMPARISON, "status_of(self.counts) != self.status", "False"),
-        (COMPARISON, "(head.startswith(DIFFER) if self.status else head.startswith(SAME) or not head)", "True"),
+        (COMPARISON, "(head.startswith(HEADS[status > 0]) or not head and not status)", "True"),
         (RUN, 'shown_lines(comparison.errors).encode("utf-8", "backslashreplace")', "comparison.errors"),
     )
     + seen_by(
@@ -94,11 +96,7 @@ PLANTED = (
     + seen_by("age.try_old_files", (COMPARISON, "            check_age(opened[1], self.request.max_age)\n", ""))
     + seen_by(
         "run.try_runs",
-        (
-            COMPARISON,
-            "        if self.counts is None and request.counts:\n",
-            "        if self.counts is None:\n",
-        ),
+        (RUN, "explains or reads_lines or given.state is not None", "True"),
     )
     + seen_by("attacks.try_user", (RUN, "    if given.user:\n", "    if False:\n"))
     + seen_by(
@@ -221,10 +219,11 @@ PLANTED = (
     )
     + seen_by(
         "hints.try_misspelt",
-        (CONFIGURATION, "group not in OPTIONS:", "group not in REPORT_OPTIONS:"),
+        (CONFIGURATION, "asked[word] = is_group(word)", "asked[word] = True"),
+        (CONFIGURATION, "len(asked) < MOST_ASKED", "len(asked) < 2"),
         (CONFIGURATION, "found[:MOST_MISSPELT]]", "found]"),
-        (CONFIGURATION, '(reader.option(line) or (b"",))[0]', 'line.partition(b"=")[0].strip()'),
-        (COMPARISON, "*self.given.misspelt(request.configuration), ", ""),
+        (CONFIGURATION, 'rb"[ \\t]*((?:report_', 'rb"((?:report_'),
+        (COMPARISON, "*self.given.misspelt(self.request.configuration, self._is_group), ", ""),
     )
     + seen_by(
         "run.try_arguments",
@@ -246,13 +245,10 @@ PLANTED = (
         "lost_modules.try_lost_modules",
         ("commands/bin/aide-compare", "except BaseException as error:", "except ImportError as error:"),
     )
-    + seen_by("run.try_state", (COMPARISON, "zip(SIDES, digests_of(", "zip(SIDES[::-1], digests_of("))
+    + seen_by("run.try_state", (COMPARISON, 'take_digest(self.summary[side]["sha256"])', 'take_digest(self.summary["old"]["sha256"])'))
     + seen_by(
         "without.try_left_out",
-        (COMPARISON, "        if not request.exclusions and not self.is_cut:\n", "        if not self.is_cut:\n"),
-    )
-    + seen_by(
-        "base.try_reports", ("commands/lib/aide_compare/compare/reports.py", 'DIGEST % b"New" + rb"\\Z")', 'DIGEST % b"New")')
+        (COMPARISON, "for side in SIDES if not self.request.exclusions else ():", "for side in SIDES:"),
     )
     + seen_by("base.try_files", (UNPACK, "os.pread(self.fd, BLOCK, at)", "os.pread(self.fd, BLOCK, 0)"))
     + seen_by(

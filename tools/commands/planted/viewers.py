@@ -6,8 +6,6 @@ LIB = "commands/lib/aide_compare/"
 PLANTED = (
     seen_by(
         "viewers.try_times",
-        (LIB + "lines/json_lines.py", "date is None or DATE.fullmatch(date)", "True"),
-        (LIB + "lines/json_lines.py", 'DATE = re.compile("[0-9]{4}', 'DATE = re.compile(r"\\d{4}'),
         (LIB + "show/page_items.py", "(escape(value), escape(note)) if note", "(escape(value), note) if note"),
     )
     + seen_by(
@@ -18,7 +16,9 @@ PLANTED = (
             "self.counts[3 * self.places[-1] + kind] += self.counts[3 * place + kind]",
             "self.counts[3 * self.places[-1] + kind] += 1",
         ),
-        (LIB + "lines/json_lines.py", "usual = is_usual(line, letters)", "usual = True"),
+        (LIB + "show/rows.py", "value if usual or PLAIN.fullmatch(value) else", "value if True else"),
+        (LIB + "show/rows.py", "usual, texts = is_usual(line, letters),", "usual, texts = True,"),
+        (LIB + "show/rows.py", "    return shown(value)\n", "    return value.decode(\"latin-1\")\n"),
     )
     + seen_by(
         "viewers.try_reasons",
@@ -36,11 +36,7 @@ PLANTED = (
         ),
         (LIB + "show/page_heading.py", "(text, HINT)", '(text, "")'),
         (LIB + "show/page_heading.py", "if type(given.get(key)) is int", "if key in given"),
-        (
-            LIB + "base/shown_text.py",
-            "text if usual and len(text) <= NOTE_LIMIT else shown_note(text, NOTE_LIMIT)",
-            "text",
-        ),
+        (LIB + "show/rows.py", "else shown_note(text, MOST_NOTE)", "else text"),
     )
     + seen_by(
         "viewers.try_work",
@@ -70,7 +66,8 @@ PLANTED = (
     )
     + seen_by(
         "viewers.try_blank_ends",
-        (LIB + "lines/json_lines.py", 'line.count(b\' "\') == letters.endswith(" ")', "True"),
+        (LIB + "base/shown_text.py", 'octal(" " * before) + inner + octal(" " * after)', "inner"),
+        (LIB + "show/rows.py", 'line.count(b\' "\') == letters.endswith(" ")', "True"),
     )
     + seen_by(
         "viewers.try_script",
@@ -84,12 +81,25 @@ PLANTED = (
     + seen_by(
         "viewers.try_memory",
         (
-            LIB + "lines/report_lines.py",
-            "    if UNPRINTED.search(text):",
-            '    if not re.fullmatch(rb"(?:[^\\\\]|\\\\[01][0-7][0-7])*", text):',
+            LIB + "lines/reader.py",
+            "            yield line, fields\n",
+            "            self.kept = [*vars(self).get(\"kept\", []), fields]\n            yield line, fields\n",
         ),
     )
-    + seen_by("viewers.try_edits", (LIB + "lines/report_lines.py", "|\\\\(?!0[0-3][0-7]|134|177)", ""))
+    + seen_by(
+        "viewers.try_edits",
+        (LIB + "lines/reader.py", "            if not last < names:\n", "            if False:\n"),
+        (LIB + "lines/reader.py", "        if self.file.read(1):\n", "        if False:\n"),
+        (LIB + "lines/reader.py", 'self.summary["format"] == FORMAT', "True"),
+        (LIB + "lines/reader.py", "        and fields[\"differences\"] is (status_of(counts[1:]) > 0)\n", ""),
+        (LIB + "lines/reader.py", 'self.count != self.summary["entries"] or any(', "any("),
+        (LIB + "show/rows.py", 'demand(LETTERS.fullmatch(letters), "a summary string has 18 letters")', "pass"),
+    )
+    + seen_by(
+        "viewers.try_bounds",
+        (LIB + "lines/reader.py", 'while self.count <= self.summary["entries"]:', "while True:"),
+        (LIB + "lines/reader.py", "self.file.readline(LINE_LIMIT)", "self.file.readline()"),
+    )
     + seen_by(
         "viewers.try_shown",
         (LIB + "base/shown_text.py", "escapes.shown(value, len(value))", 'value.decode("utf-8", "surrogateescape")'),
@@ -98,7 +108,7 @@ PLANTED = (
     + seen_by(
         "viewers.try_commands",
         (LIB + "commands/streams.py", "REFUSED = 65", "REFUSED = 1"),
-        (LIB + "commands/json.py", "        judge(self.summary, given.least, given.empty)\n", ""),
+        (LIB + "commands/streams.py", "        spool.write(part)\n", "        target.write(part)\n"),
         (LIB + "show/page_heading.py", '"title": escape(title)', '"title": title'),
     )
     + seen_by(
@@ -132,82 +142,30 @@ PLANTED = (
     )
     + seen_by(
         "viewers.try_occasion",
-        (
-            LIB + "lines/report_written.py",
-            '        is_known = entry.kind != "changed" or entry.letters and entry.letters[:1] != b"!"\n',
-            "        is_known = True\n",
-        ),
-        (
-            LIB + "lines/report_written.py",
-            "        if old is not None and old == new and bytes_of",
-            "        if False and bytes_of",
-        ),
-        (LIB + "lines/json_members.py", "getattr(self.state, side).encode())", '"")'),
-    )
-    + seen_by(
-        "viewers.try_shapes",
-        (
-            LIB + "lines/report_lines.py",
-            '        self.number += self.block.count(b"\\n", self.start, end)\n',
-            "        self.number += 1\n",
-        ),
-        (LIB + "lines/report_lines.py", "            end = end if end < 0 else end + length\n", ""),
-        (
-            LIB + "lines/report_pieces.py",
-            'ENDS = {0: (0, b""), 1: (2, b"[AEIMQUYcgkosw048]="), 2: (3, b"[AQgw]==")}\n',
-            'ENDS = {0: (0, b""), 1: (2, b"[AEIMQUYcgkosw048]="), 2: (3, b"[A-Za-z0-9+/]==")}\n',
-        ),
-        (
-            LIB + "lines/report_pieces.py",
-            '        return b"(?=.{32} \\\\| )%b *? \\\\| %b\\n" % (NUMBER, NUMBER if self.has[1] else b"")\n',
-            '        return b"%b *? \\\\| %b\\n" % (NUMBER, NUMBER if self.has[1] else b"")\n',
-        ),
-        (
-            LIB + "lines/report_pieces.py",
-            "[*range(0, self.groups, 2), *range(1, self.groups, 2)]",
-            "range(self.groups)",
-        ),
-        (LIB + "lines/report_shapes.py", "not misfit(letters.decode(), self.like(changed, fell, sides))", "True"),
-        (LIB + "lines/report_shapes.py", "key = (letters, changed, fell, sides)", "key = (letters, changed, sides)"),
+        (LIB + "lines/texts.py", 'fields.get("summary", "")[:1] == "!"', "False"),
+        (LIB + "lines/texts.py", "        del old[label], new[label]\n", "        pass\n"),
+        (LIB + "show/occasion.py", "                name = getattr(self.state, side)\n", '                name = ""\n'),
+        (LIB + "show/occasion.py", 'getattr(state, side + "_sha256") != summary[side]["sha256"] for', "False for"),
+        (LIB + "commands/streams.py", "from None\n    return comparison.status\n", "from None\n    return Status.OK\n"),
     )
     + seen_by(
         "viewers.try_aide_form",
+        (LIB + "lines/texts.py", "name, value = name[:-4], bytes.fromhex(value)", "name = name[:-4]"),
         (LIB + "lines/json_aide.py", "sorted(found) if is_sorted else found", "found"),
         (LIB + "lines/json_aide.py", '"surrogateescape"', '"replace"'),
-        (LIB + "lines/json_aide.py", 'base64.b64encode(bytes.fromhex(fields["sha256"])).decode()', 'fields["sha256"]'),
+        (LIB + "lines/json_aide.py", 'base64.b64encode(bytes.fromhex(summary[side]["sha256"])).decode()', 'summary[side]["sha256"]'),
     )
     + seen_by(
         "viewers.try_cuts",
-        (
-            LIB + "lines/report_lines.py",
-            "        if end < 0 and length:\n",
-            "        if end < 0 and length >= LINE_LIMIT:\n",
-        ),
+        (LIB + "lines/reader.py", "        if line[-1:] != b\"\\n\" or not", "        if not"),
     )
     + seen_by(
         "viewers.try_program",
         (
             LIB + "commands/page.py",
-            "page(lines, given.title, given.plain, given.only)",
-            "page(lines, given.title, False, given.only)",
-        ),
-    )
-    + seen_by("viewers.try_levels", (LIB + "lines/report_parts.py", "out = LEVELS[4:6]", "out = LEVELS[4:5]"))
-    + seen_by(
-        "viewers.try_doubt",
-        (
-            LIB + "lines/report_parts.py",
-            "doubtful = len(kinds) > 1 and self.possible[kinds[0]] > self.counts[kinds[0]]",
-            "doubtful = False",
+            "page(reader, given.title, given.plain, given.only)",
+            "page(reader, given.title, False, given.only)",
         ),
     )
     + seen_by("viewers.try_installed", ("commands/bin/aide-compare", "    sys.dont_write_bytecode = True\n", ""))
-    + seen_by(
-        "viewers.try_blank_ends",
-        (
-            LIB + "base/shown_text.py",
-            ' if "uncertain" in fields else notes',
-            ' if "uncertain" not in fields else notes',
-        ),
-    )
 )

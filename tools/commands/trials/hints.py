@@ -102,7 +102,7 @@ def try_configuration_hints(sandbox):
             ],
         ),
         ("report_level=minmal", [b"aide: config:1: bad value\n", b"a level is minimal, summary"]),
-        ("report_format=json", [b"aide: config:1: left out of this profile\n", b"give the report to aide-compare json"]),
+        ("report_format=json", [b"aide: config:1: left out of this profile\n", b"for JSON: aide-compare json OLD NEW\n"]),
         ("report_ignore_changed_attrs=xyz", [b"line 1: report_ignore_changed_attrs=xyz\n"]),
         ("@@ifhost x", [b"aide: config:1: left out of this profile\n", b"leave AIDE's own configuration as it is"]),
         (

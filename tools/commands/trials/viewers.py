@@ -2,17 +2,17 @@
 import inspect
 
 from tools.commands import try_viewers
-from tools.commands.viewers import aide_form, deep, looks, occasion, shapes, texts
+from tools.commands.viewers import aide_form, deep, looks, occasion, texts
 from aide_compare.show.page import script_of
 
 SEED = 20261125
-COUNTS = {"try_hostile": 80, "try_shapes": 40, "try_program": 20}
+COUNTS = {"try_hostile": 80, "try_program": 20}
 PARTS = (
     *(deep.try_times, deep.try_work, deep.try_memory, deep.try_sizes, deep.try_script),
     *(looks.try_heading, looks.try_blank_ends, looks.try_reasons, looks.try_views, looks.try_only),
-    *(try_viewers.try_levels, try_viewers.try_doubt, try_viewers.try_installed, try_viewers.try_cuts, try_viewers.try_edits),
+    *(try_viewers.try_installed, try_viewers.try_cuts, try_viewers.try_edits, try_viewers.try_bounds),
     *(try_viewers.try_shown, try_viewers.try_commands, try_viewers.try_hostile, try_viewers.try_program),
-    *(texts.try_table, texts.try_zones, shapes.try_shapes, aide_form.try_aide_form, occasion.try_occasion),
+    *(texts.try_table, texts.try_zones, aide_form.try_aide_form, occasion.try_occasion),
 )
 
 

@@ -9,9 +9,8 @@ import os
 import subprocess
 import tempfile
 
-from tools.oracle.configuration import LEVELS
-
 from . import COMMANDS, JSON
+from .lines import proved_lines
 
 HERE = os.path.join(os.path.dirname(os.path.abspath(__file__)), "aide_objects")
 EXAMPLES = os.path.abspath(os.path.join(COMMANDS, "..", "examples", "small_tree"))
@@ -19,12 +18,11 @@ PAIRS = {
     "small_tree": [os.path.join(EXAMPLES, name) for name in ("old.db", "new.db")],
     "values": [os.path.join(HERE, name) for name in ("values_old.db", "values_new.db")],
 }
-CONFIGURATION = "database_in=file:%s\ndatabase_new=file:%s\nreport_level=%s\n%s\n"
+CONFIGURATION = "database_in=file:%s\ndatabase_new=file:%s\n%s\n"
 
 
-def report(program, pair, level="added_removed_entries", more=""):
-    words = [program, "-E", "-c", "/dev/null", "-A", CONFIGURATION % (pair[0], pair[1], level, more)]
-    return subprocess.run(words, stdout=subprocess.PIPE).stdout
+def lines_over(program, pair, more=""):
+    return proved_lines(program, CONFIGURATION % (pair[0], pair[1], more))
 
 
 def aide_object(text, *words):
@@ -55,7 +53,7 @@ def comparable(whole, is_aides):
 def try_pair(program, name, tally):
     with open(os.path.join(HERE, name + ".json"), encoding="utf-8") as file:
         wanted = comparable(json.load(file), True)
-    status, given = aide_object(report(program, PAIRS[name]))
+    status, given = aide_object(lines_over(program, PAIRS[name]))
     given = comparable(given, False) if status == 0 else {}
     for member in sorted(set(wanted) | set(given)):
         good = given.get(member) == wanted.get(member)
@@ -65,22 +63,16 @@ def try_pair(program, name, tally):
 
 
 def try_forms(program, tally):
-    """What other levels and report options leave, as AIDE does."""
+    """A member more, and what is left where nothing differs."""
     pair = PAIRS["values"]
-    for level, more, members in (
-        ("minimal", "", ["outline"]),
-        ("summary", "", ["outline", "report_level", "number_of_entries"]),
-        ("changed_attributes", "", ["outline", "number_of_entries", "added", "removed", "changed", "details", "databases"]),
-        (LEVELS[3], "report_grouped=no", ["outline", "report_level", "number_of_entries", "entries", "databases"]),
-    ):
-        status, given = aide_object(report(program, pair, level, more))
-        tally.add("%s %s" % (level, more), [] if status == 0 and list(given) == members else ["%r" % (given,)])
-    status, given = aide_object(report(program, pair, more="report_summarize_changes=no"), "--with", "site=berlin")
-    good = status == 0 and given["added"] == ["/srv/values/acl/d"] and given["site"] == "berlin"
-    tally.add("lists of paths, and a member more", [] if good else ["%r" % (given,)])
-    status, given = aide_object(report(program, pair[:1] * 2))
+    status, given = aide_object(lines_over(program, pair), "--with", "site=berlin")
+    members = ["outline", "site", "report_level", "number_of_entries", "added", "removed", "changed", "details", "databases"]
+    tally.add("a member more", [] if status == 0 and list(given) == members else ["%r" % (given,)])
+    status, given = aide_object(lines_over(program, pair[:1] * 2))
     good = status == 0 and "Looks okay" in given["outline"] and given["number_of_entries"] == {"total": 7}
     tally.add("no differences", [] if good else ["%r" % (given,)])
+    status, given = aide_object(lines_over(program, pair)[:-1])
+    tally.add("lines that were cut", [] if status == 65 else ["%r" % (given,)])
 
 
 def try_bytes(program, tally):
@@ -92,7 +84,7 @@ def try_bytes(program, tally):
             with open(path, "w") as file:
                 lines = "".join(entry % (byte, byte - step) for byte in (0xFE, 0xFF))
                 file.write("@@begin_db\n@@db_spec name lname perm\n%s@@end_db\n" % lines)
-        status, given = aide_object(report(program, pair))
+        status, given = aide_object(lines_over(program, pair))
     lone = {byte: chr(0xDC00 + byte) for byte in (0xFC, 0xFD, 0xFE, 0xFF)}
     wanted = {"/" + lone[byte]: {"link_name": {"old": lone[byte], "new": lone[byte - 2]}} for byte in (0xFE, 0xFF)}
     tally.add("bytes that are not UTF-8", [] if status == 0 and given["details"] == wanted else ["%r" % (given,)])

@@ -1,4 +1,4 @@
-"""Reports that are hard to show: deep paths, many nested folders, long values; each with little work and memory."""
+"""Changes that are hard to show: deep paths, many nested folders, long values; each with little work and memory."""
 import io
 import json
 import random
@@ -6,14 +6,15 @@ import re
 import subprocess
 
 from tools.commands.viewers import HTML, JSON
-from tools.commands.viewers.refused import rich_report
-from tools.commands.viewers.work import bytes_held, growth_faults, lines_run, objects_of, pages_of, pieces_looked_at
+from tools.commands.viewers.refused import rich_lines
+from tools.commands.viewers.work import additions_to, bytes_held, growth_faults, lines_run, pages_of, pieces_looked_at
 from tools.oracle.configuration import DEFAULTS
-from tools.oracle.report import report_of
+from tools.oracle.lines import lines_of as proved_lines_of
 
 from .hostile import Database
 
-from aide_compare.lines.json_lines import Report
+from aide_compare.lines.reader import Reader
+from aide_compare.show.rows import Report
 
 MOST_BYTES = 20000000
 LONG = 100000
@@ -21,46 +22,46 @@ LONG = 100000
 CUT = re.compile(b'<p class="remark">(?:This page has room for|Values are on this page of|These lists have room for)')
 
 
-def report_over(old, new):
-    settings = {**DEFAULTS, "database_in": b"/a", "database_new": b"/b", "report_level": "added_removed_entries"}
-    return report_of(Database(old), Database(new), [b"old", b"new"], settings)[0]
+def lines_over(old, new):
+    settings = {**DEFAULTS, "database_in": b"/a", "database_new": b"/b"}
+    return proved_lines_of(Database(old), Database(new), [b"old", b"new"], settings)[0]
 
 
 def deep_path(pieces):
-    return report_over({}, {b"/x" * pieces: {"ftype": 0o100000, "s": 1}})
+    return lines_over({}, {b"/x" * pieces: {"ftype": 0o100000, "s": 1}})
 
 
 def nested(depth):
-    return report_over({}, {b"/d" * number: {"ftype": 0o040000} for number in range(1, depth)})
+    return lines_over({}, {b"/d" * number: {"ftype": 0o040000} for number in range(1, depth)})
 
 
 def long_value(byte, count):
-    return report_over({}, {b"/a": {"ftype": 0o100000, "acl": byte * count}})
+    return lines_over({}, {b"/a": {"ftype": 0o100000, "acl": byte * count}})
 
 
 def many(count):
     """Entries that are each in another folder."""
-    return report_over({}, {b"/d%06d/x" % number: {"ftype": 0o100000, "s": number} for number in range(count)})
+    return lines_over({}, {b"/d%06d/x" % number: {"ftype": 0o100000, "s": number} for number in range(count)})
 
 
-def lines_of(report):
-    return subprocess.run([*JSON], input=report, stdout=subprocess.PIPE, check=True).stdout
+def lines_of(lines):
+    return subprocess.run([*JSON], input=lines, stdout=subprocess.PIPE, check=True).stdout
 
 
-def pages_over(report_over_size):
-    """The work of both pages by the size of a report, and how long its lines are. They are made before the work begins."""
+def pages_over(lines_over_size):
+    """The work of both pages by the size of lines, and how long these are. They are made before the work begins."""
 
     def given_of(size):
-        lines = lines_of(report_over_size(size))
+        lines = lines_of(lines_over_size(size))
         return pages_of(lines), len(lines)
 
     return given_of
 
 
-def readers_over(report_over_size):
+def additions_over(lines_over_size):
     def given_of(size):
-        report = report_over_size(size)
-        return objects_of(report), len(report)
+        lines = lines_over_size(size)
+        return additions_to(lines), len(lines)
 
     return given_of
 
@@ -68,8 +69,8 @@ def readers_over(report_over_size):
 def neighbours(pieces):
     """Two entries, each in so many folders that the other is not in."""
     given = []
-    text = lines_of(report_over({}, {b"/x" * pieces: {"ftype": 0o100000}, b"/y" * pieces: {"ftype": 0o100000}}))
-    Report(io.BytesIO(text), given.append)
+    text = lines_of(lines_over({}, {b"/x" * pieces: {"ftype": 0o100000}, b"/y" * pieces: {"ftype": 0o100000}}))
+    Report(Reader(io.BytesIO(text)), given.append)
     return given, pieces
 
 
@@ -79,9 +80,9 @@ def try_work(tally):
         ("pages of a path of so many pieces", pages_over(deep_path), 1500),
         ("pages of nested folders", pages_over(nested), 150),
         ("pages of many folders", pages_over(many), 300),
-        ("a report with a path of so many pieces", readers_over(deep_path), 3000),
-        ("a report with nested folders", readers_over(nested), 150),
-        ("a report with many folders", readers_over(many), 300),
+        ("lines with a path of so many pieces", additions_over(deep_path), 3000),
+        ("lines with nested folders", additions_over(nested), 150),
+        ("lines with many folders", additions_over(many), 300),
     ):
         tally.add("work for " + label, growth_faults(lines_run, given_of, size))
     tally.add("pieces of deep paths", growth_faults(pieces_looked_at, neighbours, 1000))
@@ -90,14 +91,14 @@ def try_work(tally):
 def try_memory(tally):
     """The bytes that are held at once are a few copies of the longest line, and do not grow with the number of entries."""
     for byte, copies in ((b"\x01", 12), (b"a", 12), (b"\xff", 12)):
-        report = long_value(byte, LONG)
+        lines = long_value(byte, LONG)
         for label, work, length in (
-            ("the report", objects_of(report), len(report)),
-            ("pages", pages_of(lines_of(report)), len(lines_of(report))),
+            ("lines", additions_to(lines), len(lines)),
+            ("pages", pages_of(lines_of(lines)), len(lines_of(lines))),
         ):
             held, most = bytes_held(work), copies * length + 3000000
             tally.add("memory for %s of the byte %r" % (label, byte), [] if held < most else ["%d of %d bytes" % (held, most)])
-    for label, given_of in (("pages", pages_over(many)), ("the report", readers_over(many))):
+    for label, given_of in (("pages", pages_over(many)), ("lines", additions_over(many))):
         few, more = bytes_held(given_of(300)[0]), bytes_held(given_of(3000)[0])
         tally.add("memory for %s of many entries" % label, [] if more < few + 1500000 else ["%d, then %d bytes" % (few, more)])
 
@@ -105,30 +106,24 @@ def try_memory(tally):
 def long_lines(count, letters):
     """Lines of entries with long names and with values that cannot be packed."""
     pick = random.Random(count)
-    summary = {
-        "record": "summary",
-        "format": 1,
-        "differences": True,
-        "total": count,
-        "added": 0,
-        "removed": 0,
-        "changed": count,
-        "lines": count + 1,
-    }
+    counts = {"total": count, "added": 0, "removed": 0, "changed": count}
+    database = {"path": "/a", "sha256": "00" * 32, "skipped": []}
+    summary = {"format": 2, "differences": True, **counts, "entries": count, "old": database, "new": database}
 
     def value():
         return "%0*x" % (letters, pick.getrandbits(4 * letters))
 
     entries = [
         {
-            "record": "entry",
             "kind": "changed",
             "path": "/%06d-%s" % (number, "n" * letters),
-            "attributes": {"XAttrs": {"old": value(), "new": value()}},
+            "summary": "f                 ",
+            "old": {"XAttrs": value()},
+            "new": {"XAttrs": value()},
         }
         for number in range(count)
     ]
-    return b"".join(json.dumps(fields).encode() + b"\n" for fields in [summary] + entries)
+    return b"".join(json.dumps(fields).encode() + b"\n" for fields in [summary, *entries, {"end": True, **counts, "status": 4}])
 
 
 def try_sizes(tally):
@@ -169,16 +164,15 @@ def try_script(script, tally):
 
 
 def try_times(tally):
-    """A text in place of a time is refused, and a note is escaped even if it were not."""
+    """What stands in place of a time is text, also if it is markup."""
     from aide_compare.show.page_items import cell
 
-    tally.add("a note is text", [] if "<b>" not in cell("1", "<b>", "<b>") + cell("<b>", "1") else ["it is markup"])
-    lines = [
-        json.loads(line) for line in subprocess.run([*JSON], input=rich_report({}), stdout=subprocess.PIPE).stdout.splitlines()
-    ]
-    entry = next(fields for fields in lines if "Mtime" in fields.get("attributes", ()))
-    for value in ("</noscript><meta http-equiv=refresh>", "2026-11-25T12:00:00Z<b>", "soon", 7, "٢٠٢٦-11-25T12:00:00Z"):
-        entry["attributes"]["Mtime"]["new_time"] = value
+    tally.add("a note is text", [] if "<b>" not in cell("1", "<b>") + cell("<b>", "1") else ["it is markup"])
+    lines = [json.loads(line) for line in lines_of(rich_lines()).splitlines()]
+    entry = next(fields for fields in lines if "Mtime" in fields.get("new", ()))
+    for value in ("</noscript><meta http-equiv=refresh>", "2026-11-25T12:00:00Z<b>", "soon", 7):
+        entry["new_text"] = {"Mtime": value}
         text = b"".join(json.dumps(fields).encode() + b"\n" for fields in lines)
         done = subprocess.run([*HTML, "--plain"], input=text, stdout=subprocess.PIPE, stderr=subprocess.PIPE)
-        tally.add("a time %r" % value, [] if done.returncode == 65 and not done.stdout else ["status %d" % done.returncode])
+        good = not done.returncode and b"<meta http-equiv=refresh>" not in done.stdout if value != 7 else done.returncode == 65
+        tally.add("a time %r" % value, [] if good else ["status %d" % done.returncode])

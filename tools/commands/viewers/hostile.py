@@ -4,7 +4,7 @@ from collections import namedtuple
 from tools.oracle.attributes import ATTRIBUTES
 from tools.program.random_texts.databases import LINKS, MODES, NUMBERS, OPAQUE, random_digest
 
-Database = namedtuple("Database", "entries")
+Database = namedtuple("Database", "entries skipped", defaults=((),))
 NAMES = [
     b"a",
     b"b",

@@ -7,6 +7,8 @@ import sys
 import tempfile
 import time
 
+from tools.lib.tally import lines_program_of
+
 from . import HTML, JSON
 
 SECONDS, MEGABYTES = 30, 300
@@ -94,12 +96,11 @@ def try_large(program, count, tally):
         write_databases(folder, count)
         with open(path_in("conf"), "w") as file:
             file.write("database_in=file:%s\ndatabase_new=file:%s\n" % (path_in("old"), path_in("new")))
-            file.write("report_level=added_removed_entries\n")
         for label, words, source, target in (
-            ("aide", [program, "-E", "-c", path_in("conf")], "conf", "report"),
-            ("aide-compare json --no-text", [*JSON, "--no-text"], "report", "lines"),
-            ("aide-compare json --full", [*JSON, "--full"], "report", "lines"),
-            ("aide-compare json", [*JSON], "report", "lines"),
+            ("aide_lines", [lines_program_of(program), "-E", "-c", path_in("conf")], "conf", "proved"),
+            ("aide-compare json --no-text", [*JSON, "--no-text"], "proved", "lines"),
+            ("aide-compare json --full", [*JSON, "--full"], "proved", "lines"),
+            ("aide-compare json", [*JSON], "proved", "lines"),
             ("aide-compare page", [*HTML], "lines", "page"),
             ("aide-compare page --plain", [*HTML, "--plain"], "lines", "plain"),
         ):
@@ -113,6 +114,6 @@ def try_large(program, count, tally):
             tally.add(
                 label,
                 ["status %d, %.1f s, %.0f MB" % (status, seconds, megabytes)]
-                if label != "aide" and (status or seconds > SECONDS or megabytes > MEGABYTES)
+                if label != "aide_lines" and (status or seconds > SECONDS or megabytes > MEGABYTES)
                 else [],
             )

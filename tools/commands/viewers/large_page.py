@@ -1,5 +1,4 @@
 """Lines of very many changes, and how fast the page of them is in a browser; tried by hand."""
-import base64
 import json
 import os
 import random
@@ -32,30 +31,18 @@ SEARCH = """(async () => {
 })()"""
 
 
-def date(seconds):
-    return time.strftime("%Y-%m-%dT%H:%M:%SZ", time.gmtime(seconds))
-
-
 def entry_of(pick, number, path):
-    """A changed entry with eleven digests, as stock Debian's configuration asks for."""
+    """A change with eleven digests, as stock Debian's configuration asks for."""
     kind = {0: "added", 1: "removed"}.get(number % 20, "changed")
-    fields = {"record": "entry", "kind": kind, "path": path, "severity": "high" if number % 1000 == 2 else "medium"}
-    if kind == "changed":
-        times = [FIRST + number, FIRST + number + 86400]
-        stamped = {"old": times[0], "old_time": date(times[0]), "new": times[1], "new_time": date(times[1])}
-        digests = {
-            name: {
-                side: base64.b64encode(pick.getrandbits(8 * size).to_bytes(size, "big")).decode() for side in ("old", "new")
-            }
-            for name, size in DIGESTS
-        }
-        fields["attributes"] = {
-            "Size": {"old": 4096 + number, "new": 4096 + 2 * number},
-            "Mtime": stamped,
-            "Ctime": stamped,
-            "Inode": {"old": number, "new": number + 100},
-            **digests,
-        }
+    fields = {"kind": kind, "path": path, "summary": "f                 "}
+    sides = {"added": ("new",), "removed": ("old",)}.get(kind, ("old", "new"))
+    for later, side in enumerate(sides):
+        fields[side] = {"Inode": number + 100 * later}
+        if kind == "changed":
+            moment = FIRST + number + 86400 * later
+            digests = {name: "%0*x" % (2 * size, pick.getrandbits(8 * size)) for name, size in DIGESTS}
+            fields[side].update({"Size": (4096 + number) << later, "Mtime": moment, "Ctime": moment, **digests})
+    fields["severity"] = "high" if number % 1000 == 2 else "medium"
     if number % 50:
         fields["reason"] = {
             "class": "package",
@@ -71,12 +58,14 @@ def write_lines(path, count):
     pick, encode = random.Random(1), json.JSONEncoder(separators=(",", ":")).encode
     kinds = [{0: "added", 1: "removed"}.get(number % 20, "changed") for number in range(count)]
     reasons = dict.fromkeys(("explained", "not_verified", "unexplained", "high", "medium", "low"), 0)
-    summary = {"record": "summary", "format": 1, "differences": True, "total": count, "lines": count + 1, "reasons": reasons}
-    summary.update((kind, kinds.count(kind)) for kind in ("added", "removed", "changed"))
+    counts = {"total": count, **{kind: kinds.count(kind) for kind in ("added", "removed", "changed")}}
+    database = {"path": "/a", "sha256": "00" * 32, "skipped": []}
+    summary = {"format": 2, "differences": True, **counts, "entries": count, "old": database, "new": database, "reasons": reasons}
     with open(path, "w") as file:
         file.write(encode(summary) + "\n")
         for number, name in enumerate(paths_of(count)):
             file.write(encode(entry_of(pick, number, name)) + "\n")
+        file.write(encode({"end": True, **counts, "status": 7}) + "\n")
 
 
 def made(source, target, *words):

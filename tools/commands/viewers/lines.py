@@ -1,13 +1,15 @@
-"""Calls of the commands that show a report in other forms, and of their modules."""
+"""Calls of the commands that show changes in other forms, and of their modules."""
 import io
 import json
 import os
 import subprocess
 
 from tools.commands.viewers import HTML  # noqa: F401, it puts the modules of the commands in reach.
+from tools.lib.tally import lines_program_of
 
-from aide_compare.lines.report_lines import Lines
-from aide_compare.lines.report_parts import judge, read_report
+from aide_compare.lines.reader import Reader
+from aide_compare.show.added import Adding, added_lines
+from aide_compare.show.occasion import Occasion
 from aide_compare.show.page import page
 
 
@@ -23,11 +25,20 @@ def run(words, text=b"", **streams):
     return done.returncode, done.stdout, done.stderr
 
 
-def objects_of(text, least=None, takes_empty=False):
-    """The objects of a report, as aide-compare json writes them."""
-    *rest, summary = read_report(Lines(io.BytesIO(text)))
-    judge(summary, least, takes_empty)
-    return [{**summary, "lines": 1 + len(rest)}] + rest
+def proved_lines(program, configuration):
+    """The lines that aide_lines, which is beside a program, writes."""
+    words = [lines_program_of(program), "-E", "-c", "/dev/null", "-A", configuration]
+    return subprocess.run(words, check=False, capture_output=True).stdout
+
+
+def objects_of(text):
+    """The objects of proved lines, as aide-compare json writes them."""
+    lines = added_lines(Reader(io.BytesIO(text)), Occasion(), Adding(full=False))
+    return [json.loads(line) for line in lines]
+
+
+def changes_of(objects):
+    return [fields for fields in objects if "kind" in fields]
 
 
 def lines_of(objects):
@@ -35,4 +46,4 @@ def lines_of(objects):
 
 
 def page_of(objects, is_plain=False):
-    return b"".join(page(io.BytesIO(lines_of(objects)), None, is_plain)).decode()
+    return b"".join(page(Reader(io.BytesIO(lines_of(objects))), None, is_plain)).decode()

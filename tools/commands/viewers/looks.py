@@ -1,5 +1,4 @@
 """What a page says of reasons, severities, hosts and times, and how its filters and orders work."""
-import io
 import json
 import os
 import random
@@ -7,19 +6,18 @@ import re
 
 from tools.commands.viewers import HTML  # It puts the modules of the commands in reach.
 from tools.commands.viewers.hostile import NAMES
-from tools.commands.viewers.lines import lines_of, objects_of, page_of, run
+from tools.commands.viewers.lines import changes_of, lines_of, objects_of, page_of, run
 from tools.commands.viewers.pages import page_faults
-from tools.commands.viewers.refused import rich_report
+from tools.commands.viewers.refused import rich_lines
 
 from aide_compare.base.escapes import shown as escaped
 from aide_compare.base.names import SEVERITIES
-from aide_compare.lines.json_lines import GRADES
-from aide_compare.lines.report_lines import Refused
-from aide_compare.show.page import page
+from aide_compare.lines.reader import Refused
 from aide_compare.show.page_view import CHOICES, Seen, View
+from aide_compare.show.rows import GRADES
 
 CASES = os.path.join(os.path.dirname(os.path.abspath(__file__)), "views.json")
-REPORTS = 60
+STREAMS = 60
 # The severity and the name of an entry of the plain lists.
 LISTED = re.compile(r'<b class="[a-z]+">[a-z ]+</b> <em class="([a-z]+)">[a-z]+</em> <code>([^<]*)</code>')
 
@@ -54,9 +52,7 @@ def with_reasons(objects, pick):
     """The objects with severities and reasons, as aide-compare reasons adds them, some of them with hostile names."""
     texts = [escaped(name, 100) for name in pick.sample(NAMES, 5)] + ["openssl 3.0.15-1~deb12u1", "grew, content not verified"]
     counts = dict.fromkeys(("explained", "not_verified", "unexplained", "high", "medium", "low"), 0)
-    for fields in objects:
-        if fields["record"] != "entry":
-            continue
+    for fields in changes_of(objects):
         fields["severity"] = pick.choice(SEVERITIES)
         if pick.random() < 0.6:
             fields["reason"] = {
@@ -65,9 +61,9 @@ def with_reasons(objects, pick):
                 "verified": pick.random() < 0.6,
                 "grade": pick.choice(GRADES),
             }
-        for sides in fields.get("attributes", {}).values():
+        for label in fields.get("new", {}):
             if pick.random() < 0.3:
-                sides["new_text"] = pick.choice(NAMES).decode("utf-8", "surrogateescape")
+                fields.setdefault("new_text", {})[label] = pick.choice(NAMES).decode("utf-8", "surrogateescape")
         told = fields.get("reason")
         counts["unexplained" if not told else "explained" if told["verified"] else "not_verified"] += 1
         counts[fields["severity"]] += not (told and told["verified"])
@@ -117,12 +113,12 @@ def card_faults(text, counts):
 
 
 def try_reasons(seed, tally):
-    """Reports with severities and reasons, in both forms of the page."""
-    for number in range(REPORTS):
+    """Lines with severities and reasons, in both forms of the page."""
+    for number in range(STREAMS):
         pick = random.Random("reasons %d %d" % (seed, number))
-        report, is_plain = rich_report({"report_level": "added_removed_entries"}), number % 2 == 1
-        objects = with_reasons(objects_of(report), pick)
-        entries = [fields for fields in objects if fields["record"] == "entry"]
+        is_plain = number % 2 == 1
+        objects = with_reasons(objects_of(rich_lines()), pick)
+        entries = changes_of(objects)
         try:
             text = page_of(objects, is_plain)
         except Refused as refused:
@@ -130,28 +126,24 @@ def try_reasons(seed, tally):
             continue
         faults = page_faults(text, objects, is_plain) + order_faults(text, entries) + card_faults(text, objects[0]["reasons"])
         tally.add("reasons %d" % number, faults)
-    objects = objects_of(rich_report({"report_level": "summary"}))
-    objects[0]["reasons"] = {"explained": 4, "not_verified": 1, "unexplained": 3, "high": 2, "medium": 0, "low": 2}
-    tally.add("reasons without entries", card_faults(page_of(objects), objects[0]["reasons"]))
     objects[0]["reasons"].update(explained_dpkg="4", explained_rpm=3)
     tally.holds("a count that is none", "Explained by: rpm 3<" in page_of(objects), page_of(objects)[-1500:])
 
 
 def try_blank_ends(tally):
-    """A blank at the end of a value is seen, also beside a summary string that ends with one."""
-    summary = {**objects_of(rich_report({}))[0], "lines": 2, "total": 1, "added": 0, "removed": 0, "changed": 1}
-    entry = {"record": "entry", "kind": "changed", "path": "/l", "summary": "l =.... mc....  . ", "type": "Link"}
-    rows = [("/t ", {}, ">/t\\040<"), (" /t", {}, ">\\040/t<"), ("/t", {}, ">/t<")]
-    for value, more, want in rows + [("/t", {"uncertain": ["new-blanks"]}, "perhaps with blanks at its end")]:
-        objects = [summary, {**entry, "attributes": {"Lname": {"old": "/a", "new": value, **more}}}]
-        lines = b"".join(json.dumps(fields, separators=(",", ":")).encode() + b"\n" for fields in objects)
-        text = b"".join(page(io.BytesIO(lines), None, True)).decode()
+    """A blank at an end of a value is seen, also beside a summary string that ends with one."""
+    head, *_, end = objects_of(rich_lines())
+    counts = {"total": 1, "added": 0, "removed": 0, "changed": 1}
+    entry = {"kind": "changed", "path": "/l", "summary": "l =.... mc....  . ", "type": "Link", "old": {"Lname": "/a"}}
+    for value, want in (("/t ", ">/t\\040<"), (" /t", ">\\040/t<"), ("/t", ">/t<")):
+        lines = [{**head, **counts, "entries": 1}, {**entry, "new": {"Lname": value}}, {**end, **counts, "status": 4}]
+        text = page_of(lines, True)
         tally.holds("%r is shown as %s" % (value, want), want in text, text[-1500:])
 
 
 def try_heading(tally):
     """The host, the times, further members, and what was left out: each is there if the summary has it, and is text."""
-    objects = objects_of(rich_report({}))
+    objects = objects_of(rich_lines())
     more = {
         "host": "www<b>",
         "@timestamp": "2026-11-25T05:23:11Z",
@@ -174,15 +166,9 @@ def try_heading(tally):
     plain = page_of(objects, True)
     for part in ('class="facts"', "left out", "<span>of ", 'class="hint"', "<script"):
         tally.add("an ordinary page has no " + part, ["it has"] if part in plain else [])
-    both = {
-        "Size": {"old": None, "new": 18344},
-        "Perm": {"old": None, "new": "4755", "new_text": "-rwsr-xr-x"},
-        "UID": {"old": None, "new": 0},
-        "GID": {"old": None, "new": 50},
-        "ACL": {"old": None, "new": "POSIX,dXNl", "new_text": "user::rw-<"},
-    }
     entry = next(fields for fields in objects if fields.get("kind") == "added")
-    entry["attributes"] = both
+    entry["new"] = {"Size": 18344, "Perm": "4755", "UID": 0, "GID": 50, "ACL": "POSIX,dXNl"}
+    entry["new_text"] = {"Perm": "-rwsr-xr-x", "ACL": "user::rw-<"}
     for is_plain in (False, True):
         text = page_of(objects, is_plain)
         tally.add("a new file", [] if "<i>-rwsr-xr-x  0:50  18344 bytes</i>" in text else ["its mode and owner are not there"])
@@ -191,9 +177,9 @@ def try_heading(tally):
 
 def try_only(tally):
     """With a filter, a plain page lists only what fits, and says so."""
-    objects = with_reasons(objects_of(rich_report({})), random.Random(3))
+    objects = with_reasons(objects_of(rich_lines()), random.Random(3))
     lines = lines_of(objects)
-    entries = [fields for fields in objects if fields["record"] == "entry"]
+    entries = changes_of(objects)
     for words, wanted in (
         ("standing=unexplained", [fields for fields in entries if standing_of(fields) == 0]),
         ("kind=added,removed", [fields for fields in entries if fields["kind"] != "changed"]),

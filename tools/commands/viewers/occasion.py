@@ -7,8 +7,10 @@ import socket
 import subprocess
 import tempfile
 
+from tools.lib.tally import lines_program_of
+
 from . import COMMANDS, JSON
-from .aide_form import PAIRS, report
+from .aide_form import PAIRS, lines_over
 from .schema import Validator, schema_of_lines
 
 DATE = re.compile("[0-9]{4}-[0-9]{2}-[0-9]{2}T[0-9]{2}:[0-9]{2}:[0-9]{2}Z")
@@ -26,17 +28,18 @@ def state_of(text):
 
 
 class Kept:
-    """A report of aide-compare, and its state file."""
+    """The proved lines of two databases, and the state file of their comparison."""
 
     def __init__(self, program, folder):
         self.path, (self.old, self.new) = os.path.join(folder, "state"), PAIRS["values"]
         for name in ("bin", "lib"):
             shutil.copytree(os.path.join(COMMANDS, name), os.path.join(folder, "prefix", name))
         os.makedirs(os.path.join(folder, "prefix/libexec/aide-compare"))
-        os.symlink(os.fsdecode(program), os.path.join(folder, "prefix/libexec/aide-compare/aide"))
-        words = [os.path.join(folder, "prefix/bin/aide-compare"), "--state", self.path, self.old, self.new]
-        done = subprocess.run(words, stdout=subprocess.PIPE, stderr=subprocess.PIPE)
-        self.report = done.stdout
+        for name, path in (("aide", os.fsdecode(program)), ("aide_lines", lines_program_of(program))):
+            os.symlink(path, os.path.join(folder, "prefix/libexec/aide-compare", name))
+        self.command = os.path.join(folder, "prefix/bin/aide-compare")
+        subprocess.run([self.command, "-q", "--state", self.path, self.old, self.new], check=False, capture_output=True)
+        self.lines = lines_over(program, PAIRS["values"])
         with open(self.path) as file:
             self.text = file.read()
         self.values = state_of(self.text)
@@ -49,9 +52,35 @@ class Kept:
         return path
 
 
+def try_two(kept, tally):
+    """Two databases give the lines that their comparison has, with the names of both, and its status."""
+    for words in ([], ["--full"]):
+        done = subprocess.run([kept.command, "json", *words, kept.old, kept.new], check=False, capture_output=True)
+        status, objects, _ = lines(kept.lines, "--state", kept.path, *words)
+        given = [json.loads(line) for line in done.stdout.splitlines()]
+        for fields in given + objects:
+            fields.pop("@timestamp", None)
+        good = (status, done.returncode, given) == (0, 7, objects) and not done.stderr
+        tally.add("two databases %r" % words, [] if good else ["%d %r" % (done.returncode, done.stderr or given[:2])])
+    for words, status, said in (
+        (["-c", "/dev/null", kept.old], USAGE, b"name two databases"),
+        ([kept.old, kept.new, kept.old], USAGE, b"name two databases"),
+        ([kept.old, "/nowhere"], DEVICE, b"cannot open the new database /nowhere"),
+        (["-A", "x", kept.old, kept.new], 17, b"aide: after:1: line not understood"),
+        (["--max-size", "9", kept.old, kept.new], DEVICE, b"more than 9 bytes"),
+    ):
+        for name in ("json", "page"):
+            done = subprocess.run([kept.command, name, *words], check=False, capture_output=True)
+            good = done.returncode == status and said in done.stderr and not done.stdout
+            tally.add("%s %r" % (name, words), [] if good else ["%d %r" % (done.returncode, done.stderr)])
+    done = subprocess.run([kept.command, "page", "--plain", kept.old, kept.new], check=False, capture_output=True)
+    good = done.returncode == 7 and kept.old.encode() in done.stdout and b"-rw-r--r--" in done.stdout
+    tally.add("a page of two databases", [] if good else ["%d %r" % (done.returncode, done.stderr)])
+
+
 def try_full(kept, tally):
     status, objects, errors = lines(
-        kept.report, "--full", "--state", kept.path, "--with", "site=berlin", "--with", "a.b=\u00e9"
+        kept.lines, "--full", "--state", kept.path, "--with", "site=berlin", "--with", "a.b=\u00e9"
     )
     tally.add("full", [] if status == 0 and objects else ["%d %r" % (status, errors)])
     values = kept.values
@@ -68,14 +97,13 @@ def try_full(kept, tally):
         given = {name: fields.get(name) for name in wanted}
         times = [DATE.fullmatch(fields.get(side + "_time") or "") for side in ("old", "new")]
         tally.add("full, %s" % fields.get("path", "summary"), [] if given == wanted and all(times) else ["%r" % given])
-    paths = [fields["path"] for fields in objects if fields["record"] == "database"]
+    paths = [objects[0][side]["path"] for side in ("old", "new")]
     tally.add("names by the state", [] if paths == [kept.old, kept.new] else ["%r" % paths])
-    plain = lines(kept.report)[1]
+    plain = lines(kept.lines)[1]
     bare = [{name: value for name, value in fields.items() if name not in wanted and name[4:] != "time"} for fields in objects]
-    for fields in plain + bare:
-        fields.pop("path" if fields["record"] == "database" else "", None)
+    plain[-1].pop("status")
     tally.add("nothing else is other", [] if bare == plain else ["%r" % bare])
-    status, objects, _ = lines(kept.report, "--full", "--with", "host=www")
+    status, objects, _ = lines(kept.lines, "--full", "--with", "host=www")
     good = status == 0 and all(
         fields["host"] == "www"
         and fields["status"] == 7
@@ -88,11 +116,11 @@ def try_full(kept, tally):
 
 def try_names(kept, tally):
     for words, wanted in (
-        (["--old", "/a b", "--new", b"/\xff"], [("/a b", None), ("/\ufffd", "2fff")]),
+        (["--old", "/a b", "--new", b"/\xff"], [("/a b", None), (None, "2fff")]),
         (["--state", kept.path, "--new", "new"], [(kept.old, None), ("new", None)]),
     ):
-        _, objects, _ = lines(kept.report, *words)
-        given = [(fields["path"], fields.get("path_hex")) for fields in objects if fields["record"] == "database"]
+        _, objects, _ = lines(kept.lines, *words)
+        given = [(objects[0][side].get("path"), objects[0][side].get("path_hex")) for side in ("old", "new")]
         tally.add("names %r" % words, [] if given == wanted else ["%r" % given])
     database = b"@@begin_db\n@@db_spec name uid gid size\n/a %s 0\n@@end_db\n"
     with tempfile.TemporaryDirectory() as folder:
@@ -100,17 +128,17 @@ def try_names(kept, tally):
         for path, number in zip(pair, (b"0 0", b"4000000000 1")):
             with open(path, "wb") as file:
                 file.write(database % number)
-        text = report(kept.program, pair)
+        text = lines_over(kept.program, pair)
     for words, wanted in (
-        (["--names"], {"old": 0, "new": 4000000000, "old_text": "root"}),
-        ([], {"old": 0, "new": 4000000000}),
-        (["--names", "--no-text"], {"old": 0, "new": 4000000000}),
+        (["--names"], ({"UID": 0, "GID": 0}, {"UID": 4000000000, "GID": 1}, {"UID": "root", "GID": "root"})),
+        ([], ({"UID": 0, "GID": 0}, {"UID": 4000000000, "GID": 1}, None)),
+        (["--names", "--no-text"], ({"UID": 0, "GID": 0}, {"UID": 4000000000, "GID": 1}, None)),
     ):
         _, objects, _ = lines(text, *words)
-        given = objects[1]["attributes"]["UID"]
+        given = objects[1]["old"], objects[1]["new"], objects[1].get("old_text")
         tally.add("users %r" % words, [] if given == wanted else ["%r" % given])
-    texts = json.dumps(lines(kept.report, "--no-text")[1])
-    tally.add("no texts", [] if "_text" not in texts and "_text" in json.dumps(lines(kept.report)[1]) else ["there are some"])
+    texts = json.dumps(lines(kept.lines, "--no-text")[1])
+    tally.add("no texts", [] if "_text" not in texts and "_text" in json.dumps(lines(kept.lines)[1]) else ["there are some"])
 
 
 def try_one_text(kept, tally):
@@ -121,14 +149,13 @@ def try_one_text(kept, tally):
         for path, values in zip(pair, (("dXNlcjo6cnctCg==", "16"), ("dXNlcjo6cnct", "0016"))):
             with open(path, "w") as file:
                 file.write(database % values)
-        _, objects, _ = lines(report(kept.program, pair))
-    attributes = objects[1]["attributes"]
-    good = set(attributes) == {"ACL", "E2FSAttrs"} and all(set(fields) == {"old", "new"} for fields in attributes.values())
-    tally.add("one text for two values", [] if good else ["%r" % attributes])
+        _, objects, _ = lines(lines_over(kept.program, pair))
+    good = set(objects[1]["new"]) == {"ACL", "E2FSAttrs"} and "new_text" not in objects[1] and "old_text" not in objects[1]
+    tally.add("one text for two values", [] if good else ["%r" % objects[1]])
 
 
 def try_types(kept, tally):
-    """A mode has the letter of the type where the report tells the type of both sides."""
+    """A mode has the letter of the type where the line tells the type of both sides."""
     with tempfile.TemporaryDirectory() as folder:
         pair = [os.path.join(folder, name) for name in ("old", "new")]
         for path, mode in zip(pair, ("100644", "41777")):
@@ -138,18 +165,17 @@ def try_types(kept, tally):
         for more, wanted in (
             ("", ("-rw-r--r--", "drwxrwxrwt")),
             (hidden, ("rw-r--r--", "rwxrwxrwt")),
-            (hidden + "\nreport_summarize_changes=no", ("rw-r--r--", "rwxrwxrwt")),
         ):
-            _, objects, _ = lines(report(kept.program, pair, more=more))
-            fields = next(fields for fields in objects if fields.get("path") == "/a")["attributes"]["Perm"]
-            given = (fields.get("old_text"), fields.get("new_text"))
+            _, objects, _ = lines(lines_over(kept.program, pair, more=more))
+            fields = next(fields for fields in objects if fields.get("path") == "/a")
+            given = tuple(fields[side + "_text"]["Perm"] for side in ("old", "new"))
             tally.add("types %r" % more, [] if given == wanted else ["%r" % (given,)])
 
 
 def try_left_out(kept, tally, folder):
     path = kept.changed(folder, error="\nleft_out_old=3\nleft_out_new=5")
-    status, objects, errors = lines(kept.report, "--state", path)
-    good = status == 0 and objects[0]["left_out"] == {"old": 3, "new": 5} and "left_out" not in objects[1]
+    status, objects, errors = lines(kept.lines, "--state", path)
+    good = status == 0 and objects[0].get("left_out") == {"old": 3, "new": 5} and "left_out" not in objects[1]
     tally.add("left out", [] if good else ["%d %r %r" % (status, errors, objects[:1])])
 
 
@@ -162,10 +188,10 @@ def try_other_states(kept, tally, folder):
         ("a failure", {"status": "18", "added": "", "removed": "", "changed": ""}),
         ("no difference", {"status": "0", "added": "0", "removed": "0", "changed": "0"}),
     ):
-        status, objects, errors = lines(kept.report, "--state", kept.changed(folder, **values))
+        status, objects, errors = lines(kept.lines, "--state", kept.changed(folder, **values))
         good = status == REFUSED and not objects and b"another comparison" in errors
         tally.add("state of %s" % label, [] if good else ["%d %r" % (status, errors)])
-    status, objects, _ = lines(kept.report, "--state", kept.changed(folder, status="x"))
+    status, objects, _ = lines(kept.lines, "--state", kept.changed(folder, status="x"))
     tally.add("no state", [] if status == DEVICE and not objects else ["%d" % status])
 
 
@@ -173,7 +199,7 @@ def try_members(kept, tally):
     """Members that lines have already, or that are none."""
     for words in (
         ["--with", "path=/x"],
-        ["--with", "record=x"],
+        ["--with", "status=x"],
         ["--with", "reason=x"],
         ["--with", "a"],
         ["--with", "=x"],
@@ -185,7 +211,7 @@ def try_members(kept, tally):
         ["--format", "xml"],
         ["--state", ""],
     ):
-        status, objects, errors = lines(kept.report, *words)
+        status, objects, errors = lines(kept.lines, *words)
         tally.add("%r" % words[-1][:40], [] if status == USAGE and not objects and errors else ["%d %r" % (status, errors)])
 
 
@@ -197,45 +223,46 @@ def changed(fields, **values):
 def try_schema(kept, tally):
     """Good lines fit the schema, and lines with one fault each do not."""
     validator = Validator(schema_of_lines())
-    _, objects, _ = lines(kept.report, "--full", "--state", kept.path, "--with", "site=x")
+    _, objects, _ = lines(kept.lines, "--full", "--state", kept.path, "--with", "site=x")
     reason = {"class": "package", "text": "openssl 3.0.15", "verified": True, "grade": "dpkg"}
-    summary, entry, database = objects[0], objects[1], objects[-1]
+    summary, entry, end = objects[0], next(each for each in objects if each.get("kind") == "changed"), objects[-1]
     counts = dict.fromkeys(("explained", "not_verified", "unexplained", "high", "medium", "low"), 0)
     good = objects + [changed(entry, severity="high", reason=reason), changed(summary, reasons=counts, left_out={"old": 1})]
     tally.add("good lines", [fault for fields in good for fault in validator.faults(fields)])
-    attributes = entry["attributes"]
     bad = [
-        changed(summary, format=2),
-        changed(summary, lines=...),
+        changed(summary, format=1),
+        changed(summary, entries=...),
         changed(summary, added="1"),
-        changed(summary, levels=[]),
         changed(summary, differences=1),
+        changed(summary, old=...),
+        changed(summary, new={"path": "/a", "sha256": "00", "skipped": []}),
+        changed(summary, new={"path": "/a", "sha256": "00" * 32, "skipped": ["fstype"]}),
         changed(summary, reasons={"high": 1}),
         changed(summary, left_out={"old": -1}),
         changed(entry, kind="other"),
         changed(entry, path="a"),
         changed(entry, path=...),
+        changed(entry, path_hex="2f"),
         changed(entry, severity="huge"),
         changed(entry, reason=changed(reason, grade="hope")),
         changed(entry, reason="x"),
         changed(entry, summary="f"),
-        changed(entry, attributes={"Sise": {"old": 1, "new": 2}}),
+        changed(entry, summary=...),
+        changed(entry, new={"Sise": 2}),
         changed(entry, more=3),
         changed(entry, status=8),
         changed(entry, **{"@timestamp": "today"}),
-        changed(database, sha256="00"),
-        changed(database, side="left"),
-        changed(entry, attributes={"Size": {"old": "1", "new": 2}}),
-        changed(entry, attributes={"Size": {"new": 2}}),
-        changed(entry, attributes={"Perm": {"old": "644", "new": "0644"}}),
+        changed(entry, new={"Size": "x"}),
+        changed(entry, new={"Size": None}),
+        changed(entry, new={"Perm": "644"}),
+        changed(entry, new={"SHA256": "<b>"}),
+        changed(entry, new={"ACL_hex": "0"}),
+        changed(entry, new_text={"Perm": 5}),
         changed(entry, old_digest="0"),
         [],
         "summary",
-        changed(entry, attributes={"Mtime": {"old": 1, "new": 2, "old_time": "x"}}),
-        changed(entry, record="database"),
-        changed(entry, attributes={"SHA256": {"old": "<b>", "new": None}}),
-        changed(entry, uncertain=["end"]),
-        changed(entry, attributes={**attributes, "ACL": {"old": None, "new": "x", "new_hex": "0"}}),
+        changed(end, end=False),
+        changed(end, status=...),
     ]
     for number, fields in enumerate(bad):
         tally.add("bad line %d" % number, [] if validator.faults(fields) else ["%r fits" % (fields,)])
@@ -255,7 +282,7 @@ def try_occasion(program, tally):
     with tempfile.TemporaryDirectory() as folder:
         kept = Kept(program, folder)
         kept.program = program
-        for trial in (try_full, try_names, try_one_text, try_types, try_members, try_schema):
+        for trial in (try_two, try_full, try_names, try_one_text, try_types, try_members, try_schema):
             attempt(trial, tally, kept)
         attempt(try_left_out, tally, kept, folder)
         attempt(try_other_states, tally, kept, folder)

@@ -6,7 +6,7 @@ from collections import namedtuple
 
 LAYERS = ("index", "values", "digests")
 # An entry as a page has it for its script. `values` and `digests` are None if the page has no room for them.
-Packed = namedtuple("Packed", "place kind doubtful severity group growth attributes facts path values digests")
+Packed = namedtuple("Packed", "place kind severity group growth attributes facts path values digests")
 
 
 def chunks_of(text):
@@ -36,8 +36,7 @@ def entries_of(layers):
                 Packed(
                     place,
                     int(marks[0]),
-                    marks[1] == "1",
-                    int(marks[2]),
+                    int(marks[1]),
                     int(group) if group else None,
                     int(growth),
                     attributes,

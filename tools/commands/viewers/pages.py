@@ -119,15 +119,20 @@ def bytes_of(fields):
 
 
 def growth_of(fields):
-    size = fields.get("attributes", {}).get("Size", {"old": None, "new": None})
-    return (size["new"] or 0) - (size["old"] or 0)
+    return int(fields.get("new", {}).get("Size", 0)) - int(fields.get("old", {}).get("Size", 0))
+
+
+def labels_of(fields):
+    """The attributes of a change."""
+    names = {*fields.get("old", ()), *fields.get("new", ())}
+    return {name[:-4] if name.endswith("_hex") else name for name in names}
 
 
 def packed_faults(page, objects):
     """What is wrong with the entries that are packed for the script, if the page has room for all."""
     layers = {name: text for kind, text, name in page.scripts if kind == "text/plain"}
     data, faults = json.loads(next(text for kind, text, _ in page.scripts if kind == "application/json")), []
-    entries = [fields for fields in objects if fields["record"] == "entry"]
+    entries = [fields for fields in objects if "kind" in fields]
     try:
         packed = entries_of(layers)
     except ValueError as error:
@@ -152,7 +157,7 @@ def packed_faults(page, objects):
             severity_of(fields),
             growth_of(fields),
             fields.get("summary", ""),
-            sorted(map(data["labels"].index, fields.get("attributes", ()))),
+            sorted(map(data["labels"].index, labels_of(fields))),
             told and (bytes_shown(told["text"]), told["verified"]),
         )
         if given != wanted:
@@ -178,7 +183,7 @@ def script_faults(page, has_script):
 def page_faults(text, objects, is_plain):
     """What is wrong with the page of a report, if it has room for all."""
     page = Page(text)
-    entries = [(KINDS.index(fields["kind"]), bytes_of(fields)) for fields in objects if fields["record"] == "entry"]
+    entries = [(KINDS.index(fields["kind"]), bytes_of(fields)) for fields in objects if "kind" in fields]
     has_script, has_reasons = bool(entries) and not is_plain, "reasons" in objects[0]
     faults, policy = script_faults(page, has_script)
     if policy is None:

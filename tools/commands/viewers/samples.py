@@ -1,4 +1,4 @@
-"""Reports to look at in a browser: such as an upgrade makes, with reasons; and with hostile names."""
+"""Changes to look at in a browser: such as an upgrade makes, with reasons; and with hostile names."""
 import json
 import random
 import subprocess
@@ -6,7 +6,7 @@ from collections import Counter
 
 from tools.commands.viewers import HTML, JSON, hostile
 from tools.oracle.configuration import DEFAULTS
-from tools.oracle.report import report_of
+from tools.oracle.lines import lines_of as proved_lines_of
 
 HOST = {
     "host": "www.example.org",
@@ -33,14 +33,9 @@ DEMO = [
 ]
 
 
-def report_over(old, new):
-    settings = {
-        **DEFAULTS,
-        "database_in": b"/var/lib/aide/aide.db",
-        "database_new": b"/var/lib/aide/aide.db.new",
-        "report_level": "added_removed_entries",
-    }
-    return report_of(hostile.Database(old), hostile.Database(new), [b"old", b"new"], settings)[0]
+def lines_over(old, new):
+    settings = {**DEFAULTS, "database_in": b"/var/lib/aide/aide.db", "database_new": b"/var/lib/aide/aide.db.new"}
+    return proved_lines_of(hostile.Database(old), hostile.Database(new), [b"old", b"new"], settings)[0]
 
 
 def digests_of(text):
@@ -48,8 +43,8 @@ def digests_of(text):
     return {name: bytes(pick.getrandbits(8) for _ in range(size)) for name, size in DIGESTS}
 
 
-def demo_report():
-    """A report such as an upgrade makes."""
+def demo_changes():
+    """Lines such as an upgrade makes."""
     sides, pick = ({}, {}), random.Random(4)
     for number in range(260):
         path, kind = b"/%s/item-%03d" % (pick.choice(list(FOLDERS)).encode(), number), pick.random()
@@ -68,7 +63,7 @@ def demo_report():
         for side, (entries, value) in enumerate(zip(sides, values)):
             if value:
                 entries[b"/" + path.encode()] = {"ftype": 0o100000, **value, **digests_of("%s %d" % (path, side))}
-    return report_over(*sides)
+    return lines_over(*sides)
 
 
 def reason_of(path):
@@ -82,10 +77,10 @@ def reason_of(path):
 
 
 def counts_of(objects):
-    """The counts of the reasons and severities of all entries, as the summary has them."""
+    """The counts of the reasons and severities of all changes, as the summary has them."""
     counts = Counter(dict.fromkeys(("explained", "not_verified", "unexplained", "high", "medium", "low"), 0))
     for fields in objects:
-        if fields["record"] == "entry":
+        if "kind" in fields:
             reason = fields.get("reason")
             is_explained = bool(reason and reason["verified"])
             counts["unexplained" if not reason else "explained" if is_explained else "not_verified"] += 1
@@ -94,11 +89,11 @@ def counts_of(objects):
 
 
 def demo_lines():
-    """The lines of that report, with a host, times, severities and reasons."""
-    objects = [json.loads(line) for line in lines_of(demo_report()).splitlines()]
+    """These lines with a host, times, severities and reasons."""
+    objects = [json.loads(line) for line in lines_of(demo_changes()).splitlines()]
     severe = {"/" + row[0]: row[3] for row in DEMO}
     for fields in objects:
-        if fields["record"] != "entry":
+        if "kind" not in fields:
             continue
         fields["severity"] = severe.get(fields["path"], "medium")
         reason = None if fields["path"] in severe else reason_of(fields["path"])
@@ -108,34 +103,33 @@ def demo_lines():
     return b"".join(json.dumps(fields).encode() + b"\n" for fields in objects)
 
 
-def hostile_report():
+def hostile_changes():
     sides = [{}, {}]
     for number, name in enumerate(hostile.NAMES):
         for side in range(2):
             sides[side][b"/" + name + b"/x"] = {"ftype": 0o120000, "l": name + b"%d" % side, "acl": name.replace(b" ", b"_")}
             if number % 3:
                 sides[side][b"/" + name] = {"s": number + side}
-    return report_over(*sides)
+    return lines_over(*sides)
 
 
 def hostile_lines():
     """Lines with hostile names, also in reasons, decoded values and the summary."""
-    objects = [json.loads(line) for line in lines_of(hostile_report()).splitlines()]
+    objects = [json.loads(line) for line in lines_of(hostile_changes()).splitlines()]
     names = ["<img src=x onerror=alert(1)>", "</script>", "</noscript><script>alert(1)</script>", "\u202etxt.exe", "\ud800"]
     for number, fields in enumerate(objects):
-        if fields["record"] == "entry":
+        if "kind" in fields:
             fields["severity"] = "high"
             if number % 2:
                 fields["reason"] = {"class": "package", "text": names[number % 5], "verified": number % 3 > 0, "grade": "dpkg"}
-            for sides in fields.get("attributes", {}).values():
-                sides["new_text"] = names[number % 5]
+            fields["new_text"] = dict.fromkeys(fields.get("new", ()), names[number % 5])
     more = {"@timestamp": names[2], "<b>": names[3], "left_out": {"old": 3, "new": 0}}
     objects[0].update(host=names[0], reasons=counts_of(objects), **more)
     return b"".join(json.dumps(fields).encode() + b"\n" for fields in objects)
 
 
-def lines_of(report):
-    return subprocess.run([*JSON], input=report, stdout=subprocess.PIPE, check=True).stdout
+def lines_of(lines):
+    return subprocess.run([*JSON], input=lines, stdout=subprocess.PIPE, check=True).stdout
 
 
 def page_of(lines, *words):

@@ -215,33 +215,33 @@ def mode_of(digits, kind):
     return text if kind in TYPES else text[1:]
 
 
-def wanted_text(label, fields, side, kind):
+def wanted_text(label, value, kind):
     """The text that a value has; Ellipsis where the table has to say it."""
-    value = fields[side]
-    if value is None:
-        return None
     if label == "Perm":
         return mode_of(value, kind)
     if label in ("Atime", "Mtime", "Ctime"):
-        return local_text(value)
+        return local_text(int(value))
     return Ellipsis if label in DECODED else None
 
 
 def text_faults(objects):
-    """What is wrong with the texts of a report's objects, which are taken out of them."""
+    """What is wrong with the texts of the objects of changes."""
     faults = []
     for entry in objects:
-        attributes = entry.get("attributes", {})
-        is_known = entry.get("kind") != "changed" or entry.get("summary", "!")[0] != "!"
-        for label, fields in attributes.items():
-            texts = {side: fields.pop(side + "_text", None) for side in ("old", "new")}
-            for side, text in texts.items():
-                kind = attributes.get("Type", {}).get(side) or (entry.get("type") if is_known else None)
-                wanted = wanted_text(label, fields, side, kind)
+        kind = entry.get("type") if entry.get("summary", "!")[0] != "!" else None
+        sides, texts = ([entry.get(side + end, {}) for side in ("old", "new")] for end in ("", "_text"))
+        if "kind" not in entry:
+            continue
+        for values, given in zip(sides, texts):
+            for name, value in values.items():
+                label = name[:-4] if name.endswith("_hex") else name
+                wanted, text = wanted_text(label, value, values.get("Type", kind)), given.get(label)
                 if wanted is not Ellipsis and text != wanted:
-                    faults.append("%s of %r has the text %r, and not %r" % (label, entry["path"], text, wanted))
+                    faults.append("%s of %r has the text %r, and not %r" % (label, entry, text, wanted))
                 if text is not None and not text.isprintable():
-                    faults.append("%s of %r has the text %r" % (label, entry["path"], text))
-            if texts["old"] == texts["new"] is not None and fields["old"] != fields["new"]:
-                faults.append("%s of %r has one text for two values" % (label, entry["path"]))
+                    faults.append("%s of %r has the text %r" % (label, entry, text))
+        for label in set(texts[0]) & set(texts[1]):
+            names = [name for name in (label, label + "_hex") if name in sides[0] and sides[0][name] != sides[1].get(name)]
+            if texts[0][label] == texts[1][label] and names:
+                faults.append("%s of %r has one text for two values" % (label, entry))
     return faults

@@ -9,8 +9,9 @@ import tracemalloc
 
 from tools.commands.viewers import COMMANDS  # It puts the modules of the commands in reach.
 
-from aide_compare.lines.report_lines import Lines
-from aide_compare.lines.report_parts import read_report
+from aide_compare.lines.reader import Reader
+from aide_compare.show.added import Adding, added_lines
+from aide_compare.show.occasion import Occasion
 from aide_compare.show.page import page
 from aide_compare.show.page_lists import FolderLists
 
@@ -54,17 +55,17 @@ def pages_of(lines):
 
     def work():
         for is_plain in (False, True):
-            for _ in page(io.BytesIO(lines), None, is_plain):
+            for _ in page(Reader(io.BytesIO(lines)), None, is_plain):
                 pass
 
     return work
 
 
-def objects_of(report):
-    """A call that reads a report."""
+def additions_to(lines):
+    """A call that reads proved lines and adds texts to them."""
 
     def work():
-        for _ in read_report(Lines(io.BytesIO(report))):
+        for _ in added_lines(Reader(io.BytesIO(lines)), Occasion(), Adding(full=False)):
             pass
 
     return work

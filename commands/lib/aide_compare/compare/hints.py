@@ -87,7 +87,7 @@ def _configuration_hints(number, words, text, introduction):
         yield "line %d: %s" % (number, shown(line, 200))
     name = shown(line.partition(b"=")[0].strip(b" \t"), 200)
     if name == "report_format":
-        yield "for JSON, give the report to aide-compare json: aide-compare OLD NEW | aide-compare json"
+        yield "for JSON: aide-compare json OLD NEW"
     elif words in (b"unknown attribute", b"bad expression"):
         if not re.fullmatch("report_ignore_[a-z]+_attrs|report_force_attrs", name):
             yield "%s is not an option, so the line defines a group of attributes; is it a misspelt option?" % name
