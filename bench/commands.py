@@ -84,7 +84,7 @@ def rows_of(bench, entries):
         ("`aide-compare --state FILE OLD NEW`", with_state, None, None),
         ("the same with `--exclude-from debian.without`", without, None, None),
         ("the nightly call of the unit, with `--reasons --json` too", nightly, None, None),
-        ("`aide-compare json`, of this report", ["aide-compare", "json", report], None, lines),
+        ("`aide-compare json OLD NEW`", ["aide-compare", "json", old, new], None, lines),
         ("`aide-compare page`, of these lines", ["aide-compare", "page", lines], None, bench.path("page")),
         ("`aide-compare sort`, of a database in order", ["aide-compare", "sort", old], None, None),
         ("`sha256sum` of both databases", ["/usr/bin/sha256sum", old, new], None, None),

@@ -162,7 +162,7 @@ def put_json(sandbox):
     old = "".join(line % (rights, 0) for rights in range(8))
     new = "".join(line % (rights, rights) for rights in range(8))
     sandbox.fill(HEAD + old + "@@end_db\n", HEAD + new + "@@end_db\n")
-    sandbox.run("aide-compare old.gz new.gz | aide-compare json > lines.json")
+    sandbox.run("aide-compare json old.gz new.gz > lines.json")
 
 
 def has_events(sandbox, done):
