@@ -4,6 +4,7 @@ mod desk;
 mod devices;
 mod files;
 mod headline;
+mod lines;
 mod pages;
 mod session;
 mod words;

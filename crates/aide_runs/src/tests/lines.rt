@@ -1,0 +1,78 @@
+//! Sessions that write lines of JSON. Their output is that of the plain program in `tools/oracle`.
+use super::session::{CONF, Ended, site_of, words_of};
+use aide_db::Desk;
+use aide_report::MemorySink;
+use aide_session::{Memory, Site, Words, lines_session, lines_session_on};
+use std::alloc::Global;
+use std::test::Fail;
+
+const OLD: &[u8] = b"@@begin_db\n@@db_spec name perm\n/file 100644\n@@end_db\n";
+
+const NEW: &[u8] = b"@@begin_db\n@@db_spec name perm\n/file 100600\n@@end_db\n";
+
+const LINES: &[u8] =
+    b"{\"format\":2,\"differences\":true,\"total\":1,\"added\":0,\"removed\":0,\"changed\":1,\
+\"entries\":1,\"old\":{\"path\":\"/old\",\
+\"sha256\":\"dd01a417f12d32fdcd8f7452cb192f8283d2ff2d0d20269043c2976e0ff555a8\",\
+\"skipped\":[]},\"new\":{\"path\":\"/new\",\
+\"sha256\":\"c94f679cdc7a81ed7b29b6ab1aea8b83403038b685cc0c54e9686b6615c88ade\",\
+\"skipped\":[]}}\n\
+{\"kind\":\"changed\",\"path\":\"/file\",\"summary\":\"f   p             \",\
+\"type\":\"File\",\"old\":{\"Perm\":\"0644\"},\"new\":{\"Perm\":\"0600\"}}\n\
+{\"end\":true,\"total\":1,\"added\":0,\"removed\":0,\"changed\":1,\"status\":4}\n";
+
+const SETTINGS: &[u8] = b"{\"format\":2,\"database_in\":\"/old\",\"database_new\":\"/new\",\
+\"report_level\":\"changed_attributes\",\"report_grouped\":true,\
+\"report_summarize_changes\":true,\"report_base16\":false,\"report_quiet\":false,\
+\"report_ignore_added_attrs\":[],\"report_ignore_removed_attrs\":[],\
+\"report_ignore_changed_attrs\":[],\"report_force_attrs\":[]}\n";
+
+/// Runs a session with a desk of its own. It has no contract, so that the many facts about `lines_session` are no part
+/// of the proofs of its callers.
+fn ended<S: Site>(alloc: Global, words: &Words, site: &mut S) -> Ended {
+    let mut output = MemorySink::new(alloc);
+    let mut errors = MemorySink::new(alloc);
+    let status = lines_session(alloc, words, site, &mut output, &mut errors);
+    Ended {
+        status,
+        output,
+        errors,
+    }
+}
+
+/// Runs a session on this desk.
+fn ended_on<S: Site>(alloc: Global, words: &Words, desk: &mut Desk<Global>, site: &mut S) -> Ended {
+    let mut output = MemorySink::new(alloc);
+    let mut errors = MemorySink::new(alloc);
+    let status = lines_session_on(alloc, words, desk, site, &mut output, &mut errors);
+    Ended {
+        status,
+        output,
+        errors,
+    }
+}
+
+#[test]
+fn writes_the_lines_of_changes(rt: HostRuntime) -> Result<(), Fail> {
+    let mut site = site_of(rt.alloc(), CONF, OLD, NEW)?;
+    let words = words_of(rt.alloc(), "aide -E -c /conf")?;
+    let mut desk = Desk::new(rt.alloc());
+    let ended = ended_on(rt.alloc(), &words, &mut desk, &mut site);
+    assert!(rt; ended.status == 4, "status {}", ended.status);
+    assert!(rt; ended.output.bytes() == LINES, "output");
+    assert!(rt; ended.errors.bytes().is_empty(), "error lines");
+    // The two entries are on the desk at once.
+    assert!(rt; desk.peak() >= 12 + 12);
+    Ok(())
+}
+
+#[test]
+fn says_what_a_configuration_sets(rt: HostRuntime) -> Result<(), Fail> {
+    let mut site = site_of(rt.alloc(), CONF, OLD, NEW)?;
+    let words = words_of(rt.alloc(), "aide -D -c /conf")?;
+    let ended = ended(rt.alloc(), &words, &mut site);
+    assert!(rt; ended.status == 0, "status {}", ended.status);
+    assert!(rt; ended.output.bytes() == SETTINGS, "output");
+    assert!(rt; ended.errors.bytes().is_empty(), "error lines");
+    Ok(())
+}
