@@ -4,4 +4,7 @@ pub mod Pieces
 pub mod Values
 pub mod Objects
 pub mod Letters
+pub mod Base64
+pub mod Bytes
 pub mod Laws
+pub mod Texts

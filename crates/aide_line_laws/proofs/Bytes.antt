@@ -1,0 +1,178 @@
+-- What is read of a line of bytes is of bytes: its path, and each value by the form of its attribute.
+use Rattle.std.proofs.Common.{◌≡◌, ℕ, ℤ, ◌+◌, ◌*◌, ◌%◌, ◌<◌, Bool, true, false, cond, ◌&&◌, if◌then◌else◌, nat_lt, nat_le, length, List, [], ◌∷◌, Option, Some, None, inl, inr, arith}
+use Rattle.std.specs.Prelude.{codes, drop, option_map, nat_eq, unwrap_or}
+use Rattle.std.proofs.lemmas.Bool.{cases_Bool, and_parts}
+use Rattle.std.proofs.lemmas.Bool.Decides.{nat_tests}
+use Rattle.std.specs.Char.{digit_value, is_digit}
+use Rattle.std.specs.List.{AllByRecursion, filter, slice_split, onto_first, starts_with}
+use Rattle.std.specs.Str.{bytes_eq}
+use Rattle.percent_encoding.specs.Percent.{percent_decode, is_escape}
+use Rattle.aide_attr.specs.Attr.{form_of, bit_of, holder_of}
+use Rattle.aide_attr.specs.declared.attr.Attr.{Attr}
+use Rattle.aide_attr.specs.declared.file_type.FileType.{FileType}
+use Rattle.aide_attr.specs.declared.form.Form.{Form}
+use Rattle.aide_attr.specs.declared.form.Form.TheVariants.{Kind, Mode, Number, Time, Link, Digest, Opaque}
+use Rattle.aide_entry.specs.Attributes.{number_value, mode_value, type_value, digest_value, opaque_value}
+use Rattle.aide_entry.specs.Entry.{path_of, attributes_of, field_of, is_on, value_in}
+use Rattle.aide_entry.specs.Fields.{field_under, is_name, is_bits, is_of}
+use Rattle.aide_entry.specs.Numbers.{mode_of, number_of}
+use Rattle.aide_entry.specs.Text.{fields, is_blank, is_filled}
+use Rattle.aide_entry.specs.Values.{is_nought, type_of_mode, time_of, digest_of, of_length, link_of, link_text, value_of}
+use Rattle.aide_entry.specs.declared.column.Column.{Column}
+use Rattle.base64.specs.Engines.{standard}
+use Rattle.base64.specs.GeneralPurpose.{decoded_of}
+use Rattle.aide_line_laws.proofs.Base64.{base64_bytes}
+use Rattle.aide_line_laws.specs.ByteValues.{AreBytes, AreBytesIfAny, IsOfFormIfAny, AreOfForms}
+
+abbrev pub AreAllBytes : List (List ℕ) → Type 0
+AreAllBytes = AllByRecursion AreBytes
+
+-- ---- lists
+
+onto_bytes : (x : ℕ) (parts : List (List ℕ)) → x < 256 → AreAllBytes parts → AreAllBytes (onto_first x parts)
+onto_bytes x [] l h = ((l, tt), tt)
+onto_bytes x (part ∷ parts) l h = ((l, h.0), h.1)
+
+pub split_bytes : (p : ℕ → Bool) (xs : List ℕ) → AreBytes xs → AreAllBytes (slice_split p xs)
+split_bytes p [] h = (tt, tt)
+split_bytes p (x ∷ xs) h =
+    let more = split_bytes p xs h.1 in
+    elim (p x) as (λ b. AreAllBytes (cond b ([] ∷ slice_split p xs) (onto_first x (slice_split p xs)))) [
+      | true ↦ (tt, more)
+      | false ↦ onto_bytes x (slice_split p xs) h.0 more
+    ]
+
+pub filter_keeps : {X : Type 0} (P : X → Type 0) (p : X → Bool) (xs : List X) → AllByRecursion P xs → AllByRecursion P (filter p xs)
+filter_keeps P p [] h = tt
+filter_keeps P p (x ∷ xs) h =
+    let more = filter_keeps P p xs h.1 in
+    elim (p x) as (λ b. AllByRecursion P (cond b (x ∷ filter p xs) (filter p xs))) [
+      | true ↦ (h.0, more)
+      | false ↦ more
+    ]
+
+-- ---- fields
+
+fields_bytes : (line : List ℕ) → AreBytes line → AreAllBytes (fields line)
+unfolding fields
+fields_bytes line h = filter_keeps AreBytes is_filled (slice_split is_blank line) (split_bytes is_blank line h)
+
+under_bytes : (test : Column → Bool) (columns : List Column) (all : List (List ℕ)) → AreAllBytes all → AreBytesIfAny (field_under test columns all)
+under_bytes test [] all h = tt
+under_bytes test (column ∷ columns) [] h = tt
+under_bytes test (column ∷ columns) (field ∷ all) h =
+    let more = under_bytes test columns all h.1 in
+    elim (test column) as (λ b. AreBytesIfAny (if b then Some field else field_under test columns all)) [
+      | true ↦ h.0
+      | false ↦ more
+    ]
+
+escape_value : (high low : ℕ) → nat_lt high 16 ≡ true → nat_lt low 16 ≡ true → 16 * high + low < 256
+escape_value high low e f = grind (arith, nat_tests, e, f)
+
+pub decoded_bytes : (bytes : List ℕ) → AreBytes bytes → AreBytes (percent_decode bytes)
+unfolding percent_decode
+decoded_bytes [] h = tt
+decoded_bytes (b ∷ []) h = h
+decoded_bytes (b ∷ c ∷ []) h = h
+decoded_bytes (b ∷ high ∷ low ∷ rest) h =
+    let behind = decoded_bytes rest h.1.1.1 in
+    let on = decoded_bytes (high ∷ low ∷ rest) h.1 in
+    elim (cases_Bool (is_escape b high low)) [
+      | inl e ↦
+          let p = and_parts _ (is_digit low 16) e in
+          let q = and_parts _ (is_digit high 16) p.0 in
+          rw e ((escape_value (digit_value high) (digit_value low) q.1 p.1, behind))
+      | inr e ↦ rw e ((h.0, on))
+    ]
+
+path_or_nothing : (name : Option (List ℕ)) → AreBytesIfAny name → AreBytes (unwrap_or name [])
+path_or_nothing None h = tt
+path_or_nothing (Some name) h = h
+
+-- the path of a line of bytes
+pub path_bytes : (columns : List Column) (line : List ℕ) → AreBytes line → AreBytes (path_of columns line)
+path_bytes columns line h =
+    let name = field_under is_name columns (fields line) in
+    decoded_bytes (unwrap_or name []) (path_or_nothing name (under_bytes is_name columns (fields line) (fields_bytes line h)))
+
+-- ---- values
+
+without_first : (bytes : List ℕ) → AreBytes bytes → AreBytes (drop 1 bytes)
+without_first [] h = tt
+without_first (b ∷ bytes) h = h.1
+
+link_text_bytes : (field : List ℕ) → AreBytes field → AreBytes (link_text field)
+link_text_bytes field h = elim (starts_with nat_eq field (codes "00")) as (λ b. AreBytes (if b then drop 1 field else field)) [
+  | true ↦ without_first field h
+  | false ↦ h
+]
+
+link_bytes : (field : List ℕ) → AreBytes field → AreBytesIfAny (link_of field)
+unfolding link_of
+link_bytes field h = elim (is_nought field) as (λ b. AreBytesIfAny (if b then None else (if bytes_eq field (codes "0-") then Some [] else Some (percent_decode (link_text field))))) [
+  | true ↦ tt
+  | false ↦ elim (bytes_eq field (codes "0-")) as (λ b. AreBytesIfAny (if b then Some [] else Some (percent_decode (link_text field)))) [
+    | true ↦ tt
+    | false ↦ decoded_bytes (link_text field) (link_text_bytes field h)
+  ]
+]
+
+kind_form : (o : Option FileType) → IsOfFormIfAny Kind (option_map type_value o)
+kind_form None = tt
+kind_form (Some k) = tt
+
+mode_form : (o : Option ℕ) → IsOfFormIfAny Mode (option_map (λ mode. mode_value (mode % 4096)) o)
+mode_form None = tt
+mode_form (Some mode) = tt
+
+number_form : (o : Option ℤ) → IsOfFormIfAny Number (option_map number_value o)
+number_form None = tt
+number_form (Some n) = tt
+
+time_form : (o : Option ℤ) → IsOfFormIfAny Time (option_map number_value o)
+time_form None = tt
+time_form (Some n) = tt
+
+digest_form : (least most : ℕ) (o : Option (List ℕ)) → AreBytesIfAny o → IsOfFormIfAny (Digest least most) (option_map digest_value o)
+digest_form least most None h = tt
+digest_form least most (Some bytes) h = h
+
+digest_bytes : (least most : ℕ) (field : List ℕ) → AreBytes field → AreBytesIfAny (digest_of least most field)
+unfolding digest_of
+digest_bytes least most field h = of_length_bytes (decoded_of standard field) (base64_bytes field h)
+  where
+    of_length_bytes : (o : Option (List ℕ)) → AreBytesIfAny o → AreBytesIfAny (of_length least most o)
+    of_length_bytes None k = tt
+    of_length_bytes (Some bytes) k = elim (nat_le least (length bytes) && nat_le (length bytes) most) as (λ b. AreBytesIfAny (if b then Some bytes else None)) [
+      | true ↦ k
+      | false ↦ tt
+    ]
+
+value_form : (form : Form) (field : List ℕ) → AreBytes field → IsOfFormIfAny form (value_of form field)
+value_form Kind field h = kind_form (type_of_mode (mode_of field))
+value_form Mode field h = mode_form (mode_of field)
+value_form Number field h = number_form (number_of field)
+value_form Time field h = time_form (time_of field)
+value_form Link field h = link_bytes field h
+value_form (Digest least most) field h = digest_form least most (digest_of least most field) (digest_bytes least most field h)
+value_form Opaque field h = elim (is_nought field) as (λ b. IsOfFormIfAny Opaque (if b then None else Some (opaque_value field))) [
+  | true ↦ tt
+  | false ↦ h
+]
+
+value_in_form : (form : Form) (field : Option (List ℕ)) → AreBytesIfAny field → IsOfFormIfAny form (value_in form field)
+value_in_form form None h = tt
+value_in_form form (Some field) h = value_form form field h
+
+field_bytes : (columns : List Column) (line : List ℕ) (attr : Attr) → AreBytes line → AreBytesIfAny (field_of columns line attr)
+field_bytes columns line attr h =
+    let found = field_under (is_of (holder_of attr)) columns (fields line) in
+    elim (is_on (bit_of attr) (field_under is_bits columns (fields line))) as (λ b. AreBytesIfAny (if b then found else None)) [
+      | true ↦ under_bytes (is_of (holder_of attr)) columns (fields line) (fields_bytes line h)
+      | false ↦ tt
+    ]
+
+-- the attributes of a line of bytes
+pub forms_of_attributes : (columns : List Column) (line : List ℕ) → AreBytes line → AreOfForms (attributes_of columns line)
+forms_of_attributes columns line h attr = value_in_form (form_of attr) (field_of columns line attr) (field_bytes columns line attr h)

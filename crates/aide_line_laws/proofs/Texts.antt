@@ -1,0 +1,174 @@
+-- The lines over two sound texts of bytes are lines of JSON.
+use Rattle.std.proofs.Common.{◌≡◌, ℕ, zero, suc, ◌/◌, ◌%◌, ◌^◌, ◌<◌, true, false, if◌then◌else◌, List, [], ◌∷◌, ◌++◌, map, Some, None, slice_index, sym, ap, ◌∙◌, subst, arith, append_assoc, append-nil}
+use Rattle.std.specs.Prelude.{drop}
+use Rattle.std.specs.declared.cmp.Ordering.TheVariants.{Less, Equal, Greater}
+use Rattle.std.specs.FinMap.{entries}
+use Rattle.std.specs.Int.{w32, to_be_bytes, bytes_high_first, byte_at}
+use Rattle.std.specs.List.{AllByRecursion, flat_map, slice_split}
+use Rattle.sha2.specs.Sha256.{sha256, digest_bytes, final_hash, initial_hash_256}
+use Rattle.aide_conf.specs.declared.options.Options.{Options}
+use Rattle.aide_db.specs.Database.{IsSound}
+use Rattle.aide_db.specs.Giving.{before_end, entry_lines, columns_of_text}
+use Rattle.aide_db.specs.Map.{database_of}
+use Rattle.aide_db.specs.declared.limits.Limits.{Limits}
+use Rattle.aide_db.proofs.MapLaws.{entries-database_of}
+use Rattle.aide_entry.specs.Attributes.{Entry}
+use Rattle.aide_entry.specs.Entry.{entry_of}
+use Rattle.aide_entry.specs.Lines.{counts, is_end}
+use Rattle.aide_entry.specs.Path.{path_cmp}
+use Rattle.aide_entry.specs.Text.{lines, is_newline, is_filled, without_empty_last}
+use Rattle.aide_entry.specs.declared.column.Column.{Column}
+use Rattle.aide_entry.proofs.PathLaws.{path_cmp_total, path_cmp-IsAntisymmetric}
+use Rattle.aide_report.specs.Asked.{Asked}
+use Rattle.aide_report.specs.ChangeLines.{change_line, change_lines, listed_changes}
+use Rattle.aide_report.specs.Compare.{changes}
+use Rattle.aide_report.specs.Entries.{PathChange}
+use Rattle.aide_report.specs.LineRuns.{facts_of, lines_over}
+use Rattle.aide_report.specs.Lines.{all_lines, status_by}
+use Rattle.aide_report.specs.Report.{counts_of}
+use Rattle.aide_report.specs.Sections.{all_listed, is_in}
+use Rattle.aide_report.specs.code.Merged.{merged, weave}
+use Rattle.aide_report.proofs.MergeLemmas.{changes-merged}
+use Rattle.aide_line_text.specs.Ends.{first_line, last_line}
+use Rattle.aide_line_laws.specs.ByteValues.{AreBytes, AreOfForms, AreOfFormsIfAny}
+use Rattle.aide_line_laws.specs.JsonLine.{IsJsonLine, AreJsonLines}
+use Rattle.aide_line_laws.proofs.Base64.{both_bytes}
+use Rattle.aide_line_laws.proofs.Bytes.{AreAllBytes, split_bytes, filter_keeps, path_bytes, forms_of_attributes}
+use Rattle.aide_line_laws.proofs.Laws.{first_line_is_json, last_line_is_json, change_line_is_json}
+
+-- ---- digests
+
+small : (x : ℕ) → x % 256 < 256
+small x = omega arith
+
+byte_of : (k n : ℕ) → byte_at k n < 256
+byte_of zero n = small n
+byte_of (suc k) n = small (n / 256 ^ suc k)
+
+high_first_bytes : (k n : ℕ) → AreBytes (bytes_high_first k n)
+high_first_bytes zero n = tt
+high_first_bytes (suc k) n = (byte_of k n, high_first_bytes k n)
+
+hash_bytes : (h : List ℕ) (n : ℕ) → AreBytes (digest_bytes h n)
+unfolding digest_bytes
+hash_bytes h zero = tt
+hash_bytes h (suc n) = both_bytes (digest_bytes h n) (to_be_bytes w32 (slice_index h n)) (hash_bytes h n) (high_first_bytes 4 (slice_index h n))
+
+sha256_bytes : (text : List ℕ) → AreBytes (sha256 text)
+unfolding sha256
+sha256_bytes text = hash_bytes (final_hash initial_hash_256 text) 8
+
+-- ---- entries
+
+drop_keeps : {X : Type 0} (P : X → Type 0) (n : ℕ) (xs : List X) → AllByRecursion P xs → AllByRecursion P (drop n xs)
+drop_keeps P zero xs h = h
+drop_keeps P (suc n) [] h = tt
+drop_keeps P (suc n) (x ∷ xs) h = drop_keeps P n xs h.1
+
+last_bytes : (parts : List (List ℕ)) → AreAllBytes parts → AreAllBytes (without_empty_last parts)
+last_bytes [] h = tt
+last_bytes (part ∷ []) h = elim (is_filled part) as (λ b. AreAllBytes (if b then part ∷ [] else [])) [
+  | true ↦ h
+  | false ↦ tt
+]
+last_bytes (part ∷ next ∷ parts) h = (h.0, last_bytes (next ∷ parts) h.1)
+
+lines_bytes : (text : List ℕ) → AreBytes text → AreAllBytes (lines text)
+unfolding lines
+lines_bytes text h = last_bytes (slice_split is_newline text) (split_bytes is_newline text h)
+
+before_bytes : (all : List (List ℕ)) → AreAllBytes all → AreAllBytes (before_end all)
+before_bytes [] h = tt
+before_bytes (line ∷ all) h =
+    let more = before_bytes all h.1 in
+    elim (is_end line) as (λ b. AreAllBytes (if b then [] else line ∷ before_end all)) [
+      | true ↦ tt
+      | false ↦ (h.0, more)
+    ]
+
+entry_lines_bytes : (text : List ℕ) → AreBytes text → AreAllBytes (entry_lines text)
+entry_lines_bytes text h =
+    drop_keeps AreBytes 2 _ (filter_keeps AreBytes counts (before_end (lines text)) (before_bytes (lines text) (lines_bytes text h)))
+
+-- an entry of bytes
+abbrev IsOfBytes : Entry → Type 0
+IsOfBytes entry = AreBytes entry.0 × AreOfForms entry.1
+
+entries_bytes : (columns : List Column) (all : List (List ℕ)) → AreAllBytes all → AllByRecursion IsOfBytes (map (entry_of columns) all)
+entries_bytes columns [] h = tt
+entries_bytes columns (line ∷ all) h = ((path_bytes columns line h.0, forms_of_attributes columns line h.0), entries_bytes columns all h.1)
+
+database_bytes : (limits : Limits) (text : List ℕ) → IsSound limits text → AreBytes text → AllByRecursion IsOfBytes (entries (database_of text))
+database_bytes limits text sound h =
+    subst (AllByRecursion IsOfBytes) (sym (entries-database_of limits text sound)) (entries_bytes (columns_of_text text) (entry_lines text) (entry_lines_bytes text h))
+
+-- ---- changes
+
+abbrev IsChangeOfBytes : PathChange → Type 0
+IsChangeOfBytes change = AreBytes change.0 × (AreOfFormsIfAny change.1.0 × AreOfFormsIfAny change.1.1)
+
+new_bytes : (news : List Entry) → AllByRecursion IsOfBytes news → AllByRecursion IsChangeOfBytes (map (λ y. (y.0, (None, Some y.1))) news)
+new_bytes [] h = tt
+new_bytes (y ∷ news) h = ((h.0.0, (tt, h.0.1)), new_bytes news h.1)
+
+weave_bytes : (x : Entry) (rest : List Entry → List PathChange) → IsOfBytes x → ((ys : List Entry) → AllByRecursion IsOfBytes ys → AllByRecursion IsChangeOfBytes (rest ys))
+    → (ys : List Entry) → AllByRecursion IsOfBytes ys → AllByRecursion IsChangeOfBytes (weave path_cmp x rest ys)
+weave_bytes x rest good more [] h = ((good.0, (good.1, tt)), more [] tt)
+weave_bytes x rest good more (y ∷ ys) h =
+    let woven = weave_bytes x rest good more ys h.1 in
+    elim (path_cmp x.0 y.0) as (λ r. AllByRecursion IsChangeOfBytes (elim r [
+      | Less ↦ (x.0, (Some x.1, None)) ∷ rest (y ∷ ys)
+      | Equal ↦ (x.0, (Some x.1, Some y.1)) ∷ rest ys
+      | Greater ↦ (y.0, (None, Some y.1)) ∷ weave path_cmp x rest ys
+    ])) [
+      | Less ↦ ((good.0, (good.1, tt)), more (y ∷ ys) h)
+      | Equal ↦ ((good.0, (good.1, h.0.1)), more ys h.1)
+      | Greater ↦ ((h.0.0, (tt, h.0.1)), woven)
+    ]
+
+merged_bytes : (olds news : List Entry) → AllByRecursion IsOfBytes olds → AllByRecursion IsOfBytes news → AllByRecursion IsChangeOfBytes (merged path_cmp olds news)
+merged_bytes [] news h k = new_bytes news k
+merged_bytes (x ∷ olds) news h k = weave_bytes x (merged path_cmp olds) h.0 (λ ys m. merged_bytes olds ys h.1 m) news k
+
+changes_bytes : (limits : Limits) (old new : List ℕ) → IsSound limits old → IsSound limits new → AreBytes old → AreBytes new
+    → AllByRecursion IsChangeOfBytes (changes (database_of old) (database_of new))
+changes_bytes limits old new old_sound new_sound h k =
+    subst (AllByRecursion IsChangeOfBytes) (sym (changes-merged path_cmp path_cmp_total path_cmp-IsAntisymmetric (database_of old) (database_of new)))
+    (merged_bytes (entries (database_of old)) (entries (database_of new)) (database_bytes limits old old_sound h) (database_bytes limits new new_sound k))
+
+-- ---- lines
+
+each_line : (options : Options) (all : List PathChange) → AllByRecursion IsChangeOfBytes all → AllByRecursion IsJsonLine (map (change_line options) all)
+each_line options [] h = tt
+each_line options (change ∷ all) h = (change_line_is_json options change h.0.0 h.0.1.0 h.0.1.1, each_line options all h.1)
+
+then_last : (ls : List (List ℕ)) (last : List ℕ) → AllByRecursion IsJsonLine ls → IsJsonLine last → AllByRecursion IsJsonLine (ls ++ last ∷ [])
+then_last [] last h k = (k, tt)
+then_last (l ∷ ls) last h k = (h.0, then_last ls last h.1 k)
+
+joined_up : (options : Options) (all : List PathChange) (last : List ℕ)
+    → flat_map (change_line options) all ++ last ≡ flat_map (λ line. line) (map (change_line options) all ++ last ∷ [])
+joined_up options [] last = sym (append-nil last)
+joined_up options (change ∷ all) last =
+    append_assoc (change_line options change) (flat_map (change_line options) all) last
+    ∙ ap (λ l. change_line options change ++ l) (joined_up options all last)
+
+-- The lines over two sound texts of bytes are lines of JSON, whatever is asked.
+pub lines_over_are_json : (limits : Limits) (wish : Asked) (old new : List ℕ) → IsSound limits old → IsSound limits new
+    → AreBytes old → AreBytes new → AreBytes wish.old_path → AreBytes wish.new_path
+    → AreJsonLines (lines_over wish old new).text
+unfolding lines_over all_lines change_lines
+lines_over_are_json limits wish old new old_sound new_sound old_bytes new_bytes old_path new_path =
+    let found = counts_of wish.options (database_of old) (database_of new) in
+    let listed = listed_changes wish.options (changes (database_of old) (database_of new)) in
+    let first = first_line (facts_of wish.old_path old) (facts_of wish.new_path new) found in
+    let last = last_line found (status_by found) in
+    let good = filter_keeps IsChangeOfBytes (is_in wish.options all_listed) _ (changes_bytes limits old new old_sound new_sound old_bytes new_bytes) in
+    record {
+      lines = first ∷ (map (change_line wish.options) listed ++ last ∷ []);
+      each = (
+        first_line_is_json (facts_of wish.old_path old) (facts_of wish.new_path new) found old_path (sha256_bytes old) new_path (sha256_bytes new),
+        then_last (map (change_line wish.options) listed) last (each_line wish.options listed good) (last_line_is_json found (status_by found)),
+      );
+      parts = ap (λ l. first ++ l) (joined_up wish.options listed last);
+    }
