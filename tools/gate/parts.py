@@ -24,7 +24,7 @@ def at_least(number, *words):
 FILES = [
     exactly(582, "tools.source.check_tools"),
     exactly(214, "tools.source.check_edits"),
-    exactly(561, "tools.source.check_docs"),
+    exactly(564, "tools.source.check_docs"),
     exactly(108, "tools.source.check_layout"),
     exactly(160, "tools.source.check_layers"),
     exactly(961, "tools.source.check_planted"),
