@@ -1,6 +1,5 @@
 //! Parts of a report or of lines: what is said of the outcome first, and what costs an opening of both sides.
 use super::Call;
-use super::trial::Trial;
 
 /// The last bytes of the title lines of a section of entries. After them both sides are opened.
 const ADDED: &[u8] = b"Added entries:\n---------------------------------------------------\n\n";
@@ -45,17 +44,12 @@ pub(super) struct Titles {
 }
 
 impl Titles {
-    /// Those of a trial. A section that is not there is opened after all bytes.
-    pub(super) fn of(trial: &Trial<'_>) -> Titles {
-        let report = trial.report;
+    /// Those of what a call writes that opens each side this often. A section that is not there is opened after all bytes.
+    pub(super) fn of(call: Call, report: &[u8], openings: u64) -> Titles {
         let end = |title: &[u8]| bytes_before(report, title).saturating_add(title.len());
-        if let Call::RunLines = trial.call {
+        if let Call::RunLines = call {
             let first = overview_of(Call::RunLines, report).len();
-            let added = if trial.openings > 2 {
-                first
-            } else {
-                usize::MAX
-            };
+            let added = if openings > 2 { first } else { usize::MAX };
             return Titles {
                 added,
                 removed: usize::MAX,
