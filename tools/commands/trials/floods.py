@@ -188,6 +188,7 @@ def try_same_content(sandbox):
         "another content": ({"inode": 2, "content": b"b"}, "unexplained"),
         "another mode": ({"inode": 2, "mode": b"100600"}, "unexplained"),
         "another owner": ({"inode": 2, "owner": 33}, "unexplained"),
+        "a rule that asks for more": ({"inode": 2, "attr": ATTR ^ 1 << 12}, "unexplained"),
         "no digest of 256 bits in the new entry": ({"inode": 2, "sha256": b"0"}, "unexplained"),
         "a socket, another inode": ({"inode": 2, "mtime": 2}, "explained", b"140666"),
         "a socket, another owner": ({"inode": 2, "owner": 33}, "unexplained", b"140666"),
