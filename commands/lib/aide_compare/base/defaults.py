@@ -8,6 +8,7 @@ import re
 
 from aide_compare.base.ending import Fault, Status, reason
 from aide_compare.base.escapes import shown
+from aide_compare.base.options import end_of_options
 from aide_compare.base.trusted import lines_of
 
 FOLDER = "/etc/aide-compare"
@@ -50,7 +51,7 @@ def _word(line, place):
 
 def defaults_for(options, words):
     """The words of the lines whose options are among these; none if the words of the command line turn the defaults off."""
-    words = words[: words.index("--")] if "--" in words else words
+    words = words[: end_of_options(words)]
     path = None if {OFF, "--help", "-h", "--version"} & set(words) else place_of("defaults")
     lines = [_word(*line) for line in lines_of(path, "the defaults")] if path else []
     return [word for name, word in lines if name in options]

@@ -48,6 +48,11 @@ def duration(text):
         raise argparse.ArgumentTypeError(fault.text)
 
 
+def end_of_options(words):
+    """Where they end on a command line: after -- there are operands only."""
+    return words.index("--") if "--" in words else len(words)
+
+
 class Once(argparse.Action):
     """An option that may be given once."""
 
@@ -146,8 +151,8 @@ class Parser(argparse.ArgumentParser):
         return given, others + arguments[cut:]
 
     def _cut(self, arguments):
-        """Where the operands begin that follow --. The version is printed here, whatever else is asked for."""
-        cut = arguments.index("--") if "--" in arguments else len(arguments)
+        """Where the options end. The version is printed here, whatever else is asked for."""
+        cut = end_of_options(arguments)
         if "--version" in arguments[:cut]:
             write_all(1, ("%s %s\n" % (self.prog, VERSION)).encode())
             raise Done

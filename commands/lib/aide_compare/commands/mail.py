@@ -6,7 +6,7 @@ import shlex
 from aide_compare.base import progress
 from aide_compare.base.defaults import MAIL, RUN, defaults_for
 from aide_compare.base.ending import Fault, Status, say, why_of, write_all
-from aide_compare.base.options import Parser, duration, matching, some_text
+from aide_compare.base.options import Parser, duration, end_of_options, matching, some_text
 from aide_compare.base.program import find_front
 from aide_compare.commands import compare
 from aide_compare.compare.columns import skipped_names, told_names, with_told
@@ -241,14 +241,9 @@ def empty_queue(given):
     return 0
 
 
-def cut_of(words):
-    """Where the options end."""
-    return words.index("--") if "--" in words else len(words)
-
-
 def with_day(words):
     """The words with the day of --weekly, which stands after it or is left out."""
-    cut, named = cut_of(words), [*words[1:], ""]
+    cut, named = end_of_options(words), [*words[1:], ""]
     days = [word == "--weekly" and day not in weekly.DAYS for word, day in zip(words[:cut], named)]
     return [word + "=Mon" * is_bare for word, is_bare in zip(words, days)] + words[cut:]
 
@@ -281,7 +276,7 @@ def with_defaults(words):
     except Fault as fault:
         refusal = fault
     own, runs = added[True], added[False]
-    if not any(word.partition("=")[0] == "--state" for word in words[: cut_of(words)]):
+    if not any(word.partition("=")[0] == "--state" for word in words[: end_of_options(words)]):
         # A command by hand keeps no number of quiet runs.
         own = [word for word in own if word.partition("=")[0] != "--weekly"]
     try:
