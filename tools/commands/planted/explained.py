@@ -51,7 +51,7 @@ PLANTED = (
         (OUTPUTS, "flags != os.O_RDONLY and ", ""),
     )
     + seen_by(
-        RUNS % "try_misuse", (RUN, "        if evidence_of(given) and not given.reasons:", "        if False:")
+        RUNS % "try_misuse", (RUN, "        if named_evidence(given) and not given.reasons:", "        if False:")
     )
     + seen_by(
         RUNS % "try_places",

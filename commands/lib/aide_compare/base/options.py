@@ -111,7 +111,7 @@ EVIDENCE = ("packages", "packages-now", "archive", "keyring", "rules", "severity
 WHEN = ("auto", "always", "never")
 
 
-def evidence_of(given):
+def named_evidence(given):
     """The first option that names evidence, as it is written; None if there is none."""
     return next(("--" + name for name in EVIDENCE if getattr(given, name.replace("-", "_"), None)), None)
 

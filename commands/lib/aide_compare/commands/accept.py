@@ -2,7 +2,7 @@
 from aide_compare.base.ending import Fault, Status, say, tell
 from aide_compare.base.escapes import shown
 from aide_compare.base.names import KINDS
-from aide_compare.base.options import EVIDENCE, Parser, evidence_of, some_text
+from aide_compare.base.options import EVIDENCE, Parser, named_evidence, some_text
 from aide_compare.base.rights import user_of
 from aide_compare.base.times import date_of
 from aide_compare.commands.accept_steps import MOST_BYTES, Wish, accept, digest_of_former
@@ -129,8 +129,8 @@ def _given(arguments):
         why = "--only-packages goes with no other of these options"
     elif not given.only_packages and not given.sha256:
         why = "--sha256 DIGEST is needed"
-    elif evidence_of(given) and not given.explained_only:
-        why = "%s needs --explained-only" % evidence_of(given)
+    elif named_evidence(given) and not given.explained_only:
+        why = "%s needs --explained-only" % named_evidence(given)
     else:
         return given
     raise Fault(Status.USAGE, why, "try: %s --help" % NAME)

@@ -8,7 +8,7 @@ from aide_compare.base.ending import Fault, Status, reason, say, write_all
 from aide_compare.base.escapes import guarded, shown, shown_lines
 from aide_compare.base.files import Replacement, copy_file
 from aide_compare.base.names import SIDES
-from aide_compare.base.options import EVIDENCE, Parser, evidence_of, some_text
+from aide_compare.base.options import EVIDENCE, Parser, named_evidence, some_text
 from aide_compare.base.rights import give_up
 from aide_compare.base.times import date_of
 from aide_compare.compare.comparison import Comparison, Request
@@ -65,8 +65,8 @@ class Task:
     what people read first."""
 
     def __init__(self, given, reads_lines=False, makes_page=False, weighs=False):
-        if evidence_of(given) and not given.reasons:
-            raise Fault(Status.USAGE, "%s needs --reasons" % evidence_of(given), TRY)
+        if named_evidence(given) and not given.reasons:
+            raise Fault(Status.USAGE, "%s needs --reasons" % named_evidence(given), TRY)
         self.handing = Handing() if os.geteuid() == 0 and not given.user else None
         explains = bool(given.reasons or given.json or given.page or makes_page or weighs)
         self.request, self.wanted = self._request(given, explains or reads_lines or given.state is not None), None

@@ -10,7 +10,7 @@ from aide_compare.lines.texts import texts_of
 from aide_compare.show.page import blocks_of
 from aide_compare.show.page_heading import beginning, cards
 from aide_compare.show.page_items import VARIOUS, head_of, item, number, table
-from aide_compare.show.rows import LABELS, Entry, rows_of
+from aide_compare.show.rows import LABELS, PageEntry, rows_of
 
 # The most bytes of a page, and of each of its lists of hosts.
 MOST, MOST_LIST, RESERVE = 20000000, 1500000, 8000
@@ -25,7 +25,7 @@ def entry_of(fields):
     for row in rows + digests:
         row[1] = VARIOUS if LABELS[row[0]] in various else row[1]
     severity = SEVERITIES.index(fields["severity"]) if "severity" in fields else None
-    return Entry(KINDS.index(fields["kind"]), path, None, shown_path(path), "", rows, digests, severity, None, 0)
+    return PageEntry(KINDS.index(fields["kind"]), path, None, shown_path(path), "", rows, digests, severity, None, 0)
 
 
 def item_of(fields, hosts):

@@ -25,7 +25,7 @@ DATE = re.compile("[0-9]{4}-[0-9]{2}-[0-9]{2}T[0-9]{2}:[0-9]{2}:[0-9]{2}Z")
 # An entry; `names` are the pieces of its path, `name` is the path as it is shown, `size` the length of the line. A row is
 # [place of its label, old value, new value, old note, new note], where the last two may be missing. `digests` are the rows of
 # digests, the strongest first. `severity` is a place in SEVERITIES, or None; `reason` is None or a ShownReason.
-Entry = namedtuple("Entry", "kind path names name letters rows digests severity reason size")
+PageEntry = namedtuple("PageEntry", "kind path names name letters rows digests severity reason size")
 ShownReason = namedtuple("Reason", "text verified grade")
 
 
@@ -117,13 +117,13 @@ def reason_of(text, verified, grade):
 
 
 def entry_of(fields, line):
-    """The Entry of an object of a change, and its line."""
+    """The PageEntry of an object of a change, and its line."""
     path, letters = bytes_of(fields, "path"), fields["summary"]
     demand(LETTERS.fullmatch(letters), "a summary string has 18 letters")
     usual, texts = is_usual(line, letters), (fields.get("old_text", {}), fields.get("new_text", {}))
     rows, digests = rows_of(fields.get("old", {}), fields.get("new", {}), texts, usual)
     severity, reason = fields.get("severity"), fields.get("reason")
-    return Entry(
+    return PageEntry(
         KINDS.index(fields["kind"]),
         path,
         path.split(b"/"),
