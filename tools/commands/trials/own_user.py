@@ -27,7 +27,9 @@ def try_own_user(sandbox):
     folder = sandbox.path("repository")
     plant.copied(folder)
     compile_modules(folder)
-    program = shutil.copy(sandbox.program, sandbox.path("program"))
+    os.mkdir(sandbox.path("programs"))
+    program = shutil.copy(sandbox.program, sandbox.path("programs/aide"))
+    shutil.copy(sandbox.lines_program, sandbox.path("programs/aide_lines"))
     for trial in TRIALS:
         status, output = plant.run_trial(folder, trial, program, AS_NOBODY)
         sandbox.holds("%s, not as root" % trial, status == 0, output[-1000:])

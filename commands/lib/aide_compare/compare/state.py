@@ -1,7 +1,7 @@
 """The state file: the result of the last run of aide-compare, for the commands that show it."""
 from aide_compare.base.ending import Fault, Status
 from aide_compare.base.escapes import guarded, shown
-from aide_compare.base.files import read_file
+from aide_compare.base.files import open_regular
 from aide_compare.base.names import KINDS
 from aide_compare.base.times import date_of
 from aide_compare.compare.reason_counts import counts_of_keys
@@ -110,7 +110,12 @@ def parse_state(data):
 
 def read_state(path):
     """Reads a state file; a Fault if there is none, or if it is none."""
+    with open(open_regular(path, "the state file "), "rb", buffering=0) as file:
+        try:
+            data = file.read(MOST_BYTES + 1)
+        except OSError as error:
+            raise Fault(Status.DEVICE, "cannot read the state file %s: %s" % (shown(path), error.strerror))
     try:
-        return parse_state(read_file(path, MOST_BYTES, "the state file "))
+        return parse_state(data)
     except (ValueError, KeyError):
         raise Fault(Status.DEVICE, "%s is no state file of aide-compare" % shown(path))
