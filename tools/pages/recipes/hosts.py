@@ -304,13 +304,14 @@ def try_options(trial):
     """A configuration, and arguments for aide-compare."""
     put_host(trial, "other", NEW)
     trial.holds("a host for options", trial.run([*tool(trial, "aide-compare hosts fetch"), "other"])[0] == 0)
-    conf = trial.write("/tmp/one line.conf", "report_level=minimal\n")
+    line = "report_ignore_changed_attrs=s+p"
+    conf = trial.write("/tmp/one line.conf", line + "\n")
     compare = tool(trial, "aide-compare hosts compare-one")
-    for words in (["other", "-A", "report_level=minimal"], ["--config", conf, "other"], ["-c", conf, "--", "other"]):
+    for words in (["other", "-A", line], ["--config", conf, "other"], ["-c", conf, "--", "other"]):
         done = trial.run(compare + words)
         trial.holds(
             "aide-compare hosts compare-one with options",
-            done[0] == 7 and done[1].count("\n") == 1 and "to accept it" in done[2],
+            done[0] == 3 and "added File: /a é\n" in done[1] and "/c" not in done[1] and "to accept it" in done[2],
             (words, done),
         )
     done = trial.run([*compare, "other", "same"])

@@ -136,8 +136,7 @@ def try_page(trial, page):
     put_pair(trial, OLD, NEW)
     done = page.run("page")
     text = trial.read("/tmp/page.html")
-    good = "</html>" in text and "a é</code>" in text and done[2] == introduction(trial, "old.db.gz", "new.db.gz")
-    trial.holds("page", done[0] == 0 and good, (done, text[:300]))
+    trial.holds("page", done == (7, "", "") and "</html>" in text and "a é</code>" in text, (done, text[:300]))
 
 
 def try_order(trial, page):
