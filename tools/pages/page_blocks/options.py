@@ -42,7 +42,7 @@ def try_options(holds):
         if page in TRIED:
             continue
         more = listed_by([FRONT, *ALSO[page]]) if page in ALSO else set()
-        named = {name for entry in ENTRY.findall(read(page)) for name in named_in(entry)} - IN_EACH
+        named = {name for entry in ENTRY.findall(read(page).replace("\\\n", "")) for name in named_in(entry)} - IN_EACH
         listed = set()
         for command in commands_of(page):
             mine = listed_by(command)

@@ -144,7 +144,7 @@ ROWS = [
         expectations.prints("packages: dpkg's records of now are kept as "),
         prepare=expectations.put_examples,
     ),
-    Commands("man/aide-compare-page.1", "A page of the differences between two databases:", [0], expectations.has_page),
+    Commands("man/aide-compare-page.1", "A page of the differences between two databases:", [7], expectations.has_page),
     Commands(
         "man/aide-compare-reasons.1",
         "The changes that nothing explains, on the host itself:",
@@ -153,7 +153,7 @@ ROWS = [
         prepare=expectations.put_records,
         needs="jq",
     ),
-    Commands("man/aide-compare-page.1", "Lists for mail, of what was added or removed:", [0], expectations.has_lists),
+    Commands("man/aide-compare-page.1", "Lists for mail, of what was added or removed:", [7], expectations.has_lists),
     Commands(JSON, "The paths of all entries that were added:", [0], expectations.prints("/a\n"), needs="jq"),
     Commands(JSON, "Where, when and what, for an event that has to stand alone:", [0], expectations.has_events, needs="jq"),
     Commands(
@@ -321,10 +321,9 @@ ROWS = [
     ),
     Commands(
         EXAMPLES,
-        "Make JSON of the report. ...",
+        "Make JSON of it. ...",
         [0],
-        expectations.begins('{"record":"summary",'),
-        prepare=expectations.set_program,
+        expectations.begins('{"format":2,'),
         folder="/tmp/clone",
     ),
     Elsewhere(

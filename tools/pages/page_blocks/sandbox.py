@@ -3,6 +3,7 @@ import gzip
 import os
 import shutil
 
+from tools.lib.tally import lines_program_of
 from tools.pages.recipes.days import put_stubs
 from tools.pages.recipes.trial import Trial
 
@@ -89,10 +90,11 @@ class Sandbox:
         self.repository()
 
     def repository(self):
-        """What the commands of a clone use: the examples, and the program where the build leaves it."""
-        built = self.path("/tmp/clone/crates/aide/out/aide")
-        os.makedirs(os.path.dirname(built))
-        os.symlink(self.trial.program, built)
+        """What the commands of a clone use: the examples, and both programs where the build leaves them."""
+        for name, program in (("aide", self.trial.program), ("aide_lines", lines_program_of(self.trial.program))):
+            built = self.path("/tmp/clone/crates/%s/out/%s" % (name, name))
+            os.makedirs(os.path.dirname(built))
+            os.symlink(program, built)
         for name in ("examples", "commands"):
             os.symlink(os.path.join(HERE, name), self.path("/tmp/clone/" + name))
 
