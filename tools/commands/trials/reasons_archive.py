@@ -186,19 +186,20 @@ def try_owners(sandbox):
     """dpkg's own files as the archive has them, but not root's: whoever owns a script of a package can write it later."""
     prepare(sandbox)
     write_archive(sandbox)
-    path, words = INFO + b"tool.md5sums", ("--archive", "archive", "--keyring", "archive.gpg")
+    path, words = INFO + b"tool.postinst", ("--archive", "archive", "--keyring", "archive.gpg")
     for label, before, after, want in (
         ("new", None, {}, BY_ARCHIVE),
         ("new, of another user", None, {"uid": 1000}, "-"),
         ("new, with an access list", None, {"acl": Entry.acl(MORE_ACL)}, "-"),
+        ("new, its group can write it", None, {"mode": 0o100664}, "-"),
         ("as before", {}, {}, BY_ARCHIVE),
         ("now of another user", {}, {"uid": 1000}, "-"),
         ("now with another mode", {}, {"mode": 0o100755}, "-"),
     ):
         host = host_of()
         if before is not None:
-            host.old.file(path, b"old sums", **before)
-        host.new.file(path, b"sums\n", **after)
+            host.old.file(path, b"old script", **before)
+        host.new.file(path, CONTROL["postinst"], **after)
         host.expect(sandbox, {(label, path): want}, *words)
 
 
