@@ -192,6 +192,7 @@ def try_same_content(sandbox):
         "no digest of 256 bits in the new entry": ({"inode": 2, "sha256": b"0"}, "unexplained"),
         "a socket, another inode": ({"inode": 2, "mtime": 2}, "explained", b"140666"),
         "a socket, another owner": ({"inode": 2, "owner": 33}, "unexplained", b"140666"),
+        "a socket, a digest": ({"inode": 2, "sha256": digest("sha256", b"a")}, "unexplained", b"140666"),
         "a FIFO, other times": ({"mtime": 2}, "explained", b"10600"),
         "a folder, other times": ({"mtime": 2}, "unexplained", b"40755"),
         "a device, another inode": ({"inode": 2}, "unexplained", b"20600"),
