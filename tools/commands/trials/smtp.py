@@ -10,6 +10,7 @@ import threading
 import time
 
 from .mail import COUNTS, SUBJECT, TOOL, body, call, prepare, sent, subject
+from .sandbox import END, HEAD
 
 
 NO_PROCESS = """import os, sys
@@ -70,10 +71,10 @@ class Server:
                     self.mails.append(b"".join(itertools.takewhile(lambda line: line != b".\r\n", stream)))
                     stream.write(self.answer)
 
-    def sent(self, sandbox, *words, address="127.0.0.1"):
+    def sent(self, sandbox, *words, address="127.0.0.1", new="new.db"):
         """What the command answers that sends to this server, or None if there is no such address."""
         with listening(address, self.serve) as place:
-            return place and call(sandbox, "old.db", "new.db", "--smtp", place, *words)
+            return place and call(sandbox, "old.db", new, "--smtp", place, *words)
 
 
 def try_servers(sandbox):
@@ -111,7 +112,8 @@ def try_refusing_servers(sandbox):
     mails = server.mails
     sandbox.holds("the other address learns of it", len(mails) == 2 and b"for nobody@b.example: 550" in mails[-1], mails)
     server = Server(b"552 too much\r\n")
-    given = server.sent(sandbox)
+    sandbox.write("many.db", HEAD + b"".join(b"/f%04d 36 100644 1\n" % number for number in range(500)) + END)
+    given = server.sent(sandbox, new="many.db")
     sandbox.expect("a server that does not take it", given, 18, b"", [b"cannot send the mail: 127.0.0.1:", b"too much"])
     mails = server.mails
     sandbox.holds("the second, short mail", len(mails) == 2 and len(mails[1]) < len(mails[0]), mails)
