@@ -211,14 +211,15 @@ def try_packed(sandbox):
 
 
 def try_many_packed(sandbox):
-    """A thousand files that went and as many that may be their packed forms: none is compared with all others."""
+    """Four thousand files that went and as many that may be their packed forms: none is compared with all others, which would
+    take more than a minute in place of a second."""
     for side, name, bits, number in (
         ("many-old", b"/var/log/a-%05d", 16317, 5),
         ("many-new", b"/var/log/a-%05d.gz", 16317 | COMPRESSED, 6),
     ):
         line = name + b" %d 100644 10 33 33 %d %%d\n" % (bits, number)
-        text = b"".join(line % (at, at) for at in range(1000))
+        text = b"".join(line % (at, at) for at in range(4000))
         sandbox.write(side, b"@@begin_db\n@@db_spec name attr perm size uid gid mtime inode\n" + text + b"@@end_db\n")
     limit = "resource.setrlimit(resource.RLIMIT_CPU, (12, 12))"
     answer = sandbox.call("aide-compare", "--reasons", "many-old", "many-new", before=limit)
-    sandbox.expect("many packed files", answer, 3, None, b"2000 unexplained of 2000 changes")
+    sandbox.expect("many packed files", answer, 3, None, b"8000 unexplained of 8000 changes")
