@@ -22,13 +22,13 @@ def at_least(number, *words):
 
 
 FILES = [
-    exactly(582, "tools.source.check_tools"),
-    exactly(214, "tools.source.check_edits"),
-    exactly(564, "tools.source.check_docs"),
-    exactly(108, "tools.source.check_layout"),
-    exactly(160, "tools.source.check_layers"),
-    exactly(961, "tools.source.check_planted"),
-    exactly(1897, "tools.wrong_bodies.check"),
+    exactly(559, "tools.source.check_tools"),
+    exactly(217, "tools.source.check_edits"),
+    exactly(569, "tools.source.check_docs"),
+    exactly(114, "tools.source.check_layout"),
+    exactly(134, "tools.source.check_layers"),
+    exactly(991, "tools.source.check_planted"),
+    exactly(1921, "tools.wrong_bodies.check"),
 ]
 
 
@@ -47,10 +47,10 @@ def trials(program, lines, in_memory):
         at_least(3480, "tools.program.try_lines", lines, "--report", program),
         at_least(1690, "tools.program.failed_allocations", program, "--lines", lines, "--in-memory", in_memory),
         at_least(610, "tools.program.failed_calls", program, "--lines", lines),
-        at_least(735, "tools.pages.try_manual", program),
+        at_least(750, "tools.pages.try_manual", program),
         at_least(1500, "tools.packaging.try_install", program),
         at_least(3700, "tools.commands.try_tools", program),
-        at_least(900, "tools.commands.try_viewers", program, "--count", "40"),
+        at_least(890, "tools.commands.try_viewers", program, "--count", "40"),
         at_least(450, "tools.pages.try_recipes", program),
         at_least(360, "tools.pages.try_commands", program),
         exactly(12, "tools.gate.sample", program),
@@ -62,11 +62,11 @@ def quick_trials(program, lines):
     processes."""
     return [
         at_least(3700, "tools.commands.try_tools", program, "--quick"),
-        at_least(900, "tools.commands.try_viewers", program, "--count", "20"),
+        at_least(650, "tools.commands.try_viewers", program, "--count", "20"),
         at_least(360, "tools.pages.try_commands", program),
         exactly(564, "tools.program.try_line_definitions", "--count", "60"),
         at_least(970, "tools.program.end_to_end", program, "--quick", "--sessions", "50"),
-        at_least(735, "tools.pages.try_manual", program),
+        at_least(750, "tools.pages.try_manual", program),
         at_least(610, "tools.program.failed_calls", program, "--lines", lines),
         at_least(1450, "tools.program.try_lines", lines, "--report", program, "--quick", "--sessions", "150"),
         exactly(732, "tools.program.try_fields", program),
