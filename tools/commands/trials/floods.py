@@ -162,6 +162,8 @@ def try_flooded_mail(sandbox):
     shown = [line.split()[2].rpartition(b"/")[0] for line in text.partition(b"\n\nOld")[0].split(b"\n") if b" /home/" in line]
     sandbox.holds("no folder has more than its share", max(map(shown.count, shown)) <= 21, len(shown))
     sandbox.holds("nobody fills the list", len(shown) < 150, len(shown))
+    rest = b"/home/anna/.ssh: %d more files\n" % (count // 4 - 5) in text and b" more directories\n" in text
+    sandbox.holds("what is not listed is counted", rest, text[:200])
 
 
 def try_cut_lists(sandbox):
