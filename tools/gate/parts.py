@@ -27,7 +27,7 @@ FILES = [
     exactly(569, "tools.source.check_docs"),
     exactly(114, "tools.source.check_layout"),
     exactly(134, "tools.source.check_layers"),
-    exactly(991, "tools.source.check_planted"),
+    exactly(993, "tools.source.check_planted"),
     exactly(1921, "tools.wrong_bodies.check"),
 ]
 

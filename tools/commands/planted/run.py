@@ -74,9 +74,14 @@ PLANTED = (
             '        raise Fault(Status.DEVICE, "%s was ended by signal %d" % (shown(program), os.WTERMSIG(ended)))\n',
             "        return Status.OK\n",
         ),
-        (COMPARISON, "status_of(self.counts) != self.status", "False"),
         (COMPARISON, "(head.startswith(HEADS[status > 0]) or not head and not status)", "True"),
         (RUN, 'shown_lines(comparison.errors).encode("utf-8", "backslashreplace")', "comparison.errors"),
+    )
+    + seen_by(
+        "faults.try_lines_program",
+        (COMPARISON, "status_of(self.counts) != self.status", "False"),
+        (COMPARISON, "not has_end", "False"),
+        (COMPARISON, "(status, errors) != (self.status, self.errors)", "False"),
     )
     + seen_by(
         "attacks.try_bounds",
