@@ -22,7 +22,7 @@ RUNS, READERS = "explained.%s", "explained_readers.%s"
 PLANTED = (
     seen_by(
         READERS % "try_values",
-        ("commands/lib/aide_compare/show/page_lists.py", "place < room.valued_end", 'b"<table>" in item'),
+        ("commands/lib/aide_compare/show/page_lists.py", "place < room.valued_end", "False"),
     )
     + seen_by(
         "others_modules.try_others_modules",
@@ -49,6 +49,7 @@ PLANTED = (
         RUNS % "try_outputs",
         (RUN, "            self.wanted.write_nothing()\n        teller", "            pass\n        teller"),
         (OUTPUTS, "flags != os.O_RDONLY and ", ""),
+        (OUTPUTS, "PRIVATE = 0o600", "PRIVATE = 0o644"),
     )
     + seen_by(
         RUNS % "try_misuse", (RUN, "        if named_evidence(given) and not given.reasons:", "        if False:")
@@ -62,7 +63,6 @@ PLANTED = (
         ),
         (BRIEF, "        if change.reason is None:", '        if change.reason is None and change.severity != "high":'),
         (WORDS, "differ = differences(old, new)", "differ = differences(old, old)"),
-        (OUTPUTS, "PRIVATE = 0o600", "PRIVATE = 0o644"),
     )
     + seen_by("run.try_counts", (COMPARISON, "        if self.settings(texts) is None:\n            return False\n", ""))
     + seen_by(

@@ -30,7 +30,7 @@ def try_explained_readers(sandbox):
 
 
 def try_values(sandbox):
-    """A plain page on which nothing is cut does not say so: entries of one side have no values at the level of AIDE."""
+    """A plain page on which nothing is cut does not say so."""
     prepare(sandbox)
     sandbox.call("aide-compare", *REASONS, "--json", "lines", "o.db", "n.db")
     answer = sandbox.call("aide-compare page", "--plain", text=sandbox.read("lines"))
