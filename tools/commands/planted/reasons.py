@@ -243,7 +243,7 @@ PLANTED = (
     )
     + seen_by(
         "reasons_lines.try_damage",
-        (EXPLAINER, 'if present != PRESENT[fields["kind"]] and (', "if False and ("),
+        (EXPLAINER, 'if present != PRESENT[fields["kind"]]:', "if False:"),
     )
     + seen_by(
         "reasons_lines.try_refused",

@@ -117,12 +117,13 @@ def try_damage(sandbox):
         ("databases of another report", ("--databases", "n.db", "n.db")),
         ("swapped", ("--databases", "n.db", "o.db")),
     ):
-        sandbox.expect(label, sandbox.call(NAME, *words, text=lines), 24, b"", [b"not those of the report"])
+        sandbox.expect(label, sandbox.call(NAME, *words, text=lines), 24, b"", [b"not those of the lines"])
     for label, text in (
         ("another kind", lines.replace(b'"kind":"added","path":"/a"', b'"kind":"changed","path":"/a"')),
+        ("another kind, by a member of old", lines.replace(b'"kind":"added",', b'"kind":"changed","uncertain":1,', 1)),
         ("another path", lines.replace(b'"path":"/a"', b'"path":"/aa"')),
     ):
-        sandbox.expect(label, sandbox.call(NAME, *GIVEN, text=text), 24, b"", [b"not those of the report"])
+        sandbox.expect(label, sandbox.call(NAME, *GIVEN, text=text), 24, b"", [b"not those of the lines"])
     sandbox.write("short.db", NEW.replace(b"/a 36 100644 5", b"/a 36 100644"))
     sandbox.expect(
         "a line that lacks a field", sandbox.call(NAME, "--databases", "o.db", "short.db", text=lines), 24, b"", [b"fields"]

@@ -74,10 +74,10 @@ class Explainer:
         key = key_of_path(path)
         change = Change(path, self.old.find(key), self.new.find(key))
         present = (change.old_at is not None, change.new_at is not None)
-        if present != PRESENT[fields["kind"]] and ("uncertain" not in fields or not any(present)):
+        if present != PRESENT[fields["kind"]]:
             raise Fault(
                 Status.DATABASE,
-                "the databases are not those of the report: %s is not %s there" % (shown(path, 300), fields["kind"]),
+                "the databases are not those of the lines: %s is not %s there" % (shown(path, 300), fields["kind"]),
             )
         old, new = self.read(change)
         change.old_mode, change.new_mode = (
