@@ -101,6 +101,7 @@ COMMANDS = [
 ]
 MACHINES = [
     Row("README and RECIPES on a booted Debian 12, but for one path", "the package", "each command", by_hand("2026-11-26")),
+    Row("setup, a night with an intruder, and an idle one, on a booted Debian 12", "the unit", "mails", by_hand("2026-11-27")),
     Row("README from a fresh clone, the program copied into it", "the proved program", "each command", by_hand("2026-11-26")),
     Row("mails by Postfix 3.7, Exim 4.96 and dma; 12,289 changes", "the units as shipped", "once", by_hand("2026-11-25")),
     Row(
