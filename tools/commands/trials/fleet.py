@@ -23,6 +23,16 @@ case $1 in
     killer) kill -9 $PPID; exit 1 ;;
 esac
 exec cat "ROOT/remote/$1"'''
+# What is kept of nine bytes that come in three blocks, with room for five.
+DRAIN = """import sys
+sys.path.insert(0, sys.argv[1])
+from aide_compare.base.program import Drain
+kept = []
+drain = Drain(5, kept.append)
+for block in (b"1234", b"5678", b"9"):
+    drain.take(block)
+print(b"".join(kept).decode(), drain.size)
+"""
 
 
 def hostile():
@@ -101,7 +111,7 @@ def try_fleet(sandbox):
 
 
 def try_hostile(sandbox):
-    """One host sends some kB whose changes have hundreds of MB: it is compared, its lines are cut, and the others are as always."""
+    """One host sends some kB whose changes have hundreds of MB: it is compared, its lines are cut, the others are as always."""
     fleet = Fleet(sandbox)
     fleet.put("evil", hostile(), links(b"x"))
     sandbox.write("hosts", "".join("%s\n" % host for host in ("evil",) + PAIR))
@@ -115,6 +125,8 @@ def try_hostile(sandbox):
     tail = sandbox.read("store/hosts/evil/lines")[-200:]
     sandbox.holds("what it takes of the store", fleet.size("evil") < 3 << 20, fleet.size("evil"))
     sandbox.holds("its lines say that they were cut", b'\n{"cut":{"bytes":' in tail and b',"most":2097152}}\n' in tail, tail)
+    done = subprocess.run([sys.executable, "-c", DRAIN, sandbox.path("lib")], stdout=subprocess.PIPE)
+    sandbox.holds("lines beyond the bound are counted and not kept", done.stdout == b"12345 9\n", done)
     state = fleet.state("evil")
     sandbox.holds("its state has the counts", "\nchanged=60\n" in state, state)
     fleet.put("bomb", gzip.compress(bytes(80 << 20)))
