@@ -53,10 +53,10 @@ PLANTED = (
         "hands.try_faulty_defaults",
         (DEFAULTS, 'lines_of(path, "the defaults")] if path', "[]] if path"),
         (DEFAULTS, "        os.lstat(path)\n", "        os.stat(path)\n"),
-        (MAIL, "        given, why = parsed(runs + words), fault\n", "        raise\n"),
     )
     + seen_by(
         "hands.try_bad_lines",
+        (MAIL, "        given, why = parsed(runs + words), fault\n", "        raise\n"),
         (DEFAULTS, "if name not in ALL:", "if not name:"),
         (MAIL, "given.fault, given.refusal = why.text, ", "given.refusal = "),
         (MAIL, "        say(why.text)\n", ""),
