@@ -105,6 +105,20 @@ def reason(error):
     return error.strerror or guarded(str(error)) or type(error).__name__
 
 
+class failing:
+    """Where a call of the system that fails is a Fault: `what` failed, such as "cannot read FILE", and the cause."""
+
+    def __init__(self, what):
+        self.what = what
+
+    def __enter__(self):
+        return self
+
+    def __exit__(self, kind, error, _):
+        if isinstance(error, OSError):
+            raise Fault(Status.DEVICE, "%s: %s" % (self.what, reason(error))) from None
+
+
 def fault_of(error):
     """The Fault that an exception means: itself, no memory, a call of the system that failed, or a mistake of this program."""
     if isinstance(error, Fault):

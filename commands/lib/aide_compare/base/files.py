@@ -7,11 +7,12 @@ import os
 import stat
 import time
 
-from aide_compare.base.ending import Fault, Status, reason, write_all
+from aide_compare.base.ending import Fault, Status, failing, reason, write_all
 from aide_compare.base.escapes import shown
 from aide_compare.base.folders import (
     ANYBODY,
     Folder,
+    closed_after,
     failure,
     open_folder,
     walked,
@@ -46,44 +47,35 @@ def reopened(descriptor, flags):
 def open_regular(path, what=""):
     """A descriptor of a regular file, to be read. All else is a Fault at once, also a FIFO that has no writer. `what` comes
     before the name in the text of the Fault, such as "the new database "."""
-    try:
+    with failing("cannot open %s%s" % (what, shown(path))):
         folder, file = walked(path)
         folder.close()
         if file is None:
             raise failure(errno.EISDIR, "it is a directory")
-        try:
+        with closed_after(file):
             mode = os.fstat(file).st_mode
             if not stat.S_ISREG(mode):
                 raise failure(errno.EINVAL, "it is %s, not a regular file" % file_kind(mode))
             return reopened(file, os.O_RDONLY | os.O_NONBLOCK | os.O_NOCTTY)
-        finally:
-            os.close(file)
-    except OSError as error:
-        raise Fault(Status.DEVICE, "cannot open %s%s: %s" % (what, shown(path), reason(error)))
 
 
 def read_whole(descriptor, most, what):
     """The bytes of an open file, at most so many."""
     blocks, left = [], most + 1
-    try:
+    with failing("cannot read " + what):
         while left > 0:
             block = os.read(descriptor, min(left, 1 << 18))
             if not block:
                 return b"".join(blocks)
             blocks.append(block)
             left -= len(block)
-    except OSError as error:
-        raise Fault(Status.DEVICE, "cannot read %s: %s" % (what, reason(error)))
     raise Fault(Status.DEVICE, "%s has more than %d bytes" % (what, most))
 
 
 def read_file(path, most, what=""):
     """The bytes of a regular file, at most so many. `what` says what it is, such as "the state file "."""
-    descriptor = open_regular(path, what)
-    try:
+    with closed_after(open_regular(path, what)) as descriptor:
         return read_whole(descriptor, most, what + shown(path))
-    finally:
-        os.close(descriptor)
 
 
 def copy_file(source, target):

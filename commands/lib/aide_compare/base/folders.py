@@ -20,6 +20,19 @@ def failure(number, text=None):
     return OSError(number, text or os.strerror(number))
 
 
+class closed_after:
+    """A descriptor that is closed at the end of a block, which gets it."""
+
+    def __init__(self, descriptor):
+        self.fd = descriptor
+
+    def __enter__(self):
+        return self.fd
+
+    def __exit__(self, *_):
+        os.close(self.fd)
+
+
 class Folder:
     """An open folder. `others` are the users, neither root nor the caller, who can write in it or in one above it; ANYBODY
     is one of them if a group or everybody can. Above, a sticky folder counts only for its owner. `sticky`: nobody but

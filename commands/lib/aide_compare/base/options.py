@@ -137,6 +137,14 @@ class Parser(argparse.ArgumentParser):
         for name in names:
             self.add_argument(*([SHORT[name]] if name in SHORT else []), "--" + name, **{**COMMON[name], **changes})
 
+    def flag(self, name, text):
+        """An option without a value."""
+        self.add_argument("--" + name, action="store_true", help=text)
+
+    def value(self, name, metavar, kind, text, **more):
+        """An option with a value of a kind, such as `some_text`."""
+        self.add_argument("--" + name, metavar=metavar, type=kind, help=text, **more)
+
     def parse(self, arguments):
         """What the arguments say; options and operands may stand in any order, and after -- there are operands only."""
         cut = self._cut(arguments)

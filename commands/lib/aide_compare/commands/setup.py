@@ -233,12 +233,12 @@ def main(arguments):
         "print nothing but why a step failed",
         epilog="Status: 0 done, or nothing is missing; 18 a step failed, or --check found something missing; 15 bad arguments.",
     )
-    parser.add_argument("--dry-run", action="store_true", help="print the steps, and change nothing")
-    parser.add_argument("--check", action="store_true", help="say what is missing, and change nothing")
-    parser.add_argument("--to", type=some_text, metavar="ADDRESS", help="who gets the mails (root)")
+    parser.flag("dry-run", "print the steps, and change nothing")
+    parser.flag("check", "say what is missing, and change nothing")
+    parser.value("to", "ADDRESS", some_text, "who gets the mails (root)")
     parser.take("alarm", default=ALARMS[1], help="mail what nothing explains, or all differences (unexplained)")
-    parser.add_argument("--cron", action="store_true", help="a job of cron instead of the timer")
-    parser.add_argument("--no-mail", action="store_true", help="send no test mail")
+    parser.flag("cron", "a job of cron instead of the timer")
+    parser.flag("no-mail", "send no test mail")
     given = parser.parse(arguments)
     if given.quiet:  # Also the programs that are run.
         os.dup2(os.open("/dev/null", os.O_WRONLY | os.O_CLOEXEC), 1)
