@@ -11,7 +11,7 @@ PLANTED = seen_by(
     "columns.try_columns",
     (COLUMNS, "for side in SIDES}\n    return", "for side in SIDES[:1]}\n    return"),
     (COLUMNS, "if len(sides) == 1 else", "if False else"),
-    (LIB + "show/occasion.py", '"skipped": skipped_of(self.state) if self.state else {}}', '"skipped": {}}'),
+    (LIB + "show/occasion.py", '"skipped": done.skipped}', '"skipped": {}}'),
     (LIB + "show/page_heading.py", ', *skipped(report.summary.get("skipped"))', ""),
     (COLUMNS, "shown(name, MOST_NAME)", "name.decode()[:MOST_NAME]"),
     (COLUMNS, "MOST_NAME, MOST_TOLD = 1 << 16, 40", "MOST_NAME, MOST_TOLD = 1 << 20, 40"),

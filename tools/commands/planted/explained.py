@@ -41,7 +41,11 @@ PLANTED = (
     )
     + seen_by(
         RUNS % "try_lines",
-        ("commands/lib/aide_compare/show/occasion.py", '{"left_out": self.left_out(), ', "{"),
+        (
+            "commands/lib/aide_compare/show/occasion.py",
+            '{"left_out": {side: left_out.total for side, left_out in done.left_out.items()}, ',
+            "{",
+        ),
         (EXPLAINING, "map(members_of, self.changes)", "map(members_of, self.changes[::-1])"),
     )
     + seen_by("attacks.try_fixed_reports", (COMPARISON, "options_in(settled) + texts.after", "texts.after"))
@@ -51,9 +55,7 @@ PLANTED = (
         (OUTPUTS, "flags != os.O_RDONLY and ", ""),
         (OUTPUTS, "PRIVATE = 0o600", "PRIVATE = 0o644"),
     )
-    + seen_by(
-        RUNS % "try_misuse", (RUN, "        if named_evidence(given) and not given.reasons:", "        if False:")
-    )
+    + seen_by(RUNS % "try_misuse", (RUN, "        if named_evidence(given) and not given.reasons:", "        if False:"))
     + seen_by(
         RUNS % "try_places",
         (
@@ -125,5 +127,8 @@ PLANTED = (
             "counts",
         ),
     )
-    + seen_by(READERS % "try_pages", ("commands/lib/aide_compare/show/added.py", '{"reasons": adding.reasons} if adding.reasons else {}', "{}"))
+    + seen_by(
+        READERS % "try_pages",
+        ("commands/lib/aide_compare/show/added.py", '{"reasons": adding.reasons} if adding.reasons else {}', "{}"),
+    )
 )

@@ -56,7 +56,7 @@ PLANTED = (
         "hosts_report.try_orders",
         (LIB + "commands/hosts_report.py", 'if order == "rare" else GREATEST - fields["hosts"]', ""),
         (LIB + "commands/hosts_report.py", "return not patterns or any(", "return not patterns or all(not "),
-        (LIB + "commands/mail.py", 'metavar="HOST[:PORT]", type=server', 'metavar="HOST[:PORT]", type=some_text'),
+        (LIB + "commands/mail.py", '"HOST[:PORT]", server', '"HOST[:PORT]", some_text'),
     )
     + seen_by(
         "cut_lines.try_every_cut",

@@ -18,7 +18,7 @@ PLANTED = (
         ),
         (LIB + "show/rows.py", "value if usual or PLAIN.fullmatch(value) else", "value if True else"),
         (LIB + "show/rows.py", "usual, texts = is_usual(line, letters),", "usual, texts = True,"),
-        (LIB + "show/rows.py", "    return shown(value)\n", "    return value.decode(\"latin-1\")\n"),
+        (LIB + "show/rows.py", "    return shown(value)\n", '    return value.decode("latin-1")\n'),
     )
     + seen_by(
         "viewers.try_reasons",
@@ -83,7 +83,7 @@ PLANTED = (
         (
             LIB + "lines/reader.py",
             "            yield line, fields\n",
-            "            self.kept = [*vars(self).get(\"kept\", []), fields]\n            yield line, fields\n",
+            '            self.kept = [*vars(self).get("kept", []), fields]\n            yield line, fields\n',
         ),
     )
     + seen_by(
@@ -91,7 +91,7 @@ PLANTED = (
         (LIB + "lines/reader.py", "            if not last < names:\n", "            if False:\n"),
         (LIB + "lines/reader.py", "        if self.file.read(1):\n", "        if False:\n"),
         (LIB + "lines/reader.py", 'self.summary["format"] == FORMAT', "True"),
-        (LIB + "lines/reader.py", "        and fields[\"differences\"] is (status_of(counts[1:]) > 0)\n", ""),
+        (LIB + "lines/reader.py", '        and fields["differences"] is (status_of(counts[1:]) > 0)\n', ""),
         (LIB + "lines/reader.py", 'self.count != self.summary["entries"] or any(', "any("),
         (LIB + "show/rows.py", 'demand(LETTERS.fullmatch(letters), "a summary string has 18 letters")', "pass"),
     )
@@ -144,20 +144,25 @@ PLANTED = (
         "viewers.try_occasion",
         (LIB + "lines/texts.py", 'fields.get("summary", "")[:1] == "!"', "False"),
         (LIB + "lines/texts.py", "        del old[label], new[label]\n", "        pass\n"),
-        (LIB + "show/occasion.py", "                name = getattr(self.state, side)\n", '                name = ""\n'),
-        (LIB + "show/occasion.py", 'getattr(state, side + "_sha256") != summary[side]["sha256"] for', "False for"),
-        (LIB + "commands/streams.py", "from None\n    return comparison.status\n", "from None\n    return Status.OK\n"),
+        (LIB + "show/occasion.py", "os.fsencode(getattr(done, side))", 'b""'),
+        (LIB + "show/occasion.py", "{name: value, **{key", '{"path": "", **{key'),
+        (LIB + "show/occasion.py", "copies[side].sha256 if copies", "'' if copies"),
+        (LIB + "commands/streams.py", "comparison))\n    return comparison.status\n", "comparison))\n    return Status.OK\n"),
     )
     + seen_by(
         "viewers.try_aide_form",
         (LIB + "lines/texts.py", "name, value = name[:-4], bytes.fromhex(value)", "name = name[:-4]"),
         (LIB + "lines/json_aide.py", "sorted(found) if is_sorted else found", "found"),
         (LIB + "lines/json_aide.py", '"surrogateescape"', '"replace"'),
-        (LIB + "lines/json_aide.py", 'base64.b64encode(bytes.fromhex(summary[side]["sha256"])).decode()', 'summary[side]["sha256"]'),
+        (
+            LIB + "lines/json_aide.py",
+            'base64.b64encode(bytes.fromhex(summary[side]["sha256"])).decode()',
+            'summary[side]["sha256"]',
+        ),
     )
     + seen_by(
         "viewers.try_cuts",
-        (LIB + "lines/reader.py", "        if line[-1:] != b\"\\n\" or not", "        if not"),
+        (LIB + "lines/reader.py", '        if line[-1:] != b"\\n" or not', "        if not"),
     )
     + seen_by(
         "viewers.try_program",

@@ -27,7 +27,7 @@ def lines_over(program, pair, more=""):
 
 def aide_object(text, *words):
     done = subprocess.run(
-        [*JSON, "--format", "aide", "--old", "old.db", "--new", "new.db"] + list(words),
+        [*JSON, "--format", "aide"] + list(words),
         input=text,
         stdout=subprocess.PIPE,
         stderr=subprocess.PIPE,
@@ -39,7 +39,9 @@ def aide_object(text, *words):
 def comparable(whole, is_aides):
     """An object without what the manual page says that is other: the summary strings of changed entries, and "num=0"."""
     whole = dict(whole, changed=sorted(whole["changed"]))
-    whole["databases"] = {name.replace("values_", ""): digests for name, digests in whole["databases"].items()}
+    whole["databases"] = {
+        os.path.basename(name).replace("values_", ""): digests for name, digests in whole["databases"].items()
+    }
     for attributes in whole["details"].values():
         sides = attributes.get("xattrs", {})
         for side in [side for side, value in sides.items() if value == "num=0" and is_aides]:

@@ -1,4 +1,4 @@
-"""Where and when: what --full, --with, --state, --old and --new put into the lines, and what the schema says of all lines."""
+"""Where and when: what --full and --with put into the lines, and what the schema says of all lines."""
 import json
 import os
 import re
@@ -14,8 +14,7 @@ from .aide_form import PAIRS, lines_over
 from .schema import Validator, schema_of_lines
 
 DATE = re.compile("[0-9]{4}-[0-9]{2}-[0-9]{2}T[0-9]{2}:[0-9]{2}:[0-9]{2}Z")
-REFUSED, USAGE, DEVICE = 65, 15, 18
-OCCASION = ["host", "@timestamp", "status", "old_time", "new_time", "old_digest", "new_digest"]
+USAGE, DEVICE = 15, 18
 
 
 def lines(text, *words):
@@ -23,45 +22,35 @@ def lines(text, *words):
     return done.returncode, [json.loads(line) for line in done.stdout.splitlines()], done.stderr
 
 
-def state_of(text):
-    return dict(line.split("=", 1) for line in text.splitlines())
-
-
 class Kept:
-    """The proved lines of two databases, and the state file of their comparison."""
+    """The installed commands, two databases, the proved lines of them, and the state file of their comparison."""
 
     def __init__(self, program, folder):
-        self.path, (self.old, self.new) = os.path.join(folder, "state"), PAIRS["values"]
+        self.old, self.new = PAIRS["values"]
         for name in ("bin", "lib"):
             shutil.copytree(os.path.join(COMMANDS, name), os.path.join(folder, "prefix", name))
         os.makedirs(os.path.join(folder, "prefix/libexec/aide-compare"))
         for name, path in (("aide", os.fsdecode(program)), ("aide_lines", lines_program_of(program))):
             os.symlink(path, os.path.join(folder, "prefix/libexec/aide-compare", name))
-        self.command = os.path.join(folder, "prefix/bin/aide-compare")
-        subprocess.run([self.command, "-q", "--state", self.path, self.old, self.new], check=False, capture_output=True)
+        self.command, path = os.path.join(folder, "prefix/bin/aide-compare"), os.path.join(folder, "state")
+        subprocess.run([self.command, "-q", "--state", path, self.old, self.new], check=False, capture_output=True)
         self.lines = lines_over(program, PAIRS["values"])
-        with open(self.path) as file:
-            self.text = file.read()
-        self.values = state_of(self.text)
+        with open(path) as file:
+            self.values = dict(line.split("=", 1) for line in file.read().splitlines())
 
-    def changed(self, folder, **values):
-        """A state file in which some values are others."""
-        path = os.path.join(folder, "other")
-        with open(path, "w") as file:
-            file.write("".join("%s=%s\n" % (key, values.get(key, value)) for key, value in self.values.items()))
-        return path
+    def compared(self, *words):
+        """What `aide-compare json` says of both databases: its status, the objects and its errors."""
+        done = subprocess.run([self.command, "json", *words, self.old, self.new], check=False, capture_output=True)
+        return done.returncode, [json.loads(line) for line in done.stdout.splitlines()], done.stderr
 
 
 def try_two(kept, tally):
-    """Two databases give the lines that their comparison has, with the names of both, and its status."""
-    for words in ([], ["--full"]):
-        done = subprocess.run([kept.command, "json", *words, kept.old, kept.new], check=False, capture_output=True)
-        status, objects, _ = lines(kept.lines, "--state", kept.path, *words)
-        given = [json.loads(line) for line in done.stdout.splitlines()]
-        for fields in given + objects:
-            fields.pop("@timestamp", None)
-        good = (status, done.returncode, given) == (0, 7, objects) and not done.stderr
-        tally.add("two databases %r" % words, [] if good else ["%d %r" % (done.returncode, done.stderr or given[:2])])
+    """Two databases give the lines that the proved program has, with the names of both, and the status of the comparison."""
+    (status, given, errors), objects = kept.compared(), lines(kept.lines)[1]
+    for side, name in (("old", kept.old), ("new", kept.new)):
+        objects[0][side]["path"] = name
+    good = (status, given) == (7, objects) and not errors
+    tally.add("two databases", [] if good else ["%d %r" % (status, errors or given[:2])])
     for words, status, said in (
         (["-c", "/dev/null", kept.old], USAGE, b"name two databases"),
         ([kept.old, kept.new, kept.old], USAGE, b"name two databases"),
@@ -79,28 +68,24 @@ def try_two(kept, tally):
 
 
 def try_full(kept, tally):
-    status, objects, errors = lines(
-        kept.lines, "--full", "--state", kept.path, "--with", "site=berlin", "--with", "a.b=\u00e9"
-    )
-    tally.add("full", [] if status == 0 and objects else ["%d %r" % (status, errors)])
+    status, objects, errors = kept.compared("--full", "--with", "site=berlin", "--with", "a.b=\u00e9")
+    tally.add("full", [] if status == 7 and objects else ["%d %r" % (status, errors)])
     values = kept.values
     wanted = {
         "host": socket.gethostname(),
-        "@timestamp": values["date"],
         "status": int(values["status"]),
         "site": "berlin",
         "old_digest": values["old_sha256"][:16],
         "new_digest": values["new_sha256"][:16],
         "a.b": "\u00e9",
     }
+    times = ("@timestamp", "old_time", "new_time")
     for fields in objects:
         given = {name: fields.get(name) for name in wanted}
-        times = [DATE.fullmatch(fields.get(side + "_time") or "") for side in ("old", "new")]
-        tally.add("full, %s" % fields.get("path", "summary"), [] if given == wanted and all(times) else ["%r" % given])
-    paths = [objects[0][side]["path"] for side in ("old", "new")]
-    tally.add("names by the state", [] if paths == [kept.old, kept.new] else ["%r" % paths])
-    plain = lines(kept.lines)[1]
-    bare = [{name: value for name, value in fields.items() if name not in wanted and name[4:] != "time"} for fields in objects]
+        dates = [DATE.fullmatch(fields.get(name) or "") for name in times]
+        tally.add("full, %s" % fields.get("path", "summary"), [] if given == wanted and all(dates) else ["%r" % given])
+    plain = kept.compared()[1]
+    bare = [{name: value for name, value in fields.items() if name not in (*wanted, *times)} for fields in objects]
     plain[-1].pop("status")
     tally.add("nothing else is other", [] if bare == plain else ["%r" % bare])
     status, objects, _ = lines(kept.lines, "--full", "--with", "host=www")
@@ -111,17 +96,10 @@ def try_full(kept, tally):
         and DATE.fullmatch(fields["@timestamp"])
         for fields in objects
     )
-    tally.add("full without a state", [] if good else ["%r" % objects[:1]])
+    tally.add("full, of lines", [] if good else ["%r" % objects[:1]])
 
 
 def try_names(kept, tally):
-    for words, wanted in (
-        (["--old", "/a b", "--new", b"/\xff"], [("/a b", None), (None, "2fff")]),
-        (["--state", kept.path, "--new", "new"], [(kept.old, None), ("new", None)]),
-    ):
-        _, objects, _ = lines(kept.lines, *words)
-        given = [(objects[0][side].get("path"), objects[0][side].get("path_hex")) for side in ("old", "new")]
-        tally.add("names %r" % words, [] if given == wanted else ["%r" % given])
     database = b"@@begin_db\n@@db_spec name uid gid size\n/a %s 0\n@@end_db\n"
     with tempfile.TemporaryDirectory() as folder:
         pair = [os.path.join(folder, name) for name in ("old", "new")]
@@ -129,6 +107,12 @@ def try_names(kept, tally):
             with open(path, "wb") as file:
                 file.write(database % number)
         text = lines_over(kept.program, pair)
+        odd = os.path.join(os.fsencode(folder), b"\xff")
+        os.symlink(pair[1], odd)
+        done = subprocess.run([kept.command, "json", pair[0], odd], check=False, capture_output=True)
+    given = [json.loads(done.stdout.split(b"\n")[0])[side] for side in ("old", "new")]
+    good = given[0]["path"] == pair[0] and given[1].get("path_hex") == odd.hex() and "path" not in given[1]
+    tally.add("names of databases", [] if good else ["%r" % given])
     for words, wanted in (
         (["--names"], ({"UID": 0, "GID": 0}, {"UID": 4000000000, "GID": 1}, {"UID": "root", "GID": "root"})),
         ([], ({"UID": 0, "GID": 0}, {"UID": 4000000000, "GID": 1}, None)),
@@ -172,27 +156,14 @@ def try_types(kept, tally):
             tally.add("types %r" % more, [] if given == wanted else ["%r" % (given,)])
 
 
-def try_left_out(kept, tally, folder):
-    path = kept.changed(folder, error="\nleft_out_old=3\nleft_out_new=5")
-    status, objects, errors = lines(kept.lines, "--state", path)
-    good = status == 0 and objects[0].get("left_out") == {"old": 3, "new": 5} and "left_out" not in objects[1]
-    tally.add("left out", [] if good else ["%d %r %r" % (status, errors, objects[:1])])
-
-
-def try_other_states(kept, tally, folder):
-    """A state file that is of another comparison, or none, is refused, and nothing is written."""
-    for label, values in (
-        ("digest", {"new_sha256": 64 * "0"}),
-        ("no digest", {"old_sha256": ""}),
-        ("counts", {"added": "9"}),
-        ("a failure", {"status": "18", "added": "", "removed": "", "changed": ""}),
-        ("no difference", {"status": "0", "added": "0", "removed": "0", "changed": "0"}),
-    ):
-        status, objects, errors = lines(kept.lines, "--state", kept.changed(folder, **values))
-        good = status == REFUSED and not objects and b"another comparison" in errors
-        tally.add("state of %s" % label, [] if good else ["%d %r" % (status, errors)])
-    status, objects, _ = lines(kept.lines, "--state", kept.changed(folder, status="x"))
-    tally.add("no state", [] if status == DEVICE and not objects else ["%d" % status])
+def try_left_out(kept, tally):
+    """Entries that are left out are counted in the first line only."""
+    objects = kept.compared("--exclude", "/**")[1]
+    counts = objects[0].get("left_out") or {}
+    good = (
+        set(counts) == {"old", "new"} and min(counts.values()) > 0 and not any("left_out" in fields for fields in objects[1:])
+    )
+    tally.add("left out", [] if good else ["%r" % objects[:1]])
 
 
 def try_members(kept, tally):
@@ -209,7 +180,6 @@ def try_members(kept, tally):
         ["--with", b"a=\xff"],
         ["--with", 'a"=x'],
         ["--format", "xml"],
-        ["--state", ""],
     ):
         status, objects, errors = lines(kept.lines, *words)
         tally.add("%r" % words[-1][:40], [] if status == USAGE and not objects and errors else ["%d %r" % (status, errors)])
@@ -223,7 +193,7 @@ def changed(fields, **values):
 def try_schema(kept, tally):
     """Good lines fit the schema, and lines with one fault each do not."""
     validator = Validator(schema_of_lines())
-    _, objects, _ = lines(kept.lines, "--full", "--state", kept.path, "--with", "site=x")
+    _, objects, _ = kept.compared("--full", "--with", "site=x")
     reason = {"class": "package", "text": "openssl 3.0.15", "verified": True, "grade": "dpkg"}
     summary, entry, end = objects[0], next(each for each in objects if each.get("kind") == "changed"), objects[-1]
     counts = dict.fromkeys(("explained", "not_verified", "unexplained", "high", "medium", "low"), 0)
@@ -282,7 +252,5 @@ def try_occasion(program, tally):
     with tempfile.TemporaryDirectory() as folder:
         kept = Kept(program, folder)
         kept.program = program
-        for trial in (try_two, try_full, try_names, try_one_text, try_types, try_members, try_schema):
+        for trial in (try_two, try_full, try_names, try_one_text, try_types, try_left_out, try_members, try_schema):
             attempt(trial, tally, kept)
-        attempt(try_left_out, tally, kept, folder)
-        attempt(try_other_states, tally, kept, folder)

@@ -44,7 +44,9 @@ def parser():
     take("state", help="write the status, the time, the counts and both SHA-256 to FILE")
     take("max-size", default=Request.max_size)
     take("max-report", default=Request.max_report, help="refuse a longer report (1G)")
-    take("max-age", default=0, help="refuse a new database that is older, as 50h, or from the future (0, the default: no limit)")
+    take(
+        "max-age", default=0, help="refuse a new database that is older, as 50h, or from the future (0, the default: no limit)"
+    )
     take("exclude-from", "exclude", "reasons")
     add("--format", choices=FORMATS, help="what is printed: the report, or what people should read first (on a terminal)")
     add("--brief", action="store_const", const="brief", dest="format", help="--format brief")

@@ -34,30 +34,23 @@ def add_sending(parser, group=None, **to):
     address = matching(r"(?!-)[ -~]+", "an address")
     (group or parser).add_argument("--to", metavar="ADDRESS", type=address, **to)
     parser.take("max-mail")
-    parser.add_argument("--smtp", metavar="HOST[:PORT]", type=server, help="send by SMTP to this server instead of sendmail")
-    parser.add_argument("--mail-time", metavar="TIME", type=duration, default=SECONDS, help="how long sending may take (60s)")
+    parser.value("smtp", "HOST[:PORT]", server, "send by SMTP to this server instead of sendmail")
+    parser.value("mail-time", "TIME", duration, "how long sending may take (60s)", default=SECONDS)
 
 
 def parser():
     made = Parser(NAME, DESCRIPTION, epilog=EPILOG, usage="%(prog)s [OPTIONS] [ARGUMENTS of aide-compare]")
-    add, unit = made.add_argument, matching(UNIT, "the name of a unit")
+    unit, day = matching(UNIT, "the name of a unit"), {"nargs": "?", "const": "Mon", "choices": weekly.DAYS}
     add_sending(made, default="root", help="where the mail goes (root)")
-    add("--html", action="store_true", help="send the report as a text and as a page")
+    made.flag("html", "send the report as a text and as a page")
     made.take("alarm", help="with --reasons: unexplained mails nothing if every change is explained (differences)")
-    add("--test", action="store_true", help="compare nothing, and send a test mail the same way")
-    add(
-        "--weekly",
-        metavar="DAY",
-        nargs="?",
-        const="Mon",
-        choices=weekly.DAYS,
-        help="with --state: mail a heartbeat on one day of the week (Mon)",
-    )
-    add("--queue", metavar="DIRECTORY", type=some_text, help="keep the mail in this directory; --send-queue sends it")
-    add("--send-queue", metavar="DIRECTORY", type=some_text, help="compare nothing, and send the mails of this directory")
-    add("--unit-failed", metavar="NAME", type=unit, help="with --send-queue: mail first that this unit of systemd has failed")
+    made.flag("test", "compare nothing, and send a test mail the same way")
+    made.value("weekly", "DAY", str, "with --state: mail a heartbeat on one day of the week (Mon)", **day)
+    made.value("queue", "DIRECTORY", some_text, "keep the mail in this directory; --send-queue sends it")
+    made.value("send-queue", "DIRECTORY", some_text, "compare nothing, and send the mails of this directory")
+    made.value("unit-failed", "NAME", unit, "with --send-queue: mail first that this unit of systemd has failed")
     made.take("user")
-    add("--alarm-sent-is-success", action="store_true", help="end with 0 also after differences or errors that were mailed")
+    made.flag("alarm-sent-is-success", "end with 0 also after differences or errors that were mailed")
     return made
 
 

@@ -25,16 +25,16 @@ def main(arguments):
     if fault is not None:
         parser.error("no such filter: %s" % shown(fault, 100))
 
-    def parts_of(reader, occasion_of):
+    def parts_of(reader, comparison):
         import gc
         from aide_compare.show.page import page
 
         gc.disable()  # Entries have no cycles, and looking for cycles takes a tenth of the time.
-        occasion = occasion_of(reader.summary)
-        if occasion:
+        if comparison:
             from aide_compare.show.added import Adding, added_lines, written
+            from aide_compare.show.occasion import Occasion
 
-            reader = reader_over(written(added_lines(reader, occasion, Adding())))
+            reader = reader_over(written(added_lines(reader, Occasion(comparison), Adding())))
         return page(reader, given.title, given.plain, given.only)
 
-    return write_changes(given, parts_of, lambda _: None)
+    return write_changes(given, parts_of)

@@ -2,7 +2,7 @@
 import os
 import stat
 
-from aide_compare.base.ending import Fault, Status, reason, write_all
+from aide_compare.base.ending import Fault, Status, failing, write_all
 from aide_compare.base.escapes import shown
 from aide_compare.base.files import Spool, open_regular
 from aide_compare.base.options import Parser, some_text
@@ -43,13 +43,11 @@ def _opened(path):
 def convert(path, work):
     """Does the work over the input and standard output. What is no whole input is refused with a status of its own."""
     try:
-        with _opened(path) as source, open(1, "wb", buffering=BLOCK, closefd=False) as target:
+        with failing("cannot read or write"), _opened(path) as source, open(1, "wb", buffering=BLOCK, closefd=False) as target:
             work(source, target)
             target.flush()
     except Refused as refused:
         raise Fault(REFUSED, str(refused)) from None
-    except OSError as error:
-        raise Fault(Status.DEVICE, "cannot read or write: %s" % reason(error)) from None
     return Status.OK
 
 
@@ -84,22 +82,16 @@ def _compared(given):
     return comparison
 
 
-def write_changes(given, parts_of, occasion_of_lines):
-    """Writes `parts_of(reader, occasion)` of two databases or of lines. The status is that of the comparison, or 0."""
+def write_changes(given, parts_of):
+    """Writes `parts_of(reader, comparison)` of two databases, or of lines, without a comparison then. The status is that of the
+    comparison, or 0."""
     if len(given.files) > 2 or len(given.files) < 2 and (given.config or given.before or given.after):
         raise Fault(Status.USAGE, "name two databases, OLD and NEW, or one file of lines")
     if len(given.files) < 2:
         path = given.files[0] if given.files else "-"
-        return convert(path, lambda source, target: write_whole(parts_of(Reader(source), occasion_of_lines), target))
+        return convert(path, lambda source, target: write_whole(parts_of(Reader(source), None), target))
     comparison = _compared(given)
-    if comparison.status > 7:
-        return comparison.status
-    from aide_compare.show.occasion import occasion_of
-
-    parts = parts_of(reader_over(comparison.lines), lambda _: occasion_of(comparison))
-    try:
-        with open(1, "wb", buffering=BLOCK, closefd=False) as target:
-            target.writelines(parts)
-    except OSError as error:
-        raise Fault(Status.DEVICE, "cannot read or write: %s" % reason(error)) from None
+    if comparison.status <= 7:
+        with failing("cannot read or write"), open(1, "wb", buffering=BLOCK, closefd=False) as target:
+            target.writelines(parts_of(reader_over(comparison.lines), comparison))
     return comparison.status

@@ -8,7 +8,7 @@ from aide_compare.base.escapes import shown
 from aide_compare.base.files import nameless
 from aide_compare.compare.outputs import Output
 from aide_compare.show.added import Adding, added_lines, written
-from aide_compare.show.occasion import occasion_of
+from aide_compare.show.occasion import Occasion
 from aide_compare.lines.reader import Refused, reader_over
 from aide_compare.reasons.evidence import Evidence, evidence_of
 from aide_compare.reasons.explainer import Explainer, members_of
@@ -101,7 +101,7 @@ class Entries:
             most = comparison.request.max_report
             raise Refused(0, "its lines have more than %d bytes; --max-report allows more" % most)
         self.descriptor, self.size = comparison.lines, comparison.size
-        self.occasion = occasion_of(comparison)
+        self.occasion = Occasion(comparison)
 
     def reader(self):
         return reader_over(self.descriptor)

@@ -8,11 +8,8 @@ from aide_compare.base.ending import Fault, Status
 from aide_compare.base.escapes import shown
 from aide_compare.base.names import SIDES
 from aide_compare.base.times import date_of
-from aide_compare.compare.columns import skipped_of
-from aide_compare.compare.state import read_state
 from aide_compare.lines.reader import counts_in, status_of
 
-REFUSED = 65
 NAME = re.compile("[A-Za-z_@][A-Za-z0-9_.@-]{0,63}")
 MOST_MEMBERS, LONGEST = 64, 4096
 # The members that lines have themselves.
@@ -54,63 +51,34 @@ def named(fields, path):
     return {name: value, **{key: value for key, value in fields.items() if key not in ("path", "path_hex")}}
 
 
-def time_member(seconds):
-    return None if seconds is None else date_of(seconds)
-
-
 class Occasion:
-    """The comparison that lines are of, as its State and the names of the databases tell it, as far as they are known."""
+    """The Comparison that lines are of. Of lines from elsewhere, without one, only what they say themselves is known."""
 
-    def __init__(self, state=None, names=(None, None)):
-        self.state, self.names = state, dict(zip(SIDES, names))
+    def __init__(self, comparison=None):
+        self.comparison = comparison
 
-    def check(self, summary, path):
-        """Refuses a state file that is of another comparison than the lines."""
-        # Of a database of which entries were left out, lines have another digest.
-        state, left_out = self.state, self.left_out()
-        sides = [side for side in SIDES if not left_out.get(side)]
-        if (
-            state.status != status_of(counts_in(summary))
-            or state.counts not in (None, counts_in(summary))
-            or any(getattr(state, side + "_sha256") != summary[side]["sha256"] for side in sides)
-        ):
-            raise Fault(REFUSED, "the state file %s is of another comparison than the lines" % shown(path))
-
-    def left_out(self):
-        """How many entries of each database were left out, if the state says it."""
-        more = self.state.more if self.state else {}
-        found = {side: more.get("left_out_" + side, "") for side in SIDES}
-        return {side: int(count) for side, count in found.items() if count.isascii() and count.isdigit() and len(count) < 19}
+    @property
+    def ended(self):
+        """When the comparison ended, in seconds; None if that is not known."""
+        return self.comparison and self.comparison.time
 
     def summary(self, given):
         """The first line: the databases by their names, what was left out, and the columns that were not compared."""
-        found = {}
-        for side in SIDES:
-            name = self.names[side]
-            if name is None and self.state and getattr(self.state, side):
-                name = getattr(self.state, side)
-            found[side] = given[side] if name is None else named(given[side], os.fsencode(name))
-        more = {"left_out": self.left_out(), "skipped": skipped_of(self.state) if self.state else {}}
+        done = self.comparison
+        if done is None:
+            return given
+        more = {"left_out": {side: left_out.total for side, left_out in done.left_out.items()}, "skipped": done.skipped}
+        found = {side: named(given[side], os.fsencode(getattr(done, side))) for side in SIDES}
         return {**given, **found, **{name: value for name, value in more.items() if value}}
 
     def members(self, summary):
         """What --full adds to each line."""
-        state = self.state
-        found = {"host": os.uname().nodename, "@timestamp": date_of(state.time if state else int(time.time()))}
+        found = {"host": os.uname().nodename, "@timestamp": date_of(self.ended or int(time.time()))}
         found["status"] = status_of(counts_in(summary))
+        copies = self.comparison.copies if self.comparison else {}
         for side in SIDES:
-            found[side + "_time"] = time_member(getattr(state, side + "_written")) if state else None
+            written = copies[side].written if copies else None
+            found[side + "_time"] = None if written is None else date_of(int(written))
         for side in SIDES:
-            digest = getattr(state, side + "_sha256") if state else summary[side]["sha256"]
-            found[side + "_digest"] = digest[:DIGITS]
+            found[side + "_digest"] = (copies[side].sha256 if copies else summary[side]["sha256"])[:DIGITS]
         return found
-
-
-def occasion_of(comparison):
-    """The Occasion of a Comparison that was made here."""
-    return Occasion(comparison.state(), (comparison.old, comparison.new))
-
-
-def occasion_of_file(path, names):
-    """The Occasion by a state file, if there is one, and by names of the databases."""
-    return Occasion(read_state(path) if path else None, names)
