@@ -49,7 +49,7 @@ PLANTED = (
     )
     + seen_by(
         "accept.try_refusals",
-        (ACCEPTING, "if not offered.sha256.startswith(wish.digits):", "if False:"),
+        (ACCEPTING, "if not offered.sha256.startswith(given.sha256):", "if False:"),
         (ACCEPT, "        if given.state:\n            raise\n", ""),
         (ACCEPT, "        return Status.DEVICE\n    return Status.OK", "    return Status.OK"),
     )

@@ -1,11 +1,13 @@
 """The command line of every command: the words that all of them have, those that several have, and the kinds of values."""
 import argparse
+import os
 import re
 
 from aide_compare import VERSION
 from aide_compare.base import progress
 from aide_compare.base.ending import Done, Fault, Status, write_all
 from aide_compare.base.escapes import shown
+from aide_compare.base.patterns import BadPattern, Pattern
 from aide_compare.base.times import seconds_of
 
 SIZES = {"k": 1 << 10, "M": 1 << 20, "G": 1 << 30}
@@ -48,6 +50,14 @@ def duration(text):
         raise argparse.ArgumentTypeError(fault.text)
 
 
+def pattern(text):
+    """A Pattern of paths."""
+    try:
+        return Pattern(os.fsencode(text))
+    except BadPattern as fault:
+        raise argparse.ArgumentTypeError(str(fault))
+
+
 def end_of_options(words):
     """Where they end on a command line: after -- there are operands only."""
     return words.index("--") if "--" in words else len(words)
@@ -86,7 +96,10 @@ COMMON = {
     "max-age": {"metavar": "TIME", "type": duration},
     "exclude-from": _texts("FILE", "leave out the entries whose paths FILE names, as debian.without; it says how many"),
     "exclude": _texts("PATTERN", "the same for one line"),
-    "keep-open": _texts("PATTERN", "all but the changes of these paths, as in '/etc/**', whose former entries stay"),
+    "keep-open": {
+        **_texts("PATTERN", "all but the changes of these paths, as in '/etc/**', whose former entries stay"),
+        "type": pattern,
+    },
     "reasons": {
         "action": "store_true",
         "help": "say which changes packages, logs and rules explain, and which nothing does",

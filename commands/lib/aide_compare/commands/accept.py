@@ -5,7 +5,7 @@ from aide_compare.base.names import KINDS
 from aide_compare.base.options import EVIDENCE, Parser, named_evidence, some_text
 from aide_compare.base.rights import user_of
 from aide_compare.base.times import date_of
-from aide_compare.commands.accept_steps import MOST_BYTES, Wish, accept, digest_of_former
+from aide_compare.commands.accept_steps import MOST_BYTES, accept, digest_of_former, digits_of
 from aide_compare.compare.baseline import Baseline
 from aide_compare.compare.state import read_state
 from aide_compare.reasons.kept_records import Records
@@ -83,39 +83,19 @@ def _told(done, path, new, counts):
 
 def _parser():
     made = Parser(NAME, DESCRIPTION, "do not tell what was done", epilog=EPILOG)
-    add, take = made.add_argument, made.take
-    add(
-        "--sha256",
-        metavar="DIGEST",
-        type=some_text,
-        help="the SHA-256 in the report or mail that was read: 16 to 64 hexadecimal digits, or all of it in base64",
+    digest = "the SHA-256 in the report or mail that was read: 16 to 64 hexadecimal digits, or all of it in base64"
+    made.value("sha256", "DIGEST", digits_of, digest)
+    made.take("state", help="tell the time and the counts of the comparison from this file (%s); it decides nothing" % STATE)
+    made.take("max-size", default=MOST_BYTES, help="refuse a database that has more bytes unpacked (1024G)")
+    made.take("keep-open")
+    made.flag(
+        "explained-only", "only the changes with a verified reason, as aide-compare --reasons finds them; all others stay open"
     )
-    take("state", help="tell the time and the counts of the comparison from this file (%s); it decides nothing" % STATE)
-    take("max-size", default=MOST_BYTES, help="refuse a database that has more bytes unpacked (1024G)")
-    take("keep-open")
-    add(
-        "--explained-only",
-        action="store_true",
-        help="only the changes with a verified reason, as aide-compare --reasons finds them; all others stay open",
-    )
-    take(*EVIDENCE)
-    add(
-        "--no-packages",
-        action="store_true",
-        help="keep no records of dpkg: the database is that of another machine, or of another time",
-    )
-    add(
-        "--only-packages",
-        action="store_true",
-        help="accept nothing: keep dpkg's records beside BASELINE as it is, as after a first aideinit",
-    )
-    add(
-        "files",
-        metavar="NEW BASELINE",
-        nargs="*",
-        type=some_text,
-        help="the new database, plain or compressed by gzip, and the file that it replaces; only BASELINE with --only-packages",
-    )
+    made.take(*EVIDENCE)
+    made.flag("no-packages", "keep no records of dpkg: the database is that of another machine, or of another time")
+    made.flag("only-packages", "accept nothing: keep dpkg's records beside BASELINE as it is, as after a first aideinit")
+    files = "the new database, plain or compressed by gzip, and the file that it replaces; only BASELINE with --only-packages"
+    made.add_argument("files", metavar="NEW BASELINE", nargs="*", type=some_text, help=files)
     return made
 
 
@@ -143,14 +123,14 @@ def main(arguments):
         if not given.quiet:
             tell(line)
         return Status.OK
-    state, unknown, (new, path), wish = None, "", given.files, Wish(given)
+    state, unknown, (new, path) = None, "", given.files
     try:
         state = read_state(given.state or STATE)
     except Fault as fault:
         if given.state:
             raise
         unknown = "no counts are known: %s" % fault.text
-    done = accept(wish, new, path)
+    done = accept(given, new, path)
     counts = _counts(state, done) if state else unknown
     try:
         if not given.quiet:

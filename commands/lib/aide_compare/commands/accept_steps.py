@@ -1,16 +1,16 @@
 """How a database becomes the baseline: by its digest, if it is sound, whole or but for what stays open."""
+import argparse
 import base64
-import binascii
 import gzip
 import os
 import re
+from contextlib import suppress
 
 from aide_compare.base.child import in_child
 from aide_compare.base.ending import Fault, Status, write_all
 from aide_compare.base.escapes import shown
-from aide_compare.base.files import copy_file, nameless, reopened
+from aide_compare.base.files import closed_after, copy_file, nameless, reopened
 from aide_compare.base.names import SIDES
-from aide_compare.base.patterns import BadPattern, Pattern
 from aide_compare.base.path_keys import key_of_path
 from aide_compare.base.rights import become
 from aide_compare.compare.baseline import Baseline
@@ -27,24 +27,14 @@ BLOCK, SECONDS_FOR_REASONS = 1 << 18, 6 * 3600
 
 
 def digits_of(text):
-    """The digits of the digest on the command line: all 64 hexadecimal ones, or the first of them."""
+    """The kind of a SHA-256 on a command line: all its 64 hexadecimal digits, the first of them, or all of it in base 64."""
     joined = "".join(text.split())
-    digits = _decoded(joined) if joined.endswith("=") else joined.lower()
-    if not re.fullmatch("[0-9a-f]{16,64}", digits):
-        raise Fault(
-            Status.USAGE,
-            "not a SHA-256: %s; give 16 to 64 hexadecimal digits, or all 44 characters of base64" % (shown(text, 100) or "''"),
-        )
-    return digits
-
-
-def _decoded(text):
-    """The digits of a whole digest in base 64; nothing for all other texts."""
-    try:
-        data = base64.b64decode(text, validate=True)
-    except (binascii.Error, ValueError):
-        return ""
-    return data.hex() if len(data) == 32 and base64.b64encode(data).decode() == text else ""
+    if re.fullmatch("[A-Za-z0-9+/]{42}[AEIMQUYcgkosw048]=", joined):
+        joined = base64.b64decode(joined).hex()
+    if not re.fullmatch("[0-9a-fA-F]{16,64}", joined):
+        why = "not a SHA-256: %s; give 16 to 64 hexadecimal digits, or all 44 characters of base64"
+        raise argparse.ArgumentTypeError(why % (shown(text, 100) or "''"))
+    return joined.lower()
 
 
 class Offered:
@@ -68,25 +58,6 @@ class Offered:
         return target
 
 
-class Wish:
-    """What is asked for: the first digits of the digest, the most bytes, and whether packages' records are kept. `patterns` and
-    the options that name evidence, or None, say what stays open."""
-
-    def __init__(self, given):
-        self.digits, self.most, self.keeps_records = digits_of(given.sha256), given.max_size, not given.no_packages
-        self.patterns, self.evidence = patterns_of(given.keep_open), given if given.explained_only else None
-
-    def is_partial(self):
-        return bool(self.patterns) or self.evidence is not None
-
-
-def patterns_of(texts):
-    try:
-        return [Pattern(os.fsencode(text)) for text in texts]
-    except BadPattern as fault:
-        raise Fault(Status.USAGE, "--keep-open: %s" % fault)
-
-
 class Accepted:
     """What was done: `former` is the SHA-256 of the former baseline, "" if it cannot be read, None if there was none.
     `belongs` are the user and the group of a baseline that was written, and `belonged` those of the former one. `sha256` is
@@ -101,12 +72,9 @@ def digest_of_former(baseline, most):
     descriptor = baseline.reading()
     if descriptor is None:
         return None if baseline.former is None else ""
-    try:
+    with closed_after(descriptor), suppress(Fault):
         return database_digest(Opened("old", baseline.path, descriptor), most)
-    except Fault:
-        return ""
-    finally:
-        os.close(descriptor)
+    return ""
 
 
 def _old_copy(baseline, most):
@@ -123,10 +91,10 @@ def _own_copy(copy):
     return Copy(target, copy.size, copy.name, copy.written)
 
 
-def _write_unexplained(evidence, path, copies, target):
+def _write_unexplained(given, path, copies, target):
     """Writes the keys of the changes that have no verified reason, and returns the lines that say what was found."""
     try:
-        sources = Sources(evidence)
+        sources = Sources(given)
     except Fault as fault:
         raise Fault(fault.status, "refused: nothing is explained: %s" % fault.text)
     comparison = Comparison(Request(old=path, new=copies[1].name, copies=dict(zip(SIDES, copies)))).run()
@@ -142,16 +110,16 @@ def _write_unexplained(evidence, path, copies, target):
     return ("%saide-compare: %s\n" % (told_of(comparison), reasons.said())).encode("utf-8", "replace")
 
 
-def _unexplained_keys(evidence, baseline, copies):
+def _unexplained_keys(given, baseline, copies):
     """The keys, in path order, of the changes that have no verified reason, found with the rights of the baseline's owner."""
     target = nameless()
 
     def find():
         become(baseline.owner)
-        return _write_unexplained(evidence, baseline.path, [_own_copy(copy) for copy in copies], target)
+        return _write_unexplained(given, baseline.path, [_own_copy(copy) for copy in copies], target)
 
     if baseline.owner is None:
-        told = _write_unexplained(evidence, baseline.path, copies, target)
+        told = _write_unexplained(given, baseline.path, copies, target)
     else:
         told = in_child("the search for reasons", find, SECONDS_FOR_REASONS, [target] + [copy.fd for copy in copies])
     write_all(2, told)
@@ -160,13 +128,13 @@ def _unexplained_keys(evidence, baseline, copies):
         yield from (bytes.fromhex(line.decode()) for line in file)
 
 
-def _with_open_part(wish, offered, baseline):
+def _with_open_part(given, offered, baseline):
     """The Copy of the new database with the old entries of what stays open, and the counts of these."""
-    old = _old_copy(baseline, wish.most)
+    old = _old_copy(baseline, given.max_size)
     refuse_unsound(offered.copy, old)
-    patterns, unexplained = Patterns(wish.patterns), Listed(())
-    if wish.evidence is not None:
-        unexplained = Listed(_unexplained_keys(wish.evidence, baseline, (old, offered.copy)))
+    patterns, unexplained = Patterns(given.keep_open), Listed(())
+    if given.explained_only:
+        unexplained = Listed(_unexplained_keys(given, baseline, (old, offered.copy)))
     merged, counts = keep_open(old, offered.copy, lambda key: any([patterns(key), unexplained(key)]))
     unused = patterns.unused()
     if unused:
@@ -175,25 +143,25 @@ def _with_open_part(wish, offered, baseline):
     return merged, counts
 
 
-def accept(wish, new, path):
-    """Makes the database `new` the baseline as the Wish says. A database that it does not mean is a Fault of status 24."""
-    offered = Offered(new, wish.most)
-    if not offered.sha256.startswith(wish.digits):
+def accept(given, new, path):
+    """Makes the database `new` the baseline as the options say. A database that they do not mean is a Fault of status 24."""
+    offered = Offered(new, given.max_size)
+    if not offered.sha256.startswith(given.sha256):
         raise Fault(
             Status.DATABASE,
             "refused: %s is not the database that was reported" % shown(new),
-            "the SHA-256 that was given: %s" % wish.digits,
+            "the SHA-256 that was given: %s" % given.sha256,
             "the SHA-256 of the database: %s" % offered.sha256,
         )
-    baseline = Baseline(path, SUFFIX if wish.keeps_records else "")
+    baseline = Baseline(path, "" if given.no_packages else SUFFIX)
     baseline.settle()
-    done, source = Accepted(offered, digest_of_former(baseline, wish.most)), offered.fd
-    if wish.is_partial():
-        merged, done.open = _with_open_part(wish, offered, baseline)
+    done, source = Accepted(offered, digest_of_former(baseline, given.max_size)), offered.fd
+    if given.keep_open or given.explained_only:
+        merged, done.open = _with_open_part(given, offered, baseline)
         done.sha256, source = merged.sha256, offered.packed(merged)
     else:
         refuse_unsound(offered.copy)
-    _put_in_place(done, baseline, source, new + SUFFIX if wish.keeps_records else None)
+    _put_in_place(done, baseline, source, None if given.no_packages else new + SUFFIX)
     return done
 
 

@@ -32,21 +32,14 @@ def parser():
     usage = "aide-compare [compare] [OPTIONS] [OLD NEW]"
     made = Parser("aide-compare compare", DESCRIPTION, quiet, epilog=EPILOG, usage=usage)
     add, take = made.add_argument, made.take
-    add(
-        "databases",
-        nargs="*",
-        metavar="OLD NEW",
-        type=some_text,
-        help="the databases, - for standard input; without them the configuration names both",
-    )
+    databases = "the databases, - for standard input; without them the configuration names both"
+    add("databases", nargs="*", metavar="OLD NEW", type=some_text, help=databases)
     take("config", help="the configuration (/dev/null with OLD NEW, otherwise AIDE's, /etc/aide/aide.conf or /etc/aide.conf)")
     take("after", "before")
     take("state", help="write the status, the time, the counts and both SHA-256 to FILE")
     take("max-size", default=Request.max_size)
     take("max-report", default=Request.max_report, help="refuse a longer report (1G)")
-    take(
-        "max-age", default=0, help="refuse a new database that is older, as 50h, or from the future (0, the default: no limit)"
-    )
+    take("max-age", default=0, help="refuse a new database that is older, as 50h, or from the future (0: no limit)")
     take("exclude-from", "exclude", "reasons")
     add("--format", choices=FORMATS, help="what is printed: the report, or what people should read first (on a terminal)")
     add("--brief", action="store_const", const="brief", dest="format", help="--format brief")

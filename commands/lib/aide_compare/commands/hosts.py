@@ -4,9 +4,10 @@ import time
 
 from aide_compare.base.ending import Fault, Status, say, tell, write_all
 from aide_compare.base.files import copy_file, open_regular
-from aide_compare.base.options import Parser, some_text
+from aide_compare.base.options import Parser
 from aide_compare.base.times import date_of
 from aide_compare.commands import accept
+from aide_compare.commands.accept_steps import digits_of
 from aide_compare.compare.soundness import refuse_unsound
 from aide_compare.compare.state import read_state
 from aide_compare.compare.unpack import copy_database, database_digest, open_database
@@ -122,7 +123,7 @@ def say_what(place, given):
         state = read_state(place.state_path)
     except Fault:
         return
-    if state.counts and state.new_sha256.startswith(given.sha256.lower()):
+    if state.counts and state.new_sha256.startswith(given.sha256):
         words = (date_of(state.time),) + state.counts
         tell_of(place, given, "compared %s: added %d, removed %d, changed %d" % words)
 
@@ -143,7 +144,7 @@ def keep_records(place):
 def accept_next(place, given):
     """The command aide-compare accept does the work."""
     say_what(place, given)
-    words = ["--keep-open=" + pattern for pattern in given.keep_open] + ["--quiet"] * given.quiet
+    words = ["--keep-open=" + os.fsdecode(pattern.text) for pattern in given.keep_open] + ["--quiet"] * given.quiet
     names = [place.file("aide.db.new"), place.file("aide.db")]
     status = accept.main(["--no-packages", "--sha256=" + given.sha256, *words, *names])
     if status == Status.OK:
@@ -167,12 +168,8 @@ def accept_one(arguments):
         help="HOST has no baseline yet: keep what was fetched, and print its SHA-256, which is to be that on\n"
         "HOST: zcat -f /var/lib/aide/aide.db.new | sha256sum",
     )
-    which.add_argument(
-        "--sha256",
-        type=some_text,
-        metavar="DIGEST",
-        help="the SHA-256 of the unpacked database that was read, or its first 16 digits or more",
-    )
+    digest = "the SHA-256 of the unpacked database that was read, or its first 16 digits or more"
+    which.add_argument("--sha256", type=digits_of, metavar="DIGEST", help=digest)
     parser.take("keep-open", help="with --sha256: all but the changes of these paths; see aide-compare accept")
     given = parser.parse(arguments)
     if given.first and given.keep_open:

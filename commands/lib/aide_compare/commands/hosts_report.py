@@ -7,8 +7,7 @@ from aide_compare.base.ending import Fault, Status, say, write_blocks
 from aide_compare.base.external_sort import ExternalSort
 from aide_compare.base.files import Spool, nameless
 from aide_compare.base.folders import open_folder
-from aide_compare.base.options import Parser, duration, matching, some_text
-from aide_compare.base.patterns import BadPattern, Pattern
+from aide_compare.base.options import Parser, duration, matching, pattern, some_text
 from aide_compare.base.private_room import stoppable
 from aide_compare.base.program import find_front
 from aide_compare.commands.hosts_compare import hosts_of
@@ -26,13 +25,6 @@ FORMAT = 2
 BLOCK = 1 << 18
 GREATEST = 10**12
 LEAST_MAIL = 16 << 10
-
-
-def pattern(text):
-    try:
-        return Pattern(os.fsencode(text))
-    except BadPattern as fault:
-        raise Fault(Status.USAGE, "--only-path: %s" % fault)
 
 
 def whole_command(given):

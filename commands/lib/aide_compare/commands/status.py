@@ -93,17 +93,12 @@ def parser(form, name=NAME):
         made.take("max-age", default=AGE, help="an older result counts as no comparison, or is UNKNOWN (26h)")
     if form == "nagios":
         made.take("alarm", help="which changes count (differences: all)")
-        made.add_argument("--warning", metavar="LIMIT", type=Limit, help="WARNING from this limit on")
-        made.add_argument("--critical", metavar="LIMIT", type=Limit, help="CRITICAL from this limit on")
+        made.value("warning", "LIMIT", Limit, "WARNING from this limit on")
+        made.value("critical", "LIMIT", Limit, "CRITICAL from this limit on")
         made.take("no-defaults")
     if form == "prometheus":
-        made.add_argument(
-            "output",
-            nargs="?",
-            default="-",
-            metavar="OUTPUT",
-            help="the file that is replaced; its name should end with .prom; standard output without it, and for -",
-        )
+        output = "the file that is replaced; its name should end with .prom; standard output without it, and for -"
+        made.add_argument("output", nargs="?", default="-", metavar="OUTPUT", help=output)
     return made
 
 
