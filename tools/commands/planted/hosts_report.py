@@ -60,7 +60,7 @@ PLANTED = (
     )
     + seen_by(
         "cut_lines.try_every_cut",
-        (LIB + "hosts/cut_lines.py", '.rfind(b"\\n") + 1\n    os.ftruncate', '.rfind(b"\\n")\n    os.ftruncate'),
+        (LIB + "hosts/host_comparison.py", '.rfind(b"\\n") + 1\n    os.ftruncate', '.rfind(b"\\n")\n    os.ftruncate'),
         (LIB + "hosts/hosts_read.py", "CUT if size_before_cut(descriptor) else UNREADABLE", "UNREADABLE"),
     )
     + seen_by(
@@ -74,7 +74,7 @@ PLANTED = (
     + seen_by(
         "cut_lines.try_cut_stream",
         (LIB + "hosts/hosts_read.py", "if counts_in(reader.summary) != host.state.counts:", "if False:"),
-        (LIB + "commands/hosts.py", "    except Refused:\n        size", "    except Fault:\n        size"),
+        (LIB + "commands/hosts.py", "except Refused:\n            size", "except Fault:\n            size"),
     )
     + seen_by(
         "hosts_report.try_not_compared",

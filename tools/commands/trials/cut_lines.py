@@ -14,7 +14,7 @@ def cuts(text, counts, whole):
     """What is wrong with what is read of lines that are cut at each of their bytes in turn."""
     from tools.commands.base import TOP  # noqa: F401 (the modules of this tree)
     from aide_compare.compare.state import State
-    from aide_compare.hosts.cut_lines import cut
+    from aide_compare.hosts.host_comparison import cut
     from aide_compare.hosts.hosts_read import Host, entries_of
 
     first = text.index(b"\n") + 1

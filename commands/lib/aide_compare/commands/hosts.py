@@ -3,7 +3,7 @@ import os
 import time
 
 from aide_compare.base.ending import Fault, Status, say, tell, write_all
-from aide_compare.base.files import copy_file, open_regular
+from aide_compare.base.files import closed_after, copy_file, open_regular
 from aide_compare.base.options import Parser
 from aide_compare.base.times import date_of
 from aide_compare.commands import accept
@@ -11,11 +11,18 @@ from aide_compare.commands.accept_steps import digits_of
 from aide_compare.compare.soundness import refuse_unsound
 from aide_compare.compare.state import read_state
 from aide_compare.compare.unpack import copy_database, database_digest, open_database
-from aide_compare.hosts.cut_lines import size_before_cut
 from aide_compare.hosts.fetching import add_fetching, fetch
 from aide_compare.hosts.fleet_store import Place, add_place, check_name, no_room
-from aide_compare.hosts.host_comparison import MOST_BASELINE, add_comparison, compare_or_say
-from aide_compare.hosts.host_reasons import BASELINES, NEWEST, exclusions_of
+from aide_compare.hosts.host_comparison import (
+    BASELINES,
+    MISSING,
+    MOST_BASELINE,
+    NEWEST,
+    add_comparison,
+    compare_or_say,
+    exclusions_of,
+    size_before_cut,
+)
 from aide_compare.lines.reader import Refused, reader_over
 from aide_compare.reasons.kept_records import mark_of
 from aide_compare.show.changes import changes_text
@@ -53,22 +60,15 @@ def fetch_one(arguments):
     return Status.OK
 
 
-def print_file(path, target):
-    descriptor = open_regular(path)
-    copy_file(descriptor, target)
-    os.close(descriptor)
-
-
 def print_changes(place):
     """Prints the changes that were kept, for people."""
-    descriptor = open_regular(place.file("lines"))
-    try:
-        for text in changes_text(reader_over(descriptor)):
-            write_all(1, text.encode("utf-8", "backslashreplace"))
-    except Refused:
-        size = size_before_cut(descriptor)
-        say("%s: the changes were cut: their lines have %s bytes, and --max-report allows fewer" % (place.host, size))
-    os.close(descriptor)
+    with closed_after(open_regular(place.file("lines"))) as descriptor:
+        try:
+            for text in changes_text(reader_over(descriptor)):
+                write_all(1, text.encode("utf-8", "backslashreplace"))
+        except Refused:
+            size = size_before_cut(descriptor)
+            say("%s: the changes were cut: their lines have %s bytes, and --max-report allows fewer" % (place.host, size))
 
 
 def compare_one(arguments):
@@ -85,7 +85,8 @@ def compare_one(arguments):
     place, deadline = opened(given)
     state = compare_or_say(place, given, 1, deadline)
     if not given.quiet:
-        print_file(place.file("errors"), 2)
+        with closed_after(open_regular(place.file("errors"))) as errors:
+            copy_file(errors, 2)
         if 0 < state.status <= 7:
             print_changes(place)
             say("to accept it: aide-compare hosts accept --sha256 %s %s" % (state.new_sha256, place.host))
@@ -162,12 +163,8 @@ def accept_one(arguments):
     )
     parser.take("max-size", default=MOST_BASELINE, help="the most bytes of a first database, unpacked (4G)")
     which = parser.add_mutually_exclusive_group(required=True)
-    which.add_argument(
-        "--first",
-        action="store_true",
-        help="HOST has no baseline yet: keep what was fetched, and print its SHA-256, which is to be that on\n"
-        "HOST: zcat -f /var/lib/aide/aide.db.new | sha256sum",
-    )
+    first = "HOST has no baseline yet: keep what was fetched, and print its SHA-256, which is to be that on\nHOST: "
+    which.add_argument("--first", action="store_true", help=first + "zcat -f /var/lib/aide/aide.db.new | sha256sum")
     digest = "the SHA-256 of the unpacked database that was read, or its first 16 digits or more"
     which.add_argument("--sha256", type=digits_of, metavar="DIGEST", help=digest)
     parser.take("keep-open", help="with --sha256: all but the changes of these paths; see aide-compare accept")
@@ -176,5 +173,5 @@ def accept_one(arguments):
         raise Fault(Status.USAGE, "--keep-open goes with --sha256", "try: %s --help" % parser.prog)
     place, _ = opened(given)
     if not place.has("aide.db.new"):
-        raise place.fault("nothing was fetched yet; see aide-compare hosts fetch --help")
+        raise place.fault(MISSING["aide.db.new"])
     return accept_first(place, given) if given.first else accept_next(place, given)

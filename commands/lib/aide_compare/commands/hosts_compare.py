@@ -12,8 +12,7 @@ from aide_compare.base.files import read_file, read_whole
 from aide_compare.base.options import Parser, matching
 from aide_compare.hosts.fetching import add_fetching, fetch
 from aide_compare.hosts.fleet_store import Place, add_place, check_name, share_of
-from aide_compare.hosts.host_comparison import add_comparison, compare_or_say
-from aide_compare.hosts.host_reasons import exclusions_of
+from aide_compare.hosts.host_comparison import add_comparison, compare_or_say, exclusions_of
 from aide_compare.show.colours import RED, YELLOW, in_colour
 
 NAME = "aide-compare hosts compare"
@@ -164,11 +163,11 @@ def options():
     )
     jobs = matching(r"[1-9][0-9]{0,2}", "a number from 1 to 999", int)
     part = matching(r"[1-9][0-9]{0,5}/[1-9][0-9]{0,5}", "a part of all of them: 1/10 to 10/10", share)
-    parser.add_argument("--jobs", type=jobs, default=8, metavar="N", help="how many hosts at a time (8)")
-    parser.add_argument("--share", type=part, default=(1, 1), metavar="K/N", help="only the hosts of the Kth of N shares")
+    parser.value("jobs", "N", jobs, "how many hosts at a time (8)", default=8)
+    parser.value("share", "K/N", part, "only the hosts of the Kth of N shares", default=(1, 1))
     parser.take("alarm", help="with --quiet and --reasons: unexplained: not those all explained")
-    parser.add_argument("--no-fetch", action="store_true", help="compare what was fetched before")
-    parser.add_argument("--one", action="store_true", help="HOSTS-FILE is the name of one host")
+    parser.flag("no-fetch", "compare what was fetched before")
+    parser.flag("one", "HOSTS-FILE is the name of one host")
     add_place(parser)
     add_fetching(parser)
     add_comparison(parser)

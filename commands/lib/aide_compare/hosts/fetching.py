@@ -2,9 +2,10 @@
 import os
 import re
 import time
+from contextlib import closing
 
 from aide_compare.base.child import ended, kill_group, pump, started
-from aide_compare.base.ending import Fault, reason, say
+from aide_compare.base.ending import Fault, failing, say
 from aide_compare.base.escapes import shown
 from aide_compare.base.options import matching, size
 from aide_compare.hosts.fleet_store import Part, no_room, same_bytes
@@ -26,8 +27,8 @@ HINTS = (
 def add_fetching(parser):
     """The options that say what is fetched. The shell of a host leaves such a path as it is."""
     path = matching(r"/[A-Za-z0-9._/-]*", "a path that begins with /, of letters, digits and . _ / -")
-    parser.add_argument("--max-sent", type=size, default=MOST, metavar="SIZE", help="the most bytes that a host may send (1G)")
-    parser.add_argument("--path", type=path, default=PATH, metavar="PATH", help="the file on HOST (%s)" % PATH)
+    parser.value("max-sent", "SIZE", size, "the most bytes that a host may send (1G)", default=MOST)
+    parser.value("path", "PATH", path, "the file on HOST (%s)" % PATH, default=PATH)
 
 
 def stop(child):
@@ -93,8 +94,7 @@ class Transfer:
 
 def receive(place, command, name, given, deadline, jobs):
     """What a host sends becomes a file. The same bytes again leave the file's time, which tells how old it is."""
-    part = Part(place.fd)
-    try:
+    with failing("%s: cannot keep what it sent" % place.host), closing(Part(place.fd)) as part:
         transfer = Transfer(place, part, min(given.max_sent, place.room(jobs)), deadline, given.time)
         status = transfer.run(SSH + [place.host, command])
         if status == 127 and not transfer.errors:
@@ -105,10 +105,6 @@ def receive(place, command, name, given, deadline, jobs):
             raise place.fault("sent nothing")
         if not same_bytes(part.fd, place.file(name)):
             part.keep(name)
-    except OSError as error:
-        raise place.fault("cannot keep what it sent: %s" % reason(error))
-    finally:
-        part.close()
 
 
 def fetch(place, given, deadline, jobs=1):

@@ -5,9 +5,10 @@ import hashlib
 import os
 import re
 import time
+from contextlib import closing, suppress
 
-from aide_compare.base.ending import Fault, Status, reason, say, write_all
-from aide_compare.base.files import copy_file, is_locked, new_file, open_regular, replace, unlink
+from aide_compare.base.ending import Fault, Status, failing, reason, say, write_all
+from aide_compare.base.files import closed_after, copy_file, is_locked, new_file, open_regular, replace, unlink
 from aide_compare.base.folders import open_folder
 from aide_compare.base.options import duration, some_text
 from aide_compare.compare.state import State
@@ -19,20 +20,17 @@ BLOCK, SECONDS = 1 << 18, 600
 
 def add_place(parser):
     """The options that say where a host is kept, and how long it may take."""
-    parser.add_argument(
-        "--store", type=some_text, default=STORE, metavar="DIR", help="where the databases are kept (%s)" % STORE
-    )
-    parser.add_argument("--time", type=duration, default=SECONDS, metavar="TIME", help="the most time for a host (10m)")
+    parser.value("store", "DIR", some_text, "where the databases are kept (%s)" % STORE, default=STORE)
+    parser.value("time", "TIME", duration, "the most time for a host (10m)", default=SECONDS)
 
 
 def check_name(host):
     """A Fault unless the name of a host can be no option, no path and no shell text."""
     if not NAME.fullmatch(host) or ".." in host:
-        raise Fault(
-            Status.USAGE,
-            "the name of a host begins with a letter or a digit, has only these and . _ : @ -, "
-            "no two dots together, and at most 200 characters",
+        form = (
+            "begins with a letter or a digit, has only these and . _ : @ -, no two dots together, and at most 200 characters"
         )
+        raise Fault(Status.USAGE, "the name of a host " + form)
     return host
 
 
@@ -54,13 +52,9 @@ def _opened(path):
     return folder
 
 
-def _make(path, mode):
-    try:
-        os.mkdir(path, mode)
-    except FileExistsError:
-        pass
-    except OSError as error:
-        raise Fault(Status.DEVICE, "cannot make the directory %s: %s" % (path, reason(error)))
+def _make(path):
+    with failing("cannot make the directory " + path), suppress(FileExistsError):
+        os.mkdir(path, 0o700)
 
 
 class Part:
@@ -105,8 +99,8 @@ class Place:
         self._locked = self._readable = None
         open_folder(store, make=True).close()
         _opened(store).close()
-        _make(store + "/hosts", 0o700)
-        _make(self.path, 0o700)
+        _make(store + "/hosts")
+        _make(self.path)
         self.folder = _opened(self.path)
         self.fd = self.folder.fd
 
@@ -142,14 +136,10 @@ class Place:
 
     def copy(self, source, name, more=b"", replace=True):
         """Makes a copy of a file of this host, with more bytes at its end."""
-        part, descriptor = Part(self.fd), open_regular(self.file(source))
-        try:
+        with closing(Part(self.fd)) as part, closed_after(open_regular(self.file(source))) as descriptor:
             copy_file(descriptor, part.fd)
             part.write(more)
             part.keep(name, replace)
-        finally:
-            os.close(descriptor)
-            part.close()
 
     def room(self, jobs):
         """The most bytes that this host may take now: with so many others at work, something is left for each of them."""
@@ -178,17 +168,11 @@ def same_bytes(descriptor, path):
         other = open_regular(path)
     except Fault:
         return False
-    try:
-        place = 0
-        while True:
-            blocks = [os.pread(each, BLOCK, place) for each in (descriptor, other)]
-            if blocks[0] != blocks[1]:
-                return False
-            if not blocks[0]:
-                return True
-            place += len(blocks[0])
-    finally:
-        os.close(other)
+    with closed_after(other):
+        size = os.fstat(descriptor).st_size
+        if size != os.fstat(other).st_size:
+            return False
+        return all(os.pread(descriptor, BLOCK, at) == os.pread(other, BLOCK, at) for at in range(0, size, BLOCK))
 
 
 def no_room(error):
