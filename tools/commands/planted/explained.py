@@ -109,7 +109,7 @@ PLANTED = (
             "state.reasons.total > 0 and not state.reasons.unexplained",
         ),
     )
-    + seen_by(READERS % "try_mails", (MESSAGE, "first = beginning(result.brief, most // 2)", 'first = b""'))
+    + seen_by(READERS % "try_mails", (MESSAGE, "first = beginning(brief, most // 2)", 'first = b""'))
     + seen_by(
         READERS % "try_cut",
         (

@@ -63,7 +63,7 @@ PLANTED = (
     )
     + seen_by(
         "mail.try_refusals",
-        (MESSAGE, "if count)", "if True)"),
+        (MESSAGE, "if pair[0]))", "if True))"),
         (SENDING, "    second = _refusal(way, shortened(message, why))\n", "    second = why\n"),
         (
             SENDING,
@@ -100,7 +100,7 @@ PLANTED = (
     )
     + seen_by(
         "mail.try_room",
-        (MESSAGE, "comparison.is_cut, 1 <= state.status <= 7", "comparison.is_cut, True"),
+        (MESSAGE, "    if not comparison.differs:\n", "    if False:\n"),
     )
     + seen_by(
         "mail.try_units",

@@ -16,7 +16,7 @@ from aide_compare.compare.hints import hint_for_owner
 from aide_compare.compare.reason_counts import counted
 from aide_compare.compare.state import read_state
 from aide_compare.mail import weekly
-from aide_compare.mail.message import Result, build, clean, host, is_explained, subject, text_of
+from aide_compare.mail.message import build, clean, host, is_explained, subject, text_of
 from aide_compare.mail.sending import SECONDS, alert, deliver, way_out
 from aide_compare.mail.smtp import server
 from aide_compare.show.told import told_of
@@ -92,23 +92,22 @@ class Alarm:
         if comparison.status == Status.USAGE:  # Who has typed it sees it at once.
             write_all(2, told.encode("utf-8", "backslashreplace"))
         if not self.is_quiet(state):
-            result = Result(state, comparison, told, explained.brief() if explained else b"")
-            self.message.commit(self._message_of(result, explained))
+            self.message.commit(self._message_of(comparison, state, told, explained))
 
     def _told(self, comparison):
         hints = hint_for_owner(comparison.fault.text) if comparison.fault else ()
         return told_of(comparison) + "".join("%s: %s\n" % (NAME, hint) for hint in hints)
 
-    def _message_of(self, result, explained):
-        given = self.given
+    def _message_of(self, comparison, state, told, explained):
+        given, brief = self.given, explained.brief() if explained else b""
         command = shlex.join([find_front(), "--format", "report", *without_state(given.words)])
-        text, page = text_of(result, given.max_mail, command), None
-        if given.html and result.differs:
+        text, page = text_of(comparison, told, brief, given.max_mail, command), None
+        if given.html and comparison.differs:
             page, why = page_of(explained, given.max_mail)
             text += clean(("\n%s: there is no page: %s\n" % (NAME, why)).encode()) if page is None else b""
         if given.fault:
             text += clean(("\n%s: %s\n" % (NAME, given.fault)).encode("utf-8", "surrogateescape"))
-        return build(given.to, subject(result.state, self.unknown(result.state)), text, page)
+        return build(given.to, subject(state, self.unknown(state)), text, page)
 
 
 def page_of(explained, most):

@@ -9,24 +9,16 @@ import shlex
 import time
 
 from aide_compare.base.escapes import shown_lines
+from aide_compare.base.names import KINDS
 from aide_compare.base.times import date_of
 from aide_compare.compare.columns import not_compared
 from aide_compare.lines.reader import reader_over
 from aide_compare.show.changes import changes_text, cut_text
 
-BITS = ((1, "added"), (2, "removed"), (4, "changed"))
-
 
 def host():
     """The name of this machine, with only those bytes that a subject may have."""
     return re.sub(r"[^A-Za-z0-9._-]", "", os.uname().nodename)[:200] or "unknown"
-
-
-def differences(status, counts):
-    """The counts, or only the kinds if the report has no counts."""
-    if counts:
-        return ", ".join("%d %s" % (count, name) for (_, name), count in zip(BITS, counts) if count)
-    return ", ".join(name for bit, name in BITS if status & bit)
 
 
 def is_explained(state):
@@ -40,21 +32,12 @@ def subject(state, columns=()):
     if state.reasons and state.status:
         told.append(state.reasons.words())
     elif 1 <= state.status <= 7:
-        told.append("differences (%s)" % differences(state.status, state.counts))
+        told.append("differences (%s)" % ", ".join("%d %s" % pair for pair in zip(state.counts, KINDS) if pair[0]))
     elif state.status:
         told.append("no comparison (status %d)" % state.status)
     if columns:
         told.append(not_compared([re.sub(r"[^A-Za-z0-9._#-]", "?", name) for name in columns]))
     return "aide on %s: %s" % (host(), "; ".join(told))
-
-
-class Result:
-    """What a mail tells: the State, the lines of the changes (a descriptor, and whether they are cut), the lines that were
-    told, and the bytes of what people read first; there is none without --reasons."""
-
-    def __init__(self, state, comparison, told, brief=b""):
-        self.state, self.told, self.brief = state, told, brief
-        self.lines, self.is_cut, self.differs = comparison.lines, comparison.is_cut, 1 <= state.status <= 7
 
 
 def opening(state):
@@ -84,29 +67,29 @@ def beginning(brief, most):
     return text[: text.rfind(b"\n", 0, most) + 1] + b"  ... (the list below has more)\n\n"
 
 
-def _changes(result, room, command):
+def _changes(comparison, room, command):
     """The text of the changes: whole if it has room, and otherwise the first paths."""
     text, length = [], 0
-    for part in changes_text(reader_over(result.lines)) if not result.is_cut else ():
+    for part in changes_text(reader_over(comparison.lines)) if not comparison.is_cut else ():
         text.append(clean(part.encode("utf-8", "backslashreplace")))
         length += len(text[-1])
         if length > room:
             break
     if text and length <= room:
         return b"".join(text)
-    return clean(cut_text(reader_over(result.lines), room - room // 4, command).encode("utf-8", "backslashreplace"))
+    return clean(cut_text(reader_over(comparison.lines), room - room // 4, command).encode("utf-8", "backslashreplace"))
 
 
-def text_of(result, most, command):
-    """The text of the mail, in bytes: whole if it fits, cut otherwise. All bytes of others are escaped."""
-    told = result.told.encode("utf-8", "surrogateescape")[: most // 8 + 1].strip(b"\n")
-    if not result.differs:
+def text_of(comparison, told, brief, most, command):
+    """The text of the mail, in bytes: whole if it fits, cut otherwise. All bytes of others are escaped. `told` are the lines
+    that were told, `brief` is what people read first, and `command` prints the whole report."""
+    told = told.encode("utf-8", "surrogateescape")[: most // 8 + 1].strip(b"\n")
+    if not comparison.differs:
         return clean(told + b"\n")
-    first = beginning(result.brief, most // 2)
-    room = most - most // 4 - len(first)
-    text = _changes(result, room, command)
+    first = beginning(brief, most // 2)
+    text = _changes(comparison, most - most // 4 - len(first), command)
     tail = clean(b"\n" + told + b"\n") if told else b""
-    return first + clean(opening(result.state).encode("utf-8", "surrogateescape")) + text + tail
+    return first + clean(opening(comparison.state()).encode("utf-8", "surrogateescape")) + text + tail
 
 
 def clean(data):

@@ -5,7 +5,7 @@ import time
 
 from aide_compare.base.ending import Fault, Status, reason
 from aide_compare.base.escapes import shown
-from aide_compare.base.files import open_folder, replace
+from aide_compare.base.files import closed_after, open_folder, replace
 from aide_compare.mail.sending import alert, deliver
 
 MOST_WAITING = 64
@@ -14,11 +14,8 @@ MOST_BYTES = 64 << 20
 
 def names_in(folder):
     """The names of the messages that wait, the oldest first."""
-    listing = os.open(".", os.O_RDONLY | os.O_DIRECTORY | os.O_CLOEXEC, dir_fd=folder.fd)
-    try:
+    with closed_after(os.open(".", os.O_RDONLY | os.O_DIRECTORY | os.O_CLOEXEC, dir_fd=folder.fd)) as listing:
         return sorted(name for name in os.listdir(listing) if name.endswith(".mail") and not name.startswith("."))
-    finally:
-        os.close(listing)
 
 
 class Queue:

@@ -2,6 +2,7 @@
 numbers are kept beside the state."""
 import os
 import time
+from contextlib import closing
 
 from aide_compare.base.ending import Fault, Status
 from aide_compare.base.escapes import shown
@@ -32,11 +33,8 @@ def count(state, day, explained, send):
     is_day = DAYS[time.localtime(now).tm_wday] == day and time.localtime(now)[:3] != time.localtime(sent)[:3]
     if os.path.isdir(path):
         raise Fault(Status.DEVICE, "cannot write the number of quiet runs in %s: it is a directory" % shown(path))
-    file = Replacement(path, what="the number of quiet runs in").begin()
-    try:
+    with closing(Replacement(path, what="the number of quiet runs in").begin()) as file:
         if is_day or (sent and now - sent > 7 * 86400):
             send(runs, changes)
             runs, sent, changes = 0, now, 0
         file.commit(b"%d %d %d\n" % (runs, sent, changes))
-    finally:
-        file.close()
