@@ -34,8 +34,9 @@ PLANTED = (
     )
     + seen_by(
         "front.try_forms",
-        (STATUS, "found = value if equals or not rest", "found = value if equals"),
-        (STATUS, '"json": write_json}[form]', '"json": write_json}["line"]'),
+        (STATUS, '{"nagios", "--format=nagios"}', '{"nagios"}'),
+        (STATUS, "if given.warning or given.critical or", "if given.warning or"),
+        (STATUS, '"json": write_json}[given.format]', '"json": write_json}["line"]'),
     )
     + seen_by(
         "faults.try_programs",

@@ -186,11 +186,12 @@ def try_forms(sandbox):
     answer = sandbox.call(TOOL, "status", "--format", "prometheus", "--state", "state")
     sandbox.expect("metrics", answer, 0, b"\naide_compare_changed_entries 2\n", b"")
     for words in (["--state", "state"], ["--state", "none"], ["--odd"], ["--state", "state", "--max-age", "x"]):
-        answers = [sandbox.call("check_aide_compare", *words), sandbox.call(TOOL, "status", *words, "--format", "nagios")]
+        form = ["--format=nagios"] if "none" in words else ["--format", "nagios"]
+        answers = [sandbox.call("check_aide_compare", *words), sandbox.call(TOOL, "status", *words, *form)]
         # A second may pass between the two calls.
         texts = [(answer.status, re.sub(rb"age=\d+s", b"age", answer.output), answer.errors) for answer in answers]
         sandbox.holds("nagios %s" % words, texts[0] == texts[1] and not answers[1].errors, answers)
-    for words in (["--format", "xml"], ["--format"], ["--format="], ["--format", "json", "x"]):
+    for words in (["--format", "xml"], ["--format"], ["--format="], ["--format", "json", "x"], ["--critical", "5"]):
         sandbox.expect("the form %s" % words, sandbox.call(TOOL, "status", *words), 15, b"", b"aide-compare")
     sandbox.expect("no state", sandbox.call(TOOL, "status", "--format", "json", "--state", "none"), 18, b"", b"cannot open")
     with open("/dev/full", "wb") as full:

@@ -8,7 +8,7 @@ from aide_compare.base.ending import Done, Fault, Status, reason, tell, write_al
 from aide_compare.base.escapes import guarded, shown
 from aide_compare.base.files import replace
 from aide_compare.base.names import SEVERITIES
-from aide_compare.base.options import Parser
+from aide_compare.base.options import ALARMS, Parser, end_of_options
 from aide_compare.base.times import age_in_words, date_of
 from aide_compare.compare.columns import not_compared, skipped_names, skipped_of
 from aide_compare.compare.reason_counts import GRADE_KEYS, GRADES
@@ -37,31 +37,22 @@ REASONS = (
 ) + tuple(("%s_changes" % key, key, "Changes explained by the grade %s." % grade) for grade, key in zip(GRADES, GRADE_KEYS))
 TEXT = "# HELP aide_compare_%s %s\n# TYPE aide_compare_%s gauge\naide_compare_%s %d\n"
 COLUMNS = "# HELP aide_compare_skipped_column A column that is not compared.\n# TYPE aide_compare_skipped_column gauge\n"
-# Of each form what it is, and what its statuses mean.
-FORMS = {
-    "line": (
-        "Writes the result of the last comparison as one line, for logger(1).",
-        "Status: 0 written; 15 bad arguments; 18 the line cannot be written.",
-    ),
-    "prometheus": (
-        "Writes the result of the last comparison for the node exporter of Prometheus.",
-        "A directory in which another user can write, as Debian's user prometheus can in its own, is\n"
-        "written with that user's privileges.\n\n"
-        "Status: 0 written; 15 bad arguments; 18 a file cannot be read or written.",
-    ),
-    "nagios": (
-        "Says in one line what the last comparison found.",
-        "Status: 0 OK, no difference; 1 WARNING, entries were added; 2 CRITICAL, entries were removed or\n"
-        "changed; 3 UNKNOWN, all else. With --alarm unexplained or a LIMIT, and the counts of\n"
-        "aide-compare --reasons: 0 OK, all is explained; 1 WARNING, a reason is not verified;\n"
-        "2 CRITICAL, something is unexplained. A LIMIT takes the place of one of these two: a number of\n"
-        "changes that are not explained or not verified, or the least severity of one, high, medium or low.",
-    ),
-    "json": (
-        "Writes the result of the last comparison as an object of JSON.",
-        "Status: 0 written; 15 bad arguments; 18 there is no state.",
-    ),
-}
+FORMS = ("line", "prometheus", "nagios", "json")
+DESCRIPTION = """Writes the result of the last comparison: as one line for people and logger(1), for the node exporter of Prometheus,
+as a check of Nagios, or as an object of JSON."""
+CHECK_DESCRIPTION = "Says in one line what the last comparison found."
+CHECK_EPILOG = """Status: 0 OK, no difference; 1 WARNING, entries were added; 2 CRITICAL, entries were removed or
+changed; 3 UNKNOWN, all else. With --alarm unexplained or a LIMIT, and the counts of
+aide-compare --reasons: 0 OK, all is explained; 1 WARNING, a reason is not verified;
+2 CRITICAL, something is unexplained. A LIMIT takes the place of one of these two: a number of
+changes that are not explained or not verified, or the least severity of one, high, medium or low."""
+EPILOG = """--alarm, --warning, --critical and --no-defaults are for the form nagios.
+
+A directory in which another user can write, as Debian's user prometheus can in its own, is
+written with that user's privileges.
+
+Status: 0 written; 15 bad arguments; 18 the state cannot be read, but for line, or the result cannot be written.
+That of nagios is in check_aide_compare --help."""
 
 
 class Limit:
@@ -82,34 +73,26 @@ class Limit:
         return any(getattr(reasons, name) for name in self.severities)
 
 
-def parser(form, name=NAME):
-    """The options of a form."""
-    description, epilog = FORMS[form]
-    made = Parser(name, description, "with the form line: write nothing if there is no difference", epilog=epilog)
+def check_parser(made=None):
+    """The options of the check."""
+    made = made or Parser(CHECK_NAME, CHECK_DESCRIPTION, "changes nothing here", epilog=CHECK_EPILOG)
     made.take("state", default=STATE, help="what aide-compare has written (%s)" % STATE)
-    if name == NAME:
-        made.add_argument("--format", choices=tuple(FORMS), help="the form, and the options that it has (line)")
-    if form in ("line", "nagios"):
-        made.take("max-age", default=AGE, help="an older result counts as no comparison, or is UNKNOWN (26h)")
-    if form == "nagios":
-        made.take("alarm", help="which changes count (differences: all)")
-        made.value("warning", "LIMIT", Limit, "WARNING from this limit on")
-        made.value("critical", "LIMIT", Limit, "CRITICAL from this limit on")
-        made.take("no-defaults")
-    if form == "prometheus":
-        output = "the file that is replaced; its name should end with .prom; standard output without it, and for -"
-        made.add_argument("output", nargs="?", default="-", metavar="OUTPUT", help=output)
+    made.take("max-age", default=AGE, help="an older result counts as no comparison, or is UNKNOWN (26h)")
+    made.take("alarm", help="which changes count (differences: all)")
+    made.value("warning", "LIMIT", Limit, "WARNING from this limit on")
+    made.value("critical", "LIMIT", Limit, "CRITICAL from this limit on")
+    made.take("no-defaults")
     return made
 
 
-def form_of(arguments):
-    """The value of --format, the last one if there are more. Without it: what people and logs read."""
-    rest, found = list(arguments), "line"
-    while rest and rest[0] != "--":
-        name, equals, value = rest.pop(0).partition("=")
-        if name == "--format":
-            found = value if equals or not rest else rest.pop(0)
-    return found if found in FORMS else "line"
+def parser():
+    """The options of all forms."""
+    made = Parser(NAME, DESCRIPTION, "with the form line: write nothing if there is no difference", epilog=EPILOG)
+    made.add_argument("--format", choices=FORMS, default="line", help="the form (line)")
+    check_parser(made)
+    output = "of prometheus: the file that is replaced; its name should end with .prom; standard output without it, and for -"
+    made.add_argument("output", nargs="?", default="-", metavar="OUTPUT", help=output)
+    return made
 
 
 def line_of(path, most_age):
@@ -221,11 +204,11 @@ def answer(status, text, numbers=""):
     return status
 
 
-def check(arguments, name=CHECK_NAME):
+def check(arguments, made=None):
     """The check for Nagios, Icinga and their like: one line, and a status from 0 to 3 whatever happens. Every failure of the
     check itself is UNKNOWN, since 1 and 2 say what was found."""
     try:
-        return answer(*judged(parser("nagios", name).parse(defaults_for(CHECK, arguments) + arguments)))
+        return answer(*judged((made or check_parser()).parse(defaults_for(CHECK, arguments) + arguments)))
     except Done:
         return UNKNOWN
     except Fault as fault:
@@ -237,8 +220,12 @@ def check(arguments, name=CHECK_NAME):
 
 
 def main(arguments):
-    form = form_of(arguments)
-    if form == "nagios":
-        return check(arguments, NAME)
-    given = parser(form).parse(arguments)
-    return {"line": write_line, "prometheus": write_metrics, "json": write_json}[form](given)
+    if {"nagios", "--format=nagios"} & set(arguments[: end_of_options(arguments)]):
+        return check(arguments, parser())
+    made = parser()
+    given = made.parse(arguments)
+    if given.output != "-" and given.format != "prometheus":
+        made.error("only --format prometheus has an OUTPUT")
+    if given.warning or given.critical or given.alarm != ALARMS[0]:
+        made.error("--alarm, --warning and --critical are for --format nagios")
+    return {"line": write_line, "prometheus": write_metrics, "json": write_json}[given.format](given)
