@@ -19,8 +19,8 @@ DATABASES, ENTRIES, PACKAGES, MADE, PARENTS, PROTECTED, TABLES, DPKG, DEB, INDEX
         "archive",
     )
 )
-CONTENT, RECORDS, LINES, EXPLAINER, PACKED = (
-    LIB + name + ".py" for name in ("content", "records", "explained_lines", "explainer", "packed")
+CONTENT, RECORDS, EXPLAINER, PACKED = (
+    LIB + name + ".py" for name in ("content", "records", "explainer", "packed")
 )
 TRUSTED, SEVERITIES = "commands/lib/aide_compare/base/trusted.py", "commands/share/severity.conf"
 

@@ -1,26 +1,47 @@
-"""The command aide-compare reasons: the lines of aide-compare json with reasons and severities."""
+"""The command aide-compare reasons: the lines of aide-compare json with reasons and severities, and otherwise byte for byte."""
 import os
 
 from aide_compare.base.defaults import defaults_for
+from aide_compare.base.files import Spool
 from aide_compare.base.options import EVIDENCE
 from aide_compare.commands.streams import convert, parser_of
 from aide_compare.compare.unpack import copy_database
+from aide_compare.lines.reader import Reader, Refused, with_members
 from aide_compare.reasons.evidence import evidence_of
-from aide_compare.reasons.explainer import Explainer
-from aide_compare.reasons.explained_lines import UnexplainedLines
+from aide_compare.reasons.explainer import Explainer, members_of
 
 NAME = "aide-compare reasons"
 MOST_DATABASE = 4 << 30
 # The defaults of the administrator that are options of this command too.
 OPTIONS = "--max-size --archive --keyring --rules --severity".split()
+OURS = {"severity", "reason", "reasons"}
+
+
+def _judge(reader, fields):
+    if OURS & fields.keys():
+        raise Refused(reader.number, "this line has a severity or a reason already")
+
+
+def _kept(reader, kept):
+    """Yields the objects of the changes, and keeps their lines."""
+    _judge(reader, reader.summary)
+    for line, fields in reader:
+        _judge(reader, fields)
+        kept.write(line)
+        yield fields
 
 
 def _write(source, target, databases, given):
+    """Writes the lines when all are read: the summary and the changes with what was found of them, and the end."""
     evidence = evidence_of(given)
-    lines = UnexplainedLines(source)
+    reader, kept = Reader(source), Spool()
     explainer = Explainer(databases[0].fd, databases[1].fd, evidence)
-    changes = explainer.judge(lines.entries())
-    lines.write(target, changes, explainer.counts)
+    changes = explainer.judge(_kept(reader, kept))
+    target.write(with_members(reader.first, {"reasons": explainer.counts._asdict()}))
+    kept.seek(0)
+    for line, change in zip(kept, changes):
+        target.write(with_members(line, members_of(change)))
+    target.write(reader.end)
 
 
 def main(arguments):

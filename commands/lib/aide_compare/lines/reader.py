@@ -48,12 +48,12 @@ def _is_summary(fields):
 
 
 class Reader:
-    """The lines of a file: its `summary`; by iteration each change as its line and its object, once and in order; and then the
-    last line, `end`."""
+    """The lines of a file: the `first` one and its object, the `summary`; by iteration each change as its line and its object,
+    once and in order; and then the last line, `end`."""
 
     def __init__(self, file):
         self.file, self.number, self.count, self.end = file, 0, 0, b""
-        self.summary, _ = self._next("nothing was given: was nothing compared?")
+        self.summary, self.first = self._next("nothing was given: was nothing compared?")
         if not self._holds(lambda: self.summary["format"] == FORMAT):
             self._refuse("the first line is the summary, of format %d" % FORMAT)
         if not self._holds(lambda: _is_summary(self.summary)):
