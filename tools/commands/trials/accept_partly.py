@@ -152,7 +152,7 @@ def try_explained_only(sandbox):
     shutil.rmtree(sandbox.path("dpkg"))
     sandbox.edit(
         "lib/aide_compare/show/explained.py",
-        "        self.changes = (self.explainer.judge if sources else self.explainer.weigh)(self.entries)\n",
+        "        self.changes = (self.explainer.judge if sources else self.explainer.weigh)(objects)\n",
         "        1 / 0\n",
     )
     done = accept(sandbox, sha256(explained.NEW), "--explained-only")

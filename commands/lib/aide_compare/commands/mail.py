@@ -118,7 +118,7 @@ def page_of(explained, most):
 
     parts, room = [], most // 2
     try:
-        if explained is None or explained.entries.size > most:
+        if explained is None or explained.size > most:
             return None, "the changes are not known" if explained is None else "the changes are too many for one"
         for part in page(reader_over(written(explained.lines())), "File changes on %s" % host(), is_plain=True):
             parts.append(part)

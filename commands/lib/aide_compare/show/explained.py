@@ -93,52 +93,34 @@ class Wanted:
                 output.commit_copy(nameless())
 
 
-class Entries:
-    """The changes of a comparison, one by one from its lines; and these lines with what the commands add."""
+class Explained:
+    """The changes of a comparison, in all its lines; with `sources` as the explainer has them, and their counts; and if it
+    `weighs` the changes with their severity only."""
 
-    def __init__(self, comparison):
+    def __init__(self, comparison, sources, weighs):
         if comparison.is_cut:
             most = comparison.request.max_report
             raise Refused(0, "its lines have more than %d bytes; --max-report allows more" % most)
-        self.descriptor, self.size = comparison.lines, comparison.size
-        self.occasion = Occasion(comparison)
-
-    def reader(self):
-        return reader_over(self.descriptor)
-
-    def __iter__(self):
-        for _, fields in self.reader():
-            yield fields
-
-    def lines(self, reasons=None, members=None):
-        """All lines, as aide-compare json --full and aide-compare reasons write them. The summary has the counts of the
-        reasons, if any; each change has its `members`, if any."""
-        return added_lines(self.reader(), self.occasion, Adding(reasons=reasons, members=members))
-
-
-class Explained:
-    """The entries of a comparison; with `sources` the changes as the explainer has them, and their counts; and if it `weighs`
-    the changes with their severity only."""
-
-    def __init__(self, comparison, sources, weighs):
-        self.entries, self.changes, self.counts = Entries(comparison), None, None
+        self.descriptor, self.size, self.occasion = comparison.lines, comparison.size, Occasion(comparison)
+        self.changes = self.counts = None
         if sources is None and not weighs:
             return
         evidence = sources.evidence(comparison) if sources else Evidence(None, Severity())
         self.explainer = Explainer(comparison.compared["old"], comparison.compared["new"], evidence)
-        self.changes = (self.explainer.judge if sources else self.explainer.weigh)(self.entries)
+        objects = (fields for _, fields in reader_over(self.descriptor))
+        self.changes = (self.explainer.judge if sources else self.explainer.weigh)(objects)
         if not self.explainer.counts.fits(sum(comparison.counts)):
             raise Fault(Status.DEVICE, "the counts of the reasons are not those of the changes")
         self.counts = self.explainer.counts if sources else None
-        doubt = self.explainer.evidence.doubt()
+        doubt = evidence.doubt()
         if doubt:
             comparison.doubts.append("what packages explain is not verified: %s" % doubt)
 
     def lines(self):
-        """The lines of all changes, with their reasons if there are any."""
-        if self.counts is None:
-            return self.entries.lines()
-        return self.entries.lines(self.counts._asdict(), map(members_of, self.changes))
+        """All lines, as aide-compare json --full and aide-compare reasons write them: the summary with the counts of the
+        reasons, and each change with its reason, if they were looked for."""
+        adding = Adding(reasons=self.counts._asdict(), members=map(members_of, self.changes)) if self.counts else Adding()
+        return added_lines(reader_over(self.descriptor), self.occasion, adding)
 
     def brief(self):
         """The bytes of what people read first; nothing if the changes were not looked at."""
