@@ -36,7 +36,7 @@ PLANTED = (
     + seen_by(
         RUNS % "try_records",
         (EXPLAINING, '                why = mismatch(path, comparison.copies["old"].sha256)', '                why = ""'),
-        (RECORDS, "            file.write(mark_of(digest, accepted))\n", ""),
+        (RECORDS, "        file.write(mark_of(digest, accepted))\n", ""),
         (RECORDS, "            return digest_in(descriptor) == self.digest", "            return False"),
     )
     + seen_by(

@@ -25,7 +25,11 @@ PLANTED = (
         (RECORDS, "found.st_mode & 0o022", "found.st_mode & 0o002"),
         (RECORDS, "found.st_mode & 0o022", "found.st_mode & 0o020"),
         (RECORDS, "            self.left -= len(text)\n", ""),
-        (RECORDS, '        except FileNotFoundError:\n            return b""\n', ""),
+        (
+            RECORDS,
+            '            except FileNotFoundError:\n                return b""\n',
+            "            finally:\n                pass\n",
+        ),
     )
     + seen_by(
         "reasons_records.try_now",

@@ -2,7 +2,7 @@
 from .plant import seen_by
 from .reasons import CONTENT, ENTRIES, LIB, RECORDS
 
-RPM, PACKAGES = (LIB + name + ".py" for name in ("rpm", "rpm_packages"))
+PACKAGES = LIB + "rpm_packages.py"
 
 PLANTED = (
     seen_by(
@@ -77,14 +77,11 @@ PLANTED = (
     )
     + seen_by(
         "reasons_rpm_records.try_program",
-        (RPM, '"--dbpath", folder, "-qa"', '"-qa"'),
-        (
-            RPM,
-            "            timer.start()\n",
-            "            timer = threading.Timer(self.seconds + 40, process.kill)\n            timer.start()\n",
-        ),
-        (RPM, "except (OSError, Refuted) as error:", "except OSError as error:"),
-        (RPM, "except (OSError, Refuted) as error:", "except Refuted as error:"),
+        (RECORDS, '"--dbpath", folder, "-qa"', '"-qa"'),
+        (RECORDS, '"timeout": SECONDS', '"timeout": SECONDS + 40'),
+        (RECORDS, "preexec_fn=_bound, ", ""),
+        (RECORDS, '            with failing("rpm\'s records cannot be read"):\n', "            if True:\n"),
+        (RECORDS, "        except subprocess.SubprocessError:\n", "        except ZeroDivisionError:\n"),
         (RECORDS, "is_rpms, kept = member.name == RPM_NAME, ", "is_rpms, kept = False, "),
     )
 )

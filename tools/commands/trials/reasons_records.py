@@ -32,9 +32,7 @@ def kept(sandbox, text, records):
         read = records.KeptRecords(sandbox.write("kept.packages", text))
     except records.Fault as refused:
         return refused.text
-    found = {name: read.read(name) for name in read.names}
-    read.close()
-    return found
+    return {name: read.read(name) for name in read.names}
 
 
 def written(sandbox, records):

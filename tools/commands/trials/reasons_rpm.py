@@ -1,6 +1,6 @@
 """Forged records of rpm, and true ones beside them: what rpm's records explain, and what they must not.
 
-The records are texts as rpm 4.18 answers the query of commands/lib/aide_compare/reasons/rpm.py.
+The records are texts as rpm 4.18 answers the query of commands/lib/aide_compare/reasons/records.py.
 """
 import hashlib
 import json
@@ -69,9 +69,9 @@ def put_rpm(sandbox, host, text, measured):
     """rpm as a program that says this text, and its database, of which AIDE measured these bytes (None: it did not)."""
     stub, folder = sandbox.path("rpm-says"), sandbox.path("rpm-folder")
     if not os.path.exists(stub):
-        sandbox.edit("lib/aide_compare/reasons/rpm.py", 'RPM = "/usr/bin/rpm"', "RPM = %r" % stub)
+        sandbox.edit("lib/aide_compare/reasons/records.py", 'RPM = "/usr/bin/rpm"', "RPM = %r" % stub)
         folders = 'FOLDERS = ("/usr/lib/sysimage/rpm", "/var/lib/rpm")'
-        sandbox.edit("lib/aide_compare/reasons/rpm.py", folders, "FOLDERS = (%r,)" % folder)
+        sandbox.edit("lib/aide_compare/reasons/records.py", folders, "FOLDERS = (%r,)" % folder)
     sandbox.write("rpm-folder/rpmdb.sqlite", DATABASE)
     os.chmod(folder, 0o755)
     sandbox.write("rpm-text", text)

@@ -3,8 +3,8 @@ import io
 import os
 import time
 
+from .own_module import own_module
 from .reasons_host import Host
-from .reasons_lines import modules
 from .reasons_rpm import ONE, TWO, ask, line, package
 
 
@@ -42,9 +42,7 @@ ENDLESS = "while :; do echo 'P\tx\t1-1\tx86_64\t8'; done"
 
 def try_program(sandbox):
     """rpm itself, by a program in its place: what it is asked, and what it may do."""
-    _, fault = modules()
-    from aide_compare.reasons import rpm
-
+    rpm = own_module("aide_compare.reasons.records")
     text = package(b"tool", b"1-1", line(b"/usr/a"))
     sandbox.write("rpm/rpmdb.sqlite", b"")
     os.chmod(sandbox.path("rpm"), 0o755)
@@ -55,13 +53,16 @@ def try_program(sandbox):
         sandbox.write("rpm-stub", STUB % body)
         os.chmod(stub, 0o755)
         begin = time.monotonic()
+        bounds = {"RPM": stub, "FOLDERS": (folder,), "MOST_TEXT": 1 << 20, "SECONDS": 30, **more}
+        for name, bound in bounds.items():
+            setattr(rpm, name, bound)
         try:
-            got = rpm.RpmRecords(**{"program": stub, "folders": (folder,), **more}).read("rpm")
-        except fault as refused:
+            got = rpm.RpmRecords().read("rpm")
+        except rpm.Fault as refused:
             got = refused.status
         except Exception as unforeseen:
             got = repr(unforeseen)
-        return got, time.monotonic() - begin < 35
+        return got, time.monotonic() - begin < 25
 
     tell = 'printf \'%%s|\' "$#" "$1" "$2" "$3" "$HOME" "$LC_ALL" "$SUGAR" >%s; cat %s'
     os.environ["SUGAR"] = "of the caller"
@@ -75,10 +76,10 @@ def try_program(sandbox):
     sandbox.holds("what rpm is told", good, words)
     for label, body, more in (
         ("it fails", "cat %s; exit 1" % sandbox.path("answer"), {}),
-        ("it never ends", "exec sleep 60", {"seconds": 0.5}),
-        ("it writes without end", ENDLESS, {"most": 100000}),
-        ("it is not there", "exit 0", {"program": stub + "-missing"}),
-        ("its database is not there", "exit 0", {"folders": (sandbox.path("nowhere"),)}),
+        ("it never ends", "exec sleep 60", {"SECONDS": 0.5}),
+        ("it writes without end", ENDLESS, {"MOST_TEXT": 100000}),
+        ("it is not there", "exit 0", {"RPM": stub + "-missing"}),
+        ("its database is not there", "exit 0", {"FOLDERS": (sandbox.path("nowhere"),)}),
     ):
         got = asked(body, **more)
         sandbox.holds("rpm: " + label, got == (18, True), got)
@@ -86,24 +87,25 @@ def try_program(sandbox):
     got = asked("exit 0")
     sandbox.holds("rpm: others can write its database", got == (18, True), got)
     os.chmod(folder, 0o755)
-    there = [rpm.has_rpm(*given) for given in ((stub, (folder,)), (stub + "x", (folder,)), (stub, (folder + "x",)))]
+    there = []
+    for rpm.RPM, rpm.FOLDERS in ((stub, (folder,)), (stub + "x", (folder,)), (stub, (folder + "x",))):
+        there.append(rpm.has_rpm())
     sandbox.holds("whether rpm is there", there == [True, False, False], there)
     sandbox.write("no-dpkg/status", b"")
-    there = modules()[0].has_records(sandbox.path("no-dpkg"))
+    there = rpm.has_records(sandbox.path("no-dpkg"))
     sandbox.holds("dpkg without packages has no records", there is False, there)
     asked("cat %s" % sandbox.path("answer"))
-    got = kept(sandbox, rpm.RpmRecords(stub, (folder,)))
+    got = kept(sandbox, rpm)
     sandbox.holds("rpm's records are kept whole", got == {"rpm": text}, got)
 
 
-def kept(sandbox, now):
-    """The records of now, written as beside a baseline and read again."""
-    records, fault = modules()
+def kept(sandbox, records):
+    """rpm's records of now, written as beside a baseline and read again."""
     target = io.BytesIO()
     try:
-        records.write_records(target, records=now)
+        records.write_records(target, records=records.RpmRecords())
         sandbox.write("kept-rpm.packages", target.getvalue())
         read = records.KeptRecords(sandbox.path("kept-rpm.packages"))
         return {name: read.read(name) for name in read.names}
-    except fault as refused:
+    except records.Fault as refused:
         return refused.text

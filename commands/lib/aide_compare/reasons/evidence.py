@@ -2,8 +2,7 @@
 from aide_compare.base.ending import Fault, Status
 from aide_compare.reasons.archive import Archive
 from aide_compare.reasons.packages import DpkgPackages
-from aide_compare.reasons.records import KeptRecords, records_now
-from aide_compare.reasons.rpm import RPM_NAME
+from aide_compare.reasons.records import RPM_NAME, KeptRecords, records_now
 from aide_compare.reasons.rpm_packages import RpmPackages
 from aide_compare.reasons.tables import Rules, Severity
 

@@ -12,6 +12,8 @@ from contextlib import suppress
 from aide_compare.base.ending import Fault, why_of, write_all
 from aide_compare.base.escapes import shown
 from aide_compare.base.files import nameless, open_regular
+from aide_compare.reasons.packed import Refuted, copied
+from aide_compare.reasons.records import MOST_ALL, has_records, has_rpm, write_records
 
 SUFFIX = ".packages"
 MARK, PART_OF = "aide-compare baseline sha256=%s%s\n", " part of sha256=%s"
@@ -30,27 +32,18 @@ def mark_of(digest, accepted):
 
 def _whose():
     """Whose records this machine has; "" for nobody's."""
-    from aide_compare.reasons.records import has_records, has_rpm
-
     return "dpkg's" if has_records() else "rpm's" if has_rpm() else ""
 
 
-def records_for(digest, accepted):
+def _of_now(digest, accepted):
     """A descriptor of the records of now, for the baseline with this digest, which was made of the database `accepted`; None on
     a machine without dpkg and rpm."""
-    from aide_compare.reasons.records import write_records
-
     if not _whose():
         return None
-    target = nameless()
-    try:
-        with open(os.dup(target), "wb") as file:
-            write_records(file)
-            file.write(mark_of(digest, accepted))
-        return target
-    except BaseException:
-        os.close(target)
-        raise
+    with open(nameless(), "wb") as file:
+        write_records(file)
+        file.write(mark_of(digest, accepted))
+        return os.dup(file.fileno())
 
 
 def digest_in(descriptor):
@@ -67,9 +60,6 @@ def _opened(path):
 
 def _of_that_time(path, digest, accepted):
     """A descriptor of a copy of records that belong to the database `accepted`, for the baseline with this digest, or None."""
-    from aide_compare.reasons.packed import Refuted, copied
-    from aide_compare.reasons.records import MOST_ALL
-
     if path is None or not os.path.lexists(path):
         return None
     with _opened(path) as file, suppress(Refuted):
@@ -101,7 +91,7 @@ class Records:
         try:
             self.fd = _of_that_time(beside, digest, accepted or digest)
             if self.fd is None:
-                self.fd = records_for(digest, accepted or digest)
+                self.fd = _of_now(digest, accepted or digest)
             else:
                 self.time = "the database's time"
         except (Fault, OSError) as error:

@@ -16,7 +16,7 @@ from aide_compare.reasons.content import Vouched
 from aide_compare.reasons.entries import CONTENT, usr_of
 from aide_compare.reasons.packages import ChangedPackages, package_words
 from aide_compare.reasons.protected import takes_no_stranger
-from aide_compare.reasons.rpm import RPM_NAME
+from aide_compare.reasons.records import RPM_NAME
 
 LINK = CONTENT | {"lname"}
 DOUBT = ", no database vouches for rpm's records"
