@@ -1,6 +1,6 @@
 """Checks of evidence, each taken away: then something forged explains a change. The rows of trials/forged.py see it."""
 from .plant import seen_by
-from .reasons import ARCHIVE, CONTENT, DEB, DPKG, ENTRIES, LIB, PACKAGES, PROTECTED
+from .reasons import ARCHIVE, CONTENT, DPKG, ENTRIES, LIB, PACKAGES, PROTECTED
 
 EVIDENCE, KEPT = (LIB + name + ".py" for name in ("evidence", "kept_records"))
 BRIEF = "commands/lib/aide_compare/show/brief.py"
@@ -52,8 +52,10 @@ PLANTED = (
         # A signed file is at its own path; beside an archive dpkg's records are hints.
         (
             ARCHIVE,
-            "            self.members.setdefault(asked.usr(path), []).append(member)\n",
-            "            for place in asked.paths:\n                self.members.setdefault(place, []).append(member)\n",
+            "lambda path: known.usr(path) in known.paths, columns)\n                    self._take(keys[key], known.usr, *deb)\n",
+            "lambda path: True, columns)\n"
+            "                    deb = ({place: each for place in known.paths for each in deb[0].values()}, deb[1])\n"
+            "                    self._take(keys[key], known.usr, *deb)\n",
         ),
         (PACKAGES, 'is_hint = grade == "dpkg" and self.archive is not None', "is_hint = False"),
         # A new entry is what the archive's tar has: its type, mode, owner, group and target.
@@ -66,9 +68,9 @@ PLANTED = (
         (ARCHIVE, "new.user_and_group() == member.owner", "new.user_and_group()[1:] == member.owner[1:]"),
         (ARCHIVE, " and not new.has_more_rights()", ""),
         (
-            DEB,
-            "if is_data and (member.issym() or member.isdir() or is_file):",
-            "if is_data and (member.issym() or is_file):",
+            ARCHIVE,
+            "(is_file or each.isdir() or each.issym())",
+            "(is_file or each.issym())",
         ),
         # Which version there is, status says.
         (

@@ -3,7 +3,7 @@ from .plant import seen_by
 
 LIB = "commands/lib/aide_compare/reasons/"
 READER = "commands/lib/aide_compare/lines/reader.py"
-DATABASES, ENTRIES, PACKAGES, MADE, PARENTS, PROTECTED, TABLES, DPKG, DEB, INDEXES, ARCHIVE = (
+DATABASES, ENTRIES, PACKAGES, MADE, PARENTS, PROTECTED, TABLES, DPKG, INDEXES, ARCHIVE = (
     LIB + name + ".py"
     for name in (
         "by_databases",
@@ -14,7 +14,6 @@ DATABASES, ENTRIES, PACKAGES, MADE, PARENTS, PROTECTED, TABLES, DPKG, DEB, INDEX
         "protected",
         "tables",
         "dpkg",
-        "deb",
         "indexes",
         "archive",
     )

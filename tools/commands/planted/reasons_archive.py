@@ -1,6 +1,6 @@
 """Bugs of aide-compare reasons with packages of a signed archive: each takes away one check, so that something forged is believed."""
 from .plant import seen_by
-from .reasons import ARCHIVE, DEB, INDEXES, PACKAGES, PACKED
+from .reasons import ARCHIVE, INDEXES, PACKAGES, PACKED
 
 PLANTED = (
     seen_by(
@@ -15,7 +15,7 @@ PLANTED = (
             "            return self._reason(\"dpkg's records as",
             "            return None\n        if not control:\n            return self._reason(\"dpkg's records as",
         ),
-        (DEB, "else _path_of_name(member.linkname))", 'else b"/" + _path_of_name(member.linkname))'),
+        (ARCHIVE, "else _path_of_name(each.linkname))", 'else b"/" + _path_of_name(each.linkname))'),
         (ARCHIVE, 'part.replace(b":", b"%3a")', "part"),
         (INDEXES, 'path.replace("/", slash)', "path"),
     )
@@ -62,7 +62,7 @@ PLANTED = (
     + seen_by(
         "reasons_indexes.try_unpacked",
         (INDEXES, "        if is_signed and digest != sha256:\n            return None\n", ""),
-        (INDEXES, "if is_signed else size)", "if is_signed else MOST_INDEX)"),
+        (INDEXES, 'digests.get("", (None, MOST_INDEX))[1])', "MOST_INDEX)"),
     )
     + seen_by(
         "reasons_indexes.try_wanted",
@@ -84,7 +84,7 @@ PLANTED = (
     )
     + seen_by(
         "reasons_archive.try_forms",
-        (DEB, "begin + size + size % 2", "begin + size"),
+        (ARCHIVE, "begin + size + size % 2", "begin + size"),
         (
             PACKED,
             '            if not block:\n                raise Refuted("cut short")\n        yield decoder',

@@ -1,38 +1,42 @@
 """Bugs of aide-compare reasons: how packages and what they are packed in are read, and what then is no evidence."""
 from .plant import seen_by
-from .reasons import ARCHIVE, DEB, INDEXES, PACKAGES, PACKED
+from .reasons import ARCHIVE, INDEXES, PACKAGES, PACKED
 
 PLANTED = (
     seen_by(
         "reasons_debs.try_parts",
-        (DEB, "    if os.read(descriptor, len(MAGIC)) != MAGIC:\n", "    if not os.read(descriptor, len(MAGIC)):\n"),
-        (DEB, "        if not head:\n            return\n", ""),
-        (DEB, "PART.fullmatch(", "PART.match("),
-        (DEB, "PART.fullmatch(", "PART.search("),
-        (DEB, '.rstrip(" /")', '.rstrip(" ")'),
-        (DEB, "except (tarfile.TarError, ValueError, EOFError)", "except (ValueError, EOFError)"),
+        (ARCHIVE, "    if os.read(descriptor, len(MAGIC)) != MAGIC:\n", "    if not os.read(descriptor, len(MAGIC)):\n"),
+        (ARCHIVE, "        if not head:\n            return\n", ""),
+        (ARCHIVE, "PART.fullmatch(", "PART.match("),
+        (ARCHIVE, "PART.fullmatch(", "PART.search("),
+        (ARCHIVE, '.rstrip(" /")', '.rstrip(" ")'),
+        (ARCHIVE, "except (tarfile.TarError, ValueError, EOFError)", "except (ValueError, EOFError)"),
         (
-            DEB,
+            ARCHIVE,
             " *`\\n",
             " *..",
         ),
     )
     + seen_by(
         "reasons_debs.try_paths",
-        (DEB, '(path[2:] if path.startswith(b"./") else path.lstrip(b"/"))', 'path.lstrip(b"./")'),
-        (DEB, '(path[2:] if path.startswith(b"./") else path.lstrip(b"/"))', '(path[2:] if path.startswith(b"./") else path)'),
-        (DEB, "else _path_of_name(member.linkname))", 'else b"/" + os.fsencode(member.linkname)[2:])'),
-        (DEB, "elif is_file:", "elif not member.isdir():"),
-        (DEB, "min(BLOCK, left)", "BLOCK"),
+        (ARCHIVE, '(path[2:] if path.startswith(b"./") else path.lstrip(b"/"))', 'path.lstrip(b"./")'),
+        (
+            ARCHIVE,
+            '(path[2:] if path.startswith(b"./") else path.lstrip(b"/"))',
+            '(path[2:] if path.startswith(b"./") else path)',
+        ),
+        (ARCHIVE, "else _path_of_name(each.linkname))", 'else b"/" + os.fsencode(each.linkname)[2:])'),
+        (ARCHIVE, "(is_file or each.isdir() or each.issym())", "True"),
+        (ARCHIVE, "min(BLOCK, left)", "BLOCK"),
     )
     + seen_by(
         "reasons_debs.try_hard_links",
         (
-            DEB,
+            ARCHIVE,
             '    if place is None:\n        raise Refuted("a hard link to nothing")\n',
             "    if not place:\n        return {}\n",
         ),
-        (DEB, 'wants(path) if is_data else path != b"/"', "wants(path)"),
+        (ARCHIVE, 'wants if name == "data" else lambda path: path != b"/"', "wants"),
     )
     + seen_by(
         "reasons_debs.try_programs",
@@ -78,8 +82,8 @@ PLANTED = (
     )
     + seen_by(
         "reasons_packed.try_paragraphs",
-        (INDEXES, "    yield from _wanted(fields, keys)\n\n\ndef", "\n\ndef"),
-        (INDEXES, "            fields = {}\n", ""),
+        (INDEXES, 'lambda line: line == b"\\n")', 'lambda line: line == b"\\n" or line.startswith(b"Version:"))'),
+        (INDEXES, 'lambda line: line == b"\\n")', "lambda line: True)"),
     )
     + seen_by(
         "reasons_indexes.try_without_sums",

@@ -260,7 +260,7 @@ def try_forms(sandbox):
     path = os.path.join(HERE, "commands", "lib")
     if path not in sys.path:
         sys.path.append(path)
-    from aide_compare.reasons.deb import read_deb
+    from aide_compare.reasons.archive import read_deb
     from aide_compare.reasons import packed as packed_module
     from aide_compare.reasons.packed import Refuted
 
@@ -283,14 +283,15 @@ def try_forms(sandbox):
         ):
             with open(sandbox.write("form.deb", packed), "rb") as file:
                 try:
-                    found = read_deb(file.fileno(), lambda name: name.startswith(b"/usr/"), {"md5", "sha256"})
+                    found, control = read_deb(file.fileno(), None, lambda name: name.startswith(b"/usr/"), {"md5", "sha256"})
+                    links = {path: each.link for path, each in found.items() if each.link is not None}
                     got = (
-                        found.digests[b"/usr/bin/a"]["md5"] == hashlib.md5(TRUE).digest()
-                        and b"/etc/conf" not in found.digests
-                        and found.digests[b"/usr/bin/a2"] == found.digests[b"/usr/bin/a"]
-                        and b"postinst" in found.control
-                        and found.digests[b"/usr/share/large"]["sha256"] == hashlib.sha256(bytes(range(256)) * 5000).digest()
-                        and found.links == {b"/" + name.encode(): to.encode() for name, to in LINKS.items()}
+                        found[b"/usr/bin/a"].digests["md5"] == hashlib.md5(TRUE).digest()
+                        and b"/etc/conf" not in found
+                        and found[b"/usr/bin/a2"] == found[b"/usr/bin/a"]
+                        and b"postinst" in control
+                        and found[b"/usr/share/large"].digests["sha256"] == hashlib.sha256(bytes(range(256)) * 5000).digest()
+                        and links == {b"/" + name.encode(): to.encode() for name, to in LINKS.items()}
                     )
                 except Refuted as refuted:
                     got = str(refuted) == ""

@@ -18,9 +18,9 @@ def modules():
     path = os.path.join(HERE, "commands", "lib")
     if path not in sys.path:
         sys.path.append(path)
-    from aide_compare.reasons import deb, packed
+    from aide_compare.reasons import archive, packed
 
-    return deb, packed
+    return archive, packed
 
 
 def part(name, text):
@@ -44,14 +44,15 @@ def members(*given):
 
 
 def read(sandbox, text, wants=lambda path: True):
-    """What a package has, or why it is none."""
-    deb, packed = modules()
+    """What a package has: the digests of files, the targets of links, None for a folder, and dpkg's files; or why it is none."""
+    archive, packed = modules()
     with open(sandbox.write("odd.deb", text), "rb") as file:
         try:
-            found = deb.read_deb(file.fileno(), wants, {"md5"})
+            found, control = archive.read_deb(file.fileno(), None, wants, {"md5"})
         except packed.Refuted as refuted:
             return "refuted: %s" % refuted
-    return found.digests, found.links, found.control
+    links = {path: each.link for path, each in found.items() if not each.digests}
+    return {path: each.digests for path, each in found.items() if each.digests}, links, control
 
 
 def try_parts(sandbox):
@@ -124,7 +125,7 @@ def try_paths(sandbox):
     )
     files = {**dict.fromkeys(names, sums), b"/usr/large": {"md5": hashlib.md5(LONG).digest()}}
     got = read(sandbox, MAGIC + part("data.tar", members(*plain)))
-    sandbox.holds("the paths of a package", got == (files, {b"/usr/link": b"./../x"}, {}), got)
+    sandbox.holds("the paths of a package", got == (files, {b"/usr/link": b"./../x", b"/usr/lib": None}, {}), got)
     got = read(sandbox, MAGIC + part("data.tar", members(*plain)), lambda path: path in (b"/usr/bin/a2", b"/usr/link"))
     sandbox.holds("the paths that are wanted", got == ({b"/usr/bin/a2": sums}, {b"/usr/link": b"./../x"}, {}), got)
 

@@ -5,11 +5,12 @@ import shutil
 import stat
 import subprocess
 from collections import namedtuple
-from contextlib import contextmanager, suppress
+from contextlib import ExitStack, contextmanager, suppress
+from itertools import groupby
 
 from aide_compare.base.ending import Fault, Status
-from aide_compare.base.files import reopened
-from aide_compare.base.folders import open_folder
+from aide_compare.base.files import in_memory, reopened
+from aide_compare.base.folders import closed_after, open_folder
 from aide_compare.base.trusted import open_trusted
 from aide_compare.reasons.content import Vouched
 from aide_compare.reasons.packed import Refuted, copied, unpacked
@@ -17,8 +18,10 @@ from aide_compare.reasons.packed import Refuted, copied, unpacked
 LISTED = re.compile(rb"^ ([0-9a-f]{64}) +([0-9]+) +(\S+)$", re.M)
 SECTION = re.compile(rb"^SHA256:\s*\n((?: .*\n?)+)", re.M)
 KEYRING = "/usr/share/keyrings/debian-archive-keyring.gpg"
+# What is read of a package: its name, version and architecture, and its file.
+FIELDS = (b"Package", b"Version", b"Architecture", b"SHA256", b"Size", b"Filename")
 RELEASE, SUFFIXES = "InRelease", ("", ".xz", ".gz", ".bz2", ".zst", ".lz4")
-MOST_KEYRING = 64 << 20
+MOST_KEYRING, MOST_STATUS = 64 << 20, 1 << 16
 MOST_RELEASE, MOST_INDEX, MOST_NAMES, SECONDS = 8 << 20, 1 << 30, 100000, 60
 PIECE = os.O_RDONLY | os.O_NOFOLLOW | os.O_NONBLOCK | os.O_NOCTTY | os.O_CLOEXEC
 
@@ -36,27 +39,15 @@ class ArchiveFolder:
 
     @contextmanager
     def opened(self, name):
-        """A descriptor of a regular file by its path in the folder, or None; for a block."""
-        descriptor = self._open(name)
-        try:
-            yield descriptor if descriptor is not None and stat.S_ISREG(os.fstat(descriptor).st_mode) else None
-        finally:
-            if descriptor is not None:
-                os.close(descriptor)
-
-    def _open(self, name):
-        folder = os.dup(self.fd)
-        try:
-            *above, last = name.split("/")
-            for piece in above:
-                inner = os.open(piece, PIECE | os.O_DIRECTORY, dir_fd=folder)
-                os.close(folder)
-                folder = inner
-            return os.open(last, PIECE, dir_fd=folder)
-        except (OSError, ValueError):
-            return None
-        finally:
-            os.close(folder)
+        """A descriptor of a regular file by its path in the folder, or None; for a block, which ends where it is refuted."""
+        folder, file = self.fd, None
+        with ExitStack() as stack, suppress(Refuted):
+            with suppress(OSError, ValueError):
+                *above, last = name.split("/")
+                for piece in above:
+                    folder = stack.enter_context(closed_after(os.open(piece, PIECE | os.O_DIRECTORY, dir_fd=folder)))
+                file = stack.enter_context(closed_after(os.open(last, PIECE, dir_fd=folder)))
+            yield file if file is not None and stat.S_ISREG(os.fstat(file).st_mode) else None
 
     def releases(self):
         """The signed files: of a mirror, of apt's lists, or of a folder of packages. Each with what its indexes' names begin
@@ -73,10 +64,8 @@ class ArchiveFolder:
             suites = os.open("dists", PIECE | os.O_DIRECTORY, dir_fd=self.fd)
         except OSError:
             return []
-        try:
+        with closed_after(suites):
             return sorted(os.listdir(suites)[:MOST_NAMES])
-        finally:
-            os.close(suites)
 
 
 def signed_text(descriptor, keyrings):
@@ -84,26 +73,16 @@ def signed_text(descriptor, keyrings):
     program = shutil.which("gpgv")
     if not program:
         raise Fault(Status.DEVICE, "there is no program gpgv, so the archive's indexes cannot be verified")
-    reading, writing = os.pipe()
     rings = [word for ring in keyrings for word in ("--keyring", "/proc/self/fd/%d" % ring)]
-    words = [program, "--homedir", "/nonexistent", "--status-fd", str(writing)] + rings + ["--output", "-", "-"]
-    try:
-        done = subprocess.run(
-            words,
-            stdin=descriptor,
-            stdout=subprocess.PIPE,
-            stderr=subprocess.DEVNULL,
-            timeout=SECONDS,
-            pass_fds=tuple(keyrings) + (writing,),
-            env={"LC_ALL": "C"},
-        )
-    except (OSError, subprocess.TimeoutExpired):
-        os.close(reading)
-        return None
-    finally:
-        os.close(writing)
-    with open(reading, "rb") as file:
-        said = {line.split()[1] for line in file.read(1 << 16).split(b"\n") if line.startswith(b"[GNUPG:] ")}
+    given = {"stdin": descriptor, "stdout": subprocess.PIPE, "stderr": subprocess.DEVNULL, "env": {"LC_ALL": "C"}}
+    with closed_after(in_memory(b"")) as status:
+        words = [program, "--homedir", "/nonexistent", "--status-fd", str(status), *rings, "--output", "-", "-"]
+        try:
+            done = subprocess.run(words, timeout=SECONDS, pass_fds=(*keyrings, status), **given)
+        except (OSError, subprocess.TimeoutExpired):
+            return None
+        lines = os.pread(status, MOST_STATUS, 0).split(b"\n")
+    said = {line.split()[1] for line in lines if line.startswith(b"[GNUPG:] ")}
     is_good = {b"GOODSIG", b"VALIDSIG"} <= said and not said & {b"BADSIG", b"ERROR", b"UNEXPECTED"}
     return done.stdout if is_good and done.returncode in (0, 2) else None
 
@@ -140,7 +119,7 @@ class Index:
     def _listed(self, folder, name):
         """The indexes that a signed file lists: their digests by path and ending."""
         text, listed = None, {}
-        with folder.opened(name) as descriptor, suppress(Refuted):
+        with folder.opened(name) as descriptor:
             if descriptor is not None:
                 with open(copied(descriptor, None, MOST_RELEASE)[0], "rb") as copy:
                     text = signed_text(copy.fileno(), self.keyrings)
@@ -155,13 +134,14 @@ class Index:
     def _read(folder, path, digests, keys, found):
         """Reads an index if it is there in some form, and has the digest that was signed."""
         for ending in SUFFIXES:
-            with folder.opened(path + ending) as descriptor, suppress(Refuted):
-                if descriptor is not None:
-                    file = _signed(descriptor, ending, digests)
-                    if file:
-                        with file:
-                            found.update(_paragraphs(file, keys))
-                    return
+            with folder.opened(path + ending) as descriptor:
+                if descriptor is None:
+                    continue
+                file = _signed(descriptor, ending, digests)
+                if file:
+                    with file:
+                        found.update(_paragraphs(file, keys))
+            return
 
 
 def _signed(descriptor, ending, digests):
@@ -175,7 +155,7 @@ def _signed(descriptor, ending, digests):
     with open(packed, "rb"):
         if is_signed and digest != sha256:
             return None
-        plain, plain_digest = unpacked(packed, ending[1:], digests.get("", (None, MOST_INDEX))[1] if is_signed else size)
+        plain, plain_digest = unpacked(packed, ending[1:], digests.get("", (None, MOST_INDEX))[1])
     file = open(plain, "rb")
     if is_signed or plain_digest == sha256:
         return file
@@ -185,21 +165,9 @@ def _signed(descriptor, ending, digests):
 
 def _paragraphs(file, keys):
     """What an index says of the packages that are wanted."""
-    names, fields = {name for name, _, _ in keys}, {}
-    for line in file:
-        if line == b"\n":
-            yield from _wanted(fields, keys)
-            fields = {}
-        elif line[:1] not in b" \t" and (fields or line.startswith(b"Package:")):
-            name, _, value = line.partition(b":")
-            if name == b"Package" and value.strip() not in names:
-                continue
-            fields[name] = value.strip()
-    yield from _wanted(fields, keys)
-
-
-def _wanted(fields, keys):
-    key = tuple(fields.get(name, b"") for name in (b"Package", b"Version", b"Architecture"))
-    digest, size, name = (fields.get(name, b"") for name in (b"SHA256", b"Size", b"Filename"))
-    if key in keys and re.fullmatch(rb"[0-9a-f]{64}", digest) and size.isdigit():
-        yield key, Listed(digest.decode(), int(size), name.decode("utf-8", "replace"))
+    for _, lines in groupby(file, lambda line: line == b"\n"):
+        parts = (line.partition(b":") for line in lines)
+        fields = {name: value.strip() for name, _, value in parts if name in FIELDS}
+        *key, digest, size, name = (fields.get(each, b"") for each in FIELDS)
+        if tuple(key) in keys and re.fullmatch(rb"[0-9a-f]{64}", digest) and size.isdigit():
+            yield tuple(key), Listed(digest.decode(), int(size), name.decode("utf-8", "replace"))

@@ -8,7 +8,7 @@ import stat
 
 from aide_compare.base.escapes import shown
 from aide_compare.reasons import made
-from aide_compare.reasons.archive import Asked, has_rights_of
+from aide_compare.reasons.archive import has_rights_of
 from aide_compare.reasons.changes import shared_reason
 from aide_compare.reasons.content import COMPUTED, Contents
 from aide_compare.reasons.dpkg import Gathered
@@ -72,14 +72,15 @@ class DpkgPackages(ChangedPackages):
         after = [package for _, package in self.known.changed if package]
         if self.archive and after:
             columns = COMPUTED & set().union({"sha256"}, *explainer.new.tables)
-            self.archive.gather(after, Asked(self.known.paths, self.known.usr, columns))
+            self.archive.gather(after, self.known, columns)
             self.doubted_keys = self.archive.index.doubt(explainer.old, explainer.new)
         self.made = made.Made(self.known)
 
     def came(self):
         """The packages that came new, each with whether a signed index has it; None without an archive."""
         packages = [package for _, package in self.known.changed if package and package.key in self.known.fresh]
-        return [(package_words(package), self.archive.lists(package) if self.archive else None) for package in packages]
+        listed = self.archive.listed if self.archive else None
+        return [(package_words(each), None if listed is None else each.key in listed) for each in packages]
 
     def doubt(self):
         """Why not all that the records say counts; "" if it does, or if no package changed."""
@@ -111,7 +112,7 @@ class DpkgPackages(ChangedPackages):
         """Whether a package of the archive would have this path, if dpkg's records were right. What was diverted is elsewhere
         in it, but no diversion leads to where accounts, keys, jobs and units are."""
         is_diverted = path in self.known.new.diversions and not takes_no_pattern(path)
-        return self.archive and self.archive.covers(self.known.now[path]) and not is_diverted
+        return self.archive and not is_diverted and any(each.key in self.archive.covered for each in self.known.now[path])
 
     def _reason(self, text, grade, is_sure):
         """A reason. Beside an archive dpkg's records are hints."""
@@ -120,7 +121,7 @@ class DpkgPackages(ChangedPackages):
 
     def _is_strange(self, package):
         """Whether a package came new, or is one that no signed index has."""
-        return package.key in self.known.fresh or (self.archive is not None and not self.archive.lists(package))
+        return package.key in self.known.fresh or (self.archive is not None and package.key not in self.archive.listed)
 
     def _takes_none(self, change, packages):
         """Whether none of these packages explains an entry with its path and mode."""
