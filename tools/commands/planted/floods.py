@@ -61,6 +61,6 @@ PLANTED = (
         (DATABASES, "    if stat.S_ISSOCK(new.mode) or stat.S_ISFIFO(new.mode):\n        return EMPTY\n", ""),
         (DATABASES, "stat.S_ISSOCK(new.mode) or stat.S_ISFIFO(new.mode)", "stat.S_ISSOCK(new.mode)"),
         (DATABASES, "stat.S_ISSOCK(new.mode) or stat.S_ISFIFO(new.mode)", "not new.is_file()"),
-        (EXPLAINER, "LOW if change.reason is SAME else", "LOW if change.reason else"),
+        (EXPLAINER, "LOW if change.reason is by_databases.SAME else", "LOW if change.reason else"),
     )
 )

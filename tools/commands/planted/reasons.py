@@ -3,31 +3,21 @@ from .plant import seen_by
 
 LIB = "commands/lib/aide_compare/reasons/"
 READER = "commands/lib/aide_compare/lines/reader.py"
-DATABASES, ENTRIES, PACKAGES, MADE, PARENTS, PROTECTED, TABLES, DPKG, INDEXES, ARCHIVE = (
-    LIB + name + ".py"
-    for name in (
-        "by_databases",
-        "entries",
-        "packages",
-        "made",
-        "parents",
-        "protected",
-        "tables",
-        "dpkg",
-        "indexes",
-        "archive",
-    )
+DATABASES, ENTRIES, PACKAGES, MADE, TABLES, DPKG, INDEXES, ARCHIVE = (
+    LIB + name + ".py" for name in ("by_databases", "entries", "packages", "made", "tables", "dpkg", "indexes", "archive")
 )
-CONTENT, RECORDS, EXPLAINER, PACKED = (
-    LIB + name + ".py" for name in ("content", "records", "explainer", "packed")
-)
+CONTENT, RECORDS, EXPLAINER, PACKED = (LIB + name + ".py" for name in ("content", "records", "explainer", "packed"))
 TRUSTED, SEVERITIES = "commands/lib/aide_compare/base/trusted.py", "commands/share/severity.conf"
 
 
 PLANTED = (
     seen_by(
         "reasons_logs.try_growing",
-        (DATABASES, "return UNCHANGED if has_strong(old.digests()) else LATER", "return UNCHANGED if old.digests() else LATER"),
+        (
+            DATABASES,
+            "return UNCHANGED if has_strong(old.digests()) else LATER",
+            "return UNCHANGED if old.digests() else LATER",
+        ),
         (DATABASES, "before <= after) for", "True) for"),
         (DATABASES, 'GROWS = DIGESTS | TIMES | {"size", "bcount"}', 'GROWS = DIGESTS | TIMES | {"size", "bcount", "inode"}'),
         (DATABASES, "    if not (old.bits & GROWING and old.is_file()", "    if not (new.bits & GROWING and old.is_file()"),
@@ -47,10 +37,10 @@ PLANTED = (
         (DATABASES, 'if differ <= {"ctime"}:', 'if differ <= {"ctime", "perm"}:'),
         (
             DATABASES,
-            'self.by_inode.get((change.folder(), new.field("inode")))',
-            'next((value for (_, inode), value in self.by_inode.items() if inode == new.field("inode")), None)',
+            "sources = left.get((folder, inode), ())",
+            "sources = sum((each for key, each in left.items() if key[1:] == (inode,)), [])",
         ),
-        (DATABASES, '        if not differences(old, new) <= GROWS | {"inode"}:\n            return None\n', ""),
+        (DATABASES, ' and differences(old, new) <= GROWS | {"inode"}', ""),
     )
     + seen_by(
         "reasons_logs.try_packed",
@@ -58,18 +48,18 @@ PLANTED = (
         (DATABASES, '("perm", "uid", "gid",', '("perm", "gid",'),
         (DATABASES, '("perm", "uid", "gid",', '("uid", "gid",'),
         (DATABASES, " and sizes[1] <= sizes[0] + MOST_HEAD", ""),
-        (DATABASES, "not new.bits & COMPRESSED or ", ""),
-        (DATABASES, ' or new.time("mtime") is None', ""),
+        (DATABASES, " and new.bits & COMPRESSED", ""),
+        (DATABASES, ' and new.time("mtime") is not None', ""),
         (DATABASES, 'old.number("inode") != new.number("inode") and ', ""),
         (DATABASES, " and None not in sizes", ""),
-        (DATABASES, "self.by_stem.get((change.folder(), stem, _kept_of(new)), ())", "sum(self.by_stem.values(), [])"),
+        (DATABASES, "left.get((folder, stem, _kept_of(new)), ())", "sum(left.values(), [])"),
     )
     + seen_by(
         "reasons_logs.try_many_packed",
         (
             DATABASES,
-            "self.by_stem.get((change.folder(), stem, _kept_of(new)), ())[:MOST_SOURCES]",
-            "[each for each in sum(self.by_stem.values(), []) if _kept_of(self.read(each)[0]) == _kept_of(new)]",
+            "left.get((folder, stem, _kept_of(new)), ())[:MOST_SOURCES]",
+            "[each for each in sum(left.values(), []) if _kept_of(read(each)[0]) == _kept_of(new)]",
         ),
     )
     + seen_by(
@@ -85,10 +75,10 @@ PLANTED = (
         (PACKAGES, "(old is None and not new.is_closed())", "False"),
         (DATABASES, "change.reason is None and change.is_replaced", "change.is_replaced"),
         (ENTRIES, "self.user_and_group() == (0, 0) and self.is_plain()", "self.is_plain()"),
-        (PROTECTED, "all_can_write(new) and not all_can_write(old)", "all_can_write(new)"),
+        (TABLES, "all_can_write(new) and not all_can_write(old)", "all_can_write(new)"),
         (ENTRIES, "not self.is_link() and (has_more or has_list)", "not self.is_link() and has_more"),
         (ENTRIES, "not self.is_link() and (has_more or has_list)", "not self.is_link() and has_list"),
-        (PACKAGES, '        count = new.number("lcount") or 0\n', "        count = 0\n"),
+        (PACKAGES, 'new.number("lcount") or 0', "0"),
         (PACKAGES, "differ <= SAME_CONTENT and old.digests():", "differ <= SAME_CONTENT:"),
         (ENTRIES, "for column, value in found.items() if value}", "for column, value in found.items()}"),
     )
@@ -99,11 +89,11 @@ PLANTED = (
     )
     + seen_by(
         "reasons_packages.try_names",
-        (ENTRIES, "return merged[head] + path[len(head) :] if head in merged else path", "return path"),
+        (ENTRIES, "merged.get(found.group(), found.group())", "found.group()"),
         (DPKG, "self.diverted[self.usr(source)] = (self.usr(target), package)", "self.diverted[source] = (target, package)"),
         (DPKG, "        return path if by == package.name else target\n", "        return target\n"),
         (DPKG, "        return path if by == package.name else target\n", "        return path\n"),
-        (DPKG, "yield self.place_of(path, package), digest", "yield path, digest"),
+        (DPKG, "((self.place_of(path, package), digest) for path, digest in", "((path, digest) for path, digest in"),
         (
             ENTRIES,
             ' if entry.link() in (b"usr" + path, b"/usr" + path)}',
@@ -137,23 +127,23 @@ PLANTED = (
         ),
         (
             DPKG,
-            "for package in night.packages.values() if self.others else ():",
-            "for _, package in self.changed if package:",
+            "packages = self.new.packages.values() if self.changed and self.others else ()",
+            "packages = [package for _, package in self.changed if package]",
         ),
     )
     + seen_by(
         "reasons_packages.try_came",
-        (DPKG, "owners[path] + alone if path in owners else alone", "alone"),
-        (DPKG, "keys = sorted(old.packages.keys() | new.packages.keys())", "keys = sorted(old.packages)"),
+        (DPKG, "owners.setdefault(path, []).append(package)", "owners[path] = [package]"),
+        (DPKG, "sorted(set().union(*nights))", "sorted(nights[0])"),
     )
     + seen_by(
         "reasons_packages.try_read",
-        (CONTENT, "else self.agrees(path, entry, wanted)", "else True"),
-        (CONTENT, "else self.agrees(path, entry, wanted)", "else False"),
+        (CONTENT, "return do_agree(found, known) and do_agree(found, wanted)", "return True"),
+        (CONTENT, "return do_agree(found, known) and do_agree(found, wanted)", "return False"),
     )
     + seen_by(
         "reasons_places.try_made",
-        (MADE, "if prefix == ANY or prefix in known.prefixes]", "]"),
+        (MADE, " if prefix == ANY or prefix in known.prefixes", ""),
         (
             MADE,
             'made_by("from %s" % shown(source, 200)) if self.known.is_owned(source) else None',
@@ -161,7 +151,7 @@ PLANTED = (
         ),
         (MADE, "if self.known.is_owned(target) or is_script else None", ""),
         (MADE, "        if takes_no_pattern(path):\n            return None\n", ""),
-        (MADE, "(may_run or not (new.is_file() and new.mode & 0o111))", "True"),
+        (MADE, "(may_run or not new.is_file() or new.is_data())", "True"),
         (MADE, 'return differ <= CONTENT | {"lname"}', "return True"),
         (MADE, "        if not self.names:\n            return None\n", ""),
     )
@@ -173,20 +163,20 @@ PLANTED = (
     )
     + seen_by(
         "reasons_places.try_folders",
-        (PARENTS, "text + more, worst == VERIFIED,", "text, True,"),
+        (DATABASES, "text + more, worst == VERIFIED)", "text, True)"),
         (
-            PARENTS,
+            DATABASES,
             ' or not has_other_names(old, new, differ - {"inode"})',
             ' or (is_anew and not has_other_names(old, new, differ - {"inode"}))',
         ),
-        (PARENTS, "return None not in flags and flags[0] ^ flags[1] == INDEX", "return True"),
-        (PARENTS, "return None not in flags and flags[0]", "return flags[0]"),
-        (PARENTS, " and change.new_at is not None and", " and"),
-        (PARENTS, "if change.is_open() and", "if change.reason is None and"),
-        (PARENTS, "else ALL_NAMES, worst)", "else ALL_NAMES, NOT_VERIFIED if is_anew else worst)"),
-        (PARENTS, "if worst is None:", "if worst is None and not is_anew:"),
+        (DATABASES, "return None not in flags and flags[0] ^ flags[1] == INDEX", "return True"),
+        (DATABASES, "return None not in flags and flags[0]", "return flags[0]"),
+        (DATABASES, " and change.new_at is not None and", " and"),
+        (DATABASES, "if change.is_open() and", "if change.reason is None and"),
+        (DATABASES, "else ALL_NAMES, worst)", "else ALL_NAMES, NOT_VERIFIED if is_anew else worst)"),
+        (DATABASES, "if worst is None:", "if worst is None and not is_anew:"),
         (
-            PARENTS,
+            DATABASES,
             ' or not has_other_names(old, new, differ - {"inode"})',
             " or (not is_anew and not has_other_names(old, new, differ))",
         ),
@@ -198,7 +188,7 @@ PLANTED = (
         (TABLES, "        return differ <= rule.columns or (", "        return True or ("),
         (TABLES, "text = shown(parts[2], MOST_TEXT)", 'text = parts[2].decode("utf-8", "replace")'),
     )
-    + seen_by("reasons_places.try_never", (PROTECTED, " or next(_NEVER.rows(path), None) is not None", ""))
+    + seen_by("reasons_places.try_never", (TABLES, " or _has(NEVER, path)", ""))
     + seen_by(
         "reasons_places.try_shipped_rules",
         (
@@ -209,8 +199,8 @@ PLANTED = (
     )
     + seen_by(
         "reasons_places.try_severity",
-        (PROTECTED, "return 0 if stat.S_ISDIR(mode) else mode & SET_ID", "return mode & SET_ID"),
-        (PROTECTED, " and not stat.S_ISLNK(mode) and not (stat.S_ISDIR(mode) and mode & stat.S_ISVTX)", ""),
+        (TABLES, "return 0 if stat.S_ISDIR(mode) else mode & SET_ID", "return mode & SET_ID"),
+        (TABLES, " and not stat.S_ISLNK(mode) and not (stat.S_ISDIR(mode) and mode & stat.S_ISVTX)", ""),
         (TABLES, "lambda row: all(test(old, new) for test in row.tests)", "lambda row: True"),
         (SEVERITIES, "high    any     /etc/sudoers.d/**\n", ""),
         (SEVERITIES, "high    executable      /usr/bin/*\n", ""),
@@ -218,7 +208,7 @@ PLANTED = (
     + seen_by(
         "reasons_severity.try_tests",
         (
-            PROTECTED,
+            TABLES,
             "bool(set_id(new) & ~set_id(old)) if stat.S_IFMT(old) == stat.S_IFMT(new) else bool(set_id(new))",
             "bool(set_id(new) & ~set_id(old))",
         ),

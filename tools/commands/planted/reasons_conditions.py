@@ -7,9 +7,9 @@ PLANTED = (
         "reasons_upgrades.try_same",
         (PACKAGES, 'SAME_CONTENT = CONTENT - DIGESTS - {"size"}', 'SAME_CONTENT = CONTENT - {"size"}'),
         (PACKAGES, 'SAME_CONTENT = CONTENT - DIGESTS - {"size"}', "SAME_CONTENT = CONTENT - DIGESTS"),
-        (PACKAGES, 'SAME_TARGET = TIMES | {"inode", "bcount"}', 'SAME_TARGET = TIMES | {"inode"}'),
-        (PACKAGES, 'SAME_TARGET = TIMES | {"inode", "bcount"}', 'SAME_TARGET = TIMES | {"inode", "bcount", "perm"}'),
-        (PACKAGES, 'SAME_TARGET | {"lname", "size"}', 'SAME_TARGET | {"lname"}'),
+        (ENTRIES, 'SAME_TARGET = TIMES | {"inode", "bcount"}', 'SAME_TARGET = TIMES | {"inode"}'),
+        (ENTRIES, 'SAME_TARGET = TIMES | {"inode", "bcount"}', 'SAME_TARGET = TIMES | {"inode", "bcount", "perm"}'),
+        (ENTRIES, 'SAME_TARGET | {"lname", "size"}', 'SAME_TARGET | {"lname"}'),
     )
     + seen_by(
         "reasons_upgrades.try_kinds",
@@ -28,7 +28,7 @@ PLANTED = (
         ),
         (PACKAGES, '"gone with %s" % package_words(owners[-1])', "package_words(owners[-1])"),
         (PACKAGES, '"%s, same target as before"', '"%s, same content as before"'),
-        (PACKAGES, 'made.made_by("a link of %s" % package_words(self.known.now[path][-1]))', 'made.made_by("")'),
+        (PACKAGES, 'made_by("a link of %s" % package_words(self.known.now[path][-1]))', 'made_by("")'),
     )
     + seen_by(
         "reasons_entries.try_values",
@@ -60,13 +60,9 @@ PLANTED = (
     + seen_by("reasons_entries.try_early", (ENTRIES, "None if seconds is None else sign * seconds", "seconds"))
     + seen_by(
         "reasons_rules.try_words",
-        (TABLES, '"times": {"mtime", "ctime", "atime"}', '"times": {"mtime", "ctime"}'),
-        (TABLES, 'DIGESTS | {"size", "bcount", "mtime", "ctime", "atime"}', 'DIGESTS | {"size", "mtime", "ctime", "atime"}'),
-        (
-            TABLES,
-            'DIGESTS | {"size", "bcount", "mtime", "ctime", "atime"}',
-            'DIGESTS | {"size", "bcount", "mtime", "ctime", "atime", "inode"}',
-        ),
+        (TABLES, '"times": TIMES', '"times": TIMES - {"atime"}'),
+        (TABLES, '"content": CONTENT - {"inode"}', '"content": CONTENT - {"inode", "bcount"}'),
+        (TABLES, '"content": CONTENT - {"inode"}', '"content": CONTENT'),
         (TABLES, '    "caps": {"cap', '    "perm": {"perm", "uid"},\n    "caps": {"cap'),
         (TABLES, '    "caps": {"cap', '    "uid": {"uid", "gid"},\n    "caps": {"cap'),
         (TABLES, '"caps": {"capabilities"}', '"caps": {"caps"}'),
@@ -90,7 +86,7 @@ PLANTED = (
         ),
         (TABLES, '("removed" if old else "added") in', '("added" if new else "added") in'),
     )
-    + seen_by("reasons_rpm.try_links", (PACKAGES, "if reason and new.is_file() and count", "if reason and count"))
+    + seen_by("reasons_rpm.try_links", (PACKAGES, " and stat.S_ISREG(change.new_mode)", ""))
     + seen_by(
         "reasons_logs.try_rotated",
         (DATABASES, "is_same = has_strong(old.digests())", "is_same = True"),

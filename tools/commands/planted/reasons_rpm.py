@@ -2,7 +2,7 @@
 from .plant import seen_by
 from .reasons import CONTENT, ENTRIES, LIB, RECORDS
 
-PACKAGES = LIB + "rpm_packages.py"
+PACKAGES, DPKGS = LIB + "rpm_packages.py", LIB + "packages.py"
 
 PLANTED = (
     seen_by(
@@ -14,7 +14,11 @@ PLANTED = (
             '            return ""\n',
         ),
         (PACKAGES, " or (file.package in self.fresh and takes_no_stranger(change.path, new.mode)):", ":"),
-        (PACKAGES, "self._reason(package_words(file.package), not self.why_not)", "self._reason(package_words(file.package), True)"),
+        (
+            PACKAGES,
+            "self._reason(package_words(file.package), not self.why_not)",
+            "self._reason(package_words(file.package), True)",
+        ),
     )
     + seen_by(
         "reasons_rpm.try_content",
@@ -27,8 +31,8 @@ PLANTED = (
         (ENTRIES, 'return (self.number("uid"), self.number("gid"))', 'return (0, self.number("gid"))'),
         (
             PACKAGES,
-            "        if _capabilities(new.capabilities()) != _capabilities(file.capabilities):\n            return False\n",
-            "",
+            "new.is_link() or _capabilities(new.capabilities()) == _capabilities(file.capabilities)",
+            "True",
         ),
         (PACKAGES, "if found else text", "if found and False else text"),
         (
@@ -47,14 +51,14 @@ PLANTED = (
         (PACKAGES, "in sorted(new.blocks.keys() - old.blocks.keys()):", "in new.blocks:"),
         (PACKAGES, "package = RpmPackage(*found.groups()[:3])", 'package = RpmPackage(found.group(1), b"", b"")'),
         (
-            LIB + "packages.py",
+            DPKGS,
             "(shown(package.name, 100), shown(package.version, 100))",
             "(package.name.decode(), shown(package.version, 100))",
         ),
     )
     + seen_by(
         "reasons_rpm.try_links",
-        (PACKAGES, "            return old is None\n", "            return True\n"),
+        (DPKGS, "        return old is None\n", "        return True\n"),
         (PACKAGES, "if stat.S_ISDIR(file.mode)]", "]"),
     )
     + seen_by(
@@ -69,7 +73,7 @@ PLANTED = (
         (PACKAGES, "yield self.usr(fields[1]), fields", "yield fields[1], fields"),
         (PACKAGES, "yield self.usr(fields[1]), fields", 'yield fields[1].replace(b"/sbin", b"/usr/sbin"), fields'),
     )
-    + seen_by("reasons_rpm.try_read", (CONTENT, "else self.agrees(path, entry, wanted)", "else True"))
+    + seen_by("reasons_rpm.try_read", (CONTENT, "return do_agree(found, known) and do_agree(found, wanted)", "return True"))
     + seen_by(
         "reasons_rpm_records.try_damage",
         (PACKAGES, 'if line and (len(fields) != FILE_FIELDS or fields[0] != b"F"):', "if len(fields) != FILE_FIELDS:"),

@@ -112,7 +112,7 @@ BLOCK, OTHER = (b"-----BEGIN CERTIFICATE-----\n%s\n-----END CERTIFICATE-----\n" 
 
 def try_bundle(sandbox):
     """The one file with all certificates: only those of packages, each as it is there."""
-    module = own_module("aide_compare.reasons.derived")
+    module = own_module("aide_compare.reasons.made")
     for number, (label, text, more, want) in enumerate(
         (
             ("those of packages", BLOCK + OTHER, {}, "dpkg!"),
@@ -134,13 +134,13 @@ def try_bundle(sandbox):
         changes.add(folder + "shipped/B.crt", OTHER, is_verified=True)
         changes.add(folder + "shipped/C.crt", BLOCK.replace(b"QQ", b"SS"))
         bundle = changes.add(folder + "certs/all.crt", text, **more)
-        module.Certificates(changes.changes, changes.read).explain()
+        module.explain_certificates(changes.changes, changes.read)
         sandbox.holds("all certificates, " + label, found(bundle) == want, (found(bundle), want))
 
 
 def try_sums(sandbox):
     """dpkg's digests of a package: each is that of a verified file."""
-    module = own_module("aide_compare.reasons.derived")
+    module = own_module("aide_compare.reasons.made")
     good, other = (hashlib.md5(text).hexdigest() for text in (b"good", b"other"))
     for number, (label, lines, more, want) in enumerate(
         (
@@ -164,5 +164,5 @@ def try_sums(sandbox):
         text = "".join("%s  %s%s\n" % (digest, root[1:], name) for digest, name in lines)
         module.SUMS = re.compile(re.escape(os.fsencode(root)) + rb"tool\.md5sums")
         sums = changes.add(folder + "tool.md5sums", text.encode(), **more)
-        module.Sums(changes.changes, changes.read, lambda path: path).explain()
+        module.explain_sums(changes.changes, changes.read, lambda path: path)
         sandbox.holds("digests, " + label, found(sums) == want, (found(sums), want))

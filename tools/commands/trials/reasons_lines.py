@@ -263,8 +263,7 @@ def try_interface(sandbox):
     records, _ = modules()
     from types import SimpleNamespace
     from aide_compare.compare.reason_counts import ReasonCounts as Counts
-    from aide_compare.reasons.evidence import evidence_of
-    from aide_compare.reasons.explainer import Explainer, members_of
+    from aide_compare.reasons.explainer import Explainer, evidence_of, members_of
 
     host = Host()
     host.old.file(b"/var/log/a", b"1", bits=LOG).file(b"/b", b"1")

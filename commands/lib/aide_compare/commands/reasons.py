@@ -7,8 +7,7 @@ from aide_compare.base.options import EVIDENCE
 from aide_compare.commands.streams import convert, parser_of
 from aide_compare.compare.unpack import copy_database
 from aide_compare.lines.reader import Reader, Refused, with_members
-from aide_compare.reasons.evidence import evidence_of
-from aide_compare.reasons.explainer import Explainer, members_of
+from aide_compare.reasons.explainer import Explainer, evidence_of, members_of
 
 NAME = "aide-compare reasons"
 MOST_DATABASE = 4 << 30

@@ -1,5 +1,5 @@
-"""What the two databases explain by themselves: logs that grow, come, go or are renamed as AIDE's rules allow, and files that
-were written anew with the content that they had.
+"""What the two databases explain by themselves: logs that grow, come, go or are renamed as AIDE's rules allow, files that
+were written anew with the content that they had, and folders in which explained names came, went, or mean other files.
 
 The bit of `growing`, of `I` and of `ARF` counts in the old database, that of `ANF` in the new one, as in AIDE's --compare.
 """
@@ -7,23 +7,13 @@ import re
 import stat
 
 from aide_compare.base.escapes import shown
-from aide_compare.reasons.changes import Reason
-from aide_compare.reasons.entries import (
-    ABSENT,
-    COMPRESSED,
-    DIGESTS,
-    GROWING,
-    NEW_FILES,
-    REMOVED_FILES,
-    SAME_INODE,
-    TIMES,
-    differences,
-    has_strong,
-)
+from aide_compare.reasons.changes import shared_reason
+from aide_compare.reasons.entries import ABSENT, COMPRESSED, DIGESTS, GROWING, NAMES, NEW_FILES, OTHERS_WRITE, REMOVED_FILES
+from aide_compare.reasons.entries import SAME_INODE, TIMES, differences, has_strong
 
 
 def _by_databases(name, text, is_verified):
-    return Reason(name, text, is_verified, "databases")
+    return shared_reason(name, text, is_verified, "databases")
 
 
 GREW = _by_databases("growing", "grew, content not verified", False)
@@ -41,6 +31,11 @@ PACKED = re.compile(rb"(.+?)(?:[.-][0-9][0-9.-]*)?\.(?:gz|xz|bz2|zst)")
 NUMBERED = re.compile(rb"(.+?)(?:[.-][0-9][0-9.-]*)?")
 # A packed file is not larger than its source but for the head that each packer writes.
 MOST_HEAD = 256
+ALL_NAMES, ALL_IN_IT = "all that came, went or was replaced in it is explained", "all that is in it is explained"
+# The one bit of the file system's attributes that a folder gets by having many names: its index.
+INDEX = 0x1000
+# What is known of the names in a folder that came, went or were replaced, the worst last.
+VERIFIED, NOT_VERIFIED, UNEXPLAINED = range(3)
 # Packers keep these of their source, so a source is looked up by them: among thousands of files none is compared with all.
 KEPT = ("perm", "uid", "gid", "acl", "xattrs", "mtime")
 MOST_SOURCES = 16
@@ -72,7 +67,7 @@ def explain_lone(old, new):
     """The reason for an entry that came or went as its rule allows. A log is a file that nobody runs."""
     if old:
         return REMOVED if old.bits & REMOVED_FILES and old.is_file() else None
-    return ADDED if new.bits & NEW_FILES and new.is_file() and not new.mode & 0o111 else None
+    return ADDED if new.bits & NEW_FILES and new.is_data() else None
 
 
 def explain_same(old, new, differ):
@@ -116,67 +111,95 @@ def _explain_rename(source, old, new):
     return None
 
 
-class Renames:
+def explain_renames(changes, read):
     """Explains files that were renamed in their folder, as logs are when they are rotated, among the changes that nothing else
-    explains: by the inode, or by the time of a compressed one."""
+    explains. What was renamed, or packed, leaves its old name to a new file, which is explained after it."""
+    found = [change for change in changes if change.reason is None and change.is_replaced]
+    left, came_from = _names_left(found, read), {}
+    for change in found:
+        if stat.S_ISREG(change.new_mode) and not change.is_never:
+            source, change.reason = _source_of(change, read(change)[1], left, read)
+            if source:
+                came_from[source] = change
+    for source, change in came_from.items():
+        if source.is_open() and source.new_at is not None:
+            source.reason = _explain_left(change, *read(source))
 
-    def __init__(self, changes, read):
-        self.read, self.by_inode, self.by_stem = read, {}, {}
-        self.open = [change for change in changes if change.reason is None and change.is_replaced]
-        for change in self.open:
-            if change.old_at is not None:
-                self._add(change)
 
-    def _add(self, change):
-        """Notes an entry that has left its name. Of two names for one inode, or without inodes, nothing can be said."""
-        folder, old = change.folder(), self.read(change)[0]
-        inode = old.field("inode")
-        is_known = inode != ABSENT and (folder, inode) not in self.by_inode
-        self.by_inode[folder, inode] = change if is_known else None
-        self.by_stem.setdefault((folder, _stem(change, NUMBERED), _kept_of(old)), []).append(change)
+def _names_left(changes, read):
+    """The entries that have left their names, by their folder and inode, and by what packers keep of them."""
+    left = {}
+    for change in changes:
+        if change.old_at is not None:
+            folder, old = change.folder(), read(change)[0]
+            left.setdefault((folder, old.field("inode")), []).append(change)
+            left.setdefault((folder, _stem(change, NUMBERED), _kept_of(old)), []).append(change)
+    return left
 
-    def explain(self):
-        """Gives reasons. What was renamed, or packed, leaves its old name to a new file, which is explained after it."""
-        came_from = {}
-        for change in self.open:
-            if stat.S_ISREG(change.new_mode) and not change.is_never:
-                new = self.read(change)[1]
-                source = self._renamed(change, new) or self._packed(change, new)
-                if source:
-                    came_from[source] = change
-        for source, change in came_from.items():
-            if source.is_open() and source.new_at is not None:
-                source.reason = self._left(source, change)
 
-    def _renamed(self, change, new):
-        """The file of this folder that has this name now, and had another one; a reason is given if all else is as before."""
-        source = self.by_inode.get((change.folder(), new.field("inode")))
-        if source is None:
-            return None
-        change.reason = _explain_rename(source, self.read(source)[0], new)
-        return source if change.reason else None
+def _source_of(change, new, left, read):
+    """The change of the name that a file had, or of the file whose packed form it is, and the reason; None twice without one.
+    Of two names for one inode, or without inodes, nothing can be said. Packers keep the time, the mode and the owner."""
+    folder, inode, stem = change.folder(), new.field("inode"), _stem(change, PACKED)
+    sources = left.get((folder, inode), ())
+    reason = _explain_rename(sources[0], read(sources[0])[0], new) if len(sources) == 1 and inode != ABSENT else None
+    if reason:
+        return sources[0], reason
+    if stem and new.bits & COMPRESSED and new.time("mtime") is not None:
+        for source in left.get((folder, stem, _kept_of(new)), ())[:MOST_SOURCES]:
+            if _is_packed(read(source)[0], new):
+                return source, _moved("compressed from %s, content not verified", source)
+    return None, None
 
-    def _packed(self, change, new):
-        """The file whose packed form this is: packers keep the time, the mode and the owner of their source."""
-        stem = _stem(change, PACKED)
-        if not stem or not new.bits & COMPRESSED or new.time("mtime") is None:
-            return None
-        for source in self.by_stem.get((change.folder(), stem, _kept_of(new)), ())[:MOST_SOURCES]:
-            if self._is_packed(self.read(source)[0], new):
-                change.reason = _moved("compressed from %s, content not verified", source)
-                return source
+
+def _is_packed(old, new):
+    sizes = old.number("size"), new.number("size")
+    return old.number("inode") != new.number("inode") and None not in sizes and sizes[1] <= sizes[0] + MOST_HEAD
+
+
+def _explain_left(change, old, new):
+    """The reason for the new file under a name that was left for that of the change."""
+    is_log = new.bits & NEW_FILES and new.is_data() and differences(old, new) <= GROWS | {"inode"}
+    return _moved("rotated to %s; the new file is not verified", change) if is_log else None
+
+
+def has_other_names(old, new, differ):
+    """Whether a folder differs only as it does when names come and go in it."""
+    rest = differ - NAMES
+    if rest == {"e2fsattrs"}:
+        flags = old.number("e2fsattrs"), new.number("e2fsattrs")
+        return None not in flags and flags[0] ^ flags[1] == INDEX
+    return not rest
+
+
+def _by_names(text, worst):
+    more = ", not all of it verified" if worst == NOT_VERIFIED else ""
+    return _by_databases("directory", text + more, worst == VERIFIED)
+
+
+def explain_folders(changes, read, owner_of):
+    """Explains folders, the inner ones first, each after all that is in it. `worst` says by folder what is known of its names;
+    a folder in which none changed is not there."""
+    worst = {}
+    for change in reversed(changes):
+        names = worst.pop(change.path, None)
+        if change.is_open() and change.new_at is not None and names != UNEXPLAINED:
+            change.reason = _folder_reason(change, *read(change), names, owner_of)
+        if change.is_replaced:
+            standing = VERIFIED if change.is_verified() else NOT_VERIFIED if change.reason else UNEXPLAINED
+            worst[change.folder()] = max(standing, worst.get(change.folder(), VERIFIED))
+
+
+def _folder_reason(change, old, new, worst, owner_of):
+    if not new.is_folder():
         return None
-
-    @staticmethod
-    def _is_packed(old, new):
-        sizes = old.number("size"), new.number("size")
-        return old.number("inode") != new.number("inode") and None not in sizes and sizes[1] <= sizes[0] + MOST_HEAD
-
-    def _left(self, source, change):
-        """The reason for the new file under a name that was left."""
-        old, new = self.read(source)
-        if not (new.bits & NEW_FILES and new.is_file() and not new.mode & 0o111):
-            return None
-        if not differences(old, new) <= GROWS | {"inode"}:
-            return None
-        return _moved("rotated to %s; the new file is not verified", change)
+    if old is None:  # Nobody but root can put more into it.
+        is_roots = new.is_plain() and not new.mode & OTHERS_WRITE
+        return _by_names("new; " + ALL_IN_IT, worst) if is_roots and worst is not None else None
+    differ = differences(old, new)
+    is_anew = "inode" in differ
+    if not old.is_folder() or not has_other_names(old, new, differ - {"inode"}):
+        return None
+    if worst is None:
+        return owner_of(change) if owner_of and not is_anew else None
+    return _by_names("made anew; " + ALL_IN_IT if is_anew else ALL_NAMES, worst)

@@ -4,13 +4,13 @@ import os
 
 from aide_compare.base.ending import Fault
 from aide_compare.base.escapes import shown
-from aide_compare.base.files import open_regular
+from aide_compare.base.files import open_regular, read_file
 from aide_compare.reasons.entries import DIGESTS, entries_at, has_strong
 
 # The columns of digests that are computed here: those that every Python computes, by the same name.
 COMPUTED = DIGESTS & hashlib.algorithms_guaranteed
-# Those of at least 256 bits. The first one that an entry has decides whether a database vouches for records.
-STRONG = ("sha256", "sha512", "sha3_256", "sha3_512")
+# Those of at least 256 bits. All that an entry has decide whether a database vouches for records.
+STRONG = frozenset(("sha256", "sha512", "sha3_256", "sha3_512"))
 BLOCK = 1 << 18
 
 
@@ -36,11 +36,10 @@ def bytes_of(path, entry, most):
     if not has_strong(known):
         return None
     try:
-        with open(open_regular(os.fsdecode(path)), "rb") as file:
-            text = file.read(most + 1)
-    except (Fault, OSError):
+        text = read_file(os.fsdecode(path), most)
+    except Fault:
         return None
-    return text if len(text) <= most and digests_of(known, [text]) == known else None
+    return text if digests_of(known, [text]) == known else None
 
 
 class Contents:
@@ -50,21 +49,16 @@ class Contents:
         self.left = most
 
     def fits(self, path, entry, wanted):
-        """Whether an entry has the wanted digests. Without one in common, the file itself has to have both."""
+        """Whether an entry has the wanted digests. Without one in common, the file on this machine has to have both."""
         known = entry.digests()
         if not wanted:
             return False
-        return do_agree(known, wanted) if known.keys() & wanted.keys() else self.agrees(path, entry, wanted)
-
-    def agrees(self, path, entry, wanted):
-        """Whether the file with this path has the digests of its entry in the database and those that are wanted."""
-        known = entry.digests()
-        columns = (known.keys() | wanted.keys()) & COMPUTED
-        size = entry.number("size")
-        if not known.keys() & COMPUTED or (size or 0) > self.left:
+        if known.keys() & wanted.keys():
+            return do_agree(known, wanted)
+        if not known.keys() & COMPUTED or (entry.number("size") or 0) > self.left:
             return False
         try:
-            found = digests_of(columns, self._blocks(path))
+            found = digests_of((known.keys() | wanted.keys()) & COMPUTED, self._blocks(path))
         except (Fault, OSError):
             return False
         return do_agree(found, known) and do_agree(found, wanted)
@@ -81,31 +75,26 @@ class Contents:
         raise OSError("no more may be read")
 
 
-def strong_digest(entry):
-    """A strong digest that an entry of a file has, as its column and its bytes; None without one."""
-    digests = entry.digests() if entry.is_file() else {}
-    return next(((column, digests[column]) for column in STRONG if column in digests), None)
-
-
 class Vouched:
-    """What a database says of files, by their paths: the strong digest of each, None if it has an entry without one.
+    """What a database says of files, by their paths: the strong digests of each, none if its entry has none.
 
     Records are read when the databases are compared, and AIDE ran hours before. So what was written in between is no evidence,
     and neither is what AIDE does not measure."""
 
     def __init__(self, database, paths):
-        self.side = database.side
-        self.digests = {path: strong_digest(entry) for path, entry in entries_at(database, paths)}
+        self.side, self.digests = database.side, {}
+        for path, entry in entries_at(database, paths):
+            digests = entry.digests() if entry.is_file() else {}
+            self.digests[path] = {column: digests[column] for column in STRONG & digests.keys()}
 
     def has(self, path, text):
         """Whether these bytes are the content of the file, as the database has it."""
-        digest = self.digests.get(path)
-        return self.fits(path, digests_of(digest[:1] if digest else (), [text]))
+        return self.fits(path, digests_of(self.digests.get(path, ()), [text]))
 
     def fits(self, path, digests):
-        """Whether the file has the digest among these that the database has of it."""
-        digest = self.digests.get(path)
-        return bool(digest) and digests.get(digest[0]) == digest[1]
+        """Whether the file has the digests among these that the database has of it."""
+        wanted = self.digests.get(path)
+        return bool(wanted) and all(digests.get(column) == digest for column, digest in wanted.items())
 
     def why_not(self, path):
         """Why the database does not vouch for what was read of the file."""

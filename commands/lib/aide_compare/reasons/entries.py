@@ -7,16 +7,14 @@ import stat
 from functools import partial
 
 from aide_compare.base.ending import Fault, Status
+from aide_compare.base.files import reopened
 from aide_compare.base.path_keys import key_of, key_of_path, unescaped
 from aide_compare.lines.attributes import DIGEST_COLUMNS as DIGESTS
 
-FIELDS = re.compile(rb"[^ \t]+")
-ODD_BLANKS = re.compile(rb"[\x0b\x0c\r]")
+fields_of = re.compile(rb"[^ \t\n]+").findall
 ABSENT = b"0"
-OTHERS_WRITE = 0o022
-# The longest line of a database, the bits of a place that hold a length, and those that hold the number of a table.
-MOST_LINE, LENGTH_BITS, TABLE_BITS = 1 << 20, 21, 6
-READ_AT_ONCE = 1 << 18
+OTHERS_WRITE, RUN_BITS = 0o022, 0o111
+MOST_LINE, MOST_TABLES, READ_AT_ONCE, READ_FOR_ONE = 1 << 20, 64, 1 << 18, 1 << 12
 
 SIZE_ONLY_GROWS, SAME_INODE, NEW_FILES, REMOVED_FILES, GROWING, COMPRESSED = (1 << bit for bit in (26, 27, 28, 29, 40, 41))
 USER, GROUP = 1 << 3, 1 << 4
@@ -28,17 +26,17 @@ TIMES = frozenset(("mtime", "ctime", "atime"))
 CONTENT = DIGESTS | TIMES | {"size", "bcount", "inode"}
 # What a folder gets anew when names come and go in it.
 NAMES = TIMES | {"size", "bcount", "lcount"}
+# What a symbolic link gets anew when it is written again, and when it points elsewhere then.
+SAME_TARGET = TIMES | {"inode", "bcount"}
+OTHER_TARGET = SAME_TARGET | {"lname", "size"}
 
 # The folders that may be links to the same name in /usr.
 MERGED = (b"/bin", b"/lib", b"/lib32", b"/lib64", b"/libx32", b"/sbin")
+IN_MERGED = re.compile(rb"\A(?:%s)(?=/|\Z)" % b"|".join(MERGED))
 # Two files with one digest of less than 256 bits may be made on purpose, so that it does not say what a content is.
 STRONG_BYTES = 32
 
 BASE_ACL = re.compile(rb"(?:(?:user|group|other)::[r-][w-][x-]\n?){3}\n?")
-
-
-def fields_of(line):
-    return FIELDS.findall(line.rstrip(b"\n")) if ODD_BLANKS.search(line) else line.split()
 
 
 def number(field, base=10):
@@ -106,6 +104,10 @@ class Entry:
     def is_file(self):
         return stat.S_ISREG(self.mode)
 
+    def is_data(self):
+        """Whether it is a file that nobody runs."""
+        return self.is_file() and not self.mode & RUN_BITS
+
     def is_folder(self):
         return stat.S_ISDIR(self.mode)
 
@@ -168,9 +170,14 @@ def differences(old, new):
     return found
 
 
+def is_rewritten(old, new):
+    """Whether a file that is root's alone, and that nobody runs, is new, or has nothing but other content than before."""
+    return new.is_data() and new.is_plain() and (not old or differences(old, new) <= CONTENT)
+
+
 def _found(lines, tables):
-    """Yields the key and the place of each entry. The tables of columns are noted, of which the last one counts."""
-    name_at, begin = None, 0
+    """Yields the key and the place of each entry. The tables of columns are noted by their places."""
+    name_at, place = None, 0
     for line in iter(partial(lines.readline, MOST_LINE + 1), b""):
         field = None
         if line[:1] == b"/" and name_at == 0 and b"\t" not in line:
@@ -179,25 +186,25 @@ def _found(lines, tables):
             fields = fields_of(line) or [b"#"]
             if fields[0] == b"@@end_db":
                 return
-            if fields[0] == b"@@db_spec" and b"name" in fields and len(tables) < 1 << TABLE_BITS:
+            if fields[0] == b"@@db_spec" and b"name" in fields and len(tables) < MOST_TABLES:
                 columns = [column.decode("ascii", "replace") for column in fields[1:]]
-                tables.append({column: place for place, column in enumerate(columns)})
+                tables[place] = {column: number for number, column in enumerate(columns)}
                 name_at = columns.index("name")
             elif not fields[0].startswith((b"#", b"@@")) and name_at is not None and name_at < len(fields):
                 field = fields[name_at]
         if field is not None:
-            yield key_of(field), (begin << LENGTH_BITS | len(line)) << TABLE_BITS | (len(tables) - 1)
-        begin += len(line)
+            yield key_of(field), place
+        place += len(line)
 
 
 class OrderedDatabase:
-    """A plain database in path order, read once from its beginning. A place is where an entry is in the file, as a number:
-    where its line begins, its length, and which of the tables of columns it has."""
+    """A plain database in path order, read once from its beginning. A place is where in the file a line begins; of the tables
+    of columns the last one before an entry counts."""
 
     def __init__(self, descriptor, side):
-        self.fd, self.side, self.tables, self.key, self.place = descriptor, side, [], b"", None
-        again = os.open("/proc/self/fd/%d" % descriptor, os.O_RDONLY | os.O_CLOEXEC)
-        self.found = _found(open(again, "rb", buffering=READ_AT_ONCE), self.tables)
+        self.fd, self.side, self.tables, self.key, self.place = descriptor, side, {}, b"", None
+        again, self.file = (open(reopened(descriptor, os.O_RDONLY), "rb", size) for size in (READ_AT_ONCE, READ_FOR_ONE))
+        self.found = _found(again, self.tables)
 
     def find(self, key):
         """The place of the entry that has this key, or None. The keys are asked for in order."""
@@ -207,9 +214,8 @@ class OrderedDatabase:
 
     def at(self, place):
         """The entry at a place."""
-        where, places = place >> TABLE_BITS, self.tables[place & ((1 << TABLE_BITS) - 1)]
-        line = os.pread(self.fd, where & ((1 << LENGTH_BITS) - 1), where >> LENGTH_BITS)
-        fields = fields_of(line)
+        self.file.seek(place)
+        fields, places = fields_of(self.file.readline(MOST_LINE + 1)), self.tables[max(at for at in self.tables if at < place)]
         if len(fields) != len(places):
             raise Fault(Status.DATABASE, "a line of the %s database has not as many fields as columns" % self.side)
         return Entry(fields, places)
@@ -228,10 +234,4 @@ def usr_of(database):
     """A function that gives a path with the folders followed that are links to the same name in /usr, such as /bin."""
     found = entries_at(database, MERGED)
     merged = {path: b"/usr" + path for path, entry in found if entry.link() in (b"usr" + path, b"/usr" + path)}
-
-    def usr(path):
-        end = path.find(b"/", 1)
-        head = path if end < 0 else path[:end]
-        return merged[head] + path[len(head) :] if head in merged else path
-
-    return usr
+    return partial(IN_MERGED.sub, lambda found: merged.get(found.group(), found.group()))

@@ -2,33 +2,19 @@
 import stat
 from functools import partial
 
+from aide_compare.base.files import file_kind
 from aide_compare.base.times import date_of, minute_of
 from aide_compare.reasons.entries import DIGESTS, differences
 
-KINDS = {
-    stat.S_IFREG: "file",
-    stat.S_IFDIR: "directory",
-    stat.S_IFLNK: "link",
-    stat.S_IFIFO: "FIFO",
-    stat.S_IFSOCK: "socket",
-    stat.S_IFCHR: "device",
-    stat.S_IFBLK: "device",
-}
 TIMES_IN_ORDER = ("mtime", "ctime", "atime")
-OTHERS = (
-    ("lname", "target"),
-    ("acl", "ACL"),
-    ("xattrs", "extended attributes"),
-    ("selinux", "SELinux"),
-    ("e2fsattrs", "flags"),
-    ("capabilities", "capabilities"),
-)
+OTHERS = {"lname": "target", "acl": "ACL", "xattrs": "extended attributes", "selinux": "SELinux", "e2fsattrs": "flags"}
+OTHERS["capabilities"] = "capabilities"
 # What is named only if nothing else has changed.
-ALONE = (("inode", "another inode"), ("bcount", "blocks"))
+ALONE = {"inode": "another inode", "bcount": "blocks"}
 
 
 def _kind(entry):
-    return KINDS.get(stat.S_IFMT(entry.mode), "entry")
+    return file_kind(entry.mode).partition(" ")[2] if entry.mode else "entry"
 
 
 def _mode(entry):
@@ -89,6 +75,6 @@ def entry_words(old, new):
     differ = differences(old, new)
     words = ["content"] if differ & DIGESTS else []
     words += ["%s%s -> %s" % (word, said(old), said(new)) for column, word, said in PAIRS if column in differ]
-    words += [word for column, word in OTHERS if column in differ]
-    words = words or [word for column, word in ALONE if column in differ][:1]
+    words += [word for column, word in OTHERS.items() if column in differ]
+    words = words or [word for column, word in ALONE.items() if column in differ][:1]
     return ", ".join(words + _when(old, new)) if words else _times(old, new, differ)

@@ -1,23 +1,49 @@
-"""Explains the entries of a report by the two databases and by evidence. Nothing is taken out, and nothing else changes."""
+"""Explains the entries of a report by the two databases and by the evidence that the command line names: packages, archives,
+rules and the table of severities. Nothing is taken out, and nothing else changes."""
+from collections import namedtuple
+
 from aide_compare.base.ending import Fault, Status
 from aide_compare.base.escapes import shown
 from aide_compare.base.names import SEVERITIES
 from aide_compare.base.path_keys import key_of_path
-from aide_compare.reasons.by_databases import SAME, Renames, explain_growing, explain_lone, explain_same
+from aide_compare.lines.reader import bytes_of
+from aide_compare.reasons.archive import Archive
+from aide_compare.reasons import by_databases
 from aide_compare.reasons.changes import Change, counts_by_reason
-from aide_compare.reasons.compiled import Compiled
-from aide_compare.reasons.derived import Certificates, Sums
+from aide_compare.reasons.compiled import explain_compiled
 from aide_compare.reasons.entries import OrderedDatabase, differences, usr_of
-from aide_compare.reasons.parents import Parents
-from aide_compare.reasons.protected import is_never_explained
+from aide_compare.reasons.made import explain_certificates, explain_sums
+from aide_compare.reasons.packages import DpkgPackages, drop_unseen_links
+from aide_compare.reasons.records import RPM_NAME, KeptRecords, records_now
+from aide_compare.reasons.rpm_packages import RpmPackages
+from aide_compare.reasons.tables import Rules, Severity, is_never_explained
 
 LOW = SEVERITIES[-1]
 PRESENT = {"added": (False, True), "removed": (True, False), "changed": (True, True)}
+# What may explain changes. Without packages only the databases and the rules do.
+Evidence = namedtuple("Evidence", "severity rules packages", defaults=(None, None))
 
 
-def path_of_entry(fields):
-    """The bytes of the path of an entry's object."""
-    return bytes.fromhex(fields["path_hex"]) if "path_hex" in fields else fields["path"].encode("utf-8", "surrogatepass")
+def _packages_of(given):
+    if not given.packages:
+        if given.archive or given.packages_now:
+            raise Fault(Status.USAGE, "--archive and --packages-now need --packages, which says which packages changed")
+        return None
+    old = KeptRecords(given.packages)
+    new = KeptRecords(given.packages_now) if given.packages_now else records_now()
+    beside = [KeptRecords(path) for path in [getattr(given, "packages_beside", None)] if path]
+    if (RPM_NAME in old.names) != (RPM_NAME in new.names):
+        raise Fault(Status.USAGE, "the records of one night are dpkg's, and those of the other are rpm's")
+    if RPM_NAME not in old.names:
+        return DpkgPackages([old], beside + [new], Archive(given.archive, given.keyring) if given.archive else None)
+    if given.archive:
+        raise Fault(Status.USAGE, "--archive has packages of dpkg, and the records are rpm's")
+    return RpmPackages(old.read(RPM_NAME), new)
+
+
+def evidence_of(given):
+    """The evidence that the options name. A file that is missing, or that others can write, is a Fault."""
+    return Evidence(Severity(given.severity), Rules(given.rules), _packages_of(given))
 
 
 def least_owner(old, new):
@@ -41,7 +67,6 @@ class Explainer:
     def __init__(self, old_fd, new_fd, evidence):
         self.old, self.new = OrderedDatabase(old_fd, "old"), OrderedDatabase(new_fd, "new")
         self.evidence, self.counts = evidence, None
-        self.modes = {}  # Each mode once: there are few of them, and many entries.
 
     def judge(self, objects):
         """The changes that objects of entries mean, in their order, each with its severity and perhaps a reason."""
@@ -51,38 +76,31 @@ class Explainer:
             packages.gather(changes, self)
         self._explain_each(changes, self._by_content)
         if packages:
-            packages.drop_unseen_links()
-            self._explain_derived(changes)
-        Renames(changes, self.read).explain()
+            drop_unseen_links(changes, self.read)
+            # What programs make of files that are verified by then.
+            explain_compiled(changes, self.read)
+            explain_certificates(changes, self.read)
+            explain_sums(changes, self.read, usr_of(self.new))
+        by_databases.explain_renames(changes, self.read)
         self._explain_each(changes, self._by_place)
-        Parents(self.read, packages.owner_of if packages else lambda change: None).explain(changes)
+        by_databases.explain_folders(changes, self.read, packages.owner_of if packages else None)
         return self._weigh(changes)
 
     def weigh(self, objects):
         """The same changes, each with its severity only: no reason is looked for."""
         return self._weigh([self._found(fields) for fields in objects])
 
-    def _explain_derived(self, changes):
-        """Explains what programs make of files that are verified by then."""
-        Compiled(changes, self.read).explain()
-        Certificates(changes, self.read).explain()
-        Sums(changes, self.read, usr_of(self.new)).explain()
-
     def _found(self, fields):
         """The change that an object means, found in the databases."""
-        path = path_of_entry(fields)
+        path = bytes_of(fields, "path")
         key = key_of_path(path)
         change = Change(path, self.old.find(key), self.new.find(key))
         present = (change.old_at is not None, change.new_at is not None)
         if present != PRESENT[fields["kind"]]:
-            raise Fault(
-                Status.DATABASE,
-                "the databases are not those of the lines: %s is not %s there" % (shown(path, 300), fields["kind"]),
-            )
+            text = "the databases are not those of the lines: %s is not %s there" % (shown(path, 300), fields["kind"])
+            raise Fault(Status.DATABASE, text)
         old, new = self.read(change)
-        change.old_mode, change.new_mode = (
-            self.modes.setdefault(entry.mode, entry.mode) if entry else 0 for entry in (old, new)
-        )
+        change.old_mode, change.new_mode = (entry.mode if entry else 0 for entry in (old, new))
         change.owner = least_owner(old, new)
         change.is_replaced = not (old and new) or old.field("inode") != new.field("inode")
         change.is_never = is_never_explained(path, change.old_mode, change.new_mode)
@@ -103,11 +121,11 @@ class Explainer:
         """The reason that the content gives, compared with a package's or with that of before."""
         packages = self.evidence.packages
         reason = packages.explain(change, old, new, differ) if packages else None
-        return reason or (explain_growing(old, new, differ) if old and new else None)
+        return reason or (by_databases.explain_growing(old, new, differ) if old and new else None)
 
     def _by_place(self, change, old, new, differ):
         """The reason that the place gives: what AIDE's rules, packages or the administrator expect there."""
-        reason = explain_same(old, new, differ) if old and new else explain_lone(old, new)
+        reason = by_databases.explain_same(old, new, differ) if old and new else by_databases.explain_lone(old, new)
         if reason is None and self.evidence.packages:
             reason = self.evidence.packages.explain_made(change, old, new, differ)
         return reason or self.evidence.rules.explain(change, old, new, differ)
@@ -115,6 +133,6 @@ class Explainer:
     def _weigh(self, changes):
         for change in changes:
             severity = self.evidence.severity.of(change.path, change.old_mode, change.new_mode)
-            change.severity = LOW if change.reason is SAME else severity
+            change.severity = LOW if change.reason is by_databases.SAME else severity
         self.counts = counts_by_reason(changes)
         return changes

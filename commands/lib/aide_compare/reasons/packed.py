@@ -62,14 +62,12 @@ class _Gzip:
     """zlib's decoder, used as those of bz2 and lzma are."""
 
     def __init__(self):
-        self.decoder, self.rest = zlib.decompressobj(31), b""
-
-    eof = property(lambda self: self.decoder.eof)
-    needs_input = property(lambda self: not self.rest)
+        self.decoder, self.rest, self.eof, self.needs_input = zlib.decompressobj(31), b"", False, True
 
     def decompress(self, data, most):
         text = self.decoder.decompress(data or self.rest, most)
-        self.rest = self.decoder.unconsumed_tail
+        self.rest, self.eof = self.decoder.unconsumed_tail, self.decoder.eof
+        self.needs_input = not self.rest
         return text
 
 
@@ -96,12 +94,10 @@ def _decoded(source, kind):
 def _by_program(source, kind):
     """The unpacked bytes of an open file by a program of the system, in blocks."""
     name, options = PROGRAMS[kind]
-    program = shutil.which(name)
+    program, given = shutil.which(name), {"stdin": source, "stdout": subprocess.PIPE, "stderr": subprocess.DEVNULL}
     if not program:
         raise Refuted("there is no program %s" % name)
-    with subprocess.Popen(
-        [program, options], stdin=source, stdout=subprocess.PIPE, stderr=subprocess.DEVNULL, env={"LC_ALL": "C"}
-    ) as process:
+    with subprocess.Popen([program, options], env={"LC_ALL": "C"}, **given) as process:
         try:
             yield from iter(lambda: process.stdout.read(BLOCK), b"")
             if process.wait():

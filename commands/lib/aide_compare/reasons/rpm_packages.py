@@ -12,13 +12,12 @@ from collections import namedtuple
 
 from aide_compare.base.ending import Fault, Status
 from aide_compare.reasons.changes import shared_reason
-from aide_compare.reasons.content import Vouched
-from aide_compare.reasons.entries import CONTENT, usr_of
-from aide_compare.reasons.packages import ChangedPackages, package_words
-from aide_compare.reasons.protected import takes_no_stranger
+from aide_compare.reasons.content import Contents, Vouched
+from aide_compare.reasons.entries import usr_of
+from aide_compare.reasons.packages import folder_reason, is_member, package_words
 from aide_compare.reasons.records import RPM_NAME
+from aide_compare.reasons.tables import takes_no_stranger
 
-LINK = CONTENT | {"lname"}
 DOUBT = ", no database vouches for rpm's records"
 CAPABILITIES = re.compile(rb"(?:= )?([a-z0-9_,]+)[+=]([eip]+)")
 PACKAGE = re.compile(rb"P\t([^\t\n]+)\t([^\t\n]+)\t([^\t\n]+)\t([^\t\n]+)")
@@ -46,16 +45,13 @@ class RpmNight:
         self.usr, self.blocks, self.columns = usr, {}, {}
         if not text.endswith(b"\n"):
             raise _damaged("there are no packages, or they are cut short")
-        for block in BLOCKS.split(text):
-            if block:
-                self._add(*block.partition(b"\n")[::2])
-
-    def _add(self, head, lines):
-        found = PACKAGE.fullmatch(head)
-        if not found or len(self.blocks) >= MOST_PACKAGES:
-            raise _damaged("too many packages, or a line that is none")
-        package = RpmPackage(*found.groups()[:3])
-        self.blocks[package], self.columns[package] = lines, ALGORITHMS.get(found.group(4))
+        for block in filter(None, BLOCKS.split(text)):
+            head, _, lines = block.partition(b"\n")
+            found = PACKAGE.fullmatch(head)
+            if not found or len(self.blocks) >= MOST_PACKAGES:
+                raise _damaged("too many packages, or a line that is none")
+            package = RpmPackage(*found.groups()[:3])
+            self.blocks[package], self.columns[package] = lines, ALGORITHMS.get(found.group(4))
 
     def paths(self, package):
         """The paths of a package, each with the fields of its line."""
@@ -77,12 +73,11 @@ class RpmNight:
         return RpmFile(package, int(mode, 8), digests, link, is_roots, b"" if has_none else capabilities)
 
 
-class RpmPackages(ChangedPackages):
-    """The packages of rpm."""
+class RpmPackages:
+    """The packages of rpm that changed between the two nights, as DpkgPackages has those of dpkg."""
 
     def __init__(self, old_text, new_records):
-        super().__init__()
-        self.texts, self.records = (old_text, new_records.read(RPM_NAME)), new_records
+        self.contents, self.texts, self.records = Contents(), (old_text, new_records.read(RPM_NAME)), new_records
         self.now, self.before, self.listed, self.fresh, self.why_not = {}, {}, set(), [], ""
 
     def gather(self, changes, explainer):
@@ -125,10 +120,10 @@ class RpmPackages(ChangedPackages):
             owner = self.before.get(change.path)
             is_gone = owner and change.path not in self.listed
             return self._reason("gone with %s" % package_words(owner), False) if is_gone else None
-        file = next((file for file in self._files(change) if self._fits(change.path, file, old, new, differ)), None)
+        file = next((file for file in self._files(change) if self._is_as(change, file, old, new, differ)), None)
         if not file or (file.package in self.fresh and takes_no_stranger(change.path, new.mode)):
             return None
-        return self.noted(change, new, self._reason(package_words(file.package), not self.why_not))
+        return self._reason(package_words(file.package), not self.why_not)
 
     def _files(self, change):
         return [file for file in self.now.get(change.path, ()) if file]
@@ -137,22 +132,20 @@ class RpmPackages(ChangedPackages):
     def _reason(text, is_sure):
         return shared_reason("package", text + ("" if is_sure else DOUBT), is_sure, "rpm")
 
-    def _fits(self, path, file, old, new, differ):
+    def _is_as(self, change, file, old, new, differ):
         """Whether an entry has all that rpm says of the file. A new one has nothing more than that."""
         if new.mode != file.mode or not (file.is_roots and new.user_and_group() == (0, 0)) or not (old or new.is_plain()):
             return False
-        if new.is_link():
-            return new.link() == file.link and differ <= LINK
-        if _capabilities(new.capabilities()) != _capabilities(file.capabilities):
-            return False
-        if new.is_folder():
-            return old is None
-        return new.is_file() and differ <= CONTENT and self.contents.fits(path, new, file.digests)
+        has_its = new.is_link() or _capabilities(new.capabilities()) == _capabilities(file.capabilities)
+        return has_its and is_member(change, file, old, new, differ, self.contents)
+
+    def explain_made(self, change, old, new, differ):
+        """Nothing: it is not known which files the scripts of these packages make."""
 
     def owner_of(self, change):
         """The reason for a folder of a changed package in which no name changed."""
         files = [file for file in self._files(change) if stat.S_ISDIR(file.mode)]
-        return self.folder_reason(files[-1].package, "rpm") if files else None
+        return folder_reason(files[-1].package, "rpm") if files else None
 
 
 def _capabilities(text):

@@ -1,4 +1,4 @@
-"""The two tables of an administrator: reasons for what may differ at some paths, and how much a change matters."""
+"""The tables of paths: where a reason would hide too much, the administrator's own reasons, and how much a change matters."""
 import os
 import stat
 from collections import namedtuple
@@ -6,22 +6,102 @@ from collections import namedtuple
 from aide_compare.base.ending import Fault, Status
 from aide_compare.base.escapes import shown
 from aide_compare.base.names import SEVERITIES
+from aide_compare.base.patterns import Pattern
 from aide_compare.base.table import Table, pattern_of
 from aide_compare.base.trusted import lines_of
 from aide_compare.reasons.by_databases import has_grown
 from aide_compare.reasons.changes import Reason
-from aide_compare.reasons.entries import DIGESTS
-from aide_compare.reasons.protected import RUN_BITS, all_can_write, gains_set_id, gains_writers, set_id, takes_no_pattern
+from aide_compare.reasons.entries import CONTENT, DIGESTS, RUN_BITS, TIMES
 
-MOST_TEXT = 200
+MOST_TEXT, ALL_WRITE, SET_ID = 200, 0o002, 0o6000
+Place = namedtuple("Place", "pattern")
+Rule = namedtuple("Rule", "words columns pattern reason")
+Row = namedtuple("Row", "level tests pattern")
+
+
+def table_of(*texts):
+    """The table of the patterns that stand in some texts."""
+    return Table([Place(Pattern(word.encode())) for text in texts for word in text.split()])
+
+
+# Nothing ever explains a change here: no package has such a file, and one line in it gives root away.
+NEVER = table_of(
+    # The loader puts what the first one names into every program; the second turns off its care with set-user-ID programs.
+    "/etc/ld.so.preload /etc/suid-debug",
+    # Whoever has a key that they name logs in as this user, or as any user.
+    "/**/.ssh/authorized_keys* /**/.ssh/authorized_keys*/** /etc/ssh/authorized_keys* /etc/ssh/authorized_keys*/**",
+    # These programs choose what runs before the first file system is there.
+    "/etc/initramfs-tools/hooks/**",
+)
+
+# Only a digest of a package explains a change here, never a pattern: an intruder chooses such names with care. A package that
+# came new, or that no signed index has, must not put files here without being seen.
+_NOT_BY_STRANGERS = (
+    # Accounts, and where they are looked up.
+    "/etc/passwd* /etc/shadow* /etc/group* /etc/gshadow* /etc/subuid* /etc/subgid* /etc/nsswitch.conf",
+    # Who may become root, do what only root may, or log in.
+    "/etc/sudoers /etc/sudoers.d/** /etc/doas.conf /run/sudo/** /etc/polkit-1/**",
+    "/etc/pam.conf /etc/pam.d/** /etc/security/**",
+    # Which libraries are loaded.
+    "/etc/ld.so.conf /etc/ld.so.conf.d/**",
+    # Keys.
+    "/etc/ssh/** /**/.ssh/** /etc/ssl/private/** /usr/share/keyrings/** /etc/apt/keyrings/** /etc/apt/trusted.gpg.d/**",
+    # Started by cron, at boot, by systemd, or when a device appears.
+    "/etc/crontab /etc/cron.*/** /var/spool/cron/** /etc/anacrontab /etc/init.d/** /etc/rc.local",
+    "/etc/systemd/** /usr/lib/systemd/** /usr/*/lib/systemd/** /run/systemd/system/** /run/systemd/transient/**",
+    "/**/.config/systemd/** /run/udev/rules.d/** /etc/udev/**",
+    # Run or read at each login.
+    "/etc/profile /etc/profile.d/** /etc/environment /root/.*",
+)
+NOT_BY_STRANGERS = table_of(*_NOT_BY_STRANGERS)
+# Modules of a new kernel come with it, and run only if it does.
+NO_PATTERN = table_of(*_NOT_BY_STRANGERS, "/usr/lib/modules/**/*.ko*")
+
+
+def _has(table, path):
+    return next(table.rows(path), None) is not None
+
+
+def set_id(mode):
+    """The set-user-ID and set-group-ID bits of a mode. On a folder the latter only says whose group new files have."""
+    return 0 if stat.S_ISDIR(mode) else mode & SET_ID
+
+
+def gains_set_id(old, new):
+    """Whether a set-ID bit is there now that was not there before. An absent entry has the mode 0."""
+    return bool(set_id(new) & ~set_id(old)) if stat.S_IFMT(old) == stat.S_IFMT(new) else bool(set_id(new))
+
+
+def all_can_write(mode):
+    """Whether everybody can write here. The mode of a link means nothing; in a sticky folder names belong to their owners."""
+    return bool(mode & ALL_WRITE) and not stat.S_ISLNK(mode) and not (stat.S_ISDIR(mode) and mode & stat.S_ISVTX)
+
+
+def gains_writers(old, new):
+    return all_can_write(new) and not all_can_write(old)
+
+
+def is_never_explained(path, old, new):
+    return gains_set_id(old, new) or gains_writers(old, new) or _has(NEVER, path)
+
+
+def takes_no_stranger(path, mode):
+    """Whether a package that came new, or that no signed index has, never explains an entry with this path and mode."""
+    return bool(set_id(mode)) or _has(NOT_BY_STRANGERS, path)
+
+
+def takes_no_pattern(path):
+    return _has(NO_PATTERN, path)
+
+
 # The columns that each word of a rule stands for, beside `added` and `removed`.
 COLUMNS = {
     **{name: {name} for name in "size bcount mtime ctime atime inode lname perm uid gid acl xattrs selinux e2fsattrs".split()},
     "linkcount": {"lcount"},
     "caps": {"capabilities"},
     "digests": DIGESTS,
-    "times": {"mtime", "ctime", "atime"},
-    "content": DIGESTS | {"size", "bcount", "mtime", "ctime", "atime"},
+    "times": TIMES,
+    "content": CONTENT - {"inode"},
 }
 KINDS, GROWS = ("added", "removed"), "grows"
 # What each word of a row of severities tests: the mode of before, and that of now, which is 0 without an entry.
@@ -45,9 +125,6 @@ HERE = os.path.dirname(os.path.abspath(__file__))
 # In the repository, and where packaging/install puts it.
 SHIPPED = ("../../../share/severity.conf", "../../../../../share/aide-compare/severity.conf")
 OTHERWISE = "medium"
-
-Rule = namedtuple("Rule", "words columns pattern reason")
-Row = namedtuple("Row", "level tests pattern")
 
 
 def _words(part, known, what):

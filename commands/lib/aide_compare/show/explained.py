@@ -10,8 +10,7 @@ from aide_compare.compare.outputs import Output
 from aide_compare.show.added import Adding, added_lines, written
 from aide_compare.show.occasion import Occasion
 from aide_compare.lines.reader import Refused, reader_over
-from aide_compare.reasons.evidence import Evidence, evidence_of
-from aide_compare.reasons.explainer import Explainer, members_of
+from aide_compare.reasons.explainer import Evidence, Explainer, evidence_of, members_of
 from aide_compare.reasons.kept_records import SUFFIX, mismatch
 from aide_compare.reasons.tables import Severity
 from aide_compare.show.brief import brief, unjudged
@@ -105,14 +104,14 @@ class Explained:
         self.changes = self.counts = None
         if sources is None and not weighs:
             return
-        evidence = sources.evidence(comparison) if sources else Evidence(None, Severity())
+        evidence = sources.evidence(comparison) if sources else Evidence(Severity())
         self.explainer = Explainer(comparison.compared["old"], comparison.compared["new"], evidence)
         objects = (fields for _, fields in reader_over(self.descriptor))
         self.changes = (self.explainer.judge if sources else self.explainer.weigh)(objects)
         if not self.explainer.counts.fits(sum(comparison.counts)):
             raise Fault(Status.DEVICE, "the counts of the reasons are not those of the changes")
-        self.counts = self.explainer.counts if sources else None
-        doubt = evidence.doubt()
+        self.counts, self.packages = self.explainer.counts if sources else None, evidence.packages
+        doubt = self.packages.doubt() if self.packages else ""
         if doubt:
             comparison.doubts.append("what packages explain is not verified: %s" % doubt)
 
@@ -127,7 +126,8 @@ class Explained:
         if self.changes is None:
             return b""
         given = (self.changes, self.explainer.counts, self.explainer.read)
-        text = unjudged(*given) if self.counts is None else brief(*given, self.explainer.evidence.came())
+        came = self.packages.came() if self.packages else []
+        text = unjudged(*given) if self.counts is None else brief(*given, came)
         return text.encode("utf-8", "backslashreplace")
 
 

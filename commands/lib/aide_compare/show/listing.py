@@ -11,9 +11,9 @@ from collections import Counter
 
 from aide_compare.base.escapes import shown
 from aide_compare.compare.reason_counts import counted, most_frequent
+from aide_compare.reasons.by_databases import has_other_names
 from aide_compare.reasons.entries import differences
 from aide_compare.reasons.entry_words import entry_words
-from aide_compare.reasons.parents import has_other_names
 
 # Lines of one severity for root's changes, for those of system users, and for those of all others.
 ROOMS = (200, 100, 100)
