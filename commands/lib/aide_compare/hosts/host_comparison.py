@@ -5,7 +5,7 @@ import re
 import signal
 import time
 from argparse import Namespace
-from contextlib import closing, suppress
+from contextlib import closing
 
 from aide_compare.base.ending import Fault, Status
 from aide_compare.base.names import SIDES
