@@ -88,11 +88,11 @@ PLANTED = (
     )
     + seen_by(
         "viewers.try_edits",
-        (LIB + "lines/reader.py", "            if not last < names:\n", "            if False:\n"),
+        (LIB + "lines/reader.py", "lambda: last < names", "lambda: True"),
         (LIB + "lines/reader.py", "        if self.file.read(1):\n", "        if False:\n"),
         (LIB + "lines/reader.py", 'self.summary["format"] == FORMAT', "True"),
         (LIB + "lines/reader.py", '        and fields["differences"] is (status_of(counts[1:]) > 0)\n', ""),
-        (LIB + "lines/reader.py", 'self.count != self.summary["entries"] or any(', "any("),
+        (LIB + "lines/reader.py", 'self.count == self.summary["entries"] and all(', "all("),
         (LIB + "show/rows.py", 'demand(LETTERS.fullmatch(letters), "a summary string has 18 letters")', "pass"),
     )
     + seen_by(
@@ -113,32 +113,32 @@ PLANTED = (
     )
     + seen_by(
         "viewers.try_table",
-        (LIB + "lines/decoded_acl.py", '("", "default:")', '("", "")'),
-        (LIB + "lines/decoded_acl.py", "[^\\x00-\\x20:,#\\x7f]{0,300}", "[^\\x00-\\x08:]{0,300}"),
-        (LIB + "lines/decoded_base.py", 'if text == b"0":', 'if text == b"-":'),
-        (LIB + "lines/decoded_base.py", 'else text[:MOST] + "..."', "else text"),
-        (LIB + "lines/decoded_caps.py", '" [rootid=%d]" % words[4] if count == 5 else ""', '""'),
-        (LIB + "lines/decoded_caps.py", "key=lambda state: (known.count(state), -state)", "key=lambda state: -state"),
+        (LIB + "lines/decoded.py", '("", "default:")', '("", "")'),
+        (LIB + "lines/decoded.py", "[^\\x00-\\x20:,#\\x7f]{0,300}", "[^\\x00-\\x08:]{0,300}"),
+        (LIB + "lines/decoded.py", 'if text == b"0":', 'if text == b"-":'),
+        (LIB + "lines/decoded.py", 'else text[:MOST] + "..."', "else text"),
+        (LIB + "lines/decoded.py", '" [rootid=%d]" % words[4] if count == 5 else ""', '""'),
+        (LIB + "lines/decoded.py", "key=lambda bits: (known.count(bits), -bits)", "key=lambda bits: -bits"),
         (
-            LIB + "lines/decoded_flags.py",
+            LIB + "lines/decoded.py",
             "i=10 a=20",
             "i=20 a=10",
         ),
-        (LIB + "lines/decoded_flags.py", '" +0x%x" % (flags & ~KNOWN) if flags & ~KNOWN else ""', '""'),
-        (LIB + "lines/decoded_xattrs.py", 'QUOTED_ESCAPES = {34: "\\\\042"}', "QUOTED_ESCAPES = {}"),
-        (LIB + "lines/decoded_xattrs.py", "for letter in ' \";'", "for letter in ' '"),
-        (LIB + "lines/decoded_xattrs.py", "and LABEL.fullmatch(data)", "and _plain(data)"),
+        (LIB + "lines/decoded.py", '" +0x%x" % (flags & ~KNOWN_FLAGS) if flags & ~KNOWN_FLAGS else ""', '""'),
+        (LIB + "lines/decoded.py", 'QUOTED_ESCAPES = {34: "\\\\042"}', "QUOTED_ESCAPES = {}"),
+        (LIB + "lines/decoded.py", "for letter in ' \";'", "for letter in ' '"),
+        (LIB + "lines/decoded.py", "and LABEL.fullmatch(data)", "and _is_text(data)"),
         (
-            LIB + "lines/decoded_xattrs.py",
+            LIB + "lines/decoded.py",
             "        if length > MOST:\n            break\n",
-            "        cut('; '.join(parts))\n",
+            "        _cut('; '.join(parts))\n",
         ),
-        (LIB + "lines/decoded_xattrs.py", "unquote_to_bytes(name)", "name"),
+        (LIB + "lines/decoded.py", "unquote_to_bytes(name)", "name"),
     )
     + seen_by(
         "viewers.try_zones",
-        (LIB + "lines/decoded_times.py", '"-" if offset < 0 else "+"', '"+"'),
-        (LIB + "lines/decoded_times.py", "if 1 <= given.tm_year <= 9999 else None", ""),
+        (LIB + "lines/decoded.py", 'time.strftime("%z", given)', '"+%02d%02d" % divmod(abs(given.tm_gmtoff) // 60, 60)'),
+        (LIB + "lines/decoded.py", " and 1 <= given.tm_year <= 9999:", ":"),
     )
     + seen_by(
         "viewers.try_occasion",
@@ -162,7 +162,7 @@ PLANTED = (
     )
     + seen_by(
         "viewers.try_cuts",
-        (LIB + "lines/reader.py", '        if line[-1:] != b"\\n" or not', "        if not"),
+        (LIB + "lines/reader.py", 'line[-1:] == b"\\n" and ', ""),
     )
     + seen_by(
         "viewers.try_program",

@@ -7,8 +7,7 @@ import stat
 import time
 from datetime import datetime, timedelta
 
-from aide_compare.lines import decoded_times
-from aide_compare.lines.decoded import decoded
+from aide_compare.lines.decoded import decoded, time_text, utc_text
 
 TYPES = {
     "File": stat.S_IFREG,
@@ -192,21 +191,21 @@ def try_zones(seed, tally):
     for zone in ZONES:
         os.environ["TZ"] = zone
         time.tzset()
-        decoded_times._local_quarter.cache_clear()
+        time_text.cache_clear()
         hours = [hour * 3600 for hour in range(-1490000, 620000, 6)]
         offsets = [time.localtime(seconds).tm_gmtoff for seconds in hours]
         changes = [seconds + pick.randrange(21600) for seconds, one, other in zip(hours, offsets, offsets[1:]) if one != other]
         around = [seconds + step for seconds in changes for step in range(-22000, 22000, 450)]
         faults = [
             "%d is %r" % (seconds, given(seconds))
-            for given, wanted in ((decoded_times.time_text, local_text), (decoded_times.utc_text, utc_date))
+            for given, wanted in ((time_text, local_text), (utc_text, utc_date))
             for seconds in times + around
             if given(seconds) != wanted(seconds)
         ]
         tally.add("times in " + zone, faults[:5])
     os.environ.pop("TZ") if before is None else os.environ.update(TZ=before)
     time.tzset()
-    decoded_times._local_quarter.cache_clear()
+    time_text.cache_clear()
 
 
 def mode_of(digits, kind):

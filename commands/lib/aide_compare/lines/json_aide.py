@@ -6,10 +6,7 @@ import re
 from aide_compare.base.files import Spool
 from aide_compare.base.names import KINDS, SIDES
 from aide_compare.lines.attributes import FORMS
-from aide_compare.lines.decoded import decoded
-from aide_compare.lines.decoded_acl import acl_lists
-from aide_compare.lines.decoded_base import exact_bytes
-from aide_compare.lines.decoded_xattrs import attributes_of
+from aide_compare.lines.decoded import acl_lists, attributes_of, decoded, exact_bytes
 from aide_compare.lines.reader import BLOCK, Refused, bytes_of
 from aide_compare.lines.texts import kinds_of, values_of
 
@@ -38,15 +35,13 @@ def name_of(data):
     return data.decode("utf-8", "surrogateescape")
 
 
-def lines_or_line(lines):
+def _lines(lines):
     return lines[0] if len(lines) == 1 else lines
 
 
-def acl_value(data):
+def acl_value(data, _):
     lists = acl_lists(data)
-    if not lists:
-        return None
-    return lines_or_line([mark + "\t".join(entry) for mark, entries in zip(("A: ", "D: "), lists) for entry in entries])
+    return lists and _lines([mark + "\t".join(entry) for mark, found in zip(("A: ", "D: "), lists) for entry in found])
 
 
 def xattrs_value(data, other):
@@ -59,111 +54,82 @@ def xattrs_value(data, other):
         is_graphic = GRAPHIC.fullmatch(value)
         text = value.rstrip(b"\0").decode() if is_graphic else base64.b64encode(value).decode()
         lines.append("[%d] %s %s %s" % (number, name_of(name), "=" if is_graphic else "<=>", text))
-    return lines_or_line(lines)
+    return _lines(lines)
+
+
+# What takes the bytes of a value and those of the other side.
+BY_BYTES = {"Lname": lambda data, _: name_of(data), "ACL": acl_value, "XAttrs": xattrs_value}
 
 
 def value_of(label, value, kind, other):
     """A value as AIDE writes it; as the lines have it if it does not decode. `other` is that of the other side."""
-    made = None
-    if label in ("Atime", "Mtime", "Ctime", "Perm", "SELinux", "E2FSAttrs", "Caps"):
-        made = decoded(label, value, kind)
-    elif label == "Lname":
-        made = name_of(exact_bytes(value))
-    elif label == "ACL":
-        made = acl_value(exact_bytes(value))
-    elif label == "XAttrs":
-        made = xattrs_value(exact_bytes(value), None if other is None else exact_bytes(other))
+    if label in BY_BYTES:
+        made = BY_BYTES[label](exact_bytes(value), None if other is None else exact_bytes(other))
     elif isinstance(FORMS.get(label), tuple):
         made = base64.b64encode(bytes.fromhex(value)).decode()
-    if made is None:
-        return name_of(value) if isinstance(value, bytes) else value
-    return made
+    else:
+        made = decoded(label, value, kind)
+    return made if made is not None else name_of(value) if isinstance(value, bytes) else value
 
 
 def details_of(fields):
     """The attributes of an entry by AIDE's names, without the sides that have no value."""
     both, found = [values_of(fields, side) for side in SIDES], {}
-    kinds = kinds_of(fields, both)
-    for label in FORMS:
-        sides = {}
-        for place, side in enumerate(SIDES):
-            value = both[place].get(label)
-            if value is not None:
-                sides[side] = value_of(label, value, kinds[place], both[1 - place].get(label))
-        if sides:
-            found[NAMES.get(label) or re.sub("[/-]", "_", label.lower())] = sides
-    return found
+    for side, kind, values, others in zip(SIDES, kinds_of(fields, both), both, both[::-1]):
+        for label in values:
+            found.setdefault(label, {})[side] = value_of(label, values[label], kind, others.get(label))
+    return {NAMES.get(label) or re.sub("[/-]", "_", label.lower()): found[label] for label in FORMS if label in found}
 
 
-class _Part:
-    """An object in the whole one, in a private file."""
+def _members_of(fields):
+    """What the object has of a change: in which of its parts, and the text of the member."""
+    path, details = encode(name_of(bytes_of(fields, "path"))), details_of(fields)
+    yield fields["kind"], "%s: %s" % (path, encode(fields["summary"]))
+    if details:
+        yield "details", "%s: %s" % (path, encode(details))
 
-    def __init__(self):
-        self.file, self.count = Spool(), 0
 
-    def add(self, text):
-        self.file.write((",\n    " if self.count else "\n    ").encode() + text.replace("\n", "\n    ").encode())
-        self.count += 1
+def _put(parts, name, text):
+    """Adds a member to a part, which is kept in a private file."""
+    before = ",\n    " if name in parts else "\n    "
+    if name not in parts:
+        parts[name] = Spool()
+    parts[name].write((before + text.replace("\n", "\n    ")).encode())
 
-    def written(self, name):
-        yield ('  "%s": {' % name).encode()
-        self.file.seek(0)
-        yield from iter(lambda: self.file.read(BLOCK), b"")
+
+def _databases(summary):
+    """The member that has both, which may have the same name."""
+    texts = []
+    for side in SIDES:
+        digest = base64.b64encode(bytes.fromhex(summary[side]["sha256"])).decode()
+        name = encode(name_of(bytes_of(summary[side], "path")))
+        texts.append('    %s: {\n      "sha256": "%s"\n    }' % (name, digest))
+    return ',\n  "databases": {\n' + ",\n".join(texts) + "\n  }"
+
+
+def _written(parts, summary, members, ended):
+    """Yields the object. `ended` is when the comparison ended, None if that is not known."""
+    whole = {"outline": OUTLINES[summary["differences"]], **members, "report_level": LEVEL}
+    kinds = KINDS if summary["differences"] else ()
+    whole["number_of_entries"] = {kind: summary[kind] for kind in ("total",) + kinds}
+    texts = ['  "%s": %s' % (name, encode(value).replace("\n", "\n  ")) for name, value in whole.items()]
+    yield ("{\n" + ",\n".join(texts)).encode()
+    for name in [name for name in KINDS + ("details",) if name in parts]:
+        yield (',\n  "%s": {' % name).encode()
+        parts[name].seek(0)
+        yield from iter(lambda: parts[name].read(BLOCK), b"")
         yield b"\n  }"
-
-
-class AideObject:
-    """The whole object: its parts are kept until all changes are known."""
-
-    def __init__(self):
-        self.parts = {}
-
-    def add(self, fields):
-        """Takes a change."""
-        path = encode(name_of(bytes_of(fields, "path")))
-        self._part(fields["kind"]).add("%s: %s" % (path, encode(fields["summary"])))
-        details = details_of(fields)
-        if details:
-            self._part("details").add("%s: %s" % (path, encode(details)))
-
-    def _part(self, name):
-        if name not in self.parts:
-            self.parts[name] = _Part()
-        return self.parts[name]
-
-    def written(self, summary, members, ended):
-        """Yields the object. `ended` is when the comparison ended, None if that is not known."""
-        whole = {"outline": OUTLINES[summary["differences"]], **members, "report_level": LEVEL}
-        kinds = KINDS if summary["differences"] else ()
-        whole["number_of_entries"] = {kind: summary[kind] for kind in ("total",) + kinds}
-        texts = ['  "%s": %s' % (name, encode(value).replace("\n", "\n  ")) for name, value in whole.items()]
-        yield ("{\n" + ",\n".join(texts)).encode()
-        for name in KINDS + ("details",):
-            if name in self.parts:
-                yield b",\n"
-                yield from self.parts[name].written(name)
-        yield from self._end(summary, ended)
-
-    @staticmethod
-    def _end(summary, ended):
-        """The databases, which may have the same name, and the time."""
-        texts = []
-        for side in SIDES:
-            digest = base64.b64encode(bytes.fromhex(summary[side]["sha256"])).decode()
-            name = encode(name_of(bytes_of(summary[side], "path")))
-            texts.append('    %s: {\n      "sha256": "%s"\n    }' % (name, digest))
-        yield (',\n  "databases": {\n' + ",\n".join(texts) + "\n  }").encode()
-        if ended is not None:
-            yield (',\n  "end_time": %s' % encode(decoded("Mtime", ended))).encode()
-        yield b"\n}\n"
+    end = "" if ended is None else ',\n  "end_time": %s' % encode(decoded("Mtime", ended))
+    yield (_databases(summary) + end + "\n}\n").encode()
 
 
 def aide_parts(reader, summary, members, ended):
     """Yields the object for the changes of a Reader, after it has read all of them. `summary` names the databases."""
-    whole = AideObject()
+    parts = {}
     for _, fields in reader:
         try:
-            whole.add(fields)
+            for name, text in _members_of(fields):
+                _put(parts, name, text)
         except (ValueError, KeyError, TypeError, AttributeError):
             raise Refused(reader.number, "this is not a line of aide-compare json") from None
-    yield from whole.written(summary, members, ended)
+    yield from _written(parts, summary, members, ended)

@@ -54,10 +54,8 @@ class Reader:
     def __init__(self, file):
         self.file, self.number, self.count, self.end = file, 0, 0, b""
         self.summary, self.first = self._next("nothing was given: was nothing compared?")
-        if not self._holds(lambda: self.summary["format"] == FORMAT):
-            self._refuse("the first line is the summary, of format %d" % FORMAT)
-        if not self._holds(lambda: _is_summary(self.summary)):
-            self._refuse("the summary has other values")
+        self._demand(lambda: self.summary["format"] == FORMAT, "the first line is the summary, of format %d" % FORMAT)
+        self._demand(lambda: _is_summary(self.summary), "the summary has other values")
 
     def __iter__(self):
         last = []
@@ -67,45 +65,41 @@ class Reader:
                 self._judge_end(fields)
                 self.end = line
                 return
-            if not self._holds(lambda: fields["kind"] in KINDS and bytes_of(fields, "path")[:1] == b"/"):
-                self._refuse("this is no change")
+            self._demand(lambda: fields["kind"] in KINDS and bytes_of(fields, "path")[:1] == b"/", "this is no change")
             names = bytes_of(fields, "path").split(b"/")
-            if not last < names:
-                self._refuse("the entry is not in the order of paths")
+            self._demand(lambda: last < names, "the entry is not in the order of paths")
             last, self.count = names, self.count + 1
             yield line, fields
-        self._refuse("there are more changes than the summary says")
+        raise Refused(self.number, "there are more changes than the summary says")
 
     def _next(self, missing):
         """The object of the next line, and the line."""
         line = self.file.readline(LINE_LIMIT)
-        self.number += 1
         if not line:
-            raise Refused(self.number - 1, missing)
+            raise Refused(self.number, missing)
+        self.number += 1
         try:
             fields = json.loads(line)
         except (ValueError, RecursionError):
             fields = None
-        if line[-1:] != b"\n" or not isinstance(fields, dict):
-            self._refuse("this is not a line of aide-compare json")
+        self._demand(lambda: line[-1:] == b"\n" and isinstance(fields, dict), "this is not a line of aide-compare json")
         return fields, line
 
     def _judge_end(self, fields):
         wanted = {"end": True, "status": status_of(counts_in(self.summary)), **{name: self.summary[name] for name in COUNTS}}
-        if self.count != self.summary["entries"] or any(fields.get(name) != value for name, value in wanted.items()):
-            self._refuse("the end does not fit the lines before it")
+        is_whole = self.count == self.summary["entries"] and all(fields.get(name) == wanted[name] for name in wanted)
+        self._demand(lambda: is_whole, "the end does not fit the lines before it")
         if self.file.read(1):
             raise Refused(self.number + 1, "this is after the end")
 
-    @staticmethod
-    def _holds(judge):
+    def _demand(self, judge, words):
+        """Refuses the line that was read last unless something holds of it."""
         try:
-            return judge()
+            holds = judge()
         except (ValueError, KeyError, TypeError, AttributeError):
-            return False
-
-    def _refuse(self, words):
-        raise Refused(self.number, words)
+            holds = False
+        if not holds:
+            raise Refused(self.number, words)
 
 
 def end_line(summary):

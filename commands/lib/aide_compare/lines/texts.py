@@ -1,10 +1,9 @@
 """The values of a change, and their texts for people, which the lines of aide-compare json have beside the exact values."""
 from aide_compare.base.names import SIDES
 from aide_compare.lines.attributes import FORMS
-from aide_compare.lines.decoded import FIELDS, decoded, name_text
+from aide_compare.lines.decoded import decoded, name_text
 
 NUMBERS = frozenset(label for label, form in FORMS.items() if form in ("number", "time"))
-DECODED = frozenset(FIELDS) | {"Perm", "Atime", "Mtime", "Ctime"}
 
 
 def values_of(fields, side):
@@ -33,10 +32,8 @@ def texts_of(fields, has_names=False):
     kinds, texts = kinds_of(fields, both), ({}, {})
     for values, kind, found in zip(both, kinds, texts):
         for label, value in values.items():
-            if label in DECODED:
-                text = decoded(label, value, kind)
-            else:
-                text = name_text(label, value) if has_names and label in ("UID", "GID") else None
+            is_named = has_names and label in ("UID", "GID") and type(value) is int
+            text = name_text(label, value) if is_named else decoded(label, value, kind)
             if text is not None:
                 found[label] = text
     old, new = texts
