@@ -74,9 +74,9 @@ PLANTED = (
         (CHILD, "        _close_all_but(set(keep) | {writing})\n", ""),
         (CHILD, "        left = every if deadline is None else deadline - time.monotonic()\n", "        left = 60\n"),
         (CHILD, "guarded(text) + beside", "guarded(text)"),
-        (UNPACK, "rest, step = block[at : at + step], min(2 * step, BLOCK)", "rest = block[at:]"),
-        (UNPACK, "        if len(first) > 1:\n", "        if first:\n"),
-        (UNPACK, "            member = zlib.decompressobj(31) if rest else member\n", "            return\n"),
+        (UNPACK, "BLOCK, FEW = 1 << 18, 1 << 12", "BLOCK, FEW = 1 << 18, 1 << 18"),
+        (UNPACK, "packed.read(len(GZIP))", "packed.read1(len(GZIP))"),
+        (UNPACK, "chain([member.unused_data], blocks)", "[member.unused_data]"),
     )
     + seen_by(
         "bounded.try_no_end",
@@ -103,6 +103,6 @@ PLANTED = (
     + seen_by(
         "base.try_files",
         (FILES, "            os.fsync(part)\n", ""),
-        (UNPACK, "            break\n    return first", "            continue\n    return first"),
+        (UNPACK, '                raise zlib.error("it ends too early")\n', "                return\n"),
     )
 )

@@ -183,14 +183,14 @@ PLANTED = (
         "attacks.try_state_of_others",
         (FILES, "others = set() if self.folder.is_safe() else self.folder.others", "others = set()"),
     )
-    + seen_by("faults.try_limits", (UNPACK, "if self.size > self.most:", "if self.size >= self.most:"))
+    + seen_by("faults.try_limits", (UNPACK, "if size > most:", "if size >= most:"))
     + seen_by("faults.try_files", (FILES, "        self._commit(self._try)\n", ""))
     + seen_by(
         "faults.try_rooms",
         (
             UNPACK,
-            '        raise Fault(Status.DEVICE, "cannot copy %s to %s: %s"',
-            '        return Fault(Status.DEVICE, "cannot copy %s to %s: %s"',
+            '                with failing("cannot copy %s to %s" % (opened.words, shown(private_folder()))):\n                    write_all(copy, block)\n',
+            "                try:\n                    write_all(copy, block)\n                except OSError:\n                    pass\n",
         ),
         (
             FILES,
@@ -250,7 +250,7 @@ PLANTED = (
         "lost_modules.try_lost_modules",
         ("commands/bin/aide-compare", "except BaseException as error:", "except ImportError as error:"),
     )
-    + seen_by("run.try_state", (COMPARISON, 'take_digest(self.summary[side]["sha256"])', 'take_digest(self.summary["old"]["sha256"])'))
+    + seen_by("run.try_state", (COMPARISON, 'sha256 = self.summary[side]["sha256"]', 'sha256 = self.summary["old"]["sha256"]'))
     + seen_by(
         "without.try_left_out",
         (COMPARISON, "for side in SIDES if not self.request.exclusions else ():", "for side in SIDES:"),

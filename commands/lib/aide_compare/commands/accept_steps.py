@@ -88,7 +88,7 @@ def _own_copy(copy):
     """The same bytes in a file of this user's: the program could not open that of another user."""
     target = nameless()
     copy_file(copy.fd, target)
-    return Copy(target, copy.size, copy.name, copy.written)
+    return Copy(target, copy.name, copy.written)
 
 
 def _write_unexplained(given, path, copies, target):

@@ -202,7 +202,7 @@ class Comparison:
         if status_of(self.counts) != self.status or not has_end:
             raise self._odd_answer(program)
         for side in SIDES if not self.request.exclusions else ():
-            self.copies[side].take_digest(self.summary[side]["sha256"])
+            self.copies[side].sha256 = self.summary[side]["sha256"]
 
     def report(self):
         """A descriptor of the program's own report, which is written when it is asked for first."""

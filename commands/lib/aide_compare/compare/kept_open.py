@@ -123,4 +123,4 @@ def keep_open(old, new, is_open):
         target.flush()
     except OSError as error:
         raise Fault(Status.DEVICE, "cannot make a database of which a part is open: %s" % reason(error))
-    return Copy(target.fd, target.size, new.name, new.written), counts
+    return Copy(target.fd, new.name, new.written), counts
