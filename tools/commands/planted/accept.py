@@ -86,7 +86,7 @@ PLANTED = (
         "accept_partly.try_refused",
         (ACCEPTING, "refuse_unsound(offered.copy, old)", "refuse_unsound(offered.copy)"),
         (ACCEPTING, "unused = patterns.unused()", "unused = []"),
-        (OPEN, "        sides[NEW].refuse_other_columns(sides[OLD])\n", ""),
+        (OPEN, "if former.columns != latter.columns:", "if False:"),
     )
     + seen_by("accept_partly.try_many", (OPEN, "yield key_of(fields", "yield bytes(fields"))
     + seen_by(

@@ -49,7 +49,7 @@ PLANTED = (
     )
     + seen_by(
         "base.try_state",
-        (STATE, 'text.strip("0123456789abcdef")', 'text.strip("0123456789abcdefABCDEF")'),
+        (STATE, "[0-9a-f]{64}", "[0-9a-fA-F]{64}"),
     )
     + seen_by("base.try_statuses", (READER, "zip((1, 2, 4), counts)", "zip((1, 2, 8), counts)"))
     + seen_by(
@@ -61,7 +61,10 @@ PLANTED = (
             "",
         ),
     )
-    + seen_by("base.try_tables", (CONFIGURATION, "report_summarize_changes report_base16 report_quiet", "report_summarize_changes report_quiet"))
+    + seen_by(
+        "base.try_tables",
+        (CONFIGURATION, "report_summarize_changes report_base16 report_quiet", "report_summarize_changes report_quiet"),
+    )
     + seen_by(
         "base.try_files",
         (FOLDERS, "self._passed_on = owners if is_sticky else self.others", "self._passed_on = self.others"),

@@ -2,28 +2,33 @@
 from .plant import seen_by
 
 LIB = "commands/lib/aide_compare/"
-COLUMNS, MAIL, MESSAGE = LIB + "compare/columns.py", LIB + "commands/mail.py", LIB + "mail/message.py"
+STATE, HINTS, MAIL, MESSAGE = (
+    LIB + "compare/state.py",
+    LIB + "compare/hints.py",
+    LIB + "commands/mail.py",
+    LIB + "mail/message.py",
+)
 STATUS = LIB + "commands/status.py"
 # The state says that a mail has told them before it is sent.
 TOLD_BEFORE = "        keep_told(alarm, state, kept)\n        send(way, alarm.message.data())\n"
 
 PLANTED = seen_by(
     "columns.try_columns",
-    (COLUMNS, "for side in SIDES}\n    return", "for side in SIDES[:1]}\n    return"),
-    (COLUMNS, "if len(sides) == 1 else", "if False else"),
+    (STATE, "for side in SIDES if self._names", "for side in SIDES[:1] if self._names"),
+    (HINTS, "if len(sides) == 1 else", "if False else"),
     (LIB + "show/occasion.py", '"skipped": done.skipped}', '"skipped": {}}'),
     (LIB + "show/page_heading.py", ', *skipped(report.summary.get("skipped"))', ""),
-    (COLUMNS, "shown(name, MOST_NAME)", "name.decode()[:MOST_NAME]"),
-    (COLUMNS, "MOST_NAME, MOST_TOLD = 1 << 16, 40", "MOST_NAME, MOST_TOLD = 1 << 20, 40"),
-    (COLUMNS, 're.split(b"[ \\t]+", spec)', "spec.split()"),
+    (HINTS, "shown(name, MOST_NAME)", "name.decode()[:MOST_NAME]"),
+    (HINTS, "MOST_HEAD, MOST_NAME = 1 << 16", "MOST_HEAD, MOST_NAME = 1 << 20"),
+    (HINTS, 're.split(b"[ \\t]+", spec)', "spec.split()"),
     (MAIL, "        if self.unknown(state):\n            return False\n", ""),
     (MAIL, "and name not in self.known]", "]"),
     (MAIL, "self.known = given, Held(), None", "self.known = given, Held(), []"),
     (MAIL, "    keep_told(alarm, state, kept)\n", ""),
     (MAIL, "        send(way, alarm.message.data())\n    keep_told(alarm, state, kept)\n", TOLD_BEFORE),
-    (MAIL, "if state.status > 7 or name in skipped]", "if name in skipped]"),
+    (MAIL, "if state.status > 7 or name in", "if name in"),
     (STATUS, """name.replace("\\\\", "\\\\\\\\").replace('"', '\\\\"')""", "name"),
     (STATUS, 'counts += " (%s)" % skipped if skipped else ""', "pass"),
-    (STATUS, "filter(None, (text, not_compared(skipped_names(state))))", "[text]"),
+    (STATUS, "filter(None, (text, not_compared(state.skipped_names)))", "[text]"),
     (MESSAGE, 're.sub(r"[^A-Za-z0-9._#-]", "?", name)', "name"),
 )

@@ -42,7 +42,11 @@ PLANTED = (
         (CHECK, "defaults_for(CHECK, arguments) + ", ""),
         (MAIL, "parsed(own + runs + words), refusal", "parsed(own + words), refusal"),
         (MAIL, "parsed(own + runs + words), refusal", "parsed(runs + words), refusal"),
-        (MAIL, '    if not any(word.partition("=")[0] == "--state" for word in words[: end_of_options(words)]):', "    if False:"),
+        (
+            MAIL,
+            '    if not any(word.partition("=")[0] == "--state" for word in words[: end_of_options(words)]):',
+            "    if False:",
+        ),
         (MAIL, "without_state(given.words)", "given.words"),
         (MAIL, '"--format", "report", ', ""),
         (DEFAULTS, " if name in options]", "]"),

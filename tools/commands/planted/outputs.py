@@ -24,7 +24,11 @@ PLANTED = (
         (EXPLAINING, "(comparison.counts or ()) <= MOST_WEIGHED", "(comparison.counts or ()) >= 0"),
         (EXPLAINING, "self.explainer.judge if sources else self.explainer.weigh", "self.explainer.judge"),
         (RUN, "(self.form and not comparison.differs)", "False"),
-        (LIB + "reasons/entry_words.py", 'TIMES_IN_ORDER = ("mtime", "ctime", "atime")', 'TIMES_IN_ORDER = ("ctime", "atime")'),
+        (
+            LIB + "reasons/entry_words.py",
+            'TIMES_IN_ORDER = ("mtime", "ctime", "atime")',
+            'TIMES_IN_ORDER = ("ctime", "atime")',
+        ),
         (RUN, "(lambda text: None) if given.quiet else say", "say"),
         (RUN, "None if taken or given.quiet else", "None if taken else"),
     )
@@ -55,7 +59,5 @@ PLANTED = (
         (PROGRESS, "time.monotonic() >= self.last + EVERY", "True"),
         (RUN, "    if not given.quiet:\n        progress", "    if True:\n        progress"),
     )
-    + seen_by(
-        "explained.try_no_reasons", (RUN, "            elif comparison.status <= 7:\n", "            elif False:\n")
-    )
+    + seen_by("explained.try_no_reasons", (RUN, "            elif comparison.status <= 7:\n", "            elif False:\n"))
 )

@@ -51,7 +51,7 @@ PLANTED = (
         "run.try_configurations",
         (CONFIGURATION, 'if said["database_new"] is None:', "if True:"),
         (CONFIGURATION, "if len(found - {None}) > 1:", "if False:"),
-        (CONFIGURATION, "NAMED.sub(b\"\", texts.before)", "texts.before"),
+        (CONFIGURATION, 'NAMED.sub(b"", texts.before)', "texts.before"),
     )
     + seen_by(
         "attacks.try_fixed_reports",
@@ -59,10 +59,10 @@ PLANTED = (
     )
     + seen_by(
         "hints.try_database_hints",
-        (HINTS, 'columns = kept if kept.lstrip(b" \\t").startswith(b"@@db_spec") else columns', "pass"),
+        (HINTS, "                columns = part\n", "                pass\n"),
         (
             HINTS,
-            '    if line and not is_binary(line):\n        yield "line %d: %s" % (number, shown(line, 200))\n',
+            '    if line and not _is_binary(line):\n        yield "line %d: %s" % (number, shown(line, 200))\n',
             '    if line:\n        yield "line %d: %s" % (number, line.decode("latin-1"))\n',
         ),
     )

@@ -9,7 +9,6 @@ from aide_compare.base.ending import Fault, Status, say, why_of, write_all
 from aide_compare.base.options import Parser, duration, end_of_options, matching, some_text
 from aide_compare.base.program import find_front
 from aide_compare.commands import compare
-from aide_compare.compare.columns import skipped_names, told_names, with_told
 from aide_compare.compare.comparison import Comparison, Request
 from aide_compare.compare.handing import Held
 from aide_compare.compare.hints import hint_for_owner
@@ -69,7 +68,7 @@ class Alarm:
         self.given, self.message, self.known = given, Held(), None
         if given.run and given.run.state:
             try:
-                self.known = told_names(read_state(given.run.state))
+                self.known = read_state(given.run.state).told
             except Fault:
                 self.known = []
 
@@ -80,7 +79,7 @@ class Alarm:
 
     def unknown(self, state):
         """The columns that are not compared, and that no earlier mail can have told."""
-        return [name for name in skipped_names(state) if self.known is not None and name not in self.known]
+        return [name for name in state.skipped_names if self.known is not None and name not in self.known]
 
     def is_quiet(self, state):
         if self.unknown(state):
@@ -189,10 +188,9 @@ def compared(given, alarm):
 
 def keep_told(alarm, state, kept):
     """The state says which columns mails have told, now that this mail is on its way: one that is lost is no mail."""
-    skipped = skipped_names(state)
-    told = [name for name in alarm.known or () if state.status > 7 or name in skipped] + alarm.unknown(state)
+    told = [name for name in alarm.known or () if state.status > 7 or name in state.skipped_names] + alarm.unknown(state)
     if told:
-        kept.commit(with_told(state, told).text())
+        kept.commit(state.with_told(told).text())
 
 
 def compare_and_mail(given):

@@ -10,9 +10,8 @@ from aide_compare.base.files import replace
 from aide_compare.base.names import SEVERITIES
 from aide_compare.base.options import ALARMS, Parser, end_of_options
 from aide_compare.base.times import age_in_words, date_of
-from aide_compare.compare.columns import not_compared, skipped_names, skipped_of
 from aide_compare.compare.reason_counts import GRADE_KEYS, GRADES
-from aide_compare.compare.state import KEYS, read_state
+from aide_compare.compare.state import KEYS, not_compared, read_state
 from aide_compare.show.colours import painted
 from aide_compare.show.reading import AGE, STATE, Reading
 
@@ -105,7 +104,7 @@ def line_of(path, most_age):
     if reading.age > most_age or reading.future:
         return "no comparison: the last one ended at " + date_of(state.time)
     counts = "status=%d added=%s removed=%s changed=%s" % ((state.status,) + reading.counts("?"))
-    skipped = not_compared(skipped_names(state))
+    skipped = not_compared(state.skipped_names)
     counts += " (%s)" % skipped if skipped else ""
     if state.status == 0:
         return "no difference: " + counts
@@ -126,8 +125,8 @@ def write_line(given):
 def write_json(given):
     """What is not known is null, and a number is a number."""
     state = read_state(given.state)
-    skipped = skipped_of(state)
-    known = {**{key: getattr(state, key) for key in KEYS}, **state.more, **({"skipped": skipped} if skipped else {})}
+    skipped = {"skipped": state.skipped} if state.skipped else {}
+    known = {**{key: getattr(state, key) for key in KEYS}, **state.more, **skipped}
     tell(json.dumps(known, sort_keys=True))
     return Status.OK
 
@@ -137,7 +136,7 @@ def metrics_of(state):
     values = [(name, words, getattr(state, key)) for name, key, words in GAUGES]
     values += [(name, words, getattr(state.reasons, key)) for name, key, words in REASONS] if state.reasons else []
     text = "".join(TEXT % (name, words, name, name, value) for name, words, value in values if value is not None)
-    labels = [name.replace("\\", "\\\\").replace('"', '\\"') for name in skipped_names(state)]
+    labels = [name.replace("\\", "\\\\").replace('"', '\\"') for name in state.skipped_names]
     return text + COLUMNS * bool(labels) + "".join('aide_compare_skipped_column{name="%s"} 1\n' % label for label in labels)
 
 
@@ -176,7 +175,7 @@ def text_of(state, counts):
     if state.reasons and state.status:
         grades = state.reasons.grades()
         text = "%s: %s%s" % (state.reasons.words(), text, "; explained by " + grades if grades else "")
-    return "; ".join(filter(None, (text, not_compared(skipped_names(state)))))
+    return "; ".join(filter(None, (text, not_compared(state.skipped_names))))
 
 
 def judged(given):

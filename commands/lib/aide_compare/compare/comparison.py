@@ -12,7 +12,6 @@ from aide_compare.base.files import in_memory, nameless
 from aide_compare.base.names import SIDES
 from aide_compare.base.program import CONFIGURATION, DATABASES, NEW, OLD, find_lines, find_program, run_program
 from aide_compare.base.times import age_in_words
-from aide_compare.compare.columns import notes_of, skipped_in, texts_for_state
 from aide_compare.compare.configuration import (
     URLS,
     Texts,
@@ -23,7 +22,7 @@ from aide_compare.compare.configuration import (
     read_configuration,
     without_includes,
 )
-from aide_compare.compare.hints import hints_of
+from aide_compare.compare.hints import hints_of, notes_of, skipped_in
 from aide_compare.compare.state import State
 from aide_compare.compare.unpack import copy_opened, open_database
 from aide_compare.compare.exclusions import cut_copy
@@ -94,7 +93,7 @@ class Comparison:
         if self.status <= 7 and self.counts:
             values.update(zip(("added", "removed", "changed"), self.counts))
         more = {"left_out_" + side: str(left_out.total) for side, left_out in self.left_out.items()}
-        more.update(texts_for_state(self.skipped))
+        more.update(("skipped_" + side, " ".join(names)) for side, names in self.skipped.items())
         more.update((key, str(count)) for key, count in (self.reasons._asdict() if self.reasons else {}).items())
         return State(self.status, self.time, error=self._error()[:5000], more=more, **values)
 

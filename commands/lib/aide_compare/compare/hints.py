@@ -1,71 +1,71 @@
-"""Explains an error line of aide-compare: which file and which line it means, and the cause if that can be seen."""
+"""What the program's error lines mean: which file and which line, and the cause if that can be seen; and which columns of
+databases it does not know, and so does not compare."""
 import os
 import re
 
 from aide_compare.base.escapes import shown
+from aide_compare.base.files import reopened
 from aide_compare.base.rights import user_of
 
 LINE = re.compile(rb"aide: (old database|new database|config|before|after):(\d+): (.*)")
 OPENING = re.compile(rb"aide: (?:cannot open the (old|new) database|the (old|new) database changed)")
 COLUMN = re.compile(rb".* in column (\d+)$")
+SKIPPED = re.compile(rb"^aide: (old|new) database: column ([0-9]{1,2}) skipped$", re.M)
 BLOCK, MOST_LINE = 1 << 20, 1 << 16
+MOST_HEAD, MOST_NAME = 1 << 16, 40
 LEVELS = (
     "a level is minimal, summary, database_attributes, list_entries, changed_attributes, "
     "added_removed_attributes or added_removed_entries"
 )
 KINDS = (
-    (b"\x1f\x8b", "it is compressed twice"),
-    (b"\x1f\x9d", "it is compressed twice"),
+    ((b"\x1f\x8b", b"\x1f\x9d"), "it is compressed twice"),
     (b"\xfd7zXZ", "it is compressed by xz: unpack it first"),
     (b"\x28\xb5\x2f\xfd", "it is compressed by zstd: unpack it first"),
     (b"BZh", "it is compressed by bzip2: unpack it first"),
     (b"\xef\xbb\xbf", "it begins with a byte order mark, which AIDE does not write"),
-    (b"\xff\xfe", "it is UTF-16, which AIDE does not write"),
-    (b"\xfe\xff", "it is UTF-16, which AIDE does not write"),
+    ((b"\xff\xfe", b"\xfe\xff"), "it is UTF-16, which AIDE does not write"),
 )
-ORDER = (
-    "AIDE writes its databases in order, so one that comes straight from AIDE is damaged: make it anew",
-    "if another tool wrote or merged it, aide-compare sort puts its entries in order; find out why if a path is "
-    "there twice",
-)
+# What the words of a refusal mean, where they say too little.
+CAUSES = {
+    b"no @@end_db": ("it ends too early: was the disk full, or is AIDE still writing it?",),
+    b"entry out of path order": (
+        "AIDE writes its databases in order, so one that comes straight from AIDE is damaged: make it anew",
+        "if another tool wrote or merged it, aide-compare sort puts its entries in order; find out why if a path is there twice",
+    ),
+}
+# No text has these bytes.
+BINARY = re.compile(rb"[\x00-\x08\x0b\x0c\x0e-\x1a\x1c-\x1f]")
 
 
 def line_and_columns(descriptor, number):
     """The beginning of a line of a file, and that of the last @@db_spec before it. Memory does not grow with the file."""
-    offset = count = 0
-    kept, columns = b"", b""
-    while count < number:
-        block = os.pread(descriptor, BLOCK, offset)
-        offset += len(block)
-        for line in (block or b"\n").splitlines(keepends=True):
-            kept = (kept + line)[:MOST_LINE]
-            if not line.endswith(b"\n"):
-                continue
-            count += 1
+    columns, count, is_new = b"", 0, True
+    with open(reopened(descriptor, os.O_RDONLY), "rb", BLOCK) as file:
+        for part in iter(lambda: file.readline(MOST_LINE), b""):
+            count += is_new
             if count == number:
-                return kept.rstrip(b"\n"), columns
-            columns = kept if kept.lstrip(b" \t").startswith(b"@@db_spec") else columns
-            kept = b""
-        if not block:
-            break
-    return kept, columns
+                return part.rstrip(b"\n"), columns
+            if is_new and part.lstrip(b" \t").startswith(b"@@db_spec"):
+                columns = part
+            is_new = part.endswith(b"\n")
+    return b"", columns
 
 
-def is_binary(line):
+def _is_binary(line):
     """Whether a line has bytes that no text has, or begins as a packed file does: quoted, it would hide the lines around it."""
-    return line.startswith(tuple(mark for mark, _ in KINDS)) or any(byte < 32 and byte not in b"\t\r\x1b" for byte in line)
+    return bool(BINARY.search(line)) or any(line.startswith(marks) for marks, _ in KINDS)
 
 
 def _database_hints(side, number, words, copy):
     if words == b"no @@begin_db" and copy.size:
         head = os.pread(copy.fd, 8, 0)
         unknown = "this is not an AIDE database, or its beginning is missing"
-        yield next((text for mark, text in KINDS if head.startswith(mark)), unknown)
+        yield next((text for marks, text in KINDS if head.startswith(marks)), unknown)
     yield "the %s is %s" % (side, shown(copy.name))
     if not copy.size:
         yield "it is empty: does AIDE run now? It fills its new database at its end"
     line, columns = line_and_columns(copy.fd, number)
-    if line and not is_binary(line):
+    if line and not _is_binary(line):
         yield "line %d: %s" % (number, shown(line, 200))
     column = COLUMN.match(words)
     if column:
@@ -73,16 +73,11 @@ def _database_hints(side, number, words, copy):
         names, fields = columns.split()[1:], [field for field in re.split(b"[ \t]+", line) if field]
         if 0 < place <= len(names) and place <= len(fields):
             yield "column %d is %s: %s" % (place, shown(names[place - 1], 200), shown(fields[place - 1], 200))
-    elif words == b"no @@end_db":
-        yield "it ends too early: was the disk full, or is AIDE still writing it?"
-    elif words == b"entry out of path order":
-        yield from ORDER
+    yield from CAUSES.get(words, ())
 
 
-def _configuration_hints(number, words, text, introduction):
-    yield introduction
-    lines = text.split(b"\n")
-    line = lines[number - 1] if 0 < number <= len(lines) else b""
+def _configuration_hints(number, words, text):
+    line = dict(enumerate(text.split(b"\n"), 1)).get(number, b"")
     if line.strip():
         yield "line %d: %s" % (number, shown(line, 200))
     name = shown(line.partition(b"=")[0].strip(b" \t"), 200)
@@ -109,12 +104,12 @@ def hints_of(errors, texts, path, copies):
     if where.endswith(" database"):
         copy = copies.get(where[:3])
         return list(_database_hints(where, number, words, copy)) if copy else []
-    introduction = {
+    whose = {
         "config": "the configuration is %s" % shown(path),
         "before": "this is the text of -B",
         "after": "this is the text of -A",
-    }[where]
-    return list(_configuration_hints(number, words, getattr(texts, where), introduction))
+    }
+    return [whose[where], *_configuration_hints(number, words, getattr(texts, where))]
 
 
 def hint_for_owner(text):
@@ -125,3 +120,27 @@ def hint_for_owner(text):
     what = "baseline" if found.group(1) == "old" else "new database"
     words = what, user_of(os.geteuid()), found.group(2)
     yield "the %s is not readable for this user, as aideinit leaves it. As root: chown %s: %s" % words
+
+
+def _names_of(descriptor):
+    """The names in the @@db_spec line of a database, which is one of its first lines."""
+    lines = (line.strip(b" \t") for line in os.pread(descriptor, MOST_HEAD, 0).split(b"\n"))
+    spec = next((line for line in lines if line.startswith(b"@@db_spec")), b"")
+    return [shown(name, MOST_NAME) for name in re.split(b"[ \t]+", spec)[1:]]
+
+
+def skipped_in(errors, databases):
+    """By side the names of the columns that the program says it skipped; only their numbers where they have no name."""
+    numbers, found = SKIPPED.findall(errors), {}
+    for side in sorted({side.decode() for side, _ in numbers}, reverse=True):
+        names = dict(enumerate(_names_of(databases[side]), 1))
+        found[side] = [names.get(int(text), "#%d" % int(text)) for which, text in numbers if which.decode() == side]
+    return found
+
+
+def notes_of(skipped):
+    """A line for each column, with the side if it is one of a single database."""
+    for name in dict.fromkeys(name for names in skipped.values() for name in names):
+        sides = [side for side, names in skipped.items() if name in names]
+        where = " of the %s database" % sides[0] if len(sides) == 1 else ""
+        yield "the column %s%s is not compared: the program does not know it" % (name, where)

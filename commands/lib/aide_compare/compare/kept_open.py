@@ -5,14 +5,15 @@ one that has changed keeps its old line. Both databases are sound and in path or
 """
 import os
 import re
+import shutil
 from collections import Counter
 from heapq import merge
 from itertools import groupby
 from operator import itemgetter
 
-from aide_compare.base.ending import Fault, Status, reason, write_all
+from aide_compare.base.ending import Fault, Status, failing
 from aide_compare.base.escapes import shown
-from aide_compare.base.files import nameless
+from aide_compare.base.files import nameless, reopened
 from aide_compare.base.path_keys import key_of, path_of
 from aide_compare.compare.unpack import Copy
 
@@ -55,45 +56,23 @@ class _Database:
     """A sound database: its entries one by one, each with its key and its side. `put` gets all other lines before the end
     line."""
 
-    def __init__(self, copy, put=lambda line: None):
-        self.name, self.put, self.columns, self.end = copy.name, put, None, b""
-        self.file = os.fdopen(os.open("/proc/self/fd/%d" % copy.fd, os.O_RDONLY | os.O_CLOEXEC), "rb", BLOCK)
+    def __init__(self, copy, put=None):
+        self.put, self.columns, self.end = put, None, b""
+        self.file = open(reopened(copy.fd, os.O_RDONLY), "rb", BLOCK)
 
     def entries(self, side):
         for line in self.file:
-            fields = FIELDS.findall(line)
-            if fields and not fields[0].startswith((b"@@", b"#")):
+            fields = FIELDS.findall(line) or [b"#"]
+            if not fields[0].startswith((b"@@", b"#")):
                 yield key_of(fields[self.columns.index(b"name")]), side, line
                 continue
-            if fields and fields[0] == b"@@end_db":
+            if fields[0] == b"@@end_db":
                 self.end = line
                 return
-            if fields and fields[0] == b"@@db_spec":
+            if fields[0] == b"@@db_spec":
                 self.columns = fields[1:]
-            self.put(line)
-
-    def refuse_other_columns(self, other):
-        if self.columns != other.columns:
-            text = "refused: %s has other columns (@@db_spec) than the baseline, so lines of both cannot stand in one database"
-            raise Fault(Status.DATABASE, text % shown(self.name), "nothing can be kept open; accept all of it")
-
-
-class _Target:
-    """The lines of the new baseline, in a private file."""
-
-    def __init__(self):
-        self.fd, self.waiting, self.room, self.size = nameless(), [], BLOCK, 0
-
-    def put(self, line):
-        self.waiting.append(line)
-        self.room -= len(line)
-        if self.room < 0:
-            self.flush()
-
-    def flush(self):
-        text = b"".join(self.waiting)
-        write_all(self.fd, text)
-        self.size, self.waiting, self.room = self.size + len(text), [], BLOCK
+            if self.put:
+                self.put(line)
 
 
 def _merged(old, new, is_open, put):
@@ -112,15 +91,13 @@ def _merged(old, new, is_open, put):
 def keep_open(old, new, is_open):
     """The Copy of the merged database, and how many of the added, removed and changed paths stay open. `is_open` is asked for
     the key of each path whose lines differ. Columns that differ are a Fault of status 24."""
-    target = _Target()
-    try:
-        sides = _Database(old), _Database(new, target.put)
-        counts = _merged(*sides, is_open, target.put)
-        sides[NEW].refuse_other_columns(sides[OLD])
-        target.put(sides[NEW].end)
-        for block in iter(lambda: sides[NEW].file.read(BLOCK), b""):
-            target.put(block)
-        target.flush()
-    except OSError as error:
-        raise Fault(Status.DEVICE, "cannot make a database of which a part is open: %s" % reason(error))
-    return Copy(target.fd, new.name, new.written), counts
+    target = nameless()
+    with failing("cannot make a database of which a part is open"), open(os.dup(target), "wb", BLOCK) as file:
+        former, latter = _Database(old), _Database(new, file.write)
+        counts = _merged(former, latter, is_open, file.write)
+        if former.columns != latter.columns:
+            text = "refused: %s has other columns (@@db_spec) than the baseline, so lines of both cannot stand in one database"
+            raise Fault(Status.DATABASE, text % shown(new.name), "nothing can be kept open; accept all of it")
+        file.write(latter.end)
+        shutil.copyfileobj(latter.file, file, BLOCK)
+    return Copy(target, new.name, new.written), counts
