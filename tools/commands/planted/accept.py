@@ -9,7 +9,7 @@ ACCEPT, ACCEPTING, BASELINE, RIGHTS, OPEN, SOUND = (
         "compare/baseline",
         "base/rights",
         "compare/kept_open",
-        "compare/soundness",
+        "compare/comparison",
     )
 )
 REPLACE = "        done.belongs = baseline.replace(source)\n"

@@ -43,7 +43,7 @@ COPIED_ONCE = """            copies = {}
 PLANTED = (
     seen_by(
         "attacks.try_places",
-        (CONFIGURATION, 'INCLUDES = (b"@@include", b"@@x_include")', 'INCLUDES = (b"@@x_include",)'),
+        (CONFIGURATION, "(@@(?:x_)?include", "(@@x_include"),
         (CONFIGURATION, "os.fsencode(os.uname().nodename)", 'b""'),
         (COMPARISON, "int(found.group(1)) - count", "int(found.group(1))"),
     )
@@ -55,7 +55,7 @@ PLANTED = (
     )
     + seen_by(
         "attacks.try_fixed_reports",
-        (COMPARISON, 'changed = texts.replaced(URLS, b"")', "changed = texts"),
+        (COMPARISON, 'texts.replaced(URLS, b"")._replace(', "texts._replace("),
     )
     + seen_by(
         "hints.try_database_hints",

@@ -14,9 +14,8 @@ from aide_compare.base.names import SIDES
 from aide_compare.base.path_keys import key_of_path
 from aide_compare.base.rights import become
 from aide_compare.compare.baseline import Baseline
-from aide_compare.compare.comparison import Comparison, Request
+from aide_compare.compare.comparison import Comparison, Request, refuse_unsound
 from aide_compare.compare.kept_open import Listed, Patterns, keep_open
-from aide_compare.compare.soundness import refuse_unsound
 from aide_compare.compare.unpack import GZIP, Copy, Opened, copy_opened, copy_packed, database_digest, open_database
 from aide_compare.reasons.kept_records import SUFFIX, Records
 from aide_compare.show.explained import Sources, explain

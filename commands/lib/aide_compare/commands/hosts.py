@@ -8,7 +8,7 @@ from aide_compare.base.options import Parser
 from aide_compare.base.times import date_of
 from aide_compare.commands import accept
 from aide_compare.commands.accept_steps import digits_of
-from aide_compare.compare.soundness import refuse_unsound
+from aide_compare.compare.comparison import refuse_unsound
 from aide_compare.compare.state import read_state
 from aide_compare.compare.unpack import copy_database, database_digest, open_database
 from aide_compare.hosts.fetching import add_fetching, fetch

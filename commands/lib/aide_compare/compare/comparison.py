@@ -5,11 +5,12 @@ import json
 import os
 import re
 import time
+from contextlib import suppress
 
 from aide_compare.base.ending import Fault, Status, fault_of, write_all
 from aide_compare.base.escapes import shown, shown_lines
 from aide_compare.base.files import in_memory, nameless
-from aide_compare.base.names import SIDES
+from aide_compare.base.names import KINDS, SIDES
 from aide_compare.base.program import CONFIGURATION, DATABASES, NEW, OLD, find_lines, find_program, run_program
 from aide_compare.base.times import age_in_words
 from aide_compare.compare.configuration import (
@@ -19,16 +20,15 @@ from aide_compare.compare.configuration import (
     default_configuration,
     defining_host,
     options_in,
-    read_configuration,
     without_includes,
 )
+from aide_compare.compare.exclusions import cut_copy
 from aide_compare.compare.hints import hints_of, notes_of, skipped_in
 from aide_compare.compare.state import State
 from aide_compare.compare.unpack import copy_opened, open_database
-from aide_compare.compare.exclusions import cut_copy
 from aide_compare.lines.reader import FORMAT, Reader, Refused, counts_in, end_line, status_of
 
-CLOCKS_DIFFER, MOST_SETTINGS, HEAD_BYTES, LEAST_LINES = 600, 1 << 16, 1 << 16, 1 << 12
+CLOCKS_DIFFER, MOST_SETTINGS, HEAD_BYTES, LEAST_LINES, SHORT_REPORT = 600, 1 << 16, 1 << 16, 1 << 12, 1 << 20
 HEADS = (b"AIDE found NO differences between the two databases.\n", b"AIDE found differences between the two databases.\n")
 
 
@@ -54,12 +54,13 @@ class Comparison:
     side: the names, the `copies`, the descriptors of what was `compared`, the LeftOut and the columns that were `skipped`, as
     far as there are any."""
 
+    status = fault = lines = summary = counts = reasons = _report = None
+    size, errors = 0, b""
+
     def __init__(self, request):
-        self.request, self.old, self.new = request, request.old, request.new
-        self.status, self.fault, self.lines, self.size, self.errors = None, None, None, 0, b""
-        self.hints, self.notes, self.doubts, self.counts, self.reasons = [], [], [], None, None
-        self.summary, self._report = None, None
-        self.copies, self.compared, self.left_out, self.skipped, self.time = {}, {}, {}, {}, int(time.time())
+        self.request, self.old, self.new, self.time = request, request.old, request.new, int(time.time())
+        self.hints, self.notes, self.doubts = [], [], []
+        self.copies, self.compared, self.left_out, self.skipped = {}, {}, {}, {}
 
     def run(self):
         """Compares. What ends it is told by the status and the `fault`, never by an exception."""
@@ -83,15 +84,12 @@ class Comparison:
 
     def state(self):
         """The State that says it."""
-        values = {}
-        for side in SIDES:
-            name, copy = getattr(self, side), self.copies.get(side)
-            values[side] = "" if name is None else shown(name, 4000)
-            if copy:
-                values[side + "_sha256"] = copy.sha256
-                values[side + "_written"] = None if copy.written is None else int(copy.written)
+        values = {side: shown(getattr(self, side) or "", 4000) for side in SIDES}
+        for side, copy in self.copies.items():
+            values[side + "_sha256"] = copy.sha256
+            values[side + "_written"] = None if copy.written is None else int(copy.written)
         if self.status <= 7 and self.counts:
-            values.update(zip(("added", "removed", "changed"), self.counts))
+            values.update(zip(KINDS, self.counts))
         more = {"left_out_" + side: str(left_out.total) for side, left_out in self.left_out.items()}
         more.update(("skipped_" + side, " ".join(names)) for side, names in self.skipped.items())
         more.update((key, str(count)) for key, count in (self.reasons._asdict() if self.reasons else {}).items())
@@ -105,13 +103,11 @@ class Comparison:
         return next((line for line in lines if line and not line.endswith(" skipped")), "")
 
     def _read_texts(self):
-        path, request = self.request.configuration, self.request
-        config, included = without_includes(read_configuration(path))
-        if included:
-            count = len(included)
-            lines = "1 line that includes other files is" if count == 1 else "%d lines that include other files are" % count
-            self.notes.append("%s: %s passed over, the first: %s" % (shown(path), lines, shown(included[0], 200)))
-        before, after = ((text or "").encode("utf-8", "surrogateescape") for text in (request.before, request.after))
+        """The texts of the configuration, as they were `given`."""
+        request = self.request
+        config, notes = without_includes(request.configuration)
+        self.notes += notes
+        before, after = (os.fsencode(text or "") for text in (request.before, request.after))
         self.given = Texts(before, config, after)
         return self.given
 
@@ -123,25 +119,22 @@ class Comparison:
             return True
         if self.settings(texts) is None:
             return False
-        settled = self.settings(Texts(texts.before, texts.config, b""))
+        settled = self.settings(texts._replace(after=b""))
         if settled is not None:
-            changed = texts.replaced(URLS, b"")
-            self.texts = Texts(changed.before, changed.config, options_in(settled) + texts.after)
+            self.texts = texts.replaced(URLS, b"")._replace(after=options_in(settled) + texts.after)
         return True
 
     def settings(self, texts):
         """What the program says of a configuration, None if it refuses it."""
         found = []
-        status, errors, _ = self._run(find_lines(), "-D", texts, b"", found.append, MOST_SETTINGS)
+        status, errors, _ = self._run(find_lines(), "-D", texts, found.append, MOST_SETTINGS)
         self._end_with(status, errors, texts)
         if status > 7:
             return None
-        try:
+        with suppress(ValueError, KeyError, TypeError):
             said = json.loads(b"".join(found))
             if said["format"] == FORMAT:
                 return said
-        except (ValueError, KeyError, TypeError):
-            pass
         raise self._odd_answer(find_lines())
 
     def _has_databases(self):
@@ -188,7 +181,7 @@ class Comparison:
         """Takes the lines of aide_lines, of which those beyond a limit are only counted."""
         self.lines = nameless() if self.request.target is None else self.request.target
         program, keep = find_lines(), lambda data: write_all(self.lines, data)
-        status, errors, self.size = self._run(program, "-E", self.texts, DATABASES.encode(), keep, self._most_lines)
+        status, errors, self.size = self._run(program, "-E", self.texts, keep, self._most_lines)
         self._end_with(status, errors, self.texts)
         if status > 7:
             return
@@ -207,7 +200,7 @@ class Comparison:
         """A descriptor of the program's own report, which is written when it is asked for first."""
         if self._report is None:
             self._report, most = nameless(), self.request.max_report
-            status, errors, size = self._run(find_program(), "-E", self.texts, DATABASES.encode(), self._report, most)
+            status, errors, size = self._run(find_program(), "-E", self.texts, self._report, most)
             if status == Status.DEVICE and size >= most:
                 raise Fault(Status.DEVICE, "the report has more than %d bytes; --max-report allows more" % most)
             is_other = self.request.lines and (status, errors) != (self.status, self.errors)
@@ -234,12 +227,13 @@ class Comparison:
         why = "does not run here: %s" % said if said else "ended with status %d, but its answer does not say so" % self.status
         return Fault(Status.DEVICE, "%s %s" % (shown(program), why))
 
-    def _run(self, program, job, texts, options, target, most):
+    def _run(self, program, job, texts, target, most):
         """Runs a program: its status, its error lines, and how many bytes it has written. The target is a descriptor, or is
         given the first bytes."""
         defined, moved = defining_host(texts)
         given = dict(zip((OLD, NEW), (self.compared[side] for side in SIDES if side in self.compared)))
-        words = [job, "-c", "/dev/null", b"--after=" + texts.after + (b"\n" + options if options else b"")]
+        options = b"\n" + DATABASES.encode() if job == "-E" else b""
+        words = [job, "-c", "/dev/null", b"--after=" + texts.after + options]
         words += [b"--before=" + defined.before] if defined.before else []
         keep = target if callable(target) else None
         try:
@@ -258,8 +252,8 @@ class Comparison:
 
     def _is_group(self, name):
         """Whether the texts define a group of this name: only then an option can have it as its value."""
-        texts = Texts(self.given.before, self.given.config, self.given.after + b"\nreport_force_attrs=" + name)
-        return self._run(find_lines(), "-D", texts, b"", lambda data: None, MOST_SETTINGS)[0] == 0
+        texts = self.given._replace(after=self.given.after + b"\nreport_force_attrs=" + name)
+        return self._run(find_lines(), "-D", texts, lambda data: None, MOST_SETTINGS)[0] == 0
 
 
 def _moved_back(errors, count):
@@ -278,6 +272,21 @@ def check_age(opened, most):
     if age < -CLOCKS_DIFFER:
         raise Fault(Status.DEVICE, "%s was written %s in the future: is a clock wrong?" % (opened.words, age_in_words(-age)))
     if age > most:
-        raise Fault(
-            Status.DEVICE, "%s is %s old, more than --max-age allows: does AIDE still run?" % (opened.words, age_in_words(age))
-        )
+        text = "%s is %s old, more than --max-age allows: does AIDE still run?"
+        raise Fault(Status.DEVICE, text % (opened.words, age_in_words(age)))
+
+
+def refuse_unsound(copy, other=None):
+    """A Fault of status 24 if the program does not read an unpacked database to its end, as it has to before that becomes a
+    baseline. `other` is the former one, if that has to be sound too."""
+    copies = {"old": other or copy, "new": copy}
+    shortest = {"before": "report_level=minimal", "lines": False, "max_report": SHORT_REPORT}
+    found = Comparison(Request(old="", copies=copies, **shortest)).run()
+    if found.fault:
+        raise found.fault
+    if found.status > 7:
+        wrong = copies["old" if found.errors.startswith(b"aide: old ") else "new"]
+        lines = [shown_lines(found.errors).partition("\n")[0][:1000]] + found.hints
+        if other is None:  # The program reads one database as both.
+            lines = [line.replace("old database", "new database") for line in lines]
+        raise Fault(Status(found.status), "refused: %s is no sound database" % shown(wrong.name), *lines)

@@ -5,14 +5,15 @@ asked what they say: -D of aide_lines.
 """
 import os
 import re
+from collections import namedtuple
 
-from aide_compare.base.ending import Fault, Status, reason
+from aide_compare.base.ending import Fault, Status, failing
 from aide_compare.base.escapes import shown
 from aide_compare.base.files import open_regular
 
 DEFAULTS = ("/etc/aide/aide.conf", "/etc/aide.conf")
 MOST_BYTES = 4194304
-INCLUDES = (b"@@include", b"@@x_include")
+INCLUDES = re.compile(rb"(?m)^[ \t]*(@@(?:x_)?include[^\n]*)")
 # The options whose names begin as those of the report and of databases do. A name that is none of them is a group.
 OPTIONS = frozenset(
     b"report_level report_grouped report_summarize_changes report_base16 report_quiet report_ignore_added_attrs "
@@ -31,7 +32,6 @@ MOST_NAMED, ADVICE = 16, "name OLD and NEW"
 # An empty set has a name that no group can have.
 NOTHING, WORDS = "ANF", {True: "yes", False: "no"}
 MOST_MISSPELT, MOST_ASKED = 5, 20
-BLANKS = b" \t"
 
 
 def default_configuration():
@@ -39,50 +39,44 @@ def default_configuration():
     return next((path for path in DEFAULTS if os.path.exists(path)), DEFAULTS[0])
 
 
-def read_configuration(path):
+def _read(path):
     """The bytes of a configuration, one more than are allowed at most. /dev/null is an empty one."""
     if path == "/dev/null":
         return b""
-    descriptor = open_regular(path, "the configuration ")
-    try:
-        with os.fdopen(descriptor, "rb") as file:
-            return file.read(MOST_BYTES + 1)
-    except OSError as error:
-        raise Fault(Status.DEVICE, "cannot read the configuration %s: %s" % (shown(path), reason(error)))
+    what = "the configuration "
+    with open(open_regular(path, what), "rb") as file, failing("cannot read " + what + shown(path)):
+        return file.read(MOST_BYTES + 1)
 
 
-def without_includes(text):
-    """The text with each line that includes other files empty, so that all lines keep their numbers; and those lines."""
-    lines = text.split(b"\n")
-    found = [line.strip(BLANKS) for line in lines if line.strip(BLANKS).startswith(INCLUDES)]
-    return b"\n".join(b"" if line.strip(BLANKS).startswith(INCLUDES) else line for line in lines), found
+def without_includes(path):
+    """The text of a configuration with each line that includes other files empty, so that all lines keep their numbers; and the
+    notes that say so."""
+    text = _read(path)
+    found = INCLUDES.findall(text)
+    count = "1 line that includes other files is" if len(found) == 1 else "%d lines that include other files are" % len(found)
+    notes = ["%s: %s passed over, the first: %s" % (shown(path), count, shown(line.rstrip(b" \t"), 200)) for line in found[:1]]
+    return INCLUDES.sub(b"", text), notes
 
 
-class Texts:
+class Texts(namedtuple("Texts", "before config after")):
     """The three texts that aide-compare reads: before, the file, and after."""
-
-    def __init__(self, before, config, after):
-        self.before, self.config, self.after = before, config, after
-
-    def joined(self):
-        return (("before", self.before), ("config", self.config), ("after", self.after))
 
     def replaced(self, pattern, line):
         """The same texts with another line in the file in place of each that a pattern matches: all keep their numbers."""
-        return Texts(self.before, pattern.sub(line, self.config), self.after)
+        return self._replace(config=pattern.sub(line, self.config))
 
     def misspelt(self, path, is_group):
         """A line for each of the first groups with a name like that of an option: AIDE refuses it, and here it has no effect.
         `is_group` tells whether a line defines one, and is not only there."""
-        found, names, asked = [], {"config": shown(path), "before": "-B", "after": "-A"}, {}
-        for name, text in self.joined():
+        found, asked = [], {}
+        for where, text in zip(("-B", shown(path), "-A"), self):
             for number, line in enumerate(text.split(b"\n"), 1):
                 group = GROUP.match(line)
                 word = group.group(1) if group else b"database"
                 if word not in OPTIONS and word not in asked and len(asked) < MOST_ASKED:
                     asked[word] = is_group(word)
                 if asked.get(word):
-                    found.append((names[name], number, shown(word, 100)))
+                    found.append((where, number, shown(word, 100)))
         lines = ["%s:%d: %s is no option, but a group%s" % (*each, _nearest(each[2])) for each in found[:MOST_MISSPELT]]
         return lines + ["%d more such groups" % (len(found) - MOST_MISSPELT)] * (len(found) > MOST_MISSPELT)
 
@@ -95,6 +89,10 @@ def _nearest(name):
     return "; did you mean %s?" % near[0] if near else ""
 
 
+def _fault(path, words):
+    return Fault(Status.CONFIGURATION, "%s names %s" % (shown(path), words))
+
+
 def databases_of(texts, path, check):
     """The paths of the old and of the new database that the texts name; a Fault if they name none. `check` gives what the
     program says of texts, None if it refuses them."""
@@ -104,20 +102,18 @@ def databases_of(texts, path, check):
         said = _said(texts, path, check)
     for side, name, lines in (("old", "database_in", LINES_OF_OLD), ("new", "database_new", LINES_OF_NEW)):
         if said[name] is None:
-            raise Fault(Status.CONFIGURATION, "%s names no %s database; %s" % (shown(path), side, ADVICE))
+            raise _fault(path, "no %s database; %s" % (side, ADVICE))
         _refuse_two(texts, path, check, (side, name, lines))
     old, new = (os.fsdecode(said[name].encode()) for name in ("database_in", "database_new"))
     if old == new:
-        raise Fault(
-            Status.CONFIGURATION, "%s names one file as the old and as the new database: %s" % (shown(path), shown(old))
-        )
+        raise _fault(path, "one file as the old and as the new database: %s" % shown(old))
     return old, new
 
 
 def _said(texts, path, check):
     said = check(texts)
     if said is None:
-        raise Fault(Status.CONFIGURATION, "%s names a database that is no file; %s" % (shown(path), ADVICE))
+        raise _fault(path, "a database that is no file; %s" % ADVICE)
     return said
 
 
@@ -126,16 +122,14 @@ def _refuse_two(texts, path, check, named):
     side, name, lines = named
     count = len(lines.findall(texts.config))
     if count > MOST_NAMED:
-        raise Fault(Status.CONFIGURATION, "%s names the %s database %d times; %s" % (shown(path), side, count, ADVICE))
+        raise _fault(path, "the %s database %d times; %s" % (side, count, ADVICE))
     found, before = set(), NAMED.sub(b"", texts.before)
     for wanted in range(count if count > 1 else 0):
         places = iter(range(count))
         alone = lines.sub(lambda line: line.group() if next(places) == wanted else b"", texts.config)
         found.add(_said(Texts(before, alone, texts.after), path, check)[name])
     if len(found - {None}) > 1:
-        raise Fault(
-            Status.CONFIGURATION, "%s names the %s database twice, and AIDE takes the first; %s" % (shown(path), side, ADVICE)
-        )
+        raise _fault(path, "the %s database twice, and AIDE takes the first; %s" % (side, ADVICE))
 
 
 def options_in(said):
@@ -151,7 +145,7 @@ def options_in(said):
 def defining_host(texts):
     """The texts with HOSTNAME defined as AIDE defines it, by gethostname(2), where they use it; and by how many lines this
     moves those of the text before."""
-    if not any(b"HOSTNAME" in text for _, text in texts.joined()):
+    if not any(b"HOSTNAME" in text for text in texts):
         return texts, 0
     line = b"@@define HOSTNAME " + os.fsencode(os.uname().nodename) + b"\n"
-    return Texts(line + texts.before, texts.config, texts.after), 1
+    return texts._replace(before=line + texts.before), 1
