@@ -8,14 +8,14 @@ PLANTED = (
     seen_by("without.try_names", (WITHOUT, 'unescaped(fields[self.columns["name"]])', 'fields[self.columns["name"]]'))
     + seen_by(
         "without.try_damage",
-        (WITHOUT, 'self.keeps(lines[at:end]) else b"\\n"', 'self.keeps(lines[at:end]) else b""'),
+        (WITHOUT, 'self.keeps(part) else b"\\n"', 'self.keeps(part) else b""'),
         (WITHOUT, "len(fields) != self.width", 'len(fields) <= self.columns["name"]'),
         (WITHOUT, '            self.is_over = fields[0] == b"@@end_db"\n', ""),
     )
     + seen_by("without.try_refused", (TRUSTED, "found.st_mode & 0o022", "found.st_mode & 0o002"))
     + seen_by(
         "without.try_rights",
-        (WITHOUT, "            not stat.S_IFMT(mode)\n", "            False\n"),
+        (WITHOUT, "        not stat.S_IFMT(mode)\n", "        False\n"),
         (WITHOUT, "mode & SET_ID and not stat.S_ISDIR(mode)", "mode & SET_ID and stat.S_ISREG(mode)"),
         (WITHOUT, 'SET_ID, ANY_BITS = b"0", 0o111, 0o6000', 'SET_ID, ANY_BITS = b"0", 0o111, 0o4000'),
         (WITHOUT, 'RUN_BITS, SET_ID, ANY_BITS = b"0", 0o111', 'RUN_BITS, SET_ID, ANY_BITS = b"0", 0o011'),
@@ -25,19 +25,18 @@ PLANTED = (
         "without.try_marks",
         (
             WITHOUT,
-            "self.rules.of(path, lambda rule: may_be_left_out(found, rule))",
-            "rule if may_be_left_out(found, rule) else None",
+            "self.rules.of(path, lambda rule: bool(rule.why) or not is_program)",
+            "next((rule for rule in [self.rules.of(path)] if rule.why or not is_program), None)",
         ),
         (WITHOUT, "[^() \\t][^()]*", "[^()]*"),
     )
     + seen_by(
         "without_random.try_without_random",
-        (WITHOUT, "            if start in self.by_start:\n                return 0\n", ""),
-        (WITHOUT, 'FOLDERS = re.compile(rb"/[^%\\s]*/")', 'FOLDERS = re.compile(rb"/[^\\s]*/")'),
-        (WITHOUT, "end - at > LINE or ", ""),
+        (WITHOUT, "pieces not in self.above and ", ""),
+        (WITHOUT, " and not any(pieces[:size] in self.by_start for size in sizes)", ""),
+        (WITHOUT, "[^%\\s]{0,4095}", "[^\\s]{0,4095}"),
+        (WITHOUT, "(is_new and is_whole)", "is_whole"),
         (WITHOUT, 'self.columns.get("name") == 0', '"name" in self.columns'),
-        (WITHOUT, "(?:\\1[^\\n]*\\n)*", "(?:[^\\n]*\\n)*"),
-        (WITHOUT, 'rest = b"" if rest.endswith(b"\\n") else source', "rest = source"),
     )
     + seen_by("without.try_patterns", (PATTERNS, "                retry += 1\n", "                retry += 2\n"))
     + seen_by(
@@ -69,6 +68,6 @@ PLANTED = (
     + seen_by("without.try_shipped", ("contrib/aide/debian.without", "/var/cache/**\n", "/var/**\n"))
     + seen_by(
         "without.try_damage",
-        (WITHOUT, 'if not fields or fields[0].startswith(b"#"):', 'if not fields and fields[0].startswith(b"#"):'),
+        (WITHOUT, 'not fields or fields[0].startswith(b"#"):', 'not fields and fields[0].startswith(b"#"):'),
     )
 )

@@ -10,21 +10,21 @@ NAMES = [b"a", b"b", b"ab", b"%61", b"a%2Fb", b"b%zz", b"a\x0bb", b"c"]
 PIECES, WHOLE = [b"a", b"b", b"ab", b"c", b"*", b"?b", b"**"], [8, 6, 3, 3, 2, 1, 3]
 MODES = [b"100644", b"100755", b"40755", b"42755", b"104755", b"120777", b"20600", b"60000", b"100111", b"0", b"x"]
 COLUMNS = [b"name", b"lname", b"attr", b"perm", b"size", b"capabilities"]
-SMALL_LINE, SMALL_BLOCK = 90, 64
+SMALL_LINE = 90
 
 
 def try_without_random(sandbox):
-    """Blocks and lines are small here, so that lines go over the end of a block, and some are longer than a line can be."""
+    """A line can have few bytes here, so that some are longer."""
     modules()
     from aide_compare.compare import exclusions
 
-    kept = exclusions.LINE, exclusions.BLOCK
+    kept = exclusions.LINE
     numbers, seen = random.Random(20261127), Counter()
     try:
-        exclusions.LINE, exclusions.BLOCK = SMALL_LINE, SMALL_BLOCK
+        exclusions.LINE = SMALL_LINE
         wrong = [given for given in (random_case(numbers) for _ in range(4000)) if not is_alike(exclusions, given, seen)]
     finally:
-        exclusions.LINE, exclusions.BLOCK = kept
+        exclusions.LINE = kept
     sandbox.holds("random databases and lines", not wrong, wrong[:1])
     least = {"left out": 2000, "staying": 2000, "kept": 20000}
     sandbox.holds("some of each kind", all(seen[kind] >= count for kind, count in least.items()), seen)
@@ -35,7 +35,7 @@ def is_alike(exclusions, given, seen):
     database, rules = given
     made = exclusions.Exclusions([exclusions._exclusion(text, "%d" % number) for number, text in enumerate(rules)])
     cut = exclusions._Cut(made)
-    got = b"".join(exclusions._cut_parts(io.BytesIO(database), cut))
+    got = b"".join(cut.lines(io.BytesIO(database)))
     want, counts, staying = plain_cut(database, rules)
     seen.update({"left out": sum(counts.values()), "staying": staying, "kept": want.count(b"\n/")})
     return (got, {int(rule.place): count for rule, count in cut.counts.items()}, cut.staying) == (want, counts, staying)
