@@ -10,7 +10,7 @@ STATE, HINTS, MAIL, MESSAGE = (
 )
 STATUS = LIB + "commands/status.py"
 # The state says that a mail has told them before it is sent.
-TOLD_BEFORE = "        keep_told(alarm, state, kept)\n        send(way, alarm.message.data())\n"
+TOLD_BEFORE = "        keep_told(alarm, state, kept)\n        send(way, alarm.message.held)\n"
 
 PLANTED = seen_by(
     "columns.try_columns",
@@ -23,9 +23,9 @@ PLANTED = seen_by(
     (HINTS, 're.split(b"[ \\t]+", spec)', "spec.split()"),
     (MAIL, "        if self.unknown(state):\n            return False\n", ""),
     (MAIL, "and name not in self.known]", "]"),
-    (MAIL, "self.known = given, Held(), None", "self.known = given, Held(), []"),
+    (MAIL, "self.known = given, Later(), None", "self.known = given, Later(), []"),
     (MAIL, "    keep_told(alarm, state, kept)\n", ""),
-    (MAIL, "        send(way, alarm.message.data())\n    keep_told(alarm, state, kept)\n", TOLD_BEFORE),
+    (MAIL, "        send(way, alarm.message.held)\n    keep_told(alarm, state, kept)\n", TOLD_BEFORE),
     (MAIL, "if state.status > 7 or name in", "if name in"),
     (STATUS, """name.replace("\\\\", "\\\\\\\\").replace('"', '\\\\"')""", "name"),
     (STATUS, 'counts += " (%s)" % skipped if skipped else ""', "pass"),

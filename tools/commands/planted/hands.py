@@ -6,7 +6,7 @@ DEFAULTS, HANDING, RUN, MAIL, CHECK, REASONS, FOLDERS, TRUSTED = (
     "commands/lib/aide_compare/%s.py" % name
     for name in (
         "base/defaults",
-        "compare/handing",
+        "compare/outputs",
         "commands/compare",
         "commands/mail",
         "commands/status",
@@ -68,7 +68,7 @@ PLANTED = (
     + seen_by(
         "hands.try_owner",
         (HANDING, "        become(owner)\n", ""),
-        (HANDING, "        owner = owner_of(baseline)\n", "        owner = None\n"),
+        (HANDING, "owner = owner_of(baseline) if self.is_wanted else None", "owner = None"),
         (HANDING, "            output.is_childs = True\n", "            pass\n"),
         (RUN, "os.geteuid() == 0 and not given.user", "os.geteuid() == 0"),
         (RUN, "            self.wanted.write_nothing()\n        teller", "            pass\n        teller"),

@@ -12,8 +12,8 @@ from aide_compare.base.options import EVIDENCE, Parser, named_evidence, some_tex
 from aide_compare.base.rights import give_up
 from aide_compare.base.times import date_of
 from aide_compare.compare.comparison import Comparison, Request
-from aide_compare.compare.handing import Handed, Handing
 from aide_compare.compare.exclusions import Exclusions, read_exclusions
+from aide_compare.compare.outputs import Handed, Handing
 from aide_compare.show.colours import are_wanted, coloured
 
 DESCRIPTION = "Compares two AIDE databases, plain or compressed by gzip. The report goes to standard output."
@@ -62,23 +62,19 @@ class Task:
     def __init__(self, given, reads_lines=False, makes_page=False, weighs=False):
         if named_evidence(given) and not given.reasons:
             raise Fault(Status.USAGE, "%s needs --reasons" % named_evidence(given), TRY)
-        self.handing = Handing() if os.geteuid() == 0 and not given.user else None
+        self.handing = Handing(os.geteuid() == 0 and not given.user)
         explains = bool(given.reasons or given.json or given.page or makes_page or weighs)
         self.request, self.wanted = self._request(given, explains or reads_lines or given.state is not None), None
         if explains:
             # The modules for it are more than all others together.
             from aide_compare.show.explained import Wanted
 
-            self.wanted = Wanted(given, self.made, weighs)
-        self.state = self.made(Replacement(given.state, what="the state file").begin()) if given.state else None
-
-    def made(self, output):
-        """An output that a child may fill, where there is one."""
-        return self.handing.later(output) if self.handing else output
+            self.wanted = Wanted(given, self.handing.later, weighs)
+        self.state = self.handing.later(Replacement(given.state, what="the state file").begin()) if given.state else None
 
     def is_child(self):
         """Whether this process compares for its parent, with the rights of another user."""
-        return self.handing is not None and self.handing.owner is not None
+        return self.handing.owner is not None
 
     def _request(self, given, lines):
         if len(given.databases) not in (0, 2):

@@ -10,7 +10,7 @@ from aide_compare.base.options import Parser, duration, end_of_options, matching
 from aide_compare.base.program import find_front
 from aide_compare.commands import compare
 from aide_compare.compare.comparison import Comparison, Request
-from aide_compare.compare.handing import Held
+from aide_compare.compare.outputs import Later
 from aide_compare.compare.hints import hint_for_owner
 from aide_compare.compare.reason_counts import counted
 from aide_compare.compare.state import read_state
@@ -65,7 +65,7 @@ class Alarm:
     compared, as the state of the last run says; None if no state is kept that a next run can see."""
 
     def __init__(self, given):
-        self.given, self.message, self.known = given, Held(), None
+        self.given, self.message, self.known = given, Later(), None
         if given.run and given.run.state:
             try:
                 self.known = read_state(given.run.state).told
@@ -172,7 +172,7 @@ def compared(given, alarm):
         if given.refusal:
             raise given.refusal
         task = compare.Task(given.run, reads_lines=True, makes_page=given.html)
-        task.state, alarm.message = task.state or task.made(Held()), task.made(alarm.message)
+        task.state, alarm.message = task.state or task.handing.later(), task.handing.later()
         status, state = task.carry_out(alarm)
     except (Fault, MemoryError, OSError) as error:
         if task and task.is_child():
@@ -180,7 +180,7 @@ def compared(given, alarm):
         comparison = Comparison(Request(old="", new=""))
         comparison.end_by(error)
         alarm.end(comparison, None)
-        return comparison.state(), Held()
+        return comparison.state(), Later()
     if task.is_child():
         os._exit(status)
     return state, task.state
@@ -204,7 +204,7 @@ def compare_and_mail(given):
     if alarm.is_quiet(state):
         be_quiet(given, way, state)
     else:
-        send(way, alarm.message.data())
+        send(way, alarm.message.held)
     keep_told(alarm, state, kept)
     return 0 if given.alarm_sent_is_success else state.status
 

@@ -1,10 +1,21 @@
-"""Where a command writes what it is asked for beside its standard output: a file, or a descriptor of the caller."""
+"""What a command writes beside its standard output, by itself or by a child that has not the rights of root.
+
+Root compares with the rights of the user in whose folder the baseline is, as aide-compare accept writes there. So root sees what
+a comparison of this user sees, and what others have written is read with no more than their rights. Root opens both databases.
+Then a child gives up root's rights for good and does the rest, and its parent puts in place what it has written.
+"""
 import fcntl
 import os
+from contextlib import suppress
 
-from aide_compare.base.ending import Fault, Status, reason
+from aide_compare.base.child import end_with
+from aide_compare.base.ending import Fault, Status, failing, write_all
 from aide_compare.base.escapes import shown
-from aide_compare.base.files import Replacement, copy_file
+from aide_compare.base.files import Replacement, copy_file, nameless
+from aide_compare.base.folders import ANYBODY, open_folder
+from aide_compare.base.program import KNOWN
+from aide_compare.base.rights import become, name_of
+from aide_compare.compare.state import MOST_BYTES, parse_state
 from aide_compare.compare.unpack import given_descriptor
 
 STREAMS = {"-": 1, "/dev/stdout": 1, "/dev/stderr": 2}
@@ -17,30 +28,117 @@ class Output:
 
     def __init__(self, path, what):
         self.path, self.what, self.file = path, what, None
+        self.words = "cannot write %s %s" % (what, shown(path))
         self.fd = STREAMS.get(path, given_descriptor(path))
 
     def begin(self):
         if self.fd is None:
             self.file = Replacement(self.path, PRIVATE, self.what).begin()
         elif not self._is_open():
-            raise self._fault("the caller has not opened it for writing")
+            raise Fault(Status.DEVICE, self.words + ": the caller has not opened it for writing")
         return self
 
     def _is_open(self):
-        try:
+        with suppress(OSError):
             flags = fcntl.fcntl(self.fd, fcntl.F_GETFL) & os.O_ACCMODE
             return flags != os.O_RDONLY and not fcntl.fcntl(self.fd, fcntl.F_GETFD) & fcntl.FD_CLOEXEC
-        except OSError:
-            return False
+        return False
 
     def commit_copy(self, descriptor):
         """Writes what the file of a descriptor has."""
         if self.file:
             return self.file.commit_copy(descriptor)
-        try:
+        with failing(self.words):
             copy_file(descriptor, self.fd)
-        except OSError as error:
-            raise self._fault(reason(error))
 
-    def _fault(self, text):
-        return Fault(Status.DEVICE, "cannot write %s %s: %s" % (self.what, shown(self.path), text))
+
+class Later:
+    """An output that a child may fill: it writes to a private file, and its parent puts that in place. Without a `place` it stays
+    in memory here, as the message of a mail does, which may have to say that a disk is full."""
+
+    def __init__(self, place=None):
+        self.place, self.kept, self.is_childs, self.held = place, None, False, b""
+
+    def commit(self, data):
+        if self.is_childs:
+            write_all(self.kept, data)
+        elif self.place:
+            self.place.commit(data)
+        else:
+            self.held = data
+
+    def commit_copy(self, source):
+        if self.is_childs:
+            copy_file(source, self.kept)
+        else:
+            self.place.commit_copy(source)
+
+    def put(self):
+        """Puts in place what a child has written."""
+        if self.place:
+            self.place.commit_copy(self.kept)
+        else:
+            self.held = os.pread(self.kept, os.fstat(self.kept).st_size, 0)
+
+    def state(self, status):
+        """The whole State that a child has written, of a run that ended with this status; a Fault if there is none."""
+        with suppress(ValueError, KeyError):
+            state = parse_state(os.pread(self.kept, MOST_BYTES + 1, 0))
+            if state.status == status:
+                return state
+        raise Fault(Status.DEVICE, "the comparison with the privileges of another user left no whole result")
+
+
+class Handed(BaseException):
+    """The way out of the parent: its child, which has the rights of an owner, goes on with the work."""
+
+    def status(self):
+        """The status with which the child ends; a Fault if it is none of a comparison."""
+        child, owner = self.args
+        status = os.waitstatus_to_exitcode(os.waitpid(child, 0)[1])
+        if status not in KNOWN:
+            raise Fault(Status.DEVICE, "the comparison with %s's privileges ended with %d" % (name_of(owner), status))
+        return status
+
+
+def owner_of(baseline):
+    """The one user, neither root nor the caller, who can write in the folder of the baseline; None otherwise."""
+    if given_descriptor(baseline) is not None:
+        return None
+    with open_folder(os.path.dirname(baseline) or ".") as folder:
+        return min(folder.others) if len(folder.others) == 1 and ANYBODY not in folder.others else None
+
+
+class Handing:
+    """Hands the work of a run over, once the databases are open, if that `is_wanted`. `owner`: whose rights the child has; None
+    in the parent, and if nothing was handed over."""
+
+    def __init__(self, is_wanted):
+        self.is_wanted, self.outputs, self.owner = is_wanted, [], None
+
+    def later(self, place=None):
+        """An output that either process may fill."""
+        self.outputs.append(Later(place))
+        return self.outputs[-1]
+
+    def take(self, baseline):
+        """The child returns from here; its parent leaves by Handed."""
+        owner = owner_of(baseline) if self.is_wanted else None
+        if owner is None:
+            return
+        for output in self.outputs:
+            output.kept = nameless()
+        parent, child = os.getpid(), os.fork()
+        if child:
+            raise Handed(child, owner)
+        self.owner = owner
+        for output in self.outputs:
+            output.is_childs = True
+        become(owner)
+        if not end_with(parent):
+            raise Fault(Status.DEVICE, "the command was ended")
+
+    def hint(self):
+        """Why a file may be closed to root's own comparison."""
+        words = "this was done with the privileges of %s, whose directory the baseline is in; --user root keeps root's"
+        return words % name_of(self.owner)
