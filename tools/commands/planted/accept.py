@@ -73,7 +73,7 @@ PLANTED = (
         "accept.try_at_once",
         ("commands/lib/aide_compare/base/files.py", "            fcntl.flock(descriptor, how | fcntl.LOCK_NB)\n", ""),
     )
-    + seen_by("accept.try_places", (BASELINE, "        if not stat.S_ISREG(found.st_mode):", "        if False:"))
+    + seen_by("accept.try_places", (BASELINE, "        if not stat.S_ISREG(mode):", "        if False:"))
     + seen_by(
         "accept_kills.try_kills",
         (BASELINE, EXCHANGE, NO_NAME),
@@ -119,7 +119,7 @@ PLANTED = (
     + seen_by("accept_attacks.try_folder_at_calls", (ACCEPTING, REPLACE, FOLDER_BY_NAME))
     + seen_by("accept_attacks.try_folder_in_a_loop", (ACCEPTING, REPLACE, FOLDER_BY_NAME))
     + seen_by("accept_attacks.try_names_taken", (ACCEPTING, REPLACE, THROUGH_A_LINK))
-    + seen_by("accept_attacks.try_moved_folder", (BASELINE, "            self._check_place(answer)\n", ""))
+    + seen_by("accept_attacks.try_moved_folder", (BASELINE, "if new != list(identity(os.stat(self.name, dir_fd=folder.fd, follow_symlinks=False))):", "if False:"))
     + seen_by(
         "accept.try_told",
         (ACCEPTING, 'return None if baseline.former is None else ""', "return None"),

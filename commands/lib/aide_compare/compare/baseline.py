@@ -7,11 +7,13 @@ import errno
 import os
 import stat
 import time
+from contextlib import suppress
 
-from aide_compare.base.ending import Fault, Status, reason
+from aide_compare.base.ending import Fault, Status, failing, reason, why_of
 from aide_compare.base.escapes import shown
 from aide_compare.base.exchange import exchange
-from aide_compare.base.files import ANYBODY, copy_file, failure, file_kind, is_locked, new_file, open_folder, reopened, unlink
+from aide_compare.base.files import copy_file, file_kind, is_locked, new_file, reopened, unlink
+from aide_compare.base.folders import ANYBODY, closed_after, failure, open_folder
 
 FILE_MODES = 0o666
 PLAIN_FILE = os.O_RDONLY | os.O_NOFOLLOW | os.O_NONBLOCK | os.O_NOCTTY | os.O_CLOEXEC
@@ -38,62 +40,48 @@ class Baseline:
         self.path, self.name = path, os.path.basename(path)
         if self.name in ("", ".", ".."):
             raise Fault(Status.USAGE, "the baseline needs the name of a file: %s" % (shown(path) or "''"))
+        self.words = "cannot write the baseline " + shown(path)
         self.previous = PREVIOUS % self.name
         self.part, self.mark, self.spare = (form % self.name for form in (PART, MARK, SPARE))
         self.beside, self.away = (self.name + suffix, SPARE % (self.name + suffix)) if suffix else (None, None)
         self.place = os.path.dirname(path) or "."
         with open_folder(self.place) as folder:
             self.owner = self._owner_of(folder)
-            self.folder = self._opened(folder)
-        self._lock()
-        self.descriptor, self.former = self._find()
+            with failing(self.words + ": its directory cannot be read"):
+                self.folder = os.open(".", os.O_RDONLY | os.O_DIRECTORY | os.O_CLOEXEC, dir_fd=folder.fd)
+        with failing(self.words + ": its directory cannot be locked"):  # It waits for another run.
+            if not is_locked(self.folder, time.monotonic() + SECONDS_FOR_LOCK):
+                raise self._fault("its directory has been locked by another process for %d seconds" % SECONDS_FOR_LOCK)
+        self.descriptor = self.former = None
+        with failing(self.words), suppress(FileNotFoundError):
+            self.descriptor = os.open(self.name, os.O_PATH | os.O_NOFOLLOW | os.O_CLOEXEC, dir_fd=self.folder)
+            self.former = os.fstat(self.descriptor)
+            self._refuse_other_kinds(self.former.st_mode)
+
+    def _fault(self, text):
+        return Fault(Status.DEVICE, "%s: %s" % (self.words, text))
 
     def _owner_of(self, folder):
         """The user with whose rights the folder is changed; None for the caller's own."""
         if not folder.others:
             return None
         if ANYBODY in folder.others or len(folder.others) > 1:
-            raise self.fault("more than one user can write in its directory, or above it; only its owner should")
+            raise self._fault("more than one user can write in its directory, or above it; only its owner should")
         if os.geteuid() != 0:
-            raise self.fault("its directory, or one above it, belongs to another user; run this as that user or as root")
+            raise self._fault("its directory, or one above it, belongs to another user; run this as that user or as root")
         return min(folder.others)
 
-    def _opened(self, folder):
-        try:
-            return os.open(".", os.O_RDONLY | os.O_DIRECTORY | os.O_CLOEXEC, dir_fd=folder.fd)
-        except OSError as error:
-            raise self.fault("its directory cannot be read: %s" % reason(error))
-
-    def _lock(self):
-        """Waits for another run."""
-        try:
-            if not is_locked(self.folder, time.monotonic() + SECONDS_FOR_LOCK):
-                raise self.fault("its directory has been locked by another process for %d seconds" % SECONDS_FOR_LOCK)
-        except OSError as error:
-            raise self.fault("its directory cannot be locked: %s" % reason(error))
-
-    def _find(self):
-        try:
-            descriptor = os.open(self.name, os.O_PATH | os.O_NOFOLLOW | os.O_CLOEXEC, dir_fd=self.folder)
-        except FileNotFoundError:
-            return None, None
-        except OSError as error:
-            raise self.fault(reason(error))
-        found = os.fstat(descriptor)
-        if not stat.S_ISREG(found.st_mode):
-            hint = ", which is not followed: name the file itself" if stat.S_ISLNK(found.st_mode) else ""
-            raise self.fault("it is %s, not a regular file%s" % (file_kind(found.st_mode), hint))
-        return descriptor, found
+    def _refuse_other_kinds(self, mode):
+        if not stat.S_ISREG(mode):
+            hint = ", which is not followed: name the file itself" if stat.S_ISLNK(mode) else ""
+            raise self._fault("it is %s, not a regular file%s" % (file_kind(mode), hint))
 
     def reading(self):
         """A descriptor to read the former baseline; None if there is none, or if the caller may not read it."""
-        try:
-            return None if self.former is None else reopened(self.descriptor, os.O_RDONLY | os.O_NONBLOCK)
-        except OSError:
-            return None
-
-    def fault(self, text):
-        return Fault(Status.DEVICE, "cannot write the baseline %s: %s" % (shown(self.path), text))
+        with suppress(OSError):
+            if self.former is not None:
+                return reopened(self.descriptor, os.O_RDONLY | os.O_NONBLOCK)
+        return None
 
     def _work(self, work, source):
         """Does work in the folder over an open file, with the rights that the folder asks for."""
@@ -115,13 +103,11 @@ class Baseline:
 
     def reading_beside(self, suffix):
         """A descriptor to read the file beside the baseline whose name ends so; None if that is no readable plain file."""
-        try:
+        with suppress(OSError):
             descriptor = os.open(self.name + suffix, PLAIN_FILE, dir_fd=self.folder)
-        except OSError:
-            return None
-        if stat.S_ISREG(os.fstat(descriptor).st_mode):
-            return descriptor
-        os.close(descriptor)
+            if stat.S_ISREG(os.fstat(descriptor).st_mode):
+                return descriptor
+            os.close(descriptor)
         return None
 
     def _put(self, source, name, part):
@@ -133,29 +119,19 @@ class Baseline:
     def replace(self, source):
         """Makes a copy of an open file the baseline. Returns the numbers of the user and group that it belongs to."""
         try:
-            answer = self._work(lambda: self._replace(source), source)
-            self._check_place(answer)
-        except Fault as fault:
-            raise self.fault(fault.text)
-        except OSError as error:
-            raise self.fault(reason(error))
-        return tuple(map(int, answer.split()[2:]))
+            *new, user, group = map(int, self._work(lambda: self._replace(source), source).split())
+            with open_folder(self.place) as folder:  # Which could have been renamed: the path has to lead to the new baseline.
+                if new != list(identity(os.stat(self.name, dir_fd=folder.fd, follow_symlinks=False))):
+                    raise Fault(Status.DEVICE, CHANGED)
+        except (Fault, OSError) as error:
+            raise self._fault(why_of(error))
+        return user, group
 
     def settle(self):
         """Ends what a run has left that was killed while the names changed."""
-        names = [self.part, self.mark, self.spare] + [self.away] * bool(self.away)
-        if any(self._identity(name) for name in names):
-            try:
+        if any(self._identity(name) for name in (self.part, self.mark, self.spare, self.away) if name):
+            with failing(self.words):
                 self._work(self._settle, self.folder)
-            except OSError as error:
-                raise self.fault(reason(error))
-
-    def _check_place(self, answer):
-        """The path still leads to the new baseline. Its folder could have been renamed."""
-        with open_folder(self.place) as folder:
-            found = os.stat(self.name, dir_fd=folder.fd, follow_symlinks=False)
-        if list(identity(found)) != [int(number) for number in answer.split()[:2]]:
-            raise Fault(Status.DEVICE, CHANGED)
 
     def _replace(self, source):
         """The work in the folder. From here on only names in the open folder and descriptors are used."""
@@ -184,29 +160,23 @@ class Baseline:
         unlink(self.mark, self.folder)
 
     def _identity(self, name):
-        try:
+        with suppress(FileNotFoundError):
             return identity(os.stat(name, dir_fd=self.folder, follow_symlinks=False))
-        except FileNotFoundError:
-            return None
+        return None
 
-    def _named_copy(self, source, part):
-        """Copies an open file, on the disk before it gets a name. Returns what fstat says of it."""
-        new, name = new_file(self.folder, part)
-        try:
-            self._copy(source, new)
+    def _named_copy(self, source, name):
+        """Copies the bytes of an open file, then the owner where the caller can give it, then the mode; all of it is on the disk
+        before it gets the name. Returns what fstat says of the copy."""
+        new, given = new_file(self.folder, name)
+        with closed_after(new):
+            copy_file(source, new)
+            if self.former and self.owner is None:
+                self._give(new, self.former.st_uid if os.geteuid() == 0 else -1, self.former.st_gid)
+            os.fchmod(new, self.former.st_mode & FILE_MODES if self.former else FIRST_MODE)
             os.fsync(new)
-            if not name:
-                os.link("/proc/self/fd/%d" % new, part, dst_dir_fd=self.folder)
+            if not given:
+                os.link("/proc/self/fd/%d" % new, name, dst_dir_fd=self.folder)
             return os.fstat(new)
-        finally:
-            os.close(new)
-
-    def _copy(self, source, new):
-        """Copies the bytes, then the owner where the caller can give it, then the mode."""
-        copy_file(source, new)
-        if self.former and self.owner is None:
-            self._give(new, self.former.st_uid if os.geteuid() == 0 else -1, self.former.st_gid)
-        os.fchmod(new, self.former.st_mode & FILE_MODES if self.former else FIRST_MODE)
 
     def _give(self, new, user, group):
         try:
@@ -232,11 +202,9 @@ class Baseline:
 
     def _put_away(self):
         """At no moment what belongs to the former baseline is beside the new one."""
-        try:
-            if self.beside and self._identity(self.beside):
+        if self.beside and self._identity(self.beside):
+            with failing("%s cannot be moved" % shown(self.beside)):
                 self._rename(self.beside, self.away)
-        except OSError as error:
-            raise failure(error.errno, "%s cannot be moved: %s" % (shown(self.beside), reason(error)))
 
     def _check(self, name, wanted):
         if self._identity(name) != identity(wanted):
