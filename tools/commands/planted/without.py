@@ -41,7 +41,7 @@ PLANTED = (
     + seen_by("without.try_patterns", (PATTERNS, "                retry += 1\n", "                retry += 2\n"))
     + seen_by(
         "without.try_left_out",
-        (WITHOUT, "sum(counts.values())", "len(counts)"),
+        (WITHOUT, "sum(self.counts.values())", "len(self.counts)"),
         (
             "commands/lib/aide_compare/compare/comparison.py",
             "        self.notes += self.left_out[side].words(side)\n",

@@ -34,7 +34,7 @@ def is_alike(exclusions, given, seen):
     """Whether the copy, the counts by line and the number of those that stay in vain are those of the plain cut."""
     database, rules = given
     made = exclusions.Exclusions([exclusions._exclusion(text, "%d" % number) for number, text in enumerate(rules)])
-    cut = exclusions._Cut(made)
+    cut = exclusions.LeftOut(made)
     got = b"".join(cut.lines(io.BytesIO(database)))
     want, counts, staying = plain_cut(database, rules)
     seen.update({"left out": sum(counts.values()), "staying": staying, "kept": want.count(b"\n/")})

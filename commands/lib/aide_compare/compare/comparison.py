@@ -13,15 +13,7 @@ from aide_compare.base.files import in_memory, nameless
 from aide_compare.base.names import KINDS, SIDES
 from aide_compare.base.program import CONFIGURATION, DATABASES, NEW, OLD, find_lines, find_program, run_program
 from aide_compare.base.times import age_in_words
-from aide_compare.compare.configuration import (
-    URLS,
-    Texts,
-    databases_of,
-    default_configuration,
-    defining_host,
-    options_in,
-    without_includes,
-)
+from aide_compare.compare.configuration import URLS, Texts, databases_of, default_configuration, options_in, without_includes
 from aide_compare.compare.exclusions import cut_copy
 from aide_compare.compare.hints import hints_of, notes_of, skipped_in
 from aide_compare.compare.state import State
@@ -230,7 +222,7 @@ class Comparison:
     def _run(self, program, job, texts, target, most):
         """Runs a program: its status, its error lines, and how many bytes it has written. The target is a descriptor, or is
         given the first bytes."""
-        defined, moved = defining_host(texts)
+        defined, moved = texts.defining_host()
         given = dict(zip((OLD, NEW), (self.compared[side] for side in SIDES if side in self.compared)))
         options = b"\n" + DATABASES.encode() if job == "-E" else b""
         words = [job, "-c", "/dev/null", b"--after=" + texts.after + options]

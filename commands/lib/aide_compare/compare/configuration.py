@@ -65,6 +65,14 @@ class Texts(namedtuple("Texts", "before config after")):
         """The same texts with another line in the file in place of each that a pattern matches: all keep their numbers."""
         return self._replace(config=pattern.sub(line, self.config))
 
+    def defining_host(self):
+        """The texts with HOSTNAME defined as AIDE defines it, by gethostname(2), where they use it; and by how many lines this
+        moves those of the text before."""
+        if not any(b"HOSTNAME" in text for text in self):
+            return self, 0
+        line = b"@@define HOSTNAME " + os.fsencode(os.uname().nodename) + b"\n"
+        return self._replace(before=line + self.before), 1
+
     def misspelt(self, path, is_group):
         """A line for each of the first groups with a name like that of an option: AIDE refuses it, and here it has no effect.
         `is_group` tells whether a line defines one, and is not only there."""
@@ -140,12 +148,3 @@ def options_in(said):
             text = WORDS[value] if type(value) is bool else value if type(value) is str else "+".join(value) or NOTHING
             lines += ("%s=%s\n" % (name, text)).encode()
     return lines
-
-
-def defining_host(texts):
-    """The texts with HOSTNAME defined as AIDE defines it, by gethostname(2), where they use it; and by how many lines this
-    moves those of the text before."""
-    if not any(b"HOSTNAME" in text for text in texts):
-        return texts, 0
-    line = b"@@define HOSTNAME " + os.fsencode(os.uname().nodename) + b"\n"
-    return texts._replace(before=line + texts.before), 1

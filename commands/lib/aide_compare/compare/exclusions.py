@@ -94,9 +94,8 @@ def _judged(field):
     return always_stays, is_program
 
 
-class _Cut:
-    """The lines of a database one by one: which of them are entries that a rule leaves out. `staying` counts the entries that
-    a rule names in vain."""
+class LeftOut:
+    """What rules leave out of a database: how many entries by each rule, and how many stay although a rule names them."""
 
     def __init__(self, rules):
         self.rules, self.columns, self.width, self.is_over = rules, {}, 0, False
@@ -142,12 +141,9 @@ class _Cut:
         self.counts[rule] += 1
         return False
 
-
-class LeftOut:
-    """What was left out of a database: how many entries by each rule, and how many stay although a rule names them."""
-
-    def __init__(self, counts, staying):
-        self.counts, self.staying, self.total = counts, staying, sum(counts.values())
+    @property
+    def total(self):
+        return sum(self.counts.values())
 
     def words(self, side):
         """The lines that say so."""
@@ -160,8 +156,8 @@ class LeftOut:
 
 def cut_copy(descriptor, rules):
     """A private copy of an unpacked database without the entries that rules leave out, and the LeftOut."""
-    cut, target = _Cut(rules), nameless()
+    left_out, target = LeftOut(rules), nameless()
     with failing("cannot copy a database without the entries that are left out"):
         with open(reopened(descriptor, os.O_RDONLY), "rb", BLOCK) as source, open(os.dup(target), "wb", BLOCK) as file:
-            file.writelines(cut.lines(source))
-    return target, LeftOut(cut.counts, cut.staying)
+            file.writelines(left_out.lines(source))
+    return target, left_out

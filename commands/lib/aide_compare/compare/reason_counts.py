@@ -1,4 +1,5 @@
 """How many changes of a comparison something explains, how many not, and how severe those are: in numbers and in words."""
+import re
 from collections import namedtuple
 
 from aide_compare.base.names import SEVERITIES
@@ -37,25 +38,20 @@ class ReasonCounts(namedtuple("ReasonCounts", KEYS + GRADE_KEYS, defaults=(0,) *
 
     def fits(self, changes):
         """Whether these can be the counts of so many changes."""
-        by_grades = sum(self.by_grade().values())
         is_whole = self.total == changes and self.high + self.medium + self.low == self.unanswered
-        return min(self) >= 0 and is_whole and by_grades in (0, self.explained)
-
-    def by_grade(self):
-        """How many changes are explained by each grade of evidence."""
-        return {grade: getattr(self, key) for grade, key in zip(GRADES, GRADE_KEYS)}
+        return min(self) >= 0 and is_whole and sum(self[len(KEYS) :]) in (0, self.explained)
 
     def grades(self):
         """As in "archive 300, dpkg 12"; "" if nothing is explained."""
-        return ", ".join("%s %d" % pair for pair in self.by_grade().items() if pair[1])
+        return ", ".join("%s %d" % pair for pair in zip(GRADES, self[len(KEYS) :]) if pair[1])
 
     def words(self):
         """As in "3 unexplained of 512 changes, 1 high"."""
         if not self.unanswered:
             return "%s, all explained" % counted(self.total, "change")
-        parts = ["%d unexplained" % self.unexplained] if self.unexplained else []
-        parts += ["%d not verified" % self.not_verified] if self.not_verified else []
-        return ", ".join([", ".join(parts) + " of %s" % counted(self.total, "change")] + self.severities())
+        pairs = ((self.unexplained, "unexplained"), (self.not_verified, "not verified"))
+        parts = ", ".join("%d %s" % pair for pair in pairs if pair[0])
+        return ", ".join(["%s of %s" % (parts, counted(self.total, "change"))] + self.severities())
 
     def said(self):
         """As in "3 unexplained of 512 changes, 1 high; explained by dpkg 509"."""
@@ -77,10 +73,9 @@ class ReasonCounts(namedtuple("ReasonCounts", KEYS + GRADE_KEYS, defaults=(0,) *
 def counts_of_keys(values):
     """The ReasonCounts in a map of texts, such as the further keys of a state; None if it has none of the keys. A ValueError
     if it has only some of them, or one that is no number."""
-    found = [values[key] for key in KEYS + GRADE_KEYS if key in values]
+    found = {key: values[key] for key in ReasonCounts._fields if key in values}
     if not found:
         return None
-    is_whole = len(found) == len(KEYS + GRADE_KEYS) or all((key in values) == (key in KEYS) for key in KEYS + GRADE_KEYS)
-    if not is_whole or not all(text.isascii() and text.isdigit() and len(text) <= 18 for text in found):
+    if tuple(found) not in (KEYS, KEYS + GRADE_KEYS) or not all(re.fullmatch("[0-9]{1,18}", text) for text in found.values()):
         raise ValueError("only some counts of reasons, or no numbers")
-    return ReasonCounts(*map(int, found))
+    return ReasonCounts(*map(int, found.values()))

@@ -14,16 +14,14 @@ OUTLINES = {
     True: "AIDE found differences between the two databases!!",
     False: "AIDE found NO differences between the two databases. Looks okay!!",
 }
-NAMES = {
-    "Type": "file_type",
-    "Lname": "link_name",
-    "Bcount": "block_count",
-    "Atime": "access_time",
-    "Mtime": "modify_time",
-    "Ctime": "change_time",
-    "Linkcount": "link_count",
-    "Caps": "capabilities",
-}
+# AIDE's names of attributes that are not those of the details in small letters.
+NAMES = dict(
+    pair.split("=")
+    for pair in (
+        "Type=file_type Lname=link_name Bcount=block_count Atime=access_time Mtime=modify_time Ctime=change_time "
+        "Linkcount=link_count Caps=capabilities"
+    ).split()
+)
 # Lines have what a report of this level shows.
 LEVEL = "added_removed_entries"
 GRAPHIC = re.compile(rb"[!-~]*\0?")
