@@ -112,7 +112,16 @@ def random_case(numbers):
             b"capabilities": numbers.choice([b"0"] * 9 + [b"AAA="]),
         }
         line = numbers.choice([b" "] * 9 + [b"\t"]).join(entry[column] for column in columns)
-        odd = [line[:-2], b" " + line, line + b" 1", b"", b"# " + line, b"@@end_db", b"@@db_spec name"]
+        odd = [
+            line[:-2],
+            b" " + line,
+            line + b" 1",
+            b"",
+            b"# " + line,
+            b"@@end_db",
+            b"@@db_spec name",
+            b"1" * SMALL_LINE + line,
+        ]
         lines.append(line if numbers.random() < 0.95 else numbers.choice(odd))
     lines.append(b"@@end_db")
     rules = [random_rule(numbers) for _ in range(numbers.randint(1, 4))]
