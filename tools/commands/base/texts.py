@@ -48,7 +48,7 @@ def try_texts(tally, folder):
 def try_tables(tally, _):
     """The tables of attributes say the same: each digest is in the order of strength, in the reasons and in the schema. The
     options of the definitions are none that is misspelt."""
-    labels = [label for label, form in attributes.FORMS.items() if isinstance(form, tuple)]
+    labels = [label for label, form in attributes.FORMS.items() if form == "digest"]
     columns = sorted(label.lower().replace("-", "_").replace("/", "_") for label in labels)
     with open(os.path.join(TOP, "contrib", "json", "aide-compare-lines.schema.json"), encoding="utf-8") as file:
         schema = json.load(file)

@@ -63,7 +63,7 @@ def value_of(label, value, kind, other):
     """A value as AIDE writes it; as the lines have it if it does not decode. `other` is that of the other side."""
     if label in BY_BYTES:
         made = BY_BYTES[label](exact_bytes(value), None if other is None else exact_bytes(other))
-    elif isinstance(FORMS.get(label), tuple):
+    elif FORMS.get(label) == "digest":
         made = base64.b64encode(bytes.fromhex(value)).decode()
     else:
         made = decoded(label, value, kind)

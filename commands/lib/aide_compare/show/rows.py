@@ -16,7 +16,7 @@ TEXTS = frozenset((str, type(None)))
 GRADES = ["databases", "dpkg", "rpm", "archive", "rules"]
 LABELS = list(FORMS)
 PLACES = {label: place for place, label in enumerate(LABELS)}
-DIGESTS = {label: place for label, place in PLACES.items() if isinstance(FORMS[label], tuple)}
+DIGESTS = {label: place for label, place in PLACES.items() if FORMS[label] == "digest"}
 # The attributes that may have something else for people. Of the numbers only users and groups have names.
 NOTED = frozenset(FORMS) - frozenset(DIGESTS) - NUMBERS | frozenset(("UID", "GID", "Atime", "Mtime", "Ctime"))
 LETTERS = re.compile("[A-Za-z?!<>=:.+ -]{18}")
