@@ -142,8 +142,8 @@ PLANTED = (
     )
     + seen_by(
         "viewers.try_occasion",
-        (LIB + "lines/texts.py", 'fields.get("summary", "")[:1] == "!"', "False"),
-        (LIB + "lines/texts.py", "        del old[label], new[label]\n", "        pass\n"),
+        (LIB + "lines/decoded.py", 'fields.get("summary", "")[:1] == "!"', "False"),
+        (LIB + "lines/decoded.py", "        del old[label], new[label]\n", "        pass\n"),
         (LIB + "show/occasion.py", "os.fsencode(getattr(done, side))", 'b""'),
         (LIB + "show/occasion.py", "{name: value, **{key", '{"path": "", **{key'),
         (LIB + "show/occasion.py", "copies[side].sha256 if copies", "'' if copies"),
@@ -151,7 +151,7 @@ PLANTED = (
     )
     + seen_by(
         "viewers.try_aide_form",
-        (LIB + "lines/texts.py", "name, value = name[:-4], bytes.fromhex(value)", "name = name[:-4]"),
+        (LIB + "lines/decoded.py", "name, value = name[:-4], bytes.fromhex(value)", "name = name[:-4]"),
         (LIB + "lines/json_aide.py", "sorted(found) if is_sorted else found", "found"),
         (LIB + "lines/json_aide.py", '"surrogateescape"', '"replace"'),
         (

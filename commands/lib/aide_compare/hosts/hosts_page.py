@@ -6,7 +6,7 @@ from aide_compare.base.names import KINDS, SEVERITIES
 from aide_compare.base.shown_text import shown_note, shown_path
 from aide_compare.hosts.hosts_text import ORDERS, Share, headline, host_lists, names_of, reason_words
 from aide_compare.lines.reader import bytes_of
-from aide_compare.lines.texts import texts_of
+from aide_compare.lines.decoded import texts_of
 from aide_compare.show.page import blocks_of
 from aide_compare.show.page_heading import beginning, cards
 from aide_compare.show.page_items import VARIOUS, head_of, item, number, table

@@ -1,4 +1,5 @@
-"""Values for people: what the exact value of an attribute says, in the words of the tools of the system.
+"""The values of a change, and their texts for people: what the exact value of an attribute says, in the words of the tools of
+the system. The lines of aide-compare json have the texts beside the values.
 
 Nothing is refused here. A value that does not decode has no text, a long text is cut, and the exact value stands beside it
 in any case. Bytes of others are escaped in every text.
@@ -13,7 +14,10 @@ from functools import lru_cache
 from urllib.parse import unquote_to_bytes
 
 from aide_compare.base.escapes import shown
+from aide_compare.base.names import SIDES
+from aide_compare.lines.attributes import FORMS
 
+NUMBERS = frozenset(label for label, form in FORMS.items() if form in ("number", "time"))
 # A text for people has at most so many characters; a longer one is cut, and ends with "...".
 MOST = 4000
 # Texts of values up to this length are kept, since most files of a system share theirs.
@@ -35,7 +39,7 @@ TYPES = {
 ACL_ENTRY = re.compile(
     rb"((?:user|group|mask|other):[^\x00-\x20:,#\x7f]{0,300}:[r-][w-][x-])(?:[\t ]+(#effective:[r-][w-][x-]))?"
 )
-NUMBER = re.compile(rb"0|[1-9][0-9]{0,5}")
+COUNT = re.compile(rb"0|[1-9][0-9]{0,5}")
 TEXT = re.compile("[^\x00-\x08\x0b-\x1f\x7f]*\x00?")
 LABEL = re.compile(rb"[^\x00-\x20\";\x7f]+\x00?")
 # What would end a name or a value of a line of extended attributes is escaped in them.
@@ -114,7 +118,7 @@ def attributes_of(value):
     """The names and values of a field of extended attributes: their number, and for each its name with percent escapes and its
     value in base 64. None if it is no such field."""
     number, *fields = value.split(b",")
-    if not NUMBER.fullmatch(number) or len(fields) != 2 * int(number):
+    if not COUNT.fullmatch(number) or len(fields) != 2 * int(number):
         return None
     found = [(unquote_to_bytes(name), _from_base64(field)) for name, field in zip(fields[::2], fields[1::2])]
     return found if all(name and data is not None for name, data in found) else None
@@ -255,3 +259,39 @@ def name_text(label, number):
     with suppress(KeyError, OverflowError, OSError, ValueError):
         return shown(pwd.getpwuid(number).pw_name if label == "UID" else grp.getgrgid(number).gr_name, 100)
     return None
+
+
+def values_of(fields, side):
+    """The exact values of a side by the names of the attributes: numbers, texts, and bytes where these are not UTF-8."""
+    found = {}
+    for name, value in fields.get(side, {}).items():
+        if name[-4:] == "_hex":
+            name, value = name[:-4], bytes.fromhex(value)
+        elif type(value) is str and name in NUMBERS:  # A number of more than 53 bits.
+            value = int(value)
+        found[name] = value
+    return found
+
+
+def kinds_of(fields, both):
+    """The types of both sides in words, None where the line does not tell it: an old entry has the type of the new one, unless
+    the letters say that it changed."""
+    kind = None if fields.get("summary", "")[:1] == "!" else fields.get("type")
+    return [values.get("Type", kind) for values in both]
+
+
+def texts_of(fields, has_names=False):
+    """The texts of both sides by the names of the attributes. If two values have one text, which would hide the change,
+    neither has it. `has_names`: users and groups have the names of this host."""
+    both = [values_of(fields, side) for side in SIDES]
+    kinds, texts = kinds_of(fields, both), ({}, {})
+    for values, kind, found in zip(both, kinds, texts):
+        for label, value in values.items():
+            is_named = has_names and label in ("UID", "GID") and type(value) is int
+            text = name_text(label, value) if is_named else decoded(label, value, kind)
+            if text is not None:
+                found[label] = text
+    old, new = texts
+    for label in [label for label, text in old.items() if new.get(label) == text and both[0][label] != both[1][label]]:
+        del old[label], new[label]
+    return old, new

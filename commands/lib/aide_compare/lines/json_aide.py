@@ -6,9 +6,8 @@ import re
 from aide_compare.base.files import Spool
 from aide_compare.base.names import KINDS, SIDES
 from aide_compare.lines.attributes import FORMS
-from aide_compare.lines.decoded import acl_lists, attributes_of, decoded, exact_bytes
+from aide_compare.lines.decoded import acl_lists, attributes_of, decoded, exact_bytes, kinds_of, values_of
 from aide_compare.lines.reader import BLOCK, Refused, bytes_of
-from aide_compare.lines.texts import kinds_of, values_of
 
 OUTLINES = {
     True: "AIDE found differences between the two databases!!",

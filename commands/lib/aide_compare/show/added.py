@@ -3,7 +3,7 @@ import os
 
 from aide_compare.base.files import nameless
 from aide_compare.lines.reader import BLOCK, ENCODE, Refused, with_members
-from aide_compare.lines.texts import texts_of
+from aide_compare.lines.decoded import texts_of
 
 # What a stream of lines has if texts were added already.
 TEXTS = ("old_text", "new_text")

@@ -5,7 +5,7 @@ from aide_compare.base.escapes import guarded, shown
 from aide_compare.base.names import KINDS, SIDES
 from aide_compare.lines.attributes import FORMS, STRENGTH
 from aide_compare.lines.reader import Refused, bytes_of, counts_in
-from aide_compare.lines.texts import texts_of, values_of
+from aide_compare.lines.decoded import texts_of, values_of
 
 MOST_VALUE = 200
 MOST_PATHS = 1000

@@ -7,9 +7,8 @@ from aide_compare.base.names import KINDS, SEVERITIES
 from aide_compare.base.shown_text import PLAIN, letters_of, shown, shown_date, shown_note, shown_path
 from aide_compare.compare.reason_counts import KEYS
 from aide_compare.lines.attributes import FORMS, STRENGTH
-from aide_compare.lines.decoded import utc_text
+from aide_compare.lines.decoded import NUMBERS, utc_text
 from aide_compare.lines.reader import Refused, bytes_of
-from aide_compare.lines.texts import NUMBERS
 
 MOST_NOTE = 4000
 TEXTS = frozenset((str, type(None)))
