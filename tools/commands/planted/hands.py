@@ -71,11 +71,11 @@ PLANTED = (
         (HANDING, "owner = owner_of(baseline) if self.is_wanted else None", "owner = None"),
         (HANDING, "            output.is_childs = True\n", "            pass\n"),
         (RUN, "os.geteuid() == 0 and not given.user", "os.geteuid() == 0"),
-        (RUN, "            self.wanted.write_nothing()\n        teller", "            pass\n        teller"),
     )
     + seen_by(
         "hands.try_lost_child",
         (HANDING, "        if not end_with(parent):\n", "        if False:\n"),
+        (RUN, "            self.wanted.write_nothing()\n        teller", "            pass\n        teller"),
     )
     + seen_by(
         "own_user.try_own_user",
