@@ -94,14 +94,12 @@ PLANTED = (
             "        except FileNotFoundError:\n            raise\n",
         ),
     )
-    + seen_by("bounded.try_group_bit", (ROOM, "& ~stat.S_ISGID == 0o700", "== 0o700"))
     + seen_by(
-        "bounded.try_odd_room",
-        (ROOM, "MOST_TRIES = 3\n", "MOST_TRIES = 1 << 40\n"),
-    )
-    + seen_by(
-        "bounded.try_sweep",
-        (ROOM, "if left <= 0 or time.monotonic() > limit:", "if time.monotonic() > limit:"),
+        "bounded.try_rooms",
+        (ROOM, " and not found.st_mode & 0o077", ""),
+        (ROOM, "found.st_mode & 0o077", "found.st_mode & 0o7077"),
+        (ROOM, "            signal.signal(number, signal.SIG_IGN)\n", "            pass\n"),
+        (ROOM, "        os.close(ending)\n        os.read", "        os.read"),
     )
     + seen_by(
         "base.try_files",

@@ -113,14 +113,6 @@ PLANTED = (
         (LIB + "commands/hosts_report.py", 'alert("%s; %s" % (fault.text, headline(self.summary)))', "pass"),
     )
     + seen_by(
-        "hosts_ends.try_ends",
-        (LIB + "commands/hosts_report.py", "    return stoppable(work)\n", "    return work()\n"),
-    )
-    + seen_by(
-        "hosts_ends.try_dropped",
-        (LIB + "base/private_room.py", "    signal.setitimer(signal.ITIMER_REAL, AGAIN, AGAIN)\n", ""),
-    )
-    + seen_by(
         "hosts_quiet.try_reports",
         (LIB + "hosts/hosts_page.py", 'if "severity" in fields else None', 'if "severities" in fields else None'),
         (LIB + "commands/hosts_report.py", 'report.is_alarm if given.alarm == "unexplained" else ', ""),

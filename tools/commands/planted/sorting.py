@@ -22,16 +22,17 @@ PLANTED = (
     )
     + seen_by(
         "sorting.try_bounds",
-        (LIB + "base/external_sort.py", '"-s", "-S", "32M"', '"-s", "-S", "200M"'),
-        (
-            LIB + "base/private_room.py",
-            "            if is_locked(descriptor):\n                self._remove(name, descriptor)\n",
-            "",
-        ),
+        (LIB + "base/line_sorter.py", "MOST_HELD, BESIDE = 8 << 20", "MOST_HELD, BESIDE = 200 << 20"),
+        (LIB + "base/line_sorter.py", "open(nameless(), ", 'open(__import__("tempfile").mkstemp(dir=private_folder())[0], '),
+    )
+    + seen_by(
+        "sorting.try_merges",
+        (LIB + "base/line_sorter.py", "        while carried % MERGED == 0:\n", "        while False:\n"),
+        (LIB + "base/line_sorter.py", "self.held.sort(key=_key_of)", "self.held.sort()"),
+        (LIB + "base/line_sorter.py", "self.runs[-MERGED:] = [", "self.runs[-MERGED:], self.runs[:0] = [], ["),
     )
     + seen_by(
         "sorting.try_refused",
-        (LIB + "base/external_sort.py", ".startswith(GNU)", '.startswith(b"")'),
         (LIB + "commands/sort.py", "return Status.DATABASE if twice.count else Status.OK", "return Status.OK"),
     )
 )

@@ -1,26 +1,34 @@
 """What waits for a property of the machine ends: names that others take, folders that are not their maker's, leftovers."""
 import os
+import signal
 import subprocess
 import sys
 
-from .accepting import library
-from .sandbox import COUNTS, END, HEAD
+from tools.lib.waiting import until
 
-RUN, SORT, REMOVED = "aide-compare", "aide-compare sort", 4
-SMALL = HEAD + b"/b 36 40755 4096\n/a 36 100644 1\n" + END
-# A private room is made where nothing that is made is its maker's alone, or is swept with a limit of its own.
+from .accepting import library
+from .sandbox import COUNTS
+
+RUN, REMOVED = "aide-compare", 4
+# A private room gets a file, and then its process a signal, or none; or what is made is not its maker's alone. Its child gets
+# the same signal.
 ROOM = """
-import sys
+import os, sys
 sys.path.insert(0, sys.argv[1])
-from aide_compare.base import private_room
 from aide_compare.base.ending import Fault
-if sys.argv[2] == "odd":
-    private_room.PrivateRoom._opened = lambda self, name: None
-else:
-    private_room.MOST_SWEPT, private_room.SWEEP_SECONDS = int(sys.argv[3]), float(sys.argv[4])
+from aide_compare.base.private_room import private_room
+number, mode = int(sys.argv[2]), int(sys.argv[3], 8)
+real = os.mkdir
+os.mkdir = lambda name, _, dir_fd: (real(name, dir_fd=dir_fd), os.chmod(name, mode, dir_fd=dir_fd))
+os.setpgid(0, 0)
 try:
-    with private_room.PrivateRoom("aide-compare-sort", "sort.{6}"):
-        print("made")
+    with private_room() as room:
+        os.close(os.open("file", os.O_CREAT, dir_fd=room))
+        print(os.listdir(room), flush=True)
+        if number == 9:
+            os.kill(os.getpid(), 9)
+        elif number:
+            os.killpg(0, number)
 except Fault as fault:
     print(fault.status, fault.text)
 """
@@ -50,7 +58,7 @@ print(fetching.stop(child), time.monotonic() - begin < 10)
 
 
 def try_bounded(sandbox):
-    for trial in (try_name_taken, try_group_bit, try_odd_room, try_sweep, try_no_end):
+    for trial in (try_name_taken, try_rooms, try_no_end):
         trial(sandbox)
 
 
@@ -80,43 +88,28 @@ def try_name_taken(sandbox):
         sandbox.holds("nothing is left of the state", not left, left)
 
 
-def try_group_bit(sandbox):
-    """A folder for temporary files with the set-group-ID bit, which all that is made there gets too."""
-    os.chmod(sandbox.room, 0o2777)
-    sandbox.write("small.db", SMALL)
-    answer = sandbox.call(SORT, "small.db", limit=30, before="resource.setrlimit(resource.RLIMIT_CPU, (5, 5))")
-    sandbox.expect("sorted where folders get the group's bit", answer, 0, HEAD + b"/a 36 100644 1\n/b", b"moved 1 of 2 lines")
-    os.chmod(sandbox.room, 0o1777)
-
-
-def room(sandbox, *words):
-    """What a private room in a folder of its own says, and how many folders are there then."""
-    done = subprocess.run(
-        [sys.executable, "-I", "-c", ROOM, sandbox.path("lib"), *map(str, words)],
-        stdout=subprocess.PIPE,
-        stderr=subprocess.STDOUT,
-        env=sandbox.environment(TMPDIR=sandbox.path("rooms")),
-        timeout=60,
-    )
-    return done.stdout.decode(), len(os.listdir(sandbox.path("rooms")))
-
-
-def try_odd_room(sandbox):
-    """Where no folder that is made is its maker's alone, three are made and none is left."""
+def try_rooms(sandbox):
+    """A private room goes with its file at the end of the block, and when its process is ended, by a signal for both too. It may
+    have the set-group-ID bit of the folder that it is in; one that others may enter is refused."""
     os.makedirs(sandbox.path("rooms"), exist_ok=True)
-    text, left = room(sandbox, "odd")
-    sandbox.holds(
-        "a file system without modes", text.startswith("18 cannot make a private directory in ") and not left, (text, left)
-    )
-
-
-def try_sweep(sandbox):
-    """What killed commands have left goes bit by bit: so many folders, or so many seconds, for one command."""
-    for number in range(12):
-        os.makedirs(sandbox.path("rooms/.aide-compare-sort-%024x" % number), 0o700)
-    for words, left in ((("swept", 5, 60), 7), (("swept", 1000, 0), 7), (("swept", 1000, 60), 0)):
-        got = room(sandbox, *words)
-        sandbox.holds("leftovers are swept by %r" % (words,), got == ("made\n", left), got)
+    for number, mode, wanted in (
+        (0, 0o700, (0, b"['file']\n")),
+        (0, 0o2700, (0, b"['file']\n")),
+        (signal.SIGKILL, 0o700, (-signal.SIGKILL, b"['file']\n")),
+        (signal.SIGTERM, 0o700, (-signal.SIGTERM, b"['file']\n")),
+        (signal.SIGINT, 0o700, (-signal.SIGINT, b"['file']\n")),
+        (0, 0o750, (0, b"18 cannot make a private directory in ")),
+    ):
+        done = subprocess.run(
+            [sys.executable, "-I", "-c", ROOM, sandbox.path("lib"), "%d" % number, "%o" % mode],
+            stdout=subprocess.PIPE,
+            stderr=subprocess.DEVNULL,
+            env=sandbox.environment(TMPDIR=sandbox.path("rooms")),
+            timeout=60,
+        )
+        is_gone = until(lambda: not os.listdir(sandbox.path("rooms")))
+        good = done.returncode == wanted[0] and done.stdout.startswith(wanted[1]) and is_gone
+        sandbox.holds("a room with mode %o, ended by %d" % (mode, number), good, (done, os.listdir(sandbox.path("rooms"))))
 
 
 def try_no_end(sandbox):

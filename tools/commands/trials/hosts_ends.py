@@ -1,4 +1,5 @@
 """The report of many hosts: how much memory and how many open files it takes, and what is left when it is ended half way."""
+import contextlib
 import json
 import os
 import shutil
@@ -6,7 +7,6 @@ import signal
 import socket
 import subprocess
 import sys
-import time
 
 from tools.lib.waiting import until
 
@@ -16,24 +16,10 @@ from .sorting import MEASURE
 
 # Whoever starts the trials may ignore these signals, and the command would too.
 HEEDED = "for number in (signal.SIGINT, signal.SIGHUP, signal.SIGTERM): signal.signal(number, signal.SIG_DFL)"
-# A signal that comes while an object is taken away: Python drops what its handler raises.
-DROPPED = """import os, signal, sys, time
-sys.path.insert(0, sys.argv[1])
-from aide_compare.base import private_room
-class Object:
-    def __del__(self):
-        os.kill(os.getpid(), signal.SIGTERM)
-        for _ in range(1000):
-            pass
-def work():
-    Object()
-    time.sleep(60)
-private_room.stoppable(work)
-"""
 
 
 def try_hosts_ends(sandbox):
-    for trial in (try_many_hosts, try_ends, try_dropped, try_no_mailer):
+    for trial in (try_many_hosts, try_ends, try_no_mailer):
         trial(sandbox)
 
 
@@ -55,14 +41,20 @@ def try_many_hosts(sandbox):
     sandbox.holds("their memory", sizes[1] < sizes[0] + 8000 and sizes[1] < 60000, sizes)
 
 
+def waits_for(process, name):
+    """Whether a process has a file with this end of its path open."""
+    folder = "/proc/%d/fd/" % process
+    with contextlib.suppress(OSError):
+        return any(os.readlink(folder + each).endswith(name) for each in os.listdir(folder))
+
+
 def try_ends(sandbox):
     """Ended by a signal, or without room: a status that is no comparison's, and nothing is left."""
     hosts = four_hosts(sandbox)
     for number in (signal.SIGTERM, signal.SIGINT, signal.SIGHUP):
         lock = subprocess.Popen(["flock", sandbox.path("store/hosts/www2/lock"), "sleep", "100"], start_new_session=True)
         run = hosts.start(after(HEEDED, hosts.words("aide-compare hosts report", sandbox.path("hosts"))))
-        until(lambda: any(name.startswith(".aide-compare-sort-") for name in os.listdir(sandbox.room)))
-        time.sleep(0.2)
+        until(lambda: waits_for(run.pid, "/www2/lock"))
         run.send_signal(number)
         try:
             run.communicate(timeout=30)
@@ -86,14 +78,6 @@ def try_ends(sandbox):
     shutil.rmtree(sandbox.path("store"))
     status, output, errors = hosts.report()
     sandbox.holds("no store", status == 18 and errors and not output, (status, output, errors))
-
-
-def try_dropped(sandbox):
-    words = [sys.executable, "-c", DROPPED, sandbox.path("lib")]
-    begun = time.time()
-    done = subprocess.run(words, stdout=subprocess.PIPE, stderr=subprocess.PIPE, timeout=100)
-    good = b"Exception ignored" in done.stderr and done.returncode == -signal.SIGTERM and time.time() - begun < 40
-    sandbox.holds("a signal that Python drops", good, done)
 
 
 def try_no_mailer(sandbox):

@@ -5,11 +5,14 @@ import random
 import signal
 import subprocess
 import sys
-import time
 from bisect import bisect_left
+from unittest import mock
 
+import tools.commands.base  # noqa: F401 (it makes the modules of the commands known)
 from tools.commands.trials.sandbox import HERE
 from tools.lib.waiting import until
+
+from aide_compare.base import line_sorter
 
 COMMAND = [os.path.join(HERE, "commands", "bin", "aide-compare"), "sort"]
 BEGIN, END = b"# c\n@@begin_db\n@@db_spec attr name size\n", b"@@end_db\nrest\n\nmore"
@@ -46,7 +49,6 @@ MEASURE = """import os, resource, subprocess, sys
 status = subprocess.call(sys.argv[1:])
 sys.stderr.write("memory %d\\n" % resource.getrusage(resource.RUSAGE_CHILDREN).ru_maxrss)
 sys.exit(status)"""
-BUSYBOX = '#!/bin/sh\necho "sort: unrecognized option: version" >&2\nexit 1\n'
 
 
 def decoded(field):
@@ -169,11 +171,25 @@ def try_refused(sandbox):
             COMMAND, input=whole, stdout=full, stderr=subprocess.PIPE, env={**os.environ, "TMPDIR": sandbox.room}
         )
     expect(sandbox, "a full device", (done.returncode, b"", done.stderr), 18, b"", [b"cannot write: No space left"])
-    sandbox.stub("sort", BUSYBOX[10:], "other")
-    done = call([sys.executable, "-I", *COMMAND], whole, sandbox.room, {"PATH": sandbox.path("other")})
-    expect(sandbox, "another sort", done, 18, b"", [b"is not that of GNU coreutils"])
-    done = call([sys.executable, "-I", *COMMAND], whole, sandbox.room, {"PATH": sandbox.path("empty")})
-    expect(sandbox, "no sort", done, 18, b"", [b"there is no program sort"])
+    text = text_of([b"36 /%x %s" % (number, b"x" * 200) for number in range(50000)])
+    limited = ["sh", "-c", 'ulimit -f 4096; exec "$@"', "sh", *COMMAND]  # In blocks of 512 bytes or, for some shells, of 1024.
+    done = call(limited, gzip.compress(text), sandbox.room)
+    expect(sandbox, "no room for the copy", done, 18, b"", [b"too large"])
+
+
+def try_merges(sandbox):
+    """Runs of some lines, three of which become one, and three of these again: their order, and that few files are open."""
+    pick, faults = random.Random(7), []
+    with mock.patch.multiple(line_sorter, MOST_HELD=1000, MERGED=3):
+        for count in (0, 1, 5, 100, 1000, 3000):
+            lines = [b"%s\t%d\n" % (pick.choice((b"a", b"a\x01b", b"a\x0bb")), number) for number in range(count)]
+            sorter, most = line_sorter.LineSorter(), 0
+            for line in lines:
+                sorter.put(line)
+                most = max(most, len(sorter.runs))
+            if list(sorter.lines()) != sorted(lines, key=lambda line: line.split(b"\t")[0]) or most > 15:
+                faults.append((count, most))
+    sandbox.holds("sort: runs of runs", not faults, faults)
 
 
 def write_large(path, count):
@@ -198,30 +214,33 @@ def try_bounds(sandbox):
     done = call([sys.executable, "-c", MEASURE, *COMMAND, "--max-size", "20M"], bomb, sandbox.room)
     expect(sandbox, "300 MB of zeros", (done[0], b"", done[2]), 18, b"", [b"more than 20971520 bytes unpacked"])
     sandbox.holds("sort: memory of zeros", int(done[2].split(b"memory ")[-1]) < 64000, done[2])
-    for number, left in ((signal.SIGTERM, 0), (signal.SIGINT, 0), (signal.SIGHUP, 0), (signal.SIGKILL, 1)):
-        try_signal(sandbox, path, number, left)
-    expect(sandbox, "after KILL", call(COMMAND, text_of([b"1 /a 1"]), sandbox.room), 0)
+    for number in (signal.SIGTERM, signal.SIGINT, signal.SIGHUP, signal.SIGKILL):
+        try_signal(sandbox, path, number)
 
 
-def try_signal(sandbox, path, number, left):
+def private_files(process):
+    """How many files without a name a process has open."""
+    folder = "/proc/%d/fd/" % process.pid
+    try:
+        return sum(os.readlink(folder + name).endswith(" (deleted)") for name in os.listdir(folder))
+    except OSError:
+        return 0
+
+
+def try_signal(sandbox, path, number):
+    """Ended while it sorts, when it has a copy of the database and some runs, it ends at once, and nothing is left."""
     process = subprocess.Popen(
         [*COMMAND, path], stdout=subprocess.PIPE, stderr=subprocess.DEVNULL, env={**os.environ, "TMPDIR": sandbox.room}
     )
-    until(lambda: any(os.listdir(sandbox.path("room/" + name)) for name in os.listdir(sandbox.room)))
-    folder = os.listdir(sandbox.room)
+    has_runs = until(lambda: private_files(process) > 3, 20)
     process.send_signal(number)
     process.stdout.close()
-    status = process.wait(60)
-    # What sort itself has left may go later than the command, after KILL only.
-    time.sleep(1 if left else 0)
-    sandbox.holds(
-        "sort: signal %d" % number,
-        status == -number and len(folder) == 1 and len(os.listdir(sandbox.room)) == left,
-        (status, folder, os.listdir(sandbox.room)),
-    )
+    got = has_runs, process.wait(60), sandbox.leftovers()
+    sandbox.holds("sort: signal %d" % number, got == (True, -number, []), got)
 
 
 def try_sorting(sandbox):
     try_order(sandbox)
     try_refused(sandbox)
+    try_merges(sandbox)
     try_bounds(sandbox)

@@ -4,11 +4,10 @@ import shlex
 
 from aide_compare.base import progress
 from aide_compare.base.ending import Fault, Status, say, write_blocks
-from aide_compare.base.external_sort import ExternalSort
 from aide_compare.base.files import Spool, nameless
 from aide_compare.base.folders import open_folder
+from aide_compare.base.line_sorter import LineSorter
 from aide_compare.base.options import Parser, duration, matching, pattern, some_text
-from aide_compare.base.private_room import stoppable
 from aide_compare.base.program import find_front
 from aide_compare.commands.hosts_compare import hosts_of
 from aide_compare.commands.mail import add_sending
@@ -63,24 +62,23 @@ def ordered(changes, order):
         for fields in changes:
             yield encoded(fields).encode() + b"\n"
         return
-    with ExternalSort() as sorter:
-        for fields in changes:
-            key = fields["hosts"] if order == "rare" else GREATEST - fields["hosts"]
-            sorter.put(b"%d%d%012d\t%s\n" % (*standing_of(fields), key, encoded(fields).encode()))
-        for line in sorter.lines():
-            yield line[15:]
+    sorter = LineSorter()
+    for fields in changes:
+        key = fields["hosts"] if order == "rare" else GREATEST - fields["hosts"]
+        sorter.put(b"%d%d%012d\t%s\n" % (*standing_of(fields), key, encoded(fields).encode()))
+    for line in sorter.lines():
+        yield line[15:]
 
 
 class HostsReport:
     """The report: the summary, the objects of the hosts, and those of the changes in a private file, a line each."""
 
     def __init__(self, names, given):
-        self.body, count = Spool(), 0
-        with ExternalSort() as sorter:
-            hosts = read_hosts(names, given, sorter)
-            for line in ordered(same_changes(sorter.lines(), names, given.max_hosts), given.order):
-                self.body.write(line)
-                count += 1
+        self.body, count, sorter = Spool(), 0, LineSorter()
+        hosts = read_hosts(names, given, sorter)
+        for line in ordered(same_changes(sorter.lines(), names, given.max_hosts), given.order):
+            self.body.write(line)
+            count += 1
         self.body.flush()
         differ = [host for host in hosts if host.differs]
         self.is_alarm = any(not host.is_explained for host in hosts)
@@ -203,20 +201,17 @@ def main(arguments):
     for output in outputs.values():
         output.begin()
 
-    def work():
-        report, command = HostsReport(names, given), shlex.join(whole_command(given))
-        progress.done("the hosts are read")
-        is_alarm = report.is_alarm if given.alarm == "unexplained" else report.worst
-        forms = {"text": lambda: report.text(given.color), "json": report.json, "page": lambda: report.page(command)}
-        for name, output in outputs.items():
-            output.commit_copy(kept(forms[name]()))
-        if given.to:
-            report.mail(given, is_alarm, command)
-        elif not on_stdout and (is_alarm or not given.quiet):
-            write_blocks(1, forms[given.format or "text"]())
-        return report.worst
-
-    return stoppable(work)
+    report, command = HostsReport(names, given), shlex.join(whole_command(given))
+    progress.done("the hosts are read")
+    is_alarm = report.is_alarm if given.alarm == "unexplained" else report.worst
+    forms = {"text": lambda: report.text(given.color), "json": report.json, "page": lambda: report.page(command)}
+    for name, output in outputs.items():
+        output.commit_copy(kept(forms[name]()))
+    if given.to:
+        report.mail(given, is_alarm, command)
+    elif not on_stdout and (is_alarm or not given.quiet):
+        write_blocks(1, forms[given.format or "text"]())
+    return report.worst
 
 
 def kept(parts):

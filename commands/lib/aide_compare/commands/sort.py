@@ -6,11 +6,10 @@ from bisect import bisect_left
 from aide_compare.base import progress
 from aide_compare.base.ending import Fault, Status, say, write_blocks
 from aide_compare.base.escapes import shown
-from aide_compare.base.external_sort import ExternalSort
 from aide_compare.base.files import Spool
+from aide_compare.base.line_sorter import LineSorter
 from aide_compare.base.options import Parser, some_text
 from aide_compare.base.path_keys import key_of, path_of
-from aide_compare.base.private_room import stoppable
 from aide_compare.compare.unpack import copy_database
 
 BLOCK = 1 << 16
@@ -146,16 +145,13 @@ def sorted_blocks(database, sorter, moves, twice):
         twice.add(key)
         moves.add(int(place))
         yield line
-    if moves.count != database.count:
-        raise Fault(Status.DEVICE, "sort gave %d of %d lines back" % (moves.count, database.count))
     yield from database.lines_after()
 
 
 def sort_database(given):
     name = "/dev/stdin" if given.file == "-" else given.file
-    copy, moves, twice = copy_database("given", name, given.max_size), MovedLines(), Twice()
-    with ExternalSort() as sorter:
-        write_blocks(1, sorted_blocks(Unsorted(copy, sorter.put), sorter, moves, twice))
+    copy, moves, twice, sorter = copy_database("given", name, given.max_size), MovedLines(), Twice(), LineSorter()
+    write_blocks(1, sorted_blocks(Unsorted(copy, sorter.put), sorter, moves, twice))
     progress.done("the lines are in order")
     if not given.quiet:
         say("moved %s of %s lines" % (format(moves.moved(), ","), format(moves.count, ",")))
@@ -181,4 +177,4 @@ def main(arguments):
     )
     parser.take("max-size", default=MOST_BYTES, help="refuse a database that has more bytes unpacked (64G)")
     given = parser.parse(arguments)
-    return stoppable(lambda: sort_database(given))
+    return sort_database(given)

@@ -18,7 +18,7 @@ from aide_compare.base.ending import Fault, Status, failing, write_all
 from aide_compare.base.escapes import shown
 from aide_compare.base.files import nameless, open_regular, read_whole
 from aide_compare.base.folders import closed_after, open_folder
-from aide_compare.base.private_room import PrivateRoom
+from aide_compare.base.private_room import private_room
 from aide_compare.base.trusted import open_trusted
 from aide_compare.compare.unpack import BLOCK, Opened, copy_opened
 from aide_compare.reasons.content import STRONG, digests_of
@@ -37,7 +37,6 @@ FOLDERS = ("/usr/lib/sysimage/rpm", "/var/lib/rpm")
 DATABASES = ("rpmdb.sqlite", "Packages.db", "Packages")
 # The database that is one file, so that a digest in AIDE's database vouches for it.
 WHOLE = "rpmdb.sqlite"
-ROOM_FILES = r"rpmdb\.sqlite(-(wal|shm|journal))?|\.rpm\.lock|\.dbenv\.lock"
 QUERY = (
     "P\\t%{NAME}\\t%|EPOCH?{%{EPOCH}:}|%{VERSION}-%{RELEASE}\\t%{ARCH}\\t%{FILEDIGESTALGO}\\n"
     "[F\\t%{FILENAMES}\\t%{FILEDIGESTS}\\t%{FILEMODES:octal}\\t%{FILEUSERNAME}\\t%{FILEGROUPNAME}\\t%{FILELINKTOS}"
@@ -116,9 +115,9 @@ class RpmRecords:
             with failing("rpm's records cannot be read"):
                 if not os.path.isfile(self.path):
                     return self._asked(self.folder)
-                with PrivateRoom("aide-compare-rpm", ROOM_FILES) as room:
-                    self._copy_to(room.fd)
-                    return self._asked("/proc/%d/fd/%d" % (os.getpid(), room.fd))
+                with private_room() as room:
+                    self._copy_to(room)
+                    return self._asked("/proc/%d/fd/%d" % (os.getpid(), room))
         except subprocess.SubprocessError:
             raise Fault(Status.DEVICE, "rpm's records cannot be read: rpm failed, wrote too much, or took too long") from None
 
