@@ -5,6 +5,7 @@ import os
 import stat
 import time
 import zlib
+from contextlib import closing
 from unittest import mock
 
 from tools.commands.base.calls import expect, expect_fault, outcome
@@ -132,11 +133,6 @@ def try_replacements(tally, folder):
     expect(
         tally, "an old file", outcome(replaced, folder + "/new/deep/state", b"two", b"three"), (b"three", 0o644, me, ["state"])
     )
-    with open(folder + "/new/deep/.state.part", "w") as file:
-        file.write("left by a killed command")
-    expect(
-        tally, "after a killed one", outcome(replaced, folder + "/new/deep/state", b"four"), (b"four", 0o644, me, ["state"])
-    )
     os.umask(mask)
     expect(tally, "the modes of new folders", stat.S_IMODE(os.stat(folder + "/new").st_mode), 0o755)
     for name, status, part in (
@@ -165,7 +161,33 @@ def try_replacements(tally, folder):
         )
 
 
+def put(path, text, over):
+    """Puts a new file in place, and says what is there then."""
+    with open_folder(path, make=True) as folder:
+        with closing(files.NewFile(folder.fd)) as new:
+            os.write(new.fd, text)
+            try:
+                new.put("it", over)
+            except FileExistsError:
+                text = b"refused"
+        kept = files.read_file(path + "/it", 100)
+    return text, kept, os.listdir(path)
+
+
+def try_new_files(tally, folder):
+    """A new file with no name, or with a random one, takes the place of a former one, or is refused there; nothing else stays."""
+    for text, over, kept in (
+        (b"one", False, b"one"),
+        (b"two", False, b"one"),
+        (b"two", True, b"two"),
+        (b"three", True, b"three"),
+    ):
+        got = put(folder, text, over)
+        expect(tally, "the new file %r, %s" % (text, over), got, (kept if kept == text else b"refused", kept, ["it"]))
+
+
 def try_nameless(tally, folder):
+    try_new_files(tally, folder + "/new/nameless")
     room = os.path.join(folder, "room")
     os.mkdir(room)
     descriptor = files.nameless(room)
@@ -179,6 +201,7 @@ def try_nameless(tally, folder):
         expect(tally, "the other way", (stat.S_IMODE(found.st_mode), found.st_nlink, os.listdir(room)), (0o600, 0, []))
         os.close(descriptor)
         expect(tally, "a replacement", outcome(replaced, room + "/state", b"x"), (b"x", 0o644, os.getuid(), ["state"]))
+        try_new_files(tally, folder + "/new/named")
     finally:
         files.os.O_TMPFILE = known
     expect_fault(tally, "a missing room", outcome(files.nameless, room + "/none"), 18, "TMPDIR")

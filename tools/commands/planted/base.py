@@ -87,23 +87,17 @@ PLANTED = (
         (CHILD, "        if time.monotonic() >= deadline:\n            return None\n", ""),
     )
     + seen_by(
-        "bounded.try_name_taken",
-        (
-            FILES,
-            "        except FileNotFoundError:\n            return False\n",
-            "        except FileNotFoundError:\n            raise\n",
-        ),
-    )
-    + seen_by(
         "bounded.try_rooms",
         (ROOM, " and not found.st_mode & 0o077", ""),
         (ROOM, "found.st_mode & 0o077", "found.st_mode & 0o7077"),
-        (ROOM, "            signal.signal(number, signal.SIG_IGN)\n", "            pass\n"),
+        (ROOM, "signal.SIG_BLOCK, signal.valid_signals()", "signal.SIG_BLOCK, ()"),
         (ROOM, "        os.close(ending)\n        os.read", "        os.read"),
     )
     + seen_by(
         "base.try_files",
-        (FILES, "            os.fsync(part)\n", ""),
+        (FILES, "        os.fsync(self.fd)\n", ""),
+        (FILES, "            os.fsync(folder)\n", "            pass\n"),
+        (FILES, "        if self.name:\n            unlink(self.name, self.folder)\n", ""),
         (UNPACK, '                raise zlib.error("it ends too early")\n', "                return\n"),
     )
 )

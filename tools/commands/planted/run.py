@@ -21,17 +21,12 @@ CONFIGURATION, HINTS, PROGRAM, COMPARISON, RUN, FILES, FOLDERS, UNPACK, TIMES, O
 EMPTIED = """        self._refuse_other_kinds()
         flags = os.O_WRONLY | os.O_CREAT | os.O_TRUNC | os.O_NOFOLLOW
         os.close(os.open(self.name, flags, dir_fd=self.folder.fd))
-        part, name = new_file(self.folder.fd, random_name())
-        if name:
+        self.part = NewFile(self.folder.fd)
 """
-IN_ITS_PLACE = """    def _was_put(self, fill):
+IN_ITS_PLACE = """    def _put(self, fill):
         flags = os.O_WRONLY | os.O_CREAT | os.O_TRUNC | os.O_NOFOLLOW
-        part = os.open(self.name, flags, self.mode, dir_fd=self.folder.fd)
-        try:
-            fill(part)
-            return True
-        finally:
-            os.close(part)
+        with closed_after(os.open(self.name, flags, self.mode, dir_fd=self.folder.fd)) as part:
+            return fill(part)
 """
 # Databases that have the same name in two folders are taken for one.
 COPIED_ONCE = """            copies = {}
@@ -117,8 +112,8 @@ PLANTED = (
         "attacks.try_devices",
         (
             FILES,
-            "        self._refuse_other_kinds()\n        part, name = new_file(",
-            "        part, name = new_file(",
+            "        self._refuse_other_kinds()\n        self.part = NewFile(",
+            "        self.part = NewFile(",
         ),
     )
     + seen_by(
@@ -148,7 +143,7 @@ PLANTED = (
     + seen_by(
         "attacks.try_few_descriptors",
         (CHILD, "FIRST_FREE, NOT_STARTED = 10,", "FIRST_FREE, NOT_STARTED = 100,"),
-        (FILES, 'Status.DEVICE,\n            "cannot make a', 'Status.DATABASE,\n            "cannot make a'),
+        (FILES, '    with failing("cannot make a private file in', '    with suppress(KeyError):  # cannot make a private file in'),
     )
     + seen_by(
         "attacks.try_little_memory",
@@ -167,7 +162,7 @@ PLANTED = (
         "attacks.try_each_moment",
         (
             FILES,
-            "        self._refuse_other_kinds()\n        part, name = new_file(self.folder.fd, random_name())\n        if name:\n",
+            "        self._refuse_other_kinds()\n        self.part = NewFile(self.folder.fd)\n",
             EMPTIED,
         ),
     )
@@ -184,7 +179,8 @@ PLANTED = (
         (FILES, "others = set() if self.folder.is_safe() else self.folder.others", "others = set()"),
     )
     + seen_by("faults.try_limits", (UNPACK, "if size > most:", "if size >= most:"))
-    + seen_by("faults.try_files", (FILES, "        self._commit(self._try)\n", ""))
+    + seen_by("faults.try_files", (FILES, "        self._do(self._try)
+", ""))
     + seen_by(
         "faults.try_rooms",
         (
@@ -194,7 +190,7 @@ PLANTED = (
         ),
         (
             FILES,
-            '    def _was_put(self, fill):\n        """Makes the file and puts it in place; False if another command took its name away meanwhile."""\n',
+            "    def _put(self, fill):\n",
             IN_ITS_PLACE,
         ),
     )
@@ -239,7 +235,7 @@ PLANTED = (
     )
     + seen_by(
         "run.try_state",
-        (FILES, "            os.fchmod(part, self.mode)\n", ""),
+        (FILES, "            os.fchmod(part.fd, self.mode)\n", ""),
         (FOLDERS, "        mask = os.umask(0o022)\n", "        mask = os.umask(0)\n        os.umask(mask)\n"),
     )
     + seen_by(

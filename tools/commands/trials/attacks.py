@@ -184,8 +184,6 @@ def try_state_of_others(sandbox):
         sandbox.expect(
             "a state that is a link", sandbox.call(TOOL, "old.db", "new.db", "--state", name), 18, b"", b"is a link"
         )
-    os.symlink(sandbox.path("target"), sandbox.path("his2/.state.part"))
-    sandbox.holds("a link at the second name", compared(sandbox.call(TOOL, "old.db", "new.db", "--state", "his2/state")))
     os.makedirs(sandbox.path("shared"))
     os.chmod(sandbox.path("shared"), 0o777)
     sandbox.expect(

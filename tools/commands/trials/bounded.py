@@ -1,4 +1,4 @@
-"""What waits for a property of the machine ends: names that others take, folders that are not their maker's, leftovers."""
+"""What waits for a property of the machine ends: devices that take nothing, folders that are not their maker's, children."""
 import os
 import signal
 import subprocess
@@ -6,10 +6,6 @@ import sys
 
 from tools.lib.waiting import until
 
-from .accepting import library
-from .sandbox import COUNTS
-
-RUN, REMOVED = "aide-compare", 4
 # A private room gets a file, and then its process a signal, or none; or what is made is not its maker's alone. Its child gets
 # the same signal.
 ROOM = """
@@ -58,34 +54,8 @@ print(fetching.stop(child), time.monotonic() - begin < 10)
 
 
 def try_bounded(sandbox):
-    for trial in (try_name_taken, try_rooms, try_no_end):
+    for trial in (try_rooms, try_no_end):
         trial(sandbox)
-
-
-def try_name_taken(sandbox):
-    """Another command takes the second name of the new state away right before it is renamed: the file is made anew."""
-    settings = library(sandbox)
-    if not settings:
-        return
-    words = [RUN, "--state", "state", "old.db", "new.db"]
-    with open(sandbox.path("calls"), "w+b") as notes:
-        number = os.dup2(notes.fileno(), 50, inheritable=True)
-        try:
-            sandbox.call(*words, environment={**settings, "AT_NOTES": "50"}, pass_fds=[number])
-        finally:
-            os.close(number)
-    calls = sandbox.read("calls").decode().split()
-    at = [place for place, name in enumerate(calls, 1) if name == "renameat"]
-    sandbox.holds("the state is renamed once", len(at) == 1, (at, calls[-20:]))
-    for place in at:
-        os.remove(sandbox.path("state"))
-        more = {"AT_NUMBER": str(place), "AT_WAY": str(REMOVED), "AT_ONE": sandbox.path(".state.part")}
-        answer = sandbox.call(*words, environment={**settings, **more, "AT_MARK": sandbox.path("removed")})
-        sandbox.holds("its name was taken away", os.path.isdir(sandbox.path("removed")))
-        good = answer.status == 7 and COUNTS.items() <= sandbox.state().items()
-        sandbox.holds("the run ends as always", good, (answer, sandbox.state()))
-        left = [name for name in os.listdir(sandbox.root) if name.startswith(".state")]
-        sandbox.holds("nothing is left of the state", not left, left)
 
 
 def try_rooms(sandbox):

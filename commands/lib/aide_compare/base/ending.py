@@ -3,6 +3,7 @@ import errno
 import itertools
 import os
 import sys
+from contextlib import contextmanager
 from enum import IntEnum
 
 from aide_compare.base.escapes import guarded
@@ -59,10 +60,8 @@ def write_blocks(descriptor, parts, block=1 << 18):
             waiting.append(part)
             room -= len(part)
         if part is None or room <= 0:
-            try:
+            with failing("cannot write"):
                 write_all(descriptor, b"".join(waiting))
-            except OSError as error:
-                raise Fault(Status.DEVICE, "cannot write: %s" % reason(error))
             waiting, room = [], block
 
 
@@ -105,18 +104,13 @@ def reason(error):
     return error.strerror or guarded(str(error)) or type(error).__name__
 
 
-class failing:
+@contextmanager
+def failing(what):
     """Where a call of the system that fails is a Fault: `what` failed, such as "cannot read FILE", and the cause."""
-
-    def __init__(self, what):
-        self.what = what
-
-    def __enter__(self):
-        return self
-
-    def __exit__(self, kind, error, _):
-        if isinstance(error, OSError):
-            raise Fault(Status.DEVICE, "%s: %s" % (self.what, reason(error))) from None
+    try:
+        yield
+    except OSError as error:
+        raise Fault(Status.DEVICE, "%s: %s" % (what, reason(error))) from None
 
 
 def fault_of(error):

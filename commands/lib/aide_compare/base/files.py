@@ -6,8 +6,9 @@ import io
 import os
 import stat
 import time
+from contextlib import closing, suppress
 
-from aide_compare.base.ending import Fault, Status, failing, reason, write_all
+from aide_compare.base.ending import Fault, Status, failing, why_of, write_all
 from aide_compare.base.escapes import shown
 from aide_compare.base.folders import (
     ANYBODY,
@@ -18,8 +19,7 @@ from aide_compare.base.folders import (
     walked,
 )  # noqa: F401 (for those who use this module)
 
-COPIED, HELD = 1 << 18, 1 << 18
-MOST_TRIES = 100
+BLOCK = HELD = 1 << 18
 NO_TMPFILE = (errno.EOPNOTSUPP, errno.EISDIR, errno.EINVAL)
 NEW_FILE = os.O_CREAT | os.O_EXCL | os.O_RDWR | os.O_NOFOLLOW | os.O_CLOEXEC
 KINDS = (
@@ -61,15 +61,14 @@ def open_regular(path, what=""):
 
 def read_whole(descriptor, most, what):
     """The bytes of an open file, at most so many."""
-    blocks, left = [], most + 1
+    blocks, left = [], most
     with failing("cannot read " + what):
-        while left > 0:
-            block = os.read(descriptor, min(left, 1 << 18))
-            if not block:
-                return b"".join(blocks)
+        while left >= 0 and (block := os.read(descriptor, min(left + 1, BLOCK))):
             blocks.append(block)
             left -= len(block)
-    raise Fault(Status.DEVICE, "%s has more than %d bytes" % (what, most))
+    if left < 0:
+        raise Fault(Status.DEVICE, "%s has more than %d bytes" % (what, most))
+    return b"".join(blocks)
 
 
 def read_file(path, most, what=""):
@@ -81,10 +80,7 @@ def read_file(path, most, what=""):
 def copy_file(source, target):
     """Writes all bytes of a file to a descriptor, from its beginning."""
     place = 0
-    while True:
-        block = os.pread(source, COPIED, place)
-        if not block:
-            return
+    while block := os.pread(source, BLOCK, place):
         write_all(target, block)
         place += len(block)
 
@@ -111,29 +107,19 @@ def new_file(folder, name, more=0):
 
 def unlink(name, folder):
     """Removes a name, if it is there, in an open folder."""
-    try:
+    with suppress(FileNotFoundError):
         os.unlink(name, dir_fd=folder)
-    except FileNotFoundError:
-        pass
 
 
 def nameless(room=None):
     """A private file that has no name, open for reading and writing. Nothing is left of it however the command ends."""
     room = room or private_folder()
-    try:
-        folder = os.open(room, os.O_PATH | os.O_DIRECTORY | os.O_CLOEXEC)
-        try:
+    with failing("cannot make a private file in %s (name another directory by TMPDIR)" % shown(room)):
+        with closed_after(os.open(room, os.O_PATH | os.O_DIRECTORY | os.O_CLOEXEC)) as folder:
             descriptor, name = new_file(folder, random_name(), os.O_EXCL)
             if name:
                 os.unlink(name, dir_fd=folder)
             return descriptor
-        finally:
-            os.close(folder)
-    except OSError as error:
-        raise Fault(
-            Status.DEVICE,
-            "cannot make a private file in %s: %s; name another directory by TMPDIR" % (shown(room), reason(error)),
-        )
 
 
 def in_memory(data):
@@ -154,7 +140,7 @@ class Spool:
     def _held(self, data):
         self.file.write(data)
         if self.file.tell() > HELD:
-            held, self.file = self.file, open(nameless(), "w+b", COPIED)
+            held, self.file = self.file, open(nameless(), "w+b", BLOCK)
             self.file.write(held.getvalue())
             self.write = self.file.write
 
@@ -163,6 +149,39 @@ class Spool:
 
     def __iter__(self):
         return iter(self.file)
+
+
+class NewFile:
+    """A new file in an open folder, `fd`, of the caller only. It has no name until it is put in place, so nothing is left of
+    one that is not: whoever makes it closes it. Where the file system knows no such files, it has a random name."""
+
+    def __init__(self, folder):
+        self.folder = folder
+        self.fd, self.name = new_file(folder, random_name())
+
+    def put(self, name, over=True):
+        """Gives it this name, when its bytes are on the disk, and the name too before this returns. A former file of the name
+        is replaced in one step; or, without `over`, a FileExistsError. No name can be linked over, so a file without one has a
+        random one for a moment."""
+        os.fsync(self.fd)
+        if over:
+            self.name = self.name or self._linked(random_name())
+            os.rename(self.name, name, src_dir_fd=self.folder, dst_dir_fd=self.folder)
+            self.name = None
+        else:
+            self._linked(name)
+        with closed_after(os.open(".", os.O_RDONLY | os.O_DIRECTORY | os.O_CLOEXEC, dir_fd=self.folder)) as folder:
+            os.fsync(folder)
+
+    def _linked(self, name):
+        source = self.name or "/proc/self/fd/%d" % self.fd
+        os.link(source, name, src_dir_fd=self.folder, dst_dir_fd=self.folder)
+        return name
+
+    def close(self):
+        os.close(self.fd)
+        if self.name:
+            unlink(self.name, self.folder)
 
 
 class Replacement:
@@ -175,128 +194,63 @@ class Replacement:
         self.name = os.path.basename(path)
 
     def begin(self):
-        """Tries that a file can be made there. It is kept for what comes, unless that is the work of another user."""
-        self._commit(self._try)
+        """Tries that a file can be made there. It is kept for what comes, unless it has a name, or is the work of another user
+        in a child."""
+        self._do(self._try)
         return self
-
-    def _open(self):
-        """Opens the folder, which is made if it is missing."""
-        if not self.name or os.path.isdir(self.path):
-            raise Fault(Status.USAGE, "%s is a directory: %s" % (self.what, shown(self.path)))
-        self.folder = open_folder(os.path.dirname(self.path) or ".", make=True)
 
     def commit(self, data):
         """Puts these bytes in the place of the file, on the disk before this returns."""
-        self._commit(lambda: self._put(lambda part: write_all(part, data)))
+        self._do(lambda: self._put(lambda part: write_all(part, data)))
 
     def commit_copy(self, source):
         """The same with the bytes of another file, by its descriptor."""
-        self._commit(lambda: self._put(lambda part: copy_file(source, part)), (source,))
-
-    def _commit(self, work, keep=()):
-        try:
-            if self.folder is None:
-                self._open()
-            self._work(work, keep)
-        except Fault as fault:
-            raise fault if fault.status == Status.USAGE else self._fault(fault.text)
+        self._do(lambda: self._put(lambda part: copy_file(source, part)), source)
 
     def close(self):
-        if self.part is not None:
-            self.part = os.close(self.part)
-        if self.folder:
-            self.folder = self.folder.close()
+        for each in (self.part, self.folder):
+            if each:
+                each.close()
+        self.part = self.folder = None
 
-    def _fault(self, text):
-        return Fault(Status.DEVICE, "cannot write %s %s: %s" % (self.what, shown(self.path), text))
-
-    def _work(self, work, keep=()):
-        """Runs the work with the rights that the folder asks for. It needs the descriptors `keep`."""
-        others = set() if self.folder.is_safe() else self.folder.others
-        if not others:
-            try:
+    def _do(self, work, *needed):
+        """Does the work, which needs these descriptors, with the rights that the folder asks for; that is made if it is
+        missing."""
+        if not self.name or os.path.isdir(self.path):
+            raise Fault(Status.USAGE, "%s is a directory: %s" % (self.what, shown(self.path)))
+        try:
+            self.folder = self.folder or open_folder(os.path.dirname(self.path) or ".", make=True)
+            others = set() if self.folder.is_safe() else self.folder.others
+            if not others:
                 return work()
-            except OSError as error:
-                raise Fault(Status.DEVICE, reason(error))
-        if len(others) > 1 or ANYBODY in others or os.geteuid() != 0:
-            raise Fault(Status.DEVICE, "other users can write in its directory or above it")
-        from aide_compare.base.rights import with_rights_of
+            if len(others) > 1 or ANYBODY in others or os.geteuid() != 0:
+                raise Fault(Status.DEVICE, "other users can write in its directory or above it")
+            from aide_compare.base.rights import with_rights_of
 
-        return with_rights_of(min(others), work, keep=(self.folder.fd,) + tuple(keep))
+            return with_rights_of(min(others), work, keep=(self.folder.fd, *needed))
+        except (Fault, OSError) as error:
+            raise Fault(Status.DEVICE, "cannot write %s %s: %s" % (self.what, shown(self.path), why_of(error)))
 
     def _refuse_other_kinds(self):
         """A regular file is replaced, or no file at all: never a device, a link or a FIFO, such as /dev/null."""
-        try:
+        with suppress(FileNotFoundError):
             mode = os.stat(self.name, dir_fd=self.folder.fd, follow_symlinks=False).st_mode
-        except FileNotFoundError:
-            return
-        if not stat.S_ISREG(mode):
-            raise failure(errno.EINVAL, "it is %s, not a regular file" % file_kind(mode))
+            if not stat.S_ISREG(mode):
+                raise failure(errno.EINVAL, "it is %s, not a regular file" % file_kind(mode))
 
     def _try(self):
         self._refuse_other_kinds()
-        part, name = new_file(self.folder.fd, random_name())
-        if name:
-            os.unlink(name, dir_fd=self.folder.fd)
-            os.close(part)
-        else:
-            self.part = part
+        self.part = NewFile(self.folder.fd)
+        if self.part.name:
+            self.part = self.part.close()
 
     def _put(self, fill):
-        """Of several commands at once each makes its file anew until it was put in place: each time that one has to, another
-        one has gone on."""
-        for _ in range(MOST_TRIES):
-            if self._was_put(fill):
-                return self._sync_folder()
-        raise failure(errno.EBUSY, "other commands write it all the time")
-
-    def _was_put(self, fill):
-        """Makes the file and puts it in place; False if another command took its name away meanwhile."""
-        part, name = (self.part, None) if self.part is not None else new_file(self.folder.fd, random_name())
-        self.part = None
-        try:
-            fill(part)
-            os.fchmod(part, self.mode)
-            os.fsync(part)
+        part, self.part = self.part or NewFile(self.folder.fd), None
+        with closing(part):
+            fill(part.fd)
+            os.fchmod(part.fd, self.mode)
             self._refuse_other_kinds()
-            if not name:
-                return self._was_linked(part)
-            self._rename(name)
-            name = None
-            return True
-        finally:
-            os.close(part)
-            if name:
-                unlink(name, self.folder.fd)
-
-    def _was_linked(self, part):
-        """Gives the file its name. A name cannot be linked over, so an old file is replaced by way of a fixed second name: what
-        a killed command left there goes. Linux never links a file again that had a name once and has none, so False if the
-        second name is gone before it is renamed."""
-        source, second = "/proc/self/fd/%d" % part, ".%s.part" % self.name
-        for _ in range(MOST_TRIES):
-            try:
-                os.link(source, second, dst_dir_fd=self.folder.fd)
-                break
-            except FileExistsError:
-                unlink(second, self.folder.fd)
-        else:
-            raise failure(errno.EEXIST)
-        try:
-            self._rename(second)
-            return True
-        except FileNotFoundError:
-            return False
-
-    def _rename(self, name):
-        os.rename(name, self.name, src_dir_fd=self.folder.fd, dst_dir_fd=self.folder.fd)
-
-    def _sync_folder(self):
-        folder = os.open(".", os.O_RDONLY | os.O_DIRECTORY | os.O_CLOEXEC, dir_fd=self.folder.fd)
-        try:
-            os.fsync(folder)
-        finally:
-            os.close(folder)
+            part.put(self.name)
 
 
 def is_locked(descriptor, deadline=0.0, how=fcntl.LOCK_EX):
@@ -313,8 +267,5 @@ def is_locked(descriptor, deadline=0.0, how=fcntl.LOCK_EX):
 
 def replace(path, data, mode=0o644, what="the file"):
     """Puts these bytes in the place of a file, as Replacement does it."""
-    file = Replacement(path, mode, what)
-    try:
+    with closing(Replacement(path, mode, what)) as file:
         file.commit(data)
-    finally:
-        file.close()

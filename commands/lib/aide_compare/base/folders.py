@@ -7,8 +7,9 @@ command of root reads or writes.
 import errno
 import os
 import stat
+from contextlib import contextmanager, suppress
 
-from aide_compare.base.ending import Fault, Status, reason
+from aide_compare.base.ending import failing
 from aide_compare.base.escapes import shown
 
 ANYBODY = -1
@@ -20,17 +21,13 @@ def failure(number, text=None):
     return OSError(number, text or os.strerror(number))
 
 
-class closed_after:
+@contextmanager
+def closed_after(descriptor):
     """A descriptor that is closed at the end of a block, which gets it."""
-
-    def __init__(self, descriptor):
-        self.fd = descriptor
-
-    def __enter__(self):
-        return self.fd
-
-    def __exit__(self, *_):
-        os.close(self.fd)
+    try:
+        yield descriptor
+    finally:
+        os.close(descriptor)
 
 
 class Folder:
@@ -109,19 +106,16 @@ class _Walk:
                 raise
         mask = os.umask(0o022)
         try:
-            os.mkdir(name, 0o755, dir_fd=self.folder.fd)
-        except FileExistsError:
-            pass
+            with suppress(FileExistsError):
+                os.mkdir(name, 0o755, dir_fd=self.folder.fd)
         finally:
             os.umask(mask)
         return os.open(name, PIECE_FLAGS, dir_fd=self.folder.fd)
 
     def _follow(self, descriptor):
-        try:
+        with closed_after(descriptor):
             owner = os.fstat(descriptor).st_uid
             target = os.readlink("", dir_fd=descriptor)
-        finally:
-            os.close(descriptor)
         self.links += 1
         if self.links > MOST_LINKS:
             raise failure(errno.ELOOP)
@@ -148,12 +142,10 @@ def walked(path, make=False):
 
 def open_folder(path, make=False):
     """Opens a folder. With `make`, missing ones are made (0755), but only where no other user could put something else."""
-    try:
+    with failing("cannot open the directory %s" % shown(path)):
         folder, file = walked(path, make)
-        if file is None:
-            return folder
-        os.close(file)
-        folder.close()
-        raise failure(errno.ENOTDIR)
-    except OSError as error:
-        raise Fault(Status.DEVICE, "cannot open the directory %s: %s" % (shown(path), reason(error)))
+        if file is not None:
+            os.close(file)
+            folder.close()
+            raise failure(errno.ENOTDIR)
+        return folder

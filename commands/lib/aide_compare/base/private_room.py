@@ -8,7 +8,6 @@ from aide_compare.base.ending import failing
 from aide_compare.base.escapes import shown
 from aide_compare.base.files import closed_after, failure, private_folder, random_name
 
-SIGNALS = (signal.SIGHUP, signal.SIGINT, signal.SIGQUIT, signal.SIGTERM)
 FOLDER = os.O_RDONLY | os.O_DIRECTORY | os.O_NOFOLLOW | os.O_CLOEXEC
 
 
@@ -25,10 +24,8 @@ def _made(name, parent):
 
 
 def _remove_at_end(waiting, ending, room, name, parent):
-    """The life of the child. A signal that ends this command may be meant for both processes, and the child heeds none."""
+    """The life of the child."""
     try:
-        for number in SIGNALS:
-            signal.signal(number, signal.SIG_IGN)
         os.close(ending)
         os.read(waiting, 1)
         for file in os.listdir(room):
@@ -41,14 +38,17 @@ def _remove_at_end(waiting, ending, room, name, parent):
 @contextmanager
 def private_room():
     """A new folder: the block gets its descriptor. A child waits for the end of the block, which closes a pipe as the end of
-    this process does, and removes the folder with its files."""
+    this process does, and removes the folder with its files. It heeds no signal, which may be meant for both processes."""
     path, name, (waiting, ending) = private_folder(), random_name(), os.pipe()
     with failing("cannot make a private directory in %s (name another directory by TMPDIR)" % shown(path)):
         with closed_after(os.open(path, os.O_PATH | os.O_DIRECTORY | os.O_CLOEXEC)) as parent:
-            room = _made(name, parent)
-            child = os.fork()
-            if child == 0:
-                _remove_at_end(waiting, ending, room, name, parent)
+            mask = signal.pthread_sigmask(signal.SIG_BLOCK, signal.valid_signals())
+            try:
+                room, child = _made(name, parent), os.fork()
+                if child == 0:
+                    _remove_at_end(waiting, ending, room, name, parent)
+            finally:
+                signal.pthread_sigmask(signal.SIG_SETMASK, mask)
     os.close(waiting)
     try:
         yield room
