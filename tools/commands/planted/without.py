@@ -52,19 +52,30 @@ PLANTED = (
         "without.try_hostile",
         (
             PATTERNS,
-            "    *middle, tail = rest\n",
-            "    whole = re.compile(b'.*'.join(_parts(piece)), re.DOTALL)\n"
-            "    return lambda name: whole.fullmatch(name) is not None\n    *middle, tail = rest\n",
+            'fnmatch.translate(text.decode("latin-1")).encode("latin-1")).match',
+            'b".*".join(map(re.escape, text.split(b"*"))), re.S).fullmatch',
         ),
         (
             PATTERNS,
             "                star, retry = at, given\n",
             "                rest = Pattern.__new__(Pattern)\n                rest.tests = self.tests[at + 1 :]\n"
+            "                rest.least, rest.named = 0, set()\n"
             "                return any(rest.matches(pieces[front:]) for front in range(given, len(pieces) + 1))\n"
             "                star, retry = at, given\n",
         ),
     )
-    + seen_by("without.try_random", (PATTERNS, "part.search(name, found.end())", "part.search(name)"))
+    + seen_by(
+        "without.try_random",
+        (PATTERNS, '(b"!" if sign else b"", inner)', '(b"", inner)'),
+        (PATTERNS, "        return at == len(self.tests)\n", "        return True\n"),
+        (PATTERNS, "len(pieces) - self.tests[:-1].count(None)", "len(pieces) - self.tests.count(None)"),
+    )
+    + seen_by(
+        "without.try_patterns",
+        (PATTERNS, ' if literal in b"*?[" else literal', ""),
+        (PATTERNS, "    if any(first > last for first, last in RANGE.findall(inner)):\n", "    if False:\n"),
+        (PATTERNS, "    if inner is None:\n", "    if False:\n"),
+    )
     + seen_by("without.try_shipped", ("contrib/aide/debian.without", "/var/cache/**\n", "/var/**\n"))
     + seen_by(
         "without.try_damage",

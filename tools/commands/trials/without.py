@@ -48,6 +48,8 @@ PATTERNS = [
     (b"/a?b", b"/a/b", False),
     (b"/a\\*", b"/a*", True),
     (b"/a\\*", b"/ab", False),
+    (b"/a\\!b", b"/a!b", True),
+    (b"/[\\]\\\\", b"/\\\\", True),
     (b"/[a-c]x", b"/bx", True),
     (b"/[!a-c]x", b"/bx", False),
     (b"/[^a-c]x", b"/dx", True),
@@ -63,7 +65,7 @@ PATTERNS = [
     (b"/a b", b"/a b", True),
     (b"/A", b"/a", False),
 ]
-NO_PATTERNS = [b"", b"a", b"*", b"/a**", b"/a/**b", b"/[a", b"/a\\", b"/[b-a]"]
+NO_PATTERNS = [b"", b"a", b"*", b"/a**", b"/a/**b", b"/[a", b"/a\\", b"/[b-a]", b"/[!]", b"/[]"]
 
 
 # What an entry gives: its attr, mode and capabilities, and whether it stays under a line, and under one that means programs too.

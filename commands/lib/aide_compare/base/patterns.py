@@ -1,79 +1,48 @@
-"""Patterns of paths: `*`, `?` and `[..]` within a piece of a path, and `**` for any number of whole pieces.
+"""Patterns of paths: `*`, `?` and `[..]` within a piece of a path, and `**` for any number of whole pieces. Rows with patterns
+are looked up in their order.
 
 A pattern is cut at each `/`, as a path is, and compared piece by piece. The work for a path grows with its length times that
 of the pattern and no faster, since paths come from hosts that nobody may trust.
 """
+import fnmatch
 import re
+from operator import itemgetter
+
+from aide_compare.base.ending import Fault, Status
+from aide_compare.base.escapes import shown
+
+MOST_PATH = 4096  # PATH_MAX of Linux: no path of a file is longer, so no row means a longer one.
+WILD = re.compile(rb"[*?\[\\]")
+# What fnmatch takes otherwise: an escaped byte, and a class, whose first byte may be any, with its sign before that.
+TOKEN = re.compile(rb"\\(.?)|\[(?:([!^])|(?![!^]))(.[^]]*)\]|\[", re.S)
+RANGE = re.compile(rb"(.)-(.)", re.S)
 
 
 class BadPattern(ValueError):
     """Why a text is no pattern."""
 
 
-def _class_end(text, start):
-    """Where the class that begins at `start` ends, or None: a `]` that comes first belongs to the class."""
-    at = start + 1
-    if text[at : at + 1] in (b"!", b"^"):
-        at += 1
-    end = text.find(b"]", at + 1)
-    return None if end < 0 else end
-
-
-def _class(text):
-    """The class of a pattern, between its brackets, as a regular expression has it."""
-    negated = text[:1] in (b"!", b"^")
-    inner = text[1:] if negated else text
-    ranges = re.sub(rb"([\\\[\]^&~|])", rb"\\\1", inner)
-    try:
-        re.compile(b"[" + ranges + b"]")
-    except re.error:
+def _token(found):
+    """A byte or a class as fnmatch has it: there is no backslash for it, and ! negates a class."""
+    literal, sign, inner = found.groups()
+    if literal == b"":
+        raise BadPattern("a backslash is the last byte of a piece")
+    if literal:
+        return b"[%s]" % literal if literal in b"*?[" else literal
+    if inner is None:
+        raise BadPattern("a class has no end")
+    if any(first > last for first, last in RANGE.findall(inner)):
         raise BadPattern("a class is not understood")
-    return b"[" + (b"^" if negated else b"") + ranges + b"]"
-
-
-def _parts(piece):
-    """The texts between the stars of a piece, each as regular expressions of one byte."""
-    parts, at = [[]], 0
-    while at < len(piece):
-        byte = piece[at : at + 1]
-        if byte == b"*":
-            parts.append([])
-        elif byte == b"?":
-            parts[-1].append(b".")
-        elif byte == b"[":
-            end = _class_end(piece, at)
-            if end is None:
-                raise BadPattern("a class has no end")
-            parts[-1].append(_class(piece[at + 1 : end]))
-            at = end
-        elif byte == b"\\":
-            at += 1
-            if at == len(piece):
-                raise BadPattern("a backslash is the last byte of a piece")
-            parts[-1].append(re.escape(piece[at : at + 1]))
-        else:
-            parts[-1].append(re.escape(byte))
-        at += 1
-    return parts
+    return b"[%s%s]" % (b"!" if sign else b"", inner)
 
 
 def _test(piece):
-    """A test of one piece of a path: each text between stars is looked for once, at its first place, from left to right."""
-    parts = _parts(piece)
-    head, *rest = [re.compile(b"".join(part), re.DOTALL) for part in parts]
-    if not rest:
-        return lambda name: head.fullmatch(name) is not None
-    *middle, tail = rest
-    size = len(parts[-1])
-
-    def test(name):
-        found = head.match(name)
-        for part in middle:
-            found = found and part.search(name, found.end())
-        end = len(name) - size
-        return bool(found) and found.end() <= end and tail.fullmatch(name, end) is not None
-
-    return test
+    """A test of one piece of a path. The regular expression of fnmatch looks for each text between stars once, from left to
+    right."""
+    if not WILD.search(piece):
+        return piece.__eq__
+    text = TOKEN.sub(_token, piece)
+    return re.compile(fnmatch.translate(text.decode("latin-1")).encode("latin-1")).match
 
 
 class Pattern:
@@ -85,21 +54,26 @@ class Pattern:
         pieces = text[1:].split(b"/")
         if any(b"**" in piece and piece != b"**" for piece in pieces):
             raise BadPattern("** is a piece of its own, as in /var/log/**")
-        self.text, self.tests = text, [None if piece == b"**" else _test(piece) for piece in pieces]
-        if pieces[-1] == b"**":  # What lies below, so at least one piece: `/a/**` is not `/a` itself.
-            self.tests.append(lambda name: True)
-        wild = next((at for at, piece in enumerate(pieces) if re.search(rb"[*?\[\\]", piece)), len(pieces))
-        self.fixed = tuple(pieces[:wild])
+        wild = next((at for at, piece in enumerate(pieces) if WILD.search(piece)), len(pieces))
+        self.text, self.fixed = text, tuple(pieces[:wild])
+        self.tests = [None if piece == b"**" else _test(piece) for piece in pieces]
+        # For a quick no: a path has at least so many pieces, and these among them. What lies below `/a/**` is not `/a` itself.
+        self.least = len(pieces) - self.tests[:-1].count(None)
+        self.named = {piece for piece in pieces[wild:] if not WILD.search(piece)}
 
     def matches(self, pieces):
         """Whether the pieces of a path are those of the pattern. `**` is tried with as few pieces as will do, and takes one
         more when what follows does not fit."""
+        if len(pieces) < self.least or not self.named.issubset(pieces):
+            return False
         at = given = 0
         star = retry = None
         while given < len(pieces):
             if at < len(self.tests) and self.tests[at] is None:
                 star, retry = at, given
                 at += 1
+                if at == len(self.tests):
+                    return True
             elif at < len(self.tests) and self.tests[at](pieces[given]):
                 at, given = at + 1, given + 1
             elif star is not None:
@@ -107,4 +81,33 @@ class Pattern:
                 at, given = star + 1, retry
             else:
                 return False
-        return all(test is None for test in self.tests[at:])
+        return at == len(self.tests)
+
+
+def pattern_of(text, place):
+    """The pattern that stands in a line of a file, or in an option."""
+    try:
+        return Pattern(text)
+    except BadPattern as fault:
+        raise Fault(Status.USAGE, "%s: %s: %s" % (place, fault, shown(text, 200)))
+
+
+class Table:
+    """Rows that each have a `pattern`, found by the pieces that their patterns begin with."""
+
+    def __init__(self, rows):
+        self.by_start = {}
+        for place, row in enumerate(rows):
+            self.by_start.setdefault(row.pattern.fixed, []).append((place, row))
+        self.longest = max(map(len, self.by_start), default=0)
+
+    def rows(self, path, test=None):
+        """The rows whose pattern means this path, and that the test lets pass, in their order."""
+        if len(path) > MOST_PATH:
+            return
+        pieces, found = path[1:].split(b"/"), []
+        for size in range(min(len(pieces), self.longest) + 1):
+            found += self.by_start.get(tuple(pieces[:size]), ())
+        for _, row in sorted(found, key=itemgetter(0)):
+            if (test is None or test(row)) and row.pattern.matches(pieces):
+                yield row

@@ -12,7 +12,7 @@ from aide_compare.base.ending import Fault, Status, failing
 from aide_compare.base.escapes import shown
 from aide_compare.base.files import nameless, reopened
 from aide_compare.base.path_keys import unescaped
-from aide_compare.base.table import Table, pattern_of
+from aide_compare.base.patterns import Table, pattern_of
 from aide_compare.base.trusted import lines_of
 
 MOST_LINES = 10000
