@@ -143,7 +143,11 @@ PLANTED = (
     + seen_by(
         "attacks.try_few_descriptors",
         (CHILD, "FIRST_FREE, NOT_STARTED = 10,", "FIRST_FREE, NOT_STARTED = 100,"),
-        (FILES, '    with failing("cannot make a private file in', '    with suppress(KeyError):  # cannot make a private file in'),
+        (
+            "commands/lib/aide_compare/base/ending.py",
+            'raise Fault(Status.DEVICE, "%s: %s" % (what',
+            'raise Fault(Status.DATABASE, "%s: %s" % (what',
+        ),
     )
     + seen_by(
         "attacks.try_little_memory",
