@@ -67,8 +67,7 @@ PLANTED = (
     + seen_by(
         "without.try_random",
         (PATTERNS, '(b"!" if sign else b"", inner)', '(b"", inner)'),
-        (PATTERNS, "        return at == len(self.tests)\n", "        return True\n"),
-        (PATTERNS, "len(pieces) - self.tests[:-1].count(None)", "len(pieces) - self.tests.count(None)"),
+        (PATTERNS, "        return at == len(self.tests) ", "        return True "),
     )
     + seen_by(
         "without.try_patterns",

@@ -6,9 +6,11 @@ import resource
 import select
 import signal
 import time
+from contextlib import ExitStack, suppress
 
 from aide_compare.base.ending import Fault, Status, fault_of, write_all
 from aide_compare.base.escapes import guarded
+from aide_compare.base.folders import closed_after
 
 MOST_RESULT, BLOCK = 1 << 20, 1 << 18
 FIRST_FREE, NOT_STARTED = 10, 127
@@ -31,9 +33,10 @@ def started(words, given, most=None, own_group=False, environment=None):
     """The number of the process of a program. `given` are its descriptors by the numbers that they have there. The kernel ends
     it if this process ends first. No file that it writes gets more than `most` bytes."""
     parent, places = os.getpid(), {}
-    try:
+    with ExitStack() as opened:
         for place, descriptor in given.items():  # Under numbers that are not among those that it is given.
-            places[place] = fcntl.fcntl(descriptor, fcntl.F_DUPFD_CLOEXEC, FIRST_FREE)
+            copy = closed_after(fcntl.fcntl(descriptor, fcntl.F_DUPFD_CLOEXEC, FIRST_FREE))
+            places[place] = opened.enter_context(copy)
         child = os.fork()
         if child == 0:
             try:
@@ -44,9 +47,6 @@ def started(words, given, most=None, own_group=False, environment=None):
             finally:
                 os._exit(NOT_STARTED)
         return child
-    finally:
-        for descriptor in places.values():
-            os.close(descriptor)
 
 
 def _become_program(words, places, most, environment):
@@ -66,12 +66,10 @@ def _close_all_but(kept):
     null = os.open("/dev/null", os.O_RDWR)
     for descriptor in (0, 1, 2):
         os.dup2(null, descriptor)
-    for name in os.listdir("/proc/self/fd"):
-        if int(name) > 2 and int(name) not in kept:
-            try:
-                os.close(int(name))
-            except OSError:
-                pass
+    for number in map(int, os.listdir("/proc/self/fd")):
+        if number > 2 and number not in kept:
+            with suppress(OSError):
+                os.close(number)
 
 
 def _live(work, seconds, writing, keep):
@@ -117,19 +115,15 @@ def _answer_of(reading, deadline):
         if len(answer) > MOST_RESULT:
             raise OverflowError
 
-    try:
+    with suppress(OverflowError):
         return bytes(answer) if pump({reading: take}, deadline) else None
-    except OverflowError:
-        return None
 
 
 def kill_group(child):
     """Kills a child with its group."""
     for kill in (os.killpg, os.kill):
-        try:
+        with suppress(ProcessLookupError):
             kill(child, signal.SIGKILL)
-        except ProcessLookupError:
-            pass
 
 
 def ended(child, deadline):
@@ -156,13 +150,11 @@ def in_child(what, work, seconds, keep=(), beside=""):
             os._exit(0)
     os.close(writing)
     try:
-        answer = _answer_of(reading, time.monotonic() + seconds)
+        with closed_after(reading):
+            answer = _answer_of(reading, time.monotonic() + seconds)
     finally:
-        os.close(reading)
-        try:
+        with suppress(ProcessLookupError):
             os.kill(child, signal.SIGKILL)
-        except ProcessLookupError:
-            pass
         ended(child, time.monotonic() + 5)
     if answer is None:
         raise Fault(Status.DEVICE, "%s took more than %d seconds" % (what, seconds))

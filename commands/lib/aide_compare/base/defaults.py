@@ -5,8 +5,9 @@ Each command takes the options that are its own. None of them names what a comma
 """
 import os
 import re
+from contextlib import suppress
 
-from aide_compare.base.ending import Fault, Status, reason
+from aide_compare.base.ending import Fault, Status, failing
 from aide_compare.base.escapes import shown
 from aide_compare.base.options import end_of_options
 from aide_compare.base.trusted import lines_of
@@ -29,13 +30,9 @@ OFF = "--no-defaults"
 def place_of(name):
     """The path of a file of the folder; None if there is no such file."""
     path = os.path.join(FOLDER, name)
-    try:
+    with failing("cannot look for %s" % shown(path)), suppress(FileNotFoundError, NotADirectoryError):
         os.lstat(path)
-    except (FileNotFoundError, NotADirectoryError):
-        return None
-    except OSError as error:
-        raise Fault(Status.DEVICE, "cannot look for %s: %s" % (shown(path), reason(error)))
-    return path
+        return path
 
 
 def _word(line, place):

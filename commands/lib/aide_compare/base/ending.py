@@ -3,7 +3,7 @@ import errno
 import itertools
 import os
 import sys
-from contextlib import contextmanager
+from contextlib import contextmanager, suppress
 from enum import IntEnum
 
 from aide_compare.base.escapes import guarded
@@ -72,10 +72,8 @@ def tell(*lines):
 
 def say(text):
     """Writes a line with the name of the command to standard error. If that cannot be written, nothing else changes."""
-    try:
+    with suppress(OSError):
         write_all(2, ("%s: %s\n" % (_name, guarded(text))).encode("utf-8", "backslashreplace"))
-    except OSError:
-        pass
 
 
 def take_standard_descriptors():

@@ -21,6 +21,7 @@ from aide_compare.base.folders import (
 
 BLOCK = HELD = 1 << 18
 NO_TMPFILE = (errno.EOPNOTSUPP, errno.EISDIR, errno.EINVAL)
+RENAME_EXCHANGE, NO_EXCHANGE = 2, (errno.EINVAL, errno.ENOSYS, errno.EOPNOTSUPP)
 NEW_FILE = os.O_CREAT | os.O_EXCL | os.O_RDWR | os.O_NOFOLLOW | os.O_CLOEXEC
 KINDS = (
     (stat.S_ISDIR, "a directory"),
@@ -251,6 +252,22 @@ class Replacement:
             os.fchmod(part.fd, self.mode)
             self._refuse_other_kinds()
             part.put(self.name)
+
+
+def exchange(folder, one, other):
+    """Two names of a folder change places in one step, by renameat2, so that neither file is without a name at any moment.
+    False, with nothing changed, if the file system or the machine cannot do it."""
+    try:
+        import ctypes
+
+        call = ctypes.CDLL(None, use_errno=True).renameat2
+    except (ImportError, AttributeError, OSError):
+        return False
+    if call(folder, os.fsencode(one), folder, os.fsencode(other), RENAME_EXCHANGE) == 0:
+        return True
+    if ctypes.get_errno() in NO_EXCHANGE:
+        return False
+    raise failure(ctypes.get_errno())
 
 
 def is_locked(descriptor, deadline=0.0, how=fcntl.LOCK_EX):

@@ -57,8 +57,8 @@ class Pattern:
         wild = next((at for at, piece in enumerate(pieces) if WILD.search(piece)), len(pieces))
         self.text, self.fixed = text, tuple(pieces[:wild])
         self.tests = [None if piece == b"**" else _test(piece) for piece in pieces]
-        # For a quick no: a path has at least so many pieces, and these among them. What lies below `/a/**` is not `/a` itself.
-        self.least = len(pieces) - self.tests[:-1].count(None)
+        # For a quick no: a path has at least so many pieces, and these among them.
+        self.least = len(pieces) - self.tests.count(None)
         self.named = {piece for piece in pieces[wild:] if not WILD.search(piece)}
 
     def matches(self, pieces):
@@ -81,7 +81,7 @@ class Pattern:
                 at, given = star + 1, retry
             else:
                 return False
-        return at == len(self.tests)
+        return at == len(self.tests)  # What lies below `/a/**` has a piece more than `/a` itself.
 
 
 def pattern_of(text, place):

@@ -1,6 +1,7 @@
 """Runs the proved program: found, given its databases as descriptors, and ended when the command ends."""
 import os
 import signal
+from collections import namedtuple
 
 from aide_compare.base import progress
 from aide_compare.base.child import pump, started
@@ -25,11 +26,8 @@ class Drain:
         self.size += len(block)
 
 
-class Ended:
-    """How the program ended: its status, the first bytes of its error lines, and how many bytes went through a pipe."""
-
-    def __init__(self, status, errors, size):
-        self.status, self.errors, self.size = status, errors, size
+# How the program ended: its status, the first bytes of its error lines, and how many bytes went through a pipe.
+Ended = namedtuple("Ended", "status errors size")
 
 
 def find_installed(name):

@@ -3,7 +3,7 @@ import os
 import pwd
 
 from aide_compare.base.child import in_child
-from aide_compare.base.ending import Fault, Status, reason
+from aide_compare.base.ending import Fault, Status, failing
 from aide_compare.base.escapes import shown
 
 
@@ -45,10 +45,8 @@ def _become(entry, groups):
 
 def _become_whole(entry):
     """The same for good, with the groups and the environment of the user."""
-    try:
+    with failing("cannot become %s" % name_of(entry.pw_uid)):
         _become(entry, os.getgrouplist(entry.pw_name, entry.pw_gid))
-    except OSError as error:
-        raise Fault(Status.DEVICE, "cannot become %s: %s" % (name_of(entry.pw_uid), reason(error)))
     os.environ.update(HOME=entry.pw_dir or "/", USER=entry.pw_name, LOGNAME=entry.pw_name)
 
 

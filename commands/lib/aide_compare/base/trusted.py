@@ -4,7 +4,7 @@ import os
 from aide_compare.base.ending import Fault, Status
 from aide_compare.base.escapes import shown
 from aide_compare.base.files import open_regular, read_whole
-from aide_compare.base.folders import open_folder
+from aide_compare.base.folders import closed_after, open_folder
 
 MOST_LINES = 10000
 MOST_BYTES = 1 << 20
@@ -26,11 +26,8 @@ def open_trusted(path, what):
 
 def lines_of(path, what):
     """The lines of a file that say something, each with the place where it stands. Blanks at the ends do not count."""
-    descriptor = open_trusted(path, what)
-    try:
+    with closed_after(open_trusted(path, what)) as descriptor:
         text = read_whole(descriptor, MOST_BYTES, "%s %s" % (what, shown(path)))
-    finally:
-        os.close(descriptor)
     lines = [
         (line.strip(b" \t\r"), "%s, line %d" % (shown(path, 200), number)) for number, line in enumerate(text.split(b"\n"), 1)
     ]

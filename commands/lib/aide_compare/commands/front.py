@@ -2,7 +2,7 @@
 import os
 import re
 
-from aide_compare.base.ending import Fault, Status, called, reason, write_all
+from aide_compare.base.ending import Fault, Status, called, failing, write_all
 from aide_compare.base.escapes import shown
 
 # Each is a module of its name, of which only the one that is asked for is loaded.
@@ -58,10 +58,8 @@ def become_program(arguments):
     program = find_program()
     for number in (signal.SIGPIPE, signal.SIGXFSZ):  # Which the interpreter ignores.
         signal.signal(number, signal.SIG_DFL)
-    try:
+    with failing("cannot run %s" % shown(program)):
         os.execv(program, [program] + arguments)
-    except OSError as error:
-        raise Fault(Status.DEVICE, "cannot run %s: %s" % (shown(program), reason(error)))
 
 
 def refuse(word, names, what):

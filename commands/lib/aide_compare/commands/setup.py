@@ -8,9 +8,9 @@ import stat
 import subprocess
 from collections import namedtuple
 
-from aide_compare.base.ending import Fault, Status, reason, tell
+from aide_compare.base.ending import Fault, Status, failing, tell
 from aide_compare.base.escapes import shown
-from aide_compare.base.files import open_folder, read_file, reopened, replace
+from aide_compare.base.files import closed_after, open_folder, read_file, reopened, replace
 from aide_compare.base.options import ALARMS, Parser, some_text
 
 NAME = "aide-compare setup"
@@ -52,12 +52,11 @@ def shipped(name):
 
 def run(words, seconds=SECONDS, output=None):
     """Runs a program of the system, which writes where this command writes, or elsewhere. Its status has to be 0."""
+    more = {"PATH": PATH, "LC_ALL": "C.UTF-8", "HOME": "/root"}
+    streams = {"stdin": subprocess.DEVNULL, "stdout": output, "stderr": output}
     try:
-        more = {"PATH": PATH, "LC_ALL": "C.UTF-8", "HOME": "/root"}
-        streams = {"stdin": subprocess.DEVNULL, "stdout": output, "stderr": output}
-        done = subprocess.run(words, timeout=seconds, env=more, cwd="/", **streams)
-    except OSError as error:
-        raise Fault(Status.DEVICE, "cannot run %s: %s" % (words[0], reason(error)))
+        with failing("cannot run " + words[0]):
+            done = subprocess.run(words, timeout=seconds, env=more, cwd="/", **streams)
     except subprocess.TimeoutExpired:
         raise Fault(Status.DEVICE, "%s took more than %d seconds" % (words[0], seconds))
     if done.returncode:
@@ -128,20 +127,15 @@ class Machine:
         """Gives a database that root has made to the user. Others can write in the folder, so nothing goes by its name: it is
         one file of root's, with no other name, that begins as a database does."""
         with open_folder(DATABASES) as folder:
-            file = os.open(name, os.O_PATH | os.O_NOFOLLOW | os.O_CLOEXEC, dir_fd=folder.fd)
-            try:
+            with closed_after(os.open(name, os.O_PATH | os.O_NOFOLLOW | os.O_CLOEXEC, dir_fd=folder.fd)) as file:
                 found = os.fstat(file)
                 if not stat.S_ISREG(found.st_mode) or found.st_nlink != 1 or found.st_uid not in (0, self.user.pw_uid):
                     raise Fault(Status.DEVICE, "%s/%s is no file of root's with one name" % (DATABASES, name))
                 opened = reopened(file, os.O_RDONLY)
-            finally:
-                os.close(file)
-        try:
+        with closed_after(opened):
             if not os.pread(opened, 10, 0).startswith(BEGINS):
                 raise Fault(Status.DEVICE, "%s/%s is not a database of AIDE" % (DATABASES, name))
             os.fchown(opened, self.user.pw_uid, self.user.pw_gid)
-        finally:
-            os.close(opened)
 
     def has_folder(self):
         try:
@@ -155,11 +149,9 @@ class Machine:
                 raise Fault(Status.DEVICE, "other users can write in %s" % OWN)
             if not os.path.lexists(os.path.join(OWN, DAILY)):
                 os.mkdir(DAILY, 0o755, dir_fd=folder.fd)
-            inner = os.open(DAILY, os.O_RDONLY | os.O_DIRECTORY | os.O_NOFOLLOW | os.O_CLOEXEC, dir_fd=folder.fd)
-            try:
+            flags = os.O_RDONLY | os.O_DIRECTORY | os.O_NOFOLLOW | os.O_CLOEXEC
+            with closed_after(os.open(DAILY, flags, dir_fd=folder.fd)) as inner:
                 os.fchown(inner, self.user.pw_uid, self.user.pw_gid)
-            finally:
-                os.close(inner)
 
     def has_job(self):
         return is_enabled("aide-compare.timer") if self.has_systemd else os.path.lexists(CRON)

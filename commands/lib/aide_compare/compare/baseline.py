@@ -11,8 +11,7 @@ from contextlib import suppress
 
 from aide_compare.base.ending import Fault, Status, failing, reason, why_of
 from aide_compare.base.escapes import shown
-from aide_compare.base.exchange import exchange
-from aide_compare.base.files import copy_file, file_kind, is_locked, new_file, reopened, unlink
+from aide_compare.base.files import copy_file, exchange, file_kind, is_locked, new_file, reopened, unlink
 from aide_compare.base.folders import ANYBODY, closed_after, failure, open_folder
 
 FILE_MODES = 0o666
