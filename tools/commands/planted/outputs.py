@@ -53,10 +53,10 @@ PLANTED = (
     + seen_by(
         "terminal.try_progress",
         (PROGRESS, "os.isatty(descriptor) and ", ""),
-        (PROGRESS, "    if _line and _line.is_shown:\n", "    if False:\n"),
-        (PROGRESS, " - self.given\n", "\n"),
-        (PROGRESS, "if 0 < at < self.last[number]:", "if False:"),
-        (PROGRESS, "time.monotonic() >= self.last + EVERY", "True"),
+        (PROGRESS, "    if _is_shown:\n", "    if False:\n"),
+        (PROGRESS, " - own\n", "\n"),
+        (PROGRESS, "+= 0 < at < last[number]", "+= 0"),
+        (PROGRESS, " and time.monotonic() >= _due", ""),
         (RUN, "    if not given.quiet:\n        progress", "    if True:\n        progress"),
     )
     + seen_by("explained.try_no_reasons", (RUN, "            elif comparison.status <= 7:\n", "            elif False:\n"))

@@ -2,53 +2,21 @@
 is none, and nothing here costs anything."""
 import os
 import time
+from contextlib import suppress
 
 from aide_compare.base.ending import say
 
 EVERY, FIRST = 0.25, 1.0  # Seconds between two lines, and before the first one.
 MOST_PASSES = 6  # The program reads both databases so often at most.
 
-_line = _since = None
-
-
-class _Line:
-    def __init__(self, descriptor):
-        self.fd, self.last, self.is_shown = descriptor, time.monotonic() + FIRST - EVERY, False
-
-    def is_due(self):
-        return time.monotonic() >= self.last + EVERY
-
-    def write(self, data):
-        try:
-            os.write(self.fd, data)
-        except OSError:
-            pass
+# The terminal with the line, when the next one is due, whether one is there; and, with -v, when the last step was done.
+_terminal, _due, _is_shown, _since = None, 0.0, False, None
 
 
 def tell_steps(is_verbose):
     """From now on each step is told when it is done, on a terminal or not: -v."""
     global _since
     _since = time.monotonic() if is_verbose else None
-
-
-def begin(descriptor):
-    """From now on lines go to this terminal; nothing happens if it is none."""
-    global _line
-    if os.isatty(descriptor) and os.environ.get("TERM") != "dumb":
-        _line = _Line(descriptor)
-
-
-def clear():
-    """Takes the line away, before anything else is written."""
-    if _line and _line.is_shown:
-        _line.write(b"\r\033[K")
-        _line.is_shown = False
-
-
-def end():
-    global _line
-    clear()
-    _line = None
 
 
 def done(what):
@@ -60,11 +28,42 @@ def done(what):
         say("%s: %.1f s" % (what, _since - before))
 
 
+def begin(descriptor):
+    """From now on lines go to this terminal; nothing happens if it is none."""
+    global _terminal, _due
+    if os.isatty(descriptor) and os.environ.get("TERM") != "dumb":
+        _terminal, _due = descriptor, time.monotonic() + FIRST
+
+
+def _write(data):
+    with suppress(OSError):
+        os.write(_terminal, data)
+
+
+def clear():
+    """Takes the line away, before anything else is written."""
+    global _is_shown
+    if _is_shown:
+        _write(b"\r\033[K")
+        _is_shown = False
+
+
+def end():
+    global _terminal
+    clear()
+    _terminal = None
+
+
+def _is_due():
+    return _terminal is not None and time.monotonic() >= _due
+
+
 def tell(what, done, whole):
     """Writes how far the work is, if it is time for that."""
-    if _line and _line.is_due():
-        _line.write(b"\r%s, %d%% of %d MB\033[K" % (what.encode(), 100 * done // max(whole, 1), whole >> 20))
-        _line.last, _line.is_shown = time.monotonic(), True
+    global _due, _is_shown
+    if _is_due():
+        _write(b"\r%s, %d%% of %d MB\033[K" % (what.encode(), 100 * done // max(whole, 1), whole >> 20))
+        _due, _is_shown = time.monotonic() + EVERY, True
 
 
 def _position(process, place, file):
@@ -76,39 +75,25 @@ def _position(process, place, file):
         return int(info.read(100).split()[1])
 
 
-class Passes:
-    """A process that reads files again and again: in which pass it is, and how far in that. `given` are the files' descriptors
-    by the numbers under which the process has got them; it opens them anew, under other numbers."""
-
-    def __init__(self, process, given):
-        self.process, self.given = process, {str(place) for place in given}
-        self.files = [os.fstat(descriptor) for descriptor in given.values()]
-        self.last, self.read, self.passes = [0 for _ in self.files], [0 for _ in self.files], [1 for _ in self.files]
-
-    def look(self):
-        """Reads the positions. A file that stands before where it was has been opened once more."""
-        try:
-            places = set(os.listdir("/proc/%d/fd" % self.process)) - self.given
-            now = [max(_position(self.process, place, file) for place in places) for file in self.files]
-        except (OSError, ValueError, IndexError):
-            return
-        for number, at in enumerate(now):
-            if 0 < at < self.last[number]:
-                if self.passes[number] == max(self.passes):
-                    self.read = [0 for _ in self.files]
-                self.passes[number] += 1
-            if at:
-                self.last[number] = self.read[number] = at
-
-    def tell(self):
-        if not self.files or not _line.is_due():
-            return
-        self.look()
-        number = min(max(self.passes), MOST_PASSES)
-        whole = sum(file.st_size for file in self.files)
-        tell("comparing: pass %d of at most %d" % (number, MOST_PASSES), sum(self.read), whole)
-
-
 def watched(process, given):
-    """What to call now and then while a process reads files, and after how many seconds; nothing without a terminal."""
-    return (Passes(process, given).tell, EVERY) if _line else (None, None)
+    """What to call now and then while a process reads files again and again, and after how many seconds; nothing without a
+    terminal. `given` are the files' descriptors by the numbers under which the process has got them. It opens them anew, under
+    other numbers: a file that stands before where it was has been opened once more, for the next pass."""
+    if _terminal is None or not given:
+        return None, None
+    files, own = [os.fstat(descriptor) for descriptor in given.values()], set(map(str, given))
+    last, passes, whole = [0] * len(files), [1] * len(files), sum(file.st_size for file in files)
+
+    def look():
+        if not _is_due():
+            return
+        with suppress(OSError, ValueError, IndexError):
+            places = set(os.listdir("/proc/%d/fd" % process)) - own
+            for number, file in enumerate(files):
+                at = max(_position(process, place, file) for place in places)
+                passes[number] += 0 < at < last[number]
+                last[number] = at or last[number]
+        read = sum(at for at, each in zip(last, passes) if each == max(passes))
+        tell("comparing: pass %d of at most %d" % (min(max(passes), MOST_PASSES), MOST_PASSES), read, whole)
+
+    return look, EVERY
