@@ -1,14 +1,14 @@
 /* Loaded before the C library (LD_PRELOAD), this lets something happen right before one call of a command that opens,
    makes, changes, names or removes a file: before the call with the number AT_NUMBER, counted from the first that opens
    a file by O_PATH. AT_WAY says what happens: the process is killed, or the names AT_ONE and AT_OTHER change places,
-   for that call or for good, or AT_ONE is removed. Only calls of the first process are counted, or with AT_CHILD only
+   for that call or for good. Only calls of the first process are counted, or with AT_CHILD only
    those of its children. AT_OLD makes the file system an old one, without files that have no name and without an
    exchange of names. AT_NOTES is a descriptor that gets the name of each call that is counted. AT_MARK is a folder that
    is made when it happens.
 
    It includes no header, so that a compiler without a C library builds it. */
 
-enum way { KILLED = 1, EXCHANGED_FOR_THE_CALL, EXCHANGED_FOR_GOOD, REMOVED };
+enum way { KILLED = 1, EXCHANGED_FOR_THE_CALL, EXCHANGED_FOR_GOOD };
 
 #define NEXT ((void *)-1L)
 #define O_PATH 010000000
@@ -17,7 +17,6 @@ enum way { KILLED = 1, EXCHANGED_FOR_THE_CALL, EXCHANGED_FOR_GOOD, REMOVED };
 #define INVALID 22
 #define HERE (-100)
 #define SYS_WRITE 1
-#define SYS_UNLINK 87
 #define SYS_RENAMEAT2 316
 
 extern void *dlsym(void *, const char *);
@@ -72,10 +71,7 @@ static int before(const char *name)
             mkdir(mark, 0777);
         if (way == KILLED)
             kill(getpid(), 9);
-        if (way == REMOVED)
-            syscall(SYS_UNLINK, one);
-        else
-            exchange();
+        exchange();
         back = way == EXCHANGED_FOR_THE_CALL;
     }
     *__errno_location() = error;
