@@ -64,7 +64,7 @@ def try_ends(sandbox):
         lock.wait()
         got = run.returncode, sandbox.leftovers()
         sandbox.holds("signal %d" % number, got == (-number, []), got)
-    sandbox.edit("lib/aide_compare/base/files.py", "HELD = 1 << 18, 1 << 18\n", "HELD = 1 << 18, 0\n")
+    sandbox.edit("lib/aide_compare/base/files.py", "BLOCK = HELD = 1 << 18\n", "BLOCK, HELD = 1 << 18, 0\n")
     status, output, errors = hosts.report(before=["sh", "-c", 'ulimit -f 0; exec "$@"', "sh"])
     sandbox.holds("no room", status == 18 and not output and errors and not sandbox.leftovers(), (status, output, errors))
     run = hosts.start(hosts.words("aide-compare hosts report", sandbox.path("hosts")), preexec_fn=None)
