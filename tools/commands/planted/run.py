@@ -183,8 +183,7 @@ PLANTED = (
         (FILES, "others = set() if self.folder.is_safe() else self.folder.others", "others = set()"),
     )
     + seen_by("faults.try_limits", (UNPACK, "if size > most:", "if size >= most:"))
-    + seen_by("faults.try_files", (FILES, "        self._do(self._try)
-", ""))
+    + seen_by("faults.try_files", (FILES, "        self._do(self._try)\n", ""))
     + seen_by(
         "faults.try_rooms",
         (
