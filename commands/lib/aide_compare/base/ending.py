@@ -3,8 +3,7 @@ import errno
 import itertools
 import os
 import sys
-from contextlib import contextmanager, suppress
-from enum import IntEnum
+from enum import IntEnum  # And not contextlib: with no memory left, CPython 3.11 was seen never to end in its import.
 
 from aide_compare.base.escapes import guarded
 
@@ -72,8 +71,10 @@ def tell(*lines):
 
 def say(text):
     """Writes a line with the name of the command to standard error. If that cannot be written, nothing else changes."""
-    with suppress(OSError):
+    try:
         write_all(2, ("%s: %s\n" % (_name, guarded(text))).encode("utf-8", "backslashreplace"))
+    except OSError:
+        pass
 
 
 def take_standard_descriptors():
@@ -102,13 +103,18 @@ def reason(error):
     return error.strerror or guarded(str(error)) or type(error).__name__
 
 
-@contextmanager
-def failing(what):
+class failing:
     """Where a call of the system that fails is a Fault: `what` failed, such as "cannot read FILE", and the cause."""
-    try:
-        yield
-    except OSError as error:
-        raise Fault(Status.DEVICE, "%s: %s" % (what, reason(error))) from None
+
+    def __init__(self, what):
+        self.what = what
+
+    def __enter__(self):
+        return self
+
+    def __exit__(self, kind, error, _):
+        if isinstance(error, OSError):
+            raise Fault(Status.DEVICE, "%s: %s" % (self.what, reason(error))) from None
 
 
 def fault_of(error):
