@@ -145,8 +145,8 @@ PLANTED = (
         (CHILD, "FIRST_FREE, NOT_STARTED = 10,", "FIRST_FREE, NOT_STARTED = 100,"),
         (
             "commands/lib/aide_compare/base/ending.py",
-            'raise Fault(Status.DEVICE, "%s: %s" % (what',
-            'raise Fault(Status.DATABASE, "%s: %s" % (what',
+            'raise Fault(Status.DEVICE, "%s: %s" % (self.what',
+            'raise Fault(Status.DATABASE, "%s: %s" % (self.what',
         ),
     )
     + seen_by(
