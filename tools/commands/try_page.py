@@ -14,6 +14,7 @@ from tools.commands.viewers.in_browser import (
     try_address,
     try_entries,
     try_filters,
+    try_folders,
     try_hostile,
     try_keyboard,
     try_policy,
@@ -49,6 +50,8 @@ def main():
         try_views(browser, tally)
         for path in (demo, simple):
             try_filters(browser, path, tally)
+        for path in (demo, simple, hostile):
+            try_folders(browser, path, tally)
         try_entries(browser, demo, given.pictures, tally)
         try_address(browser, demo, tally)
         try_keyboard(browser, demo, tally)

@@ -36,14 +36,14 @@ from aide_compare.lines import reader
 from aide_compare.lines.reader import Reader, Refused
 from aide_compare.show.page import script_of
 from aide_compare.show.page_heading import part_of
-from aide_compare.show.rows import Report
+from aide_compare.show.rows import entries_of
 
 REFUSED, USAGE, DEVICE = 65, 15, 18
 # Letters by their class, and yet nothing is seen of them: the Hangul fillers and the empty Braille pattern.
 BLANKS_THAT_ARE_LETTERS = "\u115f\u1160\u2800\u3164\uffa0"
 
 def is_page_refused(lines):
-    return is_refused(lambda: Report(Reader(io.BytesIO(lines)), [].append))
+    return is_refused(lambda: list(entries_of(Reader(io.BytesIO(lines)))))
 
 
 def is_refused(work, *words, **options):
@@ -126,7 +126,7 @@ def try_hostile(seed, count, tally):
 def try_cuts(tally):
     """Lines that are cut at any byte are refused."""
     lines = rich_lines()
-    for label, work in (("json", objects_of), ("page", lambda text: Report(Reader(io.BytesIO(text)), [].append))):
+    for label, work in (("json", objects_of), ("page", lambda text: list(entries_of(Reader(io.BytesIO(text)))))):
         kept = [end for end in range(len(lines)) if not is_refused(work, lines[:end])]
         tally.add("lines cut, for " + label, [] if not kept and not is_refused(work, lines) else ["kept at %r" % kept])
 

@@ -22,7 +22,7 @@ RUNS, READERS = "explained.%s", "explained_readers.%s"
 PLANTED = (
     seen_by(
         READERS % "try_values",
-        ("commands/lib/aide_compare/show/page_lists.py", "place < room.valued_end", "False"),
+        ("commands/lib/aide_compare/show/page.py", "has_values = inner != LEFT_OUT and", "has_values = inner == LEFT_OUT and"),
     )
     + seen_by(
         "others_modules.try_others_modules",

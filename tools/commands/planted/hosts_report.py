@@ -39,7 +39,7 @@ PLANTED = (
         "hosts_page.try_removed",
         (
             LIB + "show/page_items.py",
-            "    if any(row[side] is VARIOUS for row in entry.rows):\n        return VARIOUS\n",
+            "        if value is VARIOUS:\n            return VARIOUS\n",
             "",
         ),
     )
@@ -88,10 +88,10 @@ PLANTED = (
         "hosts_page.try_markup",
         (
             LIB + "show/page_items.py",
-            'text += "<code>%s</code>%s" % (escape(name),',
-            'text += "<code>%s</code>%s" % (name,',
+            'text += "<code>%s</code>" % escape(entry.name)',
+            'text += "<code>%s</code>" % entry.name',
         ),
-        (LIB + "hosts/hosts_page.py", "None, shown_path(path), ", 'None, path.decode("utf-8", "replace"), '),
+        (LIB + "show/rows.py", 'shown_path(bytes_of(fields, "path"))', 'bytes_of(fields, "path").decode("utf-8", "replace")'),
     )
     + seen_by(
         "hosts_page.try_room",
@@ -103,7 +103,7 @@ PLANTED = (
     )
     + seen_by(
         "hosts_page.try_values",
-        (LIB + "hosts/hosts_page.py", "VARIOUS if LABELS[row[0]] in various else row[1]", "row[1]"),
+        (LIB + "hosts/hosts_page.py", 'fields.get("old_various", ())', "()"),
         (LIB + "hosts/hosts_text.py", 'if each["status"] > 7', "if False"),
         (LIB + "hosts/hosts_text.py", 'fields["hosts"] - len(fields["names"])', "0"),
         (LIB + "hosts/hosts_page.py", '"Not compared", "not_compared")', '"Not compared", "hosts")'),
@@ -114,7 +114,7 @@ PLANTED = (
     )
     + seen_by(
         "hosts_quiet.try_reports",
-        (LIB + "hosts/hosts_page.py", 'if "severity" in fields else None', 'if "severities" in fields else None'),
+        (LIB + "show/rows.py", 'severity = fields.get("severity")', 'severity = fields.get("severities")'),
         (LIB + "commands/hosts_report.py", 'report.is_alarm if given.alarm == "unexplained" else ', ""),
         (
             LIB + "hosts/host_changes.py",

@@ -6,50 +6,54 @@ LIB = "commands/lib/aide_compare/"
 PLANTED = (
     seen_by(
         "viewers.try_times",
-        (LIB + "show/page_items.py", "(escape(value), escape(note)) if note", "(escape(value), note) if note"),
+        (LIB + "show/page_items.py", "% (escape(note), escape(value))", "% (note, escape(value))"),
     )
     + seen_by(
         "viewers.try_hostile",
         (LIB + "show/page_items.py", '"<td>" + escape(value)', '"<td>" + value'),
+        (LIB + "show/page_items.py", '"<code>%s</code>" % escape(entry.name)', '"<code>%s</code>" % entry.name'),
+        (LIB + "show/page_items.py", "% (int(row.new) - int(row.old))", "% (int(row.old) - int(row.new))"),
+        (LIB + "show/rows.py", "value if PLAIN.fullmatch(value) else", "value if True else"),
         (
-            LIB + "show/page_lists.py",
-            "self.counts[3 * self.places[-1] + kind] += self.counts[3 * place + kind]",
-            "self.counts[3 * self.places[-1] + kind] += 1",
+            LIB + "show/rows.py",
+            "return shown(value) if type(value) is bytes",
+            'return value.decode("latin-1") if type(value) is bytes',
         ),
-        (LIB + "show/rows.py", "value if usual or PLAIN.fullmatch(value) else", "value if True else"),
-        (LIB + "show/rows.py", "usual, texts = is_usual(line, letters),", "usual, texts = True,"),
-        (LIB + "show/rows.py", "    return shown(value)\n", '    return value.decode("latin-1")\n'),
     )
     + seen_by(
         "viewers.try_reasons",
-        (
-            LIB + "show/page_items.py",
-            '<span class="reason">%s</span>\' % escape(reason)',
-            '<span class="reason">%s</span>\' % reason',
-        ),
-        (LIB + "show/page_lists.py", "escape(what.text), numbered(", "what.text, numbered("),
-        (LIB + "show/page_streams.py", "            place - self.last,\n", "            1,\n"),
+        (LIB + "show/page.py", "escape(title), entries(self.counts[key])", "title, entries(self.counts[key])"),
+        (LIB + "show/page.py", "return standing, -self.counts[key], what", "return standing, self.counts[key], what"),
+        (LIB + "show/page.py", "SEVERITIES.index(what) if what else len(SEVERITIES)", "what"),
         (
             LIB + "show/page_view.py",
-            "0 if reason is None else 2 if reason.verified else 1",
-            "0 if reason is None else 2",
+            "0 if entry.reason is None else 1 + entry.reason.is_verified",
+            "0 if entry.reason is None else 2",
         ),
-        (LIB + "show/page_heading.py", "(text, HINT)", '(text, "")'),
+        (LIB + "show/page_heading.py", "</p>\\n' % HINT", '</p>\\n\' % ""'),
         (LIB + "show/page_heading.py", "if type(given.get(key)) is int", "if key in given"),
         (LIB + "show/rows.py", "else shown_note(text, MOST_NOTE)", "else text"),
+        (
+            LIB + "show/page_items.py",
+            ' <span class="reason">%s</span>\' % escape(reason)',
+            ' <span class="reason">%s</span>\' % reason',
+        ),
     )
     + seen_by(
         "viewers.try_work",
         (
-            LIB + "show/page_lists.py",
-            "        self.leave(common)\n",
-            "        while folder[:len(self.names)] != self.names:\n            self.leave(len(self.names) - 1)\n",
+            LIB + "show/page.py",
+            "        self.counts[key] += 1\n",
+            "        self.counts[key] = sum(1 for _ in range(self.counts[key])) + 1\n",
         ),
     )
-    + seen_by("viewers.try_sizes", (LIB + "show/page_items.py", "or len(text) + more > self.left", "or False"))
+    + seen_by(
+        "viewers.try_sizes",
+        (LIB + "show/page.py", "self.left - size if size <= self.left else -1", "max(self.left - size, 0)"),
+    )
     + seen_by(
         "viewers.try_heading",
-        (LIB + "show/page_heading.py", 'found = [left_out(report.summary.get("left_out")), ', "found = ["),
+        (LIB + "show/page_heading.py", '[left_out(summary.get("left_out")), ', "["),
         (
             LIB + "show/page_heading.py",
             "(escape(name), escape(value)) for name, value in rows",
@@ -58,16 +62,16 @@ PLANTED = (
     )
     + seen_by(
         "viewers.try_views",
-        (LIB + "show/page_view.py", 'seen.path.startswith(self.directory + "/")', "seen.path.startswith(self.directory)"),
+        (LIB + "show/page_view.py", '(path + "/").startswith(self.directory + "/")', "path.startswith(self.directory)"),
     )
     + seen_by(
         "viewers.try_only",
-        (LIB + "show/page_view.py", '            return "%s=%s" % (name, value)\n', "            return None\n"),
+        (LIB + "show/page_view.py", 'self.fault = "%s=%s" % (name, value)', "pass"),
+        (LIB + "show/page.py", "if not (is_plain and only) or view.fits(words_of(entry)):", "if True:"),
     )
     + seen_by(
         "viewers.try_blank_ends",
         (LIB + "base/shown_text.py", 'octal(" " * before) + inner + octal(" " * after)', "inner"),
-        (LIB + "show/rows.py", 'line.count(b\' "\') == letters.endswith(" ")', "True"),
     )
     + seen_by(
         "viewers.try_script",
@@ -93,7 +97,9 @@ PLANTED = (
         (LIB + "lines/reader.py", 'self.summary["format"] == FORMAT', "True"),
         (LIB + "lines/reader.py", '        and fields["differences"] is (status_of(counts[1:]) > 0)\n', ""),
         (LIB + "lines/reader.py", 'self.count == self.summary["entries"] and all(', "all("),
-        (LIB + "show/rows.py", 'demand(LETTERS.fullmatch(letters), "a summary string has 18 letters")', "pass"),
+        (LIB + "show/rows.py", 'demand(LETTERS.fullmatch(fields["summary"]), "a summary string has 18 letters")', "pass"),
+        (LIB + "show/rows.py", 'demand(labels <= FORMS.keys(), "an attribute is unknown")', "pass"),
+        (LIB + "show/rows.py", 'demand(all(type(text) is dict for text in texts), "texts are objects")', "pass"),
     )
     + seen_by(
         "viewers.try_bounds",

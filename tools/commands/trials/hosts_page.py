@@ -23,7 +23,7 @@ def try_hosts_page(sandbox):
 
 def items_of(page):
     """The changes of a page, each from its beginning to the next one."""
-    return page.partition("<main")[2].split("<li>")[1:]
+    return page.partition('<div id="content"')[2].split("<li>")[1:]
 
 
 def try_values(sandbox):
@@ -50,7 +50,7 @@ def try_values(sandbox):
     )
     sandbox.holds("a new file on three hosts", good, same)
     various = [each for each in items if "/etc/p</code>" in each]
-    good = len(various) == 1 and '<td class="none">various<td title="0600">-rw-------' in various[0]
+    good = len(various) == 1 and '<td class="none">various<td><details><summary>-rw-------</summary>0600' in various[0]
     sandbox.holds("old values that are not the same", good, various)
     common = items_of(hosts.report("--format=page", "--order", "common")[1])
     sandbox.holds("another order", len(common) == 5 and "on 1 of 6 hosts" in common[-1], common)
@@ -62,7 +62,7 @@ def try_removed(sandbox):
     texts = {"good%d" % number: (database(line(b"/gone", b"x" * number), line(b"/same")), database()) for number in (1, 2)}
     hosts.compared(texts)
     heads = [each.partition("</summary>")[0] for each in items_of(hosts.report("--format=page")[1])]
-    found = {re.search("<code>(.*?)</code>", head).group(1): re.search("<i>(.*?)</i>", head).group(1) for head in heads}
+    found = {re.search("<code>(.*?)</code>", head).group(1): re.search("<i[^>]*>(.*?)</i>", head).group(1) for head in heads}
     wanted = {"/gone": "various", "/same": "-rw-r--r--  0:0  0 bytes"}
     sandbox.holds("the lines of files that went", found == wanted, found)
 
@@ -101,7 +101,7 @@ def try_room(sandbox):
     ]
     done = subprocess.run(words, stdout=subprocess.PIPE, stderr=subprocess.PIPE, env=sandbox.environment())
     page, left = done.stdout.decode(), re.search(r"no room for (\d+) more changes", done.stdout.decode())
-    good = len(done.stdout) <= 60000 and left and left.start() < page.index("<main")
+    good = len(done.stdout) <= 60000 and left and left.start() < page.index("<main>")
     sandbox.holds("its bound", good, (len(done.stdout), done.stderr))
     items = items_of(page)
     sandbox.holds("what is left out", left and 20 < len(items) == 301 - int(left.group(1)), (len(items), left))

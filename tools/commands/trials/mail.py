@@ -379,7 +379,7 @@ def try_pages(sandbox):
     sandbox.holds("a page that is too large", body(sent(sandbox)).endswith(note + b"it would be larger than --max-mail\n"))
     sandbox.edit(
         "lib/aide_compare/show/page.py",
-        "    contents, lists = PageEntries(is_plain, only), Spool()\n",
+        "    has_script = bool(reader.count) and not is_plain\n",
         "    raise KeyError('an odd report')\n",
     )
     sandbox.expect("a page that fails", call(sandbox, "--html", "old.db", "new.db"), 7, b"", b"")

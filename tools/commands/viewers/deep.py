@@ -1,5 +1,4 @@
 """Changes that are hard to show: deep paths, many nested folders, long values; each with little work and memory."""
-import io
 import json
 import random
 import re
@@ -7,19 +6,16 @@ import subprocess
 
 from tools.commands.viewers import HTML, JSON
 from tools.commands.viewers.refused import rich_lines
-from tools.commands.viewers.work import additions_to, bytes_held, growth_faults, lines_run, pages_of, pieces_looked_at
+from tools.commands.viewers.work import additions_to, bytes_held, growth_faults, lines_run, pages_of
 from tools.oracle.configuration import DEFAULTS
 from tools.oracle.lines import lines_of as proved_lines_of
 
 from .hostile import Database
 
-from aide_compare.lines.reader import Reader
-from aide_compare.show.rows import Report
-
 MOST_BYTES = 20000000
 LONG = 100000
 # What a page says if it has not all.
-CUT = re.compile(b'<p class="remark">(?:This page has room for|Values are on this page of|These lists have room for)')
+CUT = re.compile(b'<p class="remark">(?:This page has room for|Values are on this page of)')
 
 
 def lines_over(old, new):
@@ -66,14 +62,6 @@ def additions_over(lines_over_size):
     return given_of
 
 
-def neighbours(pieces):
-    """Two entries, each in so many folders that the other is not in."""
-    given = []
-    text = lines_of(lines_over({}, {b"/x" * pieces: {"ftype": 0o100000}, b"/y" * pieces: {"ftype": 0o100000}}))
-    Report(Reader(io.BytesIO(text)), given.append)
-    return given, pieces
-
-
 def try_work(tally):
     """The lines of code that run, and the pieces of paths that are looked at, grow as the input does."""
     for label, given_of, size in (
@@ -85,7 +73,6 @@ def try_work(tally):
         ("lines with many folders", additions_over(many), 300),
     ):
         tally.add("work for " + label, growth_faults(lines_run, given_of, size))
-    tally.add("pieces of deep paths", growth_faults(pieces_looked_at, neighbours, 1000))
 
 
 def try_memory(tally):
@@ -123,7 +110,9 @@ def long_lines(count, letters):
         }
         for number in range(count)
     ]
-    return b"".join(json.dumps(fields).encode() + b"\n" for fields in [summary, *entries, {"end": True, **counts, "status": 4}])
+    return b"".join(
+        json.dumps(fields).encode() + b"\n" for fields in [summary, *entries, {"end": True, **counts, "status": 4}]
+    )
 
 
 def try_sizes(tally):

@@ -1,16 +1,18 @@
 """Trials of the page in a browser: what a reader clicks and types, and what the page then shows."""
 import json
 import os
+import re
 import time
 
 from tools.commands.viewers.looks import cases
 from tools.commands.viewers.samples import DEMO
 
-from aide_compare.base.names import KINDS, SEVERITIES
-from aide_compare.show.page_heading import part_of
-from aide_compare.show.page_view import CHOICES, STANDINGS
+from tools.commands.viewers.pages import KINDS, wanted_folders
 
-READY = "document.documentElement.dataset.ready"
+from aide_compare.show.page_heading import part_of
+from aide_compare.show.page_view import CHOICES
+
+READY = "document.getElementById('view') !== null && !document.getElementById('view').hidden"
 ENTRY = "#list > li:not(.section)"
 SHOWN = "document.querySelectorAll('%s').length" % ENTRY
 FOUND = "document.getElementById('found').textContent"
@@ -19,14 +21,22 @@ HASH = "location.hash"
 FOCUS = "document.activeElement"
 # What a view finds and how it is written, by the functions of the page's script.
 VIEWED = """(() => {
+  const choices = %s;
   %s
-  const entries = %s, choices = %s, view = viewOf(%s, choices);
+  const entries = %s, view = viewOf(%s);
   const fitting = entries.filter((entry) => fits(view, view.path.toLowerCase(), entry));
-  return [ordered(fitting, view.order || 'path').map((entry) => entry.path), textOf(view, choices)];
+  return [ordered(fitting, view.order || 'path').map((entry) => entry.path), textOf(view)];
 })()"""
 # The facts beside the added program, and the least width of a folder's name.
 FACTS = """[...document.querySelectorAll('#list li')].find((one) => one.textContent.includes('sbin/.x')).querySelector(
-  '.facts').textContent"""
+  'i').textContent"""
+# Opens all directories; what the tree then says of each; and the entries that are listed.
+UNFOLD = """for (let folds; (folds = [...document.querySelectorAll('[aria-expanded="false"] > .folder > .fold')]).length;) {
+  for (const fold of folds) fold.click(); }"""
+LABELS = "[...document.querySelectorAll('#tree [role=treeitem]')].map((one) => one.getAttribute('aria-label'))"
+LISTED = (
+    "[...document.querySelectorAll('%s')].map((one) => ['b', 'code'].map((tag) => one.querySelector(tag).textContent))" % ENTRY
+)
 NARROW = """Math.min(...[...document.querySelectorAll('#tree > li > .folder code')].map(
   (one) => one.clientWidth || one.offsetWidth))"""
 ORDER = (
@@ -47,7 +57,7 @@ def opened(browser, path, address=""):
     """Opens a page and waits until its entries are there."""
     browser.open("/proc/version")
     browser.open(path + address)
-    return wait_for(browser, READY, "true")
+    return wait_for(browser, READY, True)
 
 
 def click(browser, selector, text=""):
@@ -72,24 +82,36 @@ def try_views(browser, tally):
         {
             "path": one["path"],
             "folded": one["path"].lower(),
-            "kind": KINDS.index(one["kind"]),
-            "severity": SEVERITIES.index(one["severity"]) if "severity" in one else 3,
-            "group": one.get("group", 0),
-            "standing": STANDINGS.index(one.get("standing", "unexplained")),
+            "kind": one["kind"],
+            "severity": one.get("severity", ""),
+            "place": one["place"],
+            "standing": one.get("standing", "unexplained"),
             "reason": one.get("reason", ""),
-            "attributes": sum(1 << table["attributes"].index(name) for name in one["attributes"]),
-            "growth": one.get("growth", 0),
+            "attributes": " ".join(one["attributes"]),
+            "growth": abs(one.get("growth", 0)),
         }
         for one in table["entries"]
     ]
     browser.open("/proc/version")
     choices = json.dumps({**CHOICES, "attribute": table["attributes"]})
     for case in table["cases"]:
-        words = (part_of("page_logic.js"), json.dumps(entries), choices, json.dumps(case["view"]))
+        words = (choices, part_of("page_logic.js"), json.dumps(entries), json.dumps(case["view"]))
         found, text = browser.value(VIEWED % words)
         tally.add("view %s" % case["view"], [] if found == case["found"] else ["it finds %r" % found])
         wanted = case.get("text", case["view"])
         tally.add("text of %s" % case["view"], [] if text == wanted else ["it is %r" % text])
+
+
+def try_folders(browser, path, tally):
+    """The tree has all directories of the entries, each with its counts."""
+    opened(browser, path, "#order=path")
+    browser.value(UNFOLD)
+    browser.value("window.dispatchEvent(new Event('beforeprint'))")
+    entries = [(KINDS.index(kind), name) for kind, name in browser.value(LISTED)]
+    wanted = [[name + "/", [count for count in counts if count]] for name, counts in wanted_folders(entries)]
+    given = [[label.split(", ")[0], list(map(int, re.findall(r", ([0-9]+) ", label)))] for label in browser.value(LABELS)]
+    tally.add("directories", [] if sorted(given) == sorted(wanted) and given else ["%r, and not %r" % (given[:9], wanted[:9])])
+    browser.value("window.dispatchEvent(new Event('afterprint'))")
 
 
 def try_filters(browser, path, tally):
@@ -103,15 +125,14 @@ def try_filters(browser, path, tally):
     tally.add(
         "removed ones", wait_for(browser, FOUND, "%d of %d entries" % (count, total)) + wait_for(browser, removed, count)
     )
-    tally.add("all of them are removed", wait_for(browser, "document.querySelectorAll('#list b:not(.removed)').length", 0))
+    tally.add("all of them are removed", wait_for(browser, "document.querySelectorAll('#list b[class]:not(.removed)').length", 0))
     click(browser, "#kind button", "removed")
     click(browser, "#attribute button", "Digests")
     tally.add(
         "an attribute",
         wait_for(
             browser,
-            "[...document.querySelectorAll('#list b.changed ~ .names')].every((one) => "
-            "one.textContent.includes('Digests'))",
+            "[...document.querySelectorAll('#list b.changed ~ i')].every((one) => " "one.textContent.includes('Digests'))",
             True,
         ),
     )
@@ -124,7 +145,9 @@ def try_filters(browser, path, tally):
     click(browser, "#tree .folder", "etc/")
     tally.add("a folder", wait_for(browser, FOUND, "%d of %d entries in /etc/" % (len(DEMO) - 1, total)))
     click(browser, "#unfold")
-    tally.add("values", wait_for(browser, "document.querySelectorAll('#list .values > table').length", len(DEMO) - 1))
+    tally.add(
+        "values", wait_for(browser, "document.querySelectorAll('#list li > details[open] > table').length", len(DEMO) - 1)
+    )
     tally.add("no fault", browser.faults)
 
 
@@ -134,14 +157,17 @@ def try_entries(browser, path, pictures, tally):
     browser.value("document.querySelectorAll('#list > li').length")
     first = ["/etc/passwd", "/etc/ssh/sshd_config", "/usr/local/sbin/.x", "/etc/cron.d/backup", "/etc/motd"]
     tally.add("the severe first", wait_for(browser, PATHS + ".slice(0, 5)", first))
-    heading = "document.querySelector('#list h3').textContent"
+    heading = "document.querySelector('#list h2').textContent"
     tally.add("the first heading", wait_for(browser, heading, "Not explained, severity high: 3 entries"))
     tally.add("a new file", wait_for(browser, FACTS, "-rwsr-xr-x  0:0  18344 bytes"))
     click(browser, "#list summary", "etc/passwd")
-    rows = "[...document.querySelectorAll('#list .values > table tbody th')].map((one) => one.textContent)"
+    rows = "[...document.querySelectorAll('#list details[open] > table th[scope=row]')].map((one) => one.textContent)"
     tally.add("one digest", wait_for(browser, rows, ["Size", "Mtime", "SHA256"]))
-    click(browser, "#list .others > summary")
-    tally.add("the other digests", wait_for(browser, "document.querySelectorAll('#list .others tbody tr').length", 4))
+    click(browser, "#list details[open] > table + details > summary")
+    tally.add(
+        "the other digests",
+        wait_for(browser, "document.querySelectorAll('#list details[open] > table + details[open] th[scope=row]').length", 4),
+    )
     exact = "[...document.querySelectorAll('#list td details')].map((one) => one.textContent)[0]"
     tally.add("an exact value", wait_for(browser, exact, "2026-01-01 00:00:00 +00001767225600"))
     for name, width, height, dark in (("light", 1280, 900, False), ("dark", 1280, 900, True), ("narrow", 320, 2400, False)):
@@ -230,15 +256,16 @@ def try_hostile(browser, path, pictures, tally):
     total = int(browser.value(FOUND).split()[0])
     tally.add("they are shown", wait_for(browser, SHOWN, min(total, 100)) if total > 50 else ["only %d" % total])
     click(browser, "#unfold")
-    tally.add("their values", wait_for(browser, "document.querySelectorAll('#list .values').length > 50", True))
+    tally.add(
+        "their values", wait_for(browser, "document.querySelectorAll('#list li > details[open] > table').length > 50", True)
+    )
     for selector in (
         "img",
-        "body script:not([id]) ~ script",
+        "script ~ script",
         "#list script",
         "#tree b",
         "iframe",
-        "noscript *",
-        "header script",
+        "body script",
     ):
         tally.add("no " + selector, wait_for(browser, "document.querySelectorAll(%s).length" % json.dumps(selector), 0))
     direction = r"/[\u202a-\u202e\u2066-\u2069]/.test(document.documentElement.outerHTML)"
@@ -273,7 +300,7 @@ def try_without_script(browser, paths, pictures, tally):
     for name, path, off in (("without scripts", paths[0], True), ("plain", paths[1], False)):
         browser.ask("Emulation.setScriptExecutionDisabled", value=off)
         browser.open(path)
-        given, entries = browser.count_of("ul.plain > li > details > table"), browser.count_of("ul.plain b")
+        given, entries = browser.count_of(".group li > details > table:first-of-type"), browser.count_of(".group b")
         tally.add(name, [] if entries > 200 and given > 200 else ["%d entries, %d tables" % (entries, given)])
         if pictures:
             browser.picture(os.path.join(pictures, name.replace(" ", "_") + ".png"), 1280, 900)

@@ -60,7 +60,15 @@ def write_lines(path, count):
     reasons = dict.fromkeys(("explained", "not_verified", "unexplained", "high", "medium", "low"), 0)
     counts = {"total": count, **{kind: kinds.count(kind) for kind in ("added", "removed", "changed")}}
     database = {"path": "/a", "sha256": "00" * 32, "skipped": []}
-    summary = {"format": 2, "differences": True, **counts, "entries": count, "old": database, "new": database, "reasons": reasons}
+    summary = {
+        "format": 2,
+        "differences": True,
+        **counts,
+        "entries": count,
+        "old": database,
+        "new": database,
+        "reasons": reasons,
+    }
     with open(path, "w") as file:
         file.write(encode(summary) + "\n")
         for number, name in enumerate(paths_of(count)):
@@ -90,7 +98,7 @@ def try_large(browser, count, folder, tally):
     browser.open("/proc/version")
     began, worked = time.time(), browser.worked()
     browser.open(path)
-    while browser.value("document.documentElement.dataset.ready") != "true":
+    while browser.value("document.getElementById('view').hidden") is not False:
         time.sleep(0.02)
     seconds, work, answers = time.time() - began, browser.worked() - worked, []
     for what in [SEARCH % text for text in SEARCHES] + ["document.querySelector('#kind button').click()"]:

@@ -7,19 +7,19 @@ import re
 from tools.commands.viewers import HTML  # It puts the modules of the commands in reach.
 from tools.commands.viewers.hostile import NAMES
 from tools.commands.viewers.lines import changes_of, lines_of, objects_of, page_of, run
-from tools.commands.viewers.pages import page_faults
+from tools.commands.viewers.pages import page_faults, standing_of
 from tools.commands.viewers.refused import rich_lines
 
 from aide_compare.base.escapes import shown as escaped
 from aide_compare.base.names import SEVERITIES
 from aide_compare.lines.reader import Refused
-from aide_compare.show.page_view import CHOICES, Seen, View
+from aide_compare.show.page_view import CHOICES, View
 from aide_compare.show.rows import GRADES
 
 CASES = os.path.join(os.path.dirname(os.path.abspath(__file__)), "views.json")
 STREAMS = 60
-# The severity and the name of an entry of the plain lists.
-LISTED = re.compile(r'<b class="[a-z]+">[a-z ]+</b> <em class="([a-z]+)">[a-z]+</em> <code>([^<]*)</code>')
+# The name of an entry of the list.
+LISTED = re.compile("</em> <code>([^<]*)</code>")
 
 
 def cases():
@@ -27,11 +27,11 @@ def cases():
         return json.load(file)
 
 
-def seen_of(fields):
+def words_of(fields):
     """An entry of the table of cases as filters see it."""
-    words = {name: [fields[name]] if name in fields else [] for name in ("kind", "severity", "reason")}
+    words = {name: {fields[name]} if name in fields else set() for name in ("kind", "severity", "reason")}
     standing = fields.get("standing", "unexplained")
-    return Seen({**words, "standing": [standing], "attribute": fields["attributes"]}, fields["path"])
+    return {**words, "standing": {standing}, "attribute": set(fields["attributes"]), "path": fields["path"]}
 
 
 def try_views(tally):
@@ -39,10 +39,10 @@ def try_views(tally):
     table = cases()
     known, CHOICES["attribute"] = CHOICES["attribute"], table["attributes"]
     try:
-        entries = [seen_of(fields) for fields in table["entries"]]
+        entries = [words_of(fields) for fields in table["entries"]]
         for case in table["cases"]:
             view = View(case["view"])
-            found = sorted(seen.path for seen in entries if view.fits(seen))
+            found = sorted(words["path"] for words in entries if view.fits(words))
             tally.add("view %s" % case["view"], [] if found == sorted(case["found"]) else ["it finds %r" % found])
     finally:
         CHOICES["attribute"] = known
@@ -71,35 +71,11 @@ def with_reasons(objects, pick):
     return objects
 
 
-def standing_of(fields):
-    told = fields.get("reason")
-    return 0 if not told else 2 if told["verified"] else 1
-
-
-def order_faults(text, entries):
-    """What is wrong with the order of the plain lists: first what is not explained, the severe of it at the front."""
-    lists = text[text.index("<noscript>") if "<noscript>" in text else text.index('id="content"') :]
-    found = LISTED.findall(lists)
-    wanted = sorted(
-        (fields for fields in entries if standing_of(fields) < 2),
-        key=lambda fields: (standing_of(fields), SEVERITIES.index(fields["severity"])),
-    )
-    if [severity for severity, _ in found[: len(wanted)]] != [fields["severity"] for fields in wanted]:
-        return ["the order is %r" % found]
-    groups = {}
-    for fields in entries:
-        if standing_of(fields) == 2:
-            key = (fields["reason"]["text"], fields["reason"]["grade"])
-            groups[key] = groups.get(key, 0) + 1
-    told = [int(count.replace(",", "")) for count in re.findall(r"</code>: ([0-9,]+) files?, ", lists)]
-    return [] if told == sorted(groups.values(), reverse=True) else ["the groups have %r, and not %r" % (told, groups)]
-
-
 def card_faults(text, counts):
     """What is wrong with the counts of reasons at the top of a page."""
     told = [
         int(count.replace(",", ""))
-        for count in re.findall(r'<div class="(?:unexplained|unverified|explained)"><dt>[^<]*</dt><dd>([0-9,]+)</dd>', text)
+        for count in re.findall(r'<div class="(?:unexplained|not_verified|explained)"><dt>[^<]*</dt><dd>([0-9,]+)</dd>', text)
     ]
     wanted = [counts[name] for name in ("unexplained", "not_verified", "explained")]
     faults = [] if told == wanted else ["the cards have %r, and not %r" % (told, wanted)]
@@ -118,13 +94,12 @@ def try_reasons(seed, tally):
         pick = random.Random("reasons %d %d" % (seed, number))
         is_plain = number % 2 == 1
         objects = with_reasons(objects_of(rich_lines()), pick)
-        entries = changes_of(objects)
         try:
             text = page_of(objects, is_plain)
         except Refused as refused:
             tally.add("reasons %d" % number, ["it is refused: %s" % refused])
             continue
-        faults = page_faults(text, objects, is_plain) + order_faults(text, entries) + card_faults(text, objects[0]["reasons"])
+        faults = page_faults(text, objects, is_plain) + card_faults(text, objects[0]["reasons"])
         tally.add("reasons %d" % number, faults)
     objects[0]["reasons"].update(explained_dpkg="4", explained_rpm=3)
     tally.holds("a count that is none", "Explained by: rpm 3<" in page_of(objects), page_of(objects)[-1500:])
@@ -171,8 +146,8 @@ def try_heading(tally):
     entry["new_text"] = {"Perm": "-rwsr-xr-x", "ACL": "user::rw-<"}
     for is_plain in (False, True):
         text = page_of(objects, is_plain)
-        tally.add("a new file", [] if "<i>-rwsr-xr-x  0:50  18344 bytes</i>" in text else ["its mode and owner are not there"])
-        tally.add("a decoded value", [] if '<td title="POSIX,dXNl">user::rw-&lt;' in text else ["it is not there"])
+        tally.add("a new file", [] if ">-rwsr-xr-x  0:50  18344 bytes</i>" in text else ["its mode and owner are not there"])
+        tally.add("a decoded value", [] if "<summary>user::rw-&lt;</summary>POSIX,dXNl<" in text else ["it is not there"])
 
 
 def try_only(tally):
@@ -186,7 +161,7 @@ def try_only(tally):
         ("severity=high&path=ETC", [fields for fields in entries if fields["severity"] == "high" and "etc" in fields["path"]]),
     ):
         status, output, errors = run([*HTML, "--plain", "--only", words], lines)
-        names = [name for _, name in LISTED.findall(output.decode())]
+        names = LISTED.findall(output.decode())
         good = not status and sorted(names) == sorted(fields["path"] for fields in wanted)
         tally.add("only " + words, [] if good else ["status %d, %r, %r" % (status, names, errors)])
         said = "These lists have the %d entr" % len(wanted)

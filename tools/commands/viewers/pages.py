@@ -1,26 +1,46 @@
 """Reads a page of aide-compare page as a browser would, and finds what is wrong with it."""
 import base64
 import hashlib
-import json
 import re
+from collections import Counter
+from html import unescape
 from html.parser import HTMLParser
 
-from tools.commands.viewers.packed import entries_of, is_kept
+from tools.commands.viewers import HTML  # noqa: F401, it puts the modules of the commands in reach.
+from tools.oracle.attributes import ATTRIBUTES as KNOWN
+
+from aide_compare.base.shown_text import shown_note
 
 TAGS = set(
-    """html head meta title style body header h1 p dl dt dd div details summary code small main section label
-    input nav h2 h3 ul ol li button span noscript svg rect b i em a select table tr th td script""".split()
+    """html head meta title style body header main h1 h2 p dl dt dd div details summary code small section label
+    input nav ul ol li button span b i em a select table tr th td script""".split()
 )
 ATTRIBUTES = set(
     """lang charset http-equiv content name class id for type placeholder autocomplete spellcheck role
-    aria-label aria-labelledby aria-hidden aria-pressed hidden title scope viewbox preserveaspectratio x width height href
-    tabindex colspan""".split()
+    aria-label aria-labelledby aria-pressed hidden title scope href tabindex open data-standing data-order data-state""".split()
 )
+DIGESTS = {attribute.detail for attribute in KNOWN if isinstance(attribute.form, tuple)}
 KINDS = ["added", "removed", "changed"]
 SEVERITIES = ["high", "medium", "low"]
-SIGNS = dict(zip("+\N{MINUS SIGN}~", range(3)))
+STANDINGS = ["unexplained", "not_verified", "explained"]
+TITLES = ["Not explained", "Explained, but not verified"]
 ESCAPE = re.compile(r"\\([0-7]{3})")
 DIRECTIONS = re.compile("[\u061c\u200b-\u200f\u2028-\u202e\u2060-\u206f\ufeff\ud800-\udfff\x00-\x09\x0b-\x1f\x7f-\x9f]")
+# The parts of a list as they have to be. A name that became markup would not fit them.
+GROUP = re.compile(
+    '<details class="group" data-standing="([a-z_]+)"( open)?><summary><h2><span>([^<]*)</span>: ([0-9,]+) entr(?:y|ies)</h2>'
+    "</summary>\n<ul>\n(.*?)</ul></details>\n",
+    re.DOTALL,
+)
+HEAD = (
+    '<b class="(added|removed|changed)">\\1</b> (?:<em(?: class="high")?>(high|medium|low)</em> )?<code>([^<]*)</code>'
+    '(?: <span class="reason">([^<]*)</span>)?(?: <i(?: title="([^"<]*)")?>([^<]*)</i>)?'
+)
+ITEM = re.compile("<li>(?:<details><summary>)?%s(?:</summary>(.*)</details>)?" % HEAD)
+CELL = '<td(?: class="(none)")?>(?:<details><summary>([^<]*)</summary>)?([^<]*)(?:</details>)?'
+ROW = re.compile('<tr><th scope="row">([^<]*)%s%s' % (CELL, CELL))
+TABLE = '<table><tr><th scope="col">Attribute<th scope="col">Old<th scope="col">New</table>'
+FRAME = re.compile("(?:%s(?:<details><summary>[0-9]+ other digests?</summary>%s</details>)?)?" % (TABLE, TABLE))
 
 
 def bytes_shown(text):
@@ -30,44 +50,27 @@ def bytes_shown(text):
 
 
 class Page(HTMLParser):
-    """What a page has: tags, attributes, scripts, the entries of its lists and the counts of its folders."""
+    """What a page has, as a browser reads it: tags, attributes, scripts, styles and the content policy."""
 
     def __init__(self, text):
         super().__init__()
-        self.tags, self.names, self.scripts, self.styles, self.policy = set(), set(), [], [], None
-        self.entries, self.folders, self.inside, self.texts = [], [], [], ""
+        self.tags, self.names, self.scripts, self.styles, self.policy, self.inside = set(), set(), [], [], None, ""
         self.feed(text)
         self.close()
 
     def handle_starttag(self, tag, attributes):
         self.tags.add(tag)
         self.names.update(name for name, _ in attributes)
-        fields, self.texts = dict(attributes), ""
-        if fields.get("http-equiv") == "Content-Security-Policy":
-            self.policy = fields["content"]
-        if tag == "script":
-            self.scripts.append([fields.get("type"), "", fields.get("id")])
-        if tag == "b" and fields.get("class") in KINDS:
-            self.entries.append([KINDS.index(fields["class"]), None])
-        self.inside.append(tag)
+        if dict(attributes).get("http-equiv") == "Content-Security-Policy":
+            self.policy = dict(attributes)["content"]
+        self.inside = tag
 
     def handle_endtag(self, tag):
-        while self.inside and self.inside.pop() != tag:
-            pass
-        if tag == "code" and self.inside[-1:] in (["li"], ["summary"]):
-            if self.entries and self.entries[-1][1] is None:
-                self.entries[-1][1] = self.texts
-            elif self.inside[-1] == "summary" and self.texts.endswith("/"):
-                self.folders.append([bytes_shown(self.texts[:-1]), [0, 0, 0]])
-        if tag == "span" and self.folders and self.texts[:1] in SIGNS:
-            self.folders[-1][1][SIGNS[self.texts[0]]] = int(self.texts[1:].replace(",", ""))
+        self.inside = ""
 
     def handle_data(self, data):
-        self.texts += data
-        if self.inside[-1:] == ["script"]:
-            self.scripts[-1][1] += data
-        if self.inside[-1:] == ["style"]:
-            self.styles.append(data)
+        if self.inside in ("script", "style"):
+            (self.scripts if self.inside == "script" else self.styles).append(data)
 
     def unknown_decl(self, data):
         self.tags.add("declaration " + data[:40])
@@ -84,17 +87,17 @@ def hashed(text):
 
 
 def wanted_folders(entries):
-    """The folders of entries in the order of paths, each with the counts of what is in and below it, and of itself.
+    """The directories of entries in the order of paths, each with the counts of what is in and below it, and of itself.
 
-    A folder that has nothing but one folder in it is shown with that one.
+    A directory that has nothing but one directory in it is shown with that one.
     """
     counts, own, below = {}, {}, {}
     for kind, path in entries:
-        pieces = path.split(b"/")
+        pieces = path.split("/")
         for end in range(2, len(pieces)):
             counts.setdefault(tuple(pieces[1:end]), [0, 0, 0])[kind] += 1
     for kind, path in entries:
-        pieces = tuple(path.split(b"/")[1:])
+        pieces = tuple(path.split("/")[1:])
         if pieces in counts:
             counts[pieces][kind] += 1
         own[pieces if pieces in counts else pieces[:-1]] = True
@@ -102,111 +105,120 @@ def wanted_folders(entries):
         below.setdefault(folder[:-1], []).append(folder)
     names, wanted = {}, []
     for folder in sorted(counts):
-        name = names.get(folder[:-1], b"") + folder[-1]
+        name = names.get(folder[:-1], "") + folder[-1]
         if folder not in own and len(below.get(folder, ())) == 1:
-            names[folder] = name + b"/"
+            names[folder] = name + "/"
         else:
             wanted.append([name, counts[folder]])
     return wanted
 
 
-def severity_of(fields):
-    return SEVERITIES.index(fields["severity"]) if "severity" in fields else 3
+def bytes_of(fields, key="path"):
+    return bytes.fromhex(fields[key + "_hex"]) if key + "_hex" in fields else str(fields[key]).encode()
 
 
-def bytes_of(fields):
-    return bytes.fromhex(fields["path_hex"]) if "path_hex" in fields else fields["path"].encode()
+def values_of(fields):
+    """The values of a change by the names of their attributes: of each both sides, as bytes."""
+    found = {}
+    for place, side in enumerate(("old", "new")):
+        for name in fields.get(side, {}):
+            label = name[:-4] if name.endswith("_hex") else name
+            has_value = fields[side][name] is not None
+            found.setdefault(label, [None, None])[place] = bytes_of(fields[side], label) if has_value else None
+    return found
 
 
 def growth_of(fields):
-    return int(fields.get("new", {}).get("Size", 0)) - int(fields.get("old", {}).get("Size", 0))
+    """The growth of a file that was there before and after; a whole size is among the facts of the others."""
+    old, new = (fields.get(side, {}).get("Size") for side in ("old", "new"))
+    return None if old is None or new is None or fields["kind"] != "changed" else int(new) - int(old)
 
 
-def labels_of(fields):
-    """The attributes of a change."""
-    names = {*fields.get("old", ()), *fields.get("new", ())}
-    return {name[:-4] if name.endswith("_hex") else name for name in names}
+def standing_of(fields):
+    told = fields.get("reason")
+    return 0 if not told else 2 if told["verified"] else 1
 
 
-def packed_faults(page, objects):
-    """What is wrong with the entries that are packed for the script, if the page has room for all."""
-    layers = {name: text for kind, text, name in page.scripts if kind == "text/plain"}
-    data, faults = json.loads(next(text for kind, text, _ in page.scripts if kind == "application/json")), []
+def key_of(fields):
+    """What says so and the text of a reason."""
+    return "%s: %s" % (fields["reason"]["grade"], fields["reason"]["text"])
+
+
+def groups_of(entries):
+    """The entries in the groups that they are to be in: their standing, their title, and what they are."""
+    counts, groups = Counter(key_of(fields) for fields in entries if standing_of(fields) == 2), {}
+    for fields in entries:
+        standing, severity = standing_of(fields), fields.get("severity")
+        if standing == 2:
+            key = (2, -counts[key_of(fields)], shown_note(key_of(fields)))
+        else:
+            title = TITLES[standing] + (", severity " + severity if severity else "")
+            key = (standing, SEVERITIES.index(severity) if severity else 3, title)
+        groups.setdefault(key, []).append(fields)
+    return [(STANDINGS[key[0]], bytes_shown(key[2]), groups[key]) for key in sorted(groups)]
+
+
+def listed(text):
+    """The entries of a list, each as its kind, path, severity, reason, growth, attributes and values; and what is wrong."""
+    items, faults = [], []
+    for line in text.split("\n")[:-1]:
+        found = ITEM.fullmatch(line)
+        if not found:
+            return items, ["an item is %r" % line[:300]]
+        kind, severity, path, reason, title, about = (part and unescape(part) for part in found.groups()[:6])
+        words = (title or about or "").split()
+        growth = next((int(word) for word in words if word[0] in "+-"), None)
+        inner = found.group(7) or ""
+        rows = {
+            unescape(row[1]): [None if row[none] else bytes_shown(unescape(row[value])) for none, value in ((2, 4), (5, 7))]
+            for row in ROW.finditer(inner)
+        }
+        if not FRAME.fullmatch(ROW.sub("", inner)):
+            faults.append("the table is %r" % inner[:300])
+        names = sorted(word for word in words if word[0] not in "+-")
+        items.append((kind, bytes_shown(path), severity, reason and bytes_shown(reason), growth, names, rows))
+    return items, faults
+
+
+def wanted_item(fields):
+    values, reason = values_of(fields), key_of(fields) if standing_of(fields) == 1 else None
+    names = sorted({"Digests" if label in DIGESTS else label for label in values})
+    told = (fields["kind"], bytes_of(fields), fields.get("severity"), reason and bytes_shown(reason))
+    return (*told, growth_of(fields), names, values)
+
+
+def list_faults(text, objects):
+    """What is wrong with the list of a page that has room for all."""
     entries = [fields for fields in objects if "kind" in fields]
-    try:
-        packed = entries_of(layers)
-    except ValueError as error:
-        return ["the entries are not packed as they should be: %s" % error]
-    if [entry.place for entry in packed] != list(range(len(entries))) or not all(map(is_kept, packed)):
-        return ["not all entries are packed"]
-    for entry, fields in zip(packed, entries):
-        reason = None if entry.group is None else data["groups"][entry.group]
-        told = fields.get("reason")
-        given = (
-            KINDS[entry.kind],
-            bytes_shown(entry.path),
-            entry.severity,
-            entry.growth,
-            entry.values[0],
-            sorted(row[0] for row in entry.values[2] + entry.digests),
-            reason and (bytes_shown(reason[1]), bool(reason[3])),
-        )
-        wanted = (
-            fields["kind"],
-            bytes_of(fields),
-            severity_of(fields),
-            growth_of(fields),
-            fields.get("summary", ""),
-            sorted(map(data["labels"].index, labels_of(fields))),
-            told and (bytes_shown(told["text"]), told["verified"]),
-        )
-        if given != wanted:
-            faults.append("it is packed as %r, and not %r" % (given, wanted))
-        spoken = entry.path + entry.facts + "".join(str(text) for row in entry.values[2] + entry.digests for text in row[1:])
-        if DIRECTIONS.search(spoken):
-            faults.append("a text for the script is not shown as it should be")
+    plain = [("unexplained", b"Changes in the order of paths", entries)] if entries else []
+    wanted, faults, given = groups_of(entries) if "reasons" in objects[0] else plain, [], GROUP.findall(text)
+    content = text.partition('<div id="content"')[2].partition(">\n")[2]
+    if GROUP.sub("", content) != "</div>\n</main>\n</body>\n</html>\n":
+        faults.append("there is more beside the list: %r" % GROUP.sub("", content)[:300])
+    if len(given) != len(wanted):
+        return faults + ["there are %d groups, and not %d" % (len(given), len(wanted))]
+    for (standing, is_open, title, count, items), (standing_, title_, entries_) in zip(given, wanted):
+        told = (standing, bytes_shown(unescape(title)), int(count.replace(",", "")), bool(is_open))
+        if told != (standing_, title_, len(entries_), standing_ != "explained"):
+            faults.append("a group is %r, and not %r" % (told, (standing_, title_, len(entries_))))
+        found, more = listed(items)
+        faults += more
+        faults += ["%r is listed, and not %r" % pair for pair in zip(found, map(wanted_item, entries_)) if pair[0] != pair[1]]
     return faults[:5]
-
-
-def script_faults(page, has_script):
-    """What is wrong with the scripts of a page, and what its policy should be."""
-    kinds = [kind for kind, _, _ in page.scripts]
-    if kinds != (["application/json"] + 6 * ["text/plain"] + [None] if has_script else []):
-        return ["it has the scripts %r" % kinds], None
-    policy = "default-src 'none'; base-uri 'none'; form-action 'none'; style-src " + hashed("".join(page.styles))
-    if not has_script:
-        return [], policy
-    faults = ["%s may end its element" % name for kind, text, name in page.scripts[:-1] if set(text) & set("<>")]
-    return faults, policy + "; script-src " + hashed(page.scripts[-1][1])
 
 
 def page_faults(text, objects, is_plain):
     """What is wrong with the page of a report, if it has room for all."""
-    page = Page(text)
-    entries = [(KINDS.index(fields["kind"]), bytes_of(fields)) for fields in objects if "kind" in fields]
-    has_script, has_reasons = bool(entries) and not is_plain, "reasons" in objects[0]
-    faults, policy = script_faults(page, has_script)
-    if policy is None:
-        return faults
+    page, faults = Page(text), list_faults(text, objects)
+    has_script = any("kind" in fields for fields in objects) and not is_plain
+    policy = "default-src 'none'; base-uri 'none'; form-action 'none'; style-src " + hashed("".join(page.styles))
+    policy += "; script-src " + hashed("".join(page.scripts)) if has_script else ""
+    if text.count("<script") != has_script or bool(page.scripts) != has_script:
+        faults.append("it has %d scripts" % text.count("<script"))
     if page.tags - TAGS or page.names - ATTRIBUTES:
         faults.append("it has %r" % sorted(page.tags - TAGS | page.names - ATTRIBUTES))
-    if has_script:
-        faults += packed_faults(page, objects)
     if page.policy != policy:
         faults.append("the content policy is %r" % page.policy)
-    given, wanted = page.entries, entries
-    if has_reasons:
-        given, wanted = sorted((bytes_shown(path), kind) for kind, path in given), sorted(
-            (path, kind) for kind, path in entries
-        )
-        if given != wanted:
-            faults.append("the plain lists have other entries")
-    elif [kind for kind, _ in given] != [kind for kind, _ in wanted] or any(
-        not path.endswith(bytes_shown(name)) for (_, path), (_, name) in zip(wanted, given)
-    ):
-        faults.append("the plain lists have other entries")
-    if not has_reasons and page.folders != wanted_folders(entries):
-        faults.append("the folders are %r, and not %r" % (page.folders[:5], wanted_folders(entries)[:5]))
     if DIRECTIONS.search(text):
         faults.append("a character is in it that is not seen")
     return faults

@@ -1,5 +1,4 @@
-"""Counts the work of the page's code, without a clock: lines of Python that ran, pieces of paths that were looked at, and
-bytes that were held at once.
+"""Counts the work of the page's code, without a clock: lines of Python that ran, and bytes that were held at once.
 
 Work that grows as its input does doubles with it; a walk within a walk makes it four times as much.
 """
@@ -13,7 +12,6 @@ from aide_compare.lines.reader import Reader
 from aide_compare.show.added import Adding, added_lines
 from aide_compare.show.occasion import Occasion
 from aide_compare.show.page import page
-from aide_compare.show.page_lists import FolderLists
 
 OURS = COMMANDS + "/lib/aide_compare/"
 MOST_GROWTH = 1.3
@@ -69,45 +67,6 @@ def additions_to(lines):
             pass
 
     return work
-
-
-class Pieces(list):
-    """A list of the pieces of a path that counts the pieces that are looked at, copied or compared."""
-
-    looked_at = 0
-
-    @classmethod
-    def look_at(cls, count):
-        cls.looked_at += count
-
-    def __getitem__(self, key):
-        found = super().__getitem__(key)
-        self.look_at(len(found) if isinstance(key, slice) else 1)
-        return Pieces(found) if isinstance(key, slice) else found
-
-    def __iter__(self):
-        for piece in super().__iter__():
-            self.look_at(1)
-            yield piece
-
-    def __eq__(self, other):
-        self.look_at(min(len(self), len(other)))
-        return super().__eq__(other)
-
-    def __ne__(self, other):
-        return not self == other
-
-
-def pieces_looked_at(entries):
-    """How many pieces of paths the lists in folders look at, for some entries."""
-    Pieces.looked_at = 0
-    lists = FolderLists(1 << 30, 0)
-    lists.names = Pieces(lists.names)
-    for entry in entries:
-        lists.add(entry._replace(names=Pieces(entry.names)))
-    for _ in lists.parts():
-        pass
-    return Pieces.looked_at
 
 
 def growth_faults(measure, given_of, size):

@@ -2,15 +2,11 @@
 from html import escape
 
 from aide_compare.base.files import Spool
-from aide_compare.base.names import KINDS, SEVERITIES
-from aide_compare.base.shown_text import shown_note, shown_path
+from aide_compare.base.shown_text import shown_note
 from aide_compare.hosts.hosts_text import ORDERS, Share, headline, host_lists, names_of, reason_words
-from aide_compare.lines.reader import bytes_of
-from aide_compare.lines.decoded import texts_of
-from aide_compare.show.page import blocks_of
 from aide_compare.show.page_heading import beginning, cards
-from aide_compare.show.page_items import VARIOUS, head_of, item, number, table
-from aide_compare.show.rows import LABELS, PageEntry, rows_of
+from aide_compare.show.page_items import head_of, item, number, table
+from aide_compare.show.rows import entry_of
 
 # The most bytes of a page, and of each of its lists of hosts.
 MOST, MOST_LIST, RESERVE = 20000000, 1500000, 8000
@@ -18,24 +14,14 @@ MOST_WHY, MOST_COMMAND = 1000, 4000
 CARDS = (("all", "Hosts", "hosts"), ("changed", "Differ", "differ"), ("removed", "Not compared", "not_compared"))
 
 
-def entry_of(fields):
-    """A change as the entry of a page. An old value that is not the same on all hosts is none here."""
-    path, various = bytes_of(fields, "path"), dict.fromkeys(fields.get("old_various", ()))
-    rows, digests = rows_of({**fields.get("old", {}), **various}, fields.get("new", {}), texts_of(fields))
-    for row in rows + digests:
-        row[1] = VARIOUS if LABELS[row[0]] in various else row[1]
-    severity = SEVERITIES.index(fields["severity"]) if "severity" in fields else None
-    return PageEntry(KINDS.index(fields["kind"]), path, None, shown_path(path), "", rows, digests, severity, None, 0)
-
-
 def item_of(fields, hosts):
     """A change: its kind, its path and its hosts are seen at once, its values on demand."""
-    entry = entry_of(fields)
+    entry = entry_of(fields, fields.get("old_various", ()))
     where = "on %s of %s hosts: %s" % (number(fields["hosts"]), number(hosts), names_of(fields))
-    inner = table(entry) if entry.rows or entry.digests else ""
+    inner = table(entry.rows)
     if fields.get("per_host"):
         inner += '<p class="hint">Of each host: %s</p>' % escape(", ".join(fields["per_host"]))
-    return item(head_of(entry, entry.name, "; ".join(filter(None, (where, reason_words(fields))))), inner)
+    return item(head_of(entry, "; ".join(filter(None, (where, reason_words(fields))))), inner)
 
 
 def host_list(title, lines):
@@ -49,7 +35,7 @@ def host_list(title, lines):
         if room < 0:
             items[-1] = "<li>and %s more\n" % number(len(lines) - len(items) + 1)
             break
-    text = '<details%s><summary>%s: %s</summary><ul class="plain">\n%s</ul></details>\n'
+    text = "<details%s><summary>%s: %s</summary><ul>\n%s</ul></details>\n"
     return text % (" open" if title.startswith("Not") else "", title, number(len(lines)), "".join(items))
 
 
@@ -82,6 +68,7 @@ def page(summary, hosts, changes, command, most=MOST):
         if share.takes(fields, len(text)):
             items.write(text)
     yield head(summary, hosts, remark_of(share.left_out, command))
-    yield b'<main id="content" tabindex="-1">\n<ul class="plain">\n'
-    yield from blocks_of(items)
-    yield b"</ul>\n</main>\n</body>\n</html>\n"
+    yield b'<div id="content" tabindex="-1">\n<ul>\n'
+    items.seek(0)
+    yield from items
+    yield b"</ul>\n</div>\n</main>\n</body>\n</html>\n"

@@ -1,13 +1,63 @@
-// Shows what the address asks for: filters, order, tree and list, and what readers press, type and print.
+// Takes the items of the entries out of the document, and shows those again that the address asks for.
 const PAGE = 100, FEW = 25, REASONS = 4;
+const STANDINGS = { unexplained: 'not explained', not_verified: 'explained, not verified', explained: 'explained' };
+const find = (id) => document.getElementById(id), on = (target, event, act) => target.addEventListener(event, act);
+const number = (count) => count.toLocaleString('en');
+const entriesOf = (count) => count === 1 ? '1 entry' : number(count) + ' entries';
+// All entries in the order of paths, in each other order that was asked for, and those that are shown.
+const entries = [], inOrder = new Map();
+let view = viewOf(''), matching = [], firstOrder = '', shownOrder = '', written = '';
+
+// An element with its attributes and with what is in it. Every text is put in as text, never as markup.
+function make(tag, attributes, ...inner) {
+  const element = document.createElement(tag);
+  for (const [name, value] of Object.entries(attributes)) element.setAttribute(name, value);
+  element.append(...inner);
+  return element;
+}
+
+// An entry: its item, and what filters and orders need of it. `section` is the heading of its group.
+function entryOf(item, standing, section, place) {
+  const parts = {};
+  for (const part of (item.querySelector('summary') || item).children) parts[part.tagName] = part;
+  const { B, EM, CODE, SPAN, I } = parts, path = CODE.textContent, about = I ? I.textContent : '';
+  const [, grown, size] = /Size [+-](\d+)|(\d+) bytes$/.exec(about) || [];
+  return {
+    item, standing, section, place, path, folded: path.toLowerCase(), key: path.replaceAll('/', '\0'), node: null,
+    kind: B.textContent, severity: EM ? EM.textContent : '', attributes: I ? I.title || about : '', told: null,
+    reason: SPAN ? SPAN.textContent : standing === 'explained' ? section : '', growth: Number(grown || size || 0),
+  };
+}
+
+function readEntries() {
+  for (const group of document.querySelectorAll('#content > .group')) {
+    const section = group.querySelector('h2 span').textContent;
+    for (const item of group.querySelector('ul').children) {
+      entries.push(entryOf(item, group.dataset.standing, section, entries.length));
+    }
+  }
+  entries.sort((one, two) => one.key < two.key ? -1 : 1);
+  inOrder.set('path', entries);
+}
+
+// Finds what fits, and counts it directory by directory; what is in the chosen one is shown, in the chosen order.
+function filter() {
+  const folded = view.path.toLowerCase(), everywhere = { ...view, directory: '' };
+  shownOrder = view.order || firstOrder;
+  if (!inOrder.has(shownOrder)) inOrder.set(shownOrder, ordered(entries, shownOrder));
+  const fitting = inOrder.get(shownOrder).filter((entry) => fits(everywhere, folded, entry));
+  countNodes(fitting);
+  matching = view.directory ? fitting.filter((entry) => fits(view, folded, entry)) : fitting;
+}
 
 // The filters in words, also for a page that is printed; nothing without a filter.
 function askedWords() {
   const words = Object.keys(choices).filter((name) => view[name].size)
-    .map((name) => name + ' ' + chosen(view, choices, name).join(' or ').replace('_', ' '));
-  if (view.reason.size) words.push('reason ' + [...view.reason].join(' or '));
+    .map((name) => name + ' ' + chosen(view, name).join(' or ').replace('_', ' '));
+  if (view.reason.size) words.push('reason ' + chosen(view, 'reason').join(' or '));
   if (view.path) words.push('path with \u201c' + view.path + '\u201d');
-  const parts = [...words.length ? ['with: ' + words.join(', ')] : [], ...view.directory ? ['in ' + view.directory + '/'] : []];
+  const parts = words.length ? ['with: ' + words.join(', ')] : [];
+  if (view.directory) parts.push('in ' + view.directory + '/');
   return parts.length ? 'Only entries ' + parts.join(', ') + '.' : '';
 }
 
@@ -24,26 +74,48 @@ function showCounts(pages) {
   find('order').value = shownOrder;
 }
 
-function showItems(from, count) {
-  find('list').replaceChildren();
-  for (const item of listItems(from, count)) find('list').append(item);
+// The item of an entry as it is shown: its name stands out from its directory, and the reason of an explained one is beside
+// it, if that is not in the heading.
+function itemOf(entry) {
+  const { item, path, standing, reason } = entry, details = item.querySelector('details'), cut = path.lastIndexOf('/') + 1;
+  if (details) details.open = view.values !== '';
+  if (!entry.told) {
+    entry.told = make('span', { class: 'reason' }, standing === 'explained' ? reason : '');
+    item.querySelector('code').replaceChildren(path.slice(0, cut), make('b', {}, path.slice(cut)));
+    item.querySelector('code').after(' ', entry.told);
+  }
+  entry.told.hidden = shownOrder === 'importance';
+  return item;
 }
 
-let listNumber = 0;
-async function showList() {
-  const pages = Math.max(1, Math.ceil(matching.length / PAGE)), mine = listNumber += 1;
+// Shows some of the entries; in the order of importance with headings, which have the number of entries of all pages.
+function showItems(from, count) {
+  const sizes = new Map(), items = [];
+  if (shownOrder === 'importance') for (const { section } of matching) sizes.set(section, (sizes.get(section) || 0) + 1);
+  let last = null;
+  for (const entry of matching.slice(from, from + count)) {
+    const { section, standing } = entry;
+    if (sizes.size && section !== last) {
+      items.push(make('li', { class: 'section', 'data-standing': standing },
+        make('h2', {}, section + ': ' + entriesOf(sizes.get(section)))));
+    }
+    items.push(itemOf(entry));
+    last = section;
+  }
+  find('list').replaceChildren();
+  for (const item of items) find('list').append(item);
+}
+
+function showList() {
+  const pages = Math.max(1, Math.ceil(matching.length / PAGE));
   view.page = Math.min(view.page, pages);
-  const from = (view.page - 1) * PAGE;
-  if (view.values) await openValues(matching.slice(from, from + PAGE));
-  if (mine !== listNumber) return;
-  showItems(from, PAGE);
+  showItems((view.page - 1) * PAGE, PAGE);
   showCounts(pages);
 }
 
 // The search and every other thing that was asked for are written into the address.
-let written = '';
 function write() {
-  written = textOf(view, choices);
+  written = textOf(view);
   if (location.hash.slice(1) !== written) location.replace('#' + written);
 }
 
@@ -52,9 +124,9 @@ function change(what, isFilter = true) {
   filter();
   if (isFilter) showTree();
   showChosen();
-  for (const button of document.querySelectorAll('.choices [aria-pressed]')) button.show();
+  for (const button of find('filters').querySelectorAll('[aria-pressed]')) button.show();
   write();
-  return showList();
+  showList();
 }
 
 function turn(step) {
@@ -64,68 +136,70 @@ function turn(step) {
   find('list').scrollIntoView();
 }
 
-function choiceButton(name, { value, text, count, kind }) {
-  const button = make('button', { type: 'button', class: kind || '', tabindex: -1, 'aria-pressed': false },
+function choiceButton(name, word, text, count) {
+  const button = make('button', { type: 'button', class: name === 'reason' ? '' : word, tabindex: -1, 'aria-pressed': false },
     text + ' ', make('small', {}, number(count)));
-  button.show = () => button.setAttribute('aria-pressed', view[name].has(value));
-  button.addEventListener('click', () => {
+  button.show = () => button.setAttribute('aria-pressed', view[name].has(word));
+  on(button, 'click', () => {
     const words = new Set(view[name]);
-    if (!words.delete(value)) words.add(value);
+    if (!words.delete(word)) words.add(word);
     change({ [name]: words });
   });
   return button;
 }
 
-// A row of buttons that are pressed or not, for the choices of a filter. Arrow keys go from one to the next.
-function showChoices(name, title, all) {
-  const buttons = all.filter(({ count }) => count).map((choice) => choiceButton(name, choice));
+// How many entries have each word of a filter: in the order of the words, or the most frequent ones first.
+function countedWords(name) {
+  const counts = new Map();
+  const wordsOf = name === 'attribute' ? ({ attributes }) => attributes.split(' ') : (entry) => [entry[name]];
+  for (const entry of entries) for (const word of wordsOf(entry)) counts.set(word, (counts.get(word) || 0) + 1);
+  const frequent = (one, two) => counts.get(two) - counts.get(one) || (one < two ? -1 : 1);
+  const words = choices[name] || [...counts.keys()].sort(frequent);
+  return words.filter((word) => word && counts.has(word)).map((word) => [word, counts.get(word)]);
+}
+
+// A row of buttons that are pressed or not, for the words of a filter. Arrow keys go from one to the next.
+function showChoices(name, title) {
+  const buttons = countedWords(name).map(([word, count]) => choiceButton(name, word, STANDINGS[word] || word, count));
   const hidden = name === 'reason' ? buttons.slice(REASONS) : [], row = make('span', { class: 'choices' }, ...buttons);
   if (!buttons.length) return;
   buttons[0].tabIndex = 0;
   for (const button of hidden) button.hidden = true;
   if (hidden.length) {
     const more = make('button', { type: 'button', tabindex: -1 }, number(hidden.length) + ' more');
-    more.addEventListener('click', () => {
+    on(more, 'click', () => {
       for (const button of hidden) button.hidden = false;
       focusOn(hidden[0], row);
       more.remove();
     });
     row.append(more);
   }
-  row.addEventListener('keydown', (event) =>
+  on(row, 'keydown', (event) =>
     moveFocus(event, row, [...row.children].filter((one) => !one.hidden), ['ArrowLeft', 'ArrowRight']));
   find('filters').append(make('div', { class: 'row', id: name, role: 'toolbar', 'aria-label': title },
     make('span', { class: 'name' }, title), row));
 }
 
 function makeFilters() {
-  // The choices of a filter, with the number of entries for which each holds.
-  const counted = (name, holds, texts = choices[name]) => choices[name].map((word, value) =>
-    ({ value, text: texts[value], kind: word, count: entries.filter((entry) => holds(entry, value)).length }));
-  const equals = (name) => (entry, value) => entry[name] === value;
-  if (data.hasReasons) {
-    showChoices('standing', 'Reason',
-      counted('standing', equals('standing'), ['not explained', 'explained, not verified', 'explained']));
-  }
-  showChoices('severity', 'Severity', counted('severity', equals('severity')));
-  showChoices('kind', 'Kind', counted('kind', equals('kind')));
-  showChoices('attribute', 'Attribute', counted('attribute', (entry, place) => entry.attributes >> place & 1)
-    .map((choice) => ({ ...choice, kind: '' })));
-  showChoices('reason', 'Explained by', ranked.map(({ key, text, grade, count, standing }) =>
-    ({ value: key, count, text: text + ' (' + grade + (standing === 1 ? ', not verified' : '') + ')' })));
+  const hasReasons = firstOrder === 'importance';
+  if (hasReasons) showChoices('standing', 'Reason');
+  showChoices('severity', 'Severity');
+  showChoices('kind', 'Kind');
+  showChoices('attribute', 'Attribute');
+  showChoices('reason', 'Explained by');
   for (const order of Object.keys(KEYS)) {
-    if (data.hasReasons || (order !== 'importance' && order !== 'severity')) {
-      find('order').append(make('option', { value: order }, data.orders[order]));
+    if (hasReasons || (order !== 'importance' && order !== 'severity')) {
+      find('order').append(make('option', { value: order }, ORDERS[order]));
     }
   }
 }
 
 // The view of an address; a directory that has no entries is left out of it.
 function showView(text) {
-  view = viewOf(text, choices);
+  view = viewOf(text);
   if (view.directory && !nodeAt(view.directory)) view.directory = '';
   find('search').value = view.path;
-  return change({ page: view.page });
+  change({ page: view.page });
 }
 
 function readAddress() {
@@ -138,19 +212,12 @@ function clear() {
   find('search').focus();
 }
 
-// All that fits is printed, and not one page of it.
-async function print() {
-  if (view.values) await openValues(matching);
-  window.print();
-}
-
 function treeClick(event) {
   const item = event.target.closest('[role="treeitem"]');
   if (item) (event.target.classList.contains('fold') ? toggle : choose)(item);
 }
 
 function listen() {
-  const on = (target, event, act) => target.addEventListener(event, act);
   let timer = 0;
   on(find('search'), 'input', (event) => {
     clearTimeout(timer);
@@ -161,33 +228,40 @@ function listen() {
   on(find('unfold'), 'click', () => change({ page: view.page, values: view.values ? '' : 'shown' }, false));
   on(find('previous'), 'click', () => turn(-1));
   on(find('next'), 'click', () => turn(1));
-  on(find('print'), 'click', print);
+  on(find('print'), 'click', () => window.print());
   on(find('tree'), 'keydown', treeKey);
   on(find('tree'), 'click', treeClick);
-  for (const link of document.querySelectorAll('[href="#content"]')) {
-    on(link, 'click', (event) => {
-      event.preventDefault();
-      find('content').focus();
-    });
-  }
+  on(document, 'click', (event) => {
+    if (!event.target.matches('[href="#content"]')) return;
+    event.preventDefault();
+    find('content').focus();
+  });
   on(window, 'hashchange', readAddress);
   on(window, 'beforeprint', () => showItems(0, matching.length));
   on(window, 'afterprint', showList);
 }
 
-async function begin() {
-  await readEntries();
-  placeEntries();
+function begin() {
+  const { order, state } = find('content').dataset;
+  firstOrder = order;
+  readEntries();
+  placeEntries(entries);
+  find('content').remove();
+  find('bar').id = 'content';
   makeFilters();
-  const text = location.hash.slice(1) || data.state || (entries.length <= FEW ? 'values=shown' : '');
-  view = viewOf(text, choices);
+  const text = location.hash.slice(1) || state || (entries.length <= FEW ? 'values=shown' : '');
+  view = viewOf(text);
   filter();
   for (let first = shownChildren(root); first.length === 1 && first[0].node.below && opened.size < DEEP;
     first = shownChildren(first[0].node)) opened.add(first[0].node);
-  await showView(text);
+  showView(text);
   listen();
-  find('waiting').remove();
   find('view').hidden = false;
-  document.documentElement.dataset.ready = 'true';
 }
-begin();
+
+// The list of all entries waits unseen until it is whole. If something goes wrong then, it is there.
+document.documentElement.className = 'waiting';
+on(document, 'DOMContentLoaded', () => {
+  document.documentElement.className = '';
+  begin();
+});

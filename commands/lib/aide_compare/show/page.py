@@ -1,142 +1,147 @@
-"""The page of a report: one file with its style, its plain lists, and a script that shows the same entries better."""
+"""The page of a report: one file with its style, a list of all entries, and a script that filters and orders that list."""
 import json
 import os
+from array import array
+from collections import Counter
+from html import escape
 
 from aide_compare.base.files import Spool
+from aide_compare.base.names import SEVERITIES
 from aide_compare.base.shown_text import shown_note
-from aide_compare.show.page_heading import head, paragraphs, part_of
-from aide_compare.show.page_items import entries, number
-from aide_compare.show.page_lists import GRADES, FolderLists, ReasonLists
-from aide_compare.show.page_streams import LAYERS, Stream
-from aide_compare.show.page_view import CHOICES, ORDERS, View, key_of, seen_of, standing_of
-from aide_compare.show.rows import LABELS, Report
+from aide_compare.show.page_heading import head, part_of
+from aide_compare.show.page_items import entries, head_of, item, number, table
+from aide_compare.show.page_view import CHOICES, ORDERS, STANDINGS, View, standing_of, words_of
+from aide_compare.show.rows import entries_of
 
-SCRIPTS = ("page_logic.js", "page_entries.js", "page_tree.js", "page.js")
-# The most bytes of a page; how many of them its lists have, those with values and all; and the same beside a script.
-MOST = 20000000
-PLAIN_ROOM, ROOM_BESIDE_SCRIPT = (18000000, 9000000), (2500000, 1200000)
-BLOCK, RESERVE = 1 << 18, 8000
+SCRIPTS = ("page_logic.js", "page_tree.js", "page.js")
+# The most bytes of a page, of which values get at least an eighth.
+MOST, RESERVE = 20000000, 8000
+TITLES = ("Not explained", "Explained, but not verified", "Explained")
 # Reasons after so many different ones are counted together.
 MOST_REASONS, OTHERS = 1000, "other reasons"
+LEFT_OUT = b"\0"
+# What is beside the head of an item, and beside its values.
+ITEM, OPENING = item("", ""), item("", "-")
+GROUP = '<details class="group" data-standing="%s"%s><summary><h2><span>%s</span>: %s</h2></summary>\n<ul>\n'
 
 
 def script_of():
-    return "'use strict';\n(() => {\n%s})();\n" % "\n".join(part_of(name) for name in SCRIPTS)
+    words = "const choices = %s, ORDERS = %s;" % (json.dumps(CHOICES), json.dumps(ORDERS))
+    return "'use strict';\n(() => {\n%s\n})();\n" % "\n".join([words, *map(part_of, SCRIPTS)])
 
 
-class PageEntries:
-    """The entries of a report, in the forms that its page needs."""
+class Room:
+    """How many bytes are left. Once something does not fit, nothing does: so the first ones are there, and no other."""
 
-    def __init__(self, is_plain, only):
-        self.is_plain, self.only, self.count, self.lists, self.has_reasons = is_plain, only, 0, None, False
-        self.view = View(only) if only and is_plain else None
-        self.streams = [] if is_plain else [Stream(MOST), Stream(MOST)]
-        # How many entries each reason explains, and the number that it has for the script.
-        self.reasons, self.numbers = {}, {}
+    def __init__(self, left):
+        self.left = left
 
-    def begin(self, summary):
-        self.has_reasons = "reasons" in summary
-        self.lists = (ReasonLists if self.has_reasons else FolderLists)(*(PLAIN_ROOM if self.is_plain else ROOM_BESIDE_SCRIPT))
+    def takes(self, size):
+        self.left = self.left - size if size <= self.left else -1
+        return self.left >= 0
 
-    def take(self, entry):
-        if entry.reason is not None:
-            entry = self.counted(entry)
-        if self.streams:
-            stream = self.streams[standing_of(entry.reason) == 2]
-            stream.add(entry, self.count, self.numbers.get(entry.reason, ""))
-        if self.view is None or self.view.fits(seen_of(entry)):
-            self.lists.add(entry)
-        self.count += 1
 
-    def counted(self, entry):
-        """The entry, with the reason under which it is counted."""
-        reason = entry.reason
-        if reason not in self.reasons and len(self.reasons) >= MOST_REASONS:
-            reason = reason._replace(text=OTHERS)
-        self.numbers.setdefault(reason, len(self.numbers))
-        self.reasons[reason] = self.reasons.get(reason, 0) + 1
-        return entry if reason is entry.reason else entry._replace(reason=reason)
+class Groups:
+    """The entries of a report, in the order of their importance if they have reasons: first what nothing explains, the severe
+    of it at the front, then what is not verified, then what is explained, reason by reason. A file has the head and the table
+    of each entry; of each importance no more than a page has."""
 
-    def cut(self, room):
-        """Keeps of the packed entries what fits in a room; what matters most comes first."""
-        first, second = (stream.layers for stream in self.streams)
-        entries_and_values = (first["index"], first["values"], second["index"], second["values"])
-        for layer in (*entries_and_values, first["digests"], second["digests"]):
-            room -= layer.cut(room)
+    def __init__(self, has_reasons):
+        self.has_reasons, self.spool, self.size, self.reasons = has_reasons, Spool(), 0, set()
+        # By standing, and by severity or reason: how many entries, and where they are in the file.
+        self.counts, self.places, self.rooms = Counter(), {}, {}
+        # How many entries are listed, and how many of them with all their values.
+        self.listed, self.valued = 0, 0
 
-    def data(self):
-        """What the script needs beside the packed entries."""
-        groups = [
-            [key_of(reason), reason.text, GRADES[reason.grade], int(reason.verified), count]
-            for reason, count in self.reasons.items()
-        ]
-        values = {"labels": LABELS, "choices": CHOICES, "orders": ORDERS, "groups": groups, "state": self.only}
-        text = json.dumps({**values, "hasReasons": self.has_reasons}, separators=(",", ":"))
-        return text.replace("<", "\\u003c").replace(">", "\\u003e").encode()
+    def add(self, entry):
+        entry = self.few_reasons(entry) if entry.reason else entry
+        standing = standing_of(entry) if self.has_reasons else 0
+        severity = entry.severity if self.has_reasons and standing < 2 else None
+        key = (standing, entry.reason.text if standing == 2 else severity)
+        heads, tables = self.rooms.setdefault((standing, severity), (Room(MOST), Room(MOST)))
+        head = head_of(entry, entry.reason.text if standing == 1 else "").encode()
+        self.counts[key] += 1
+        self.size += len(head) + len(ITEM)
+        if heads.takes(len(head)):
+            self.places.setdefault(key, array("Q")).append(self.spool.tell())
+            inner = table(entry.rows).encode() if tables.left >= 0 else LEFT_OUT
+            self.spool.write(b"%s\n%s\n" % (head, inner if tables.takes(len(inner)) else LEFT_OUT))
 
-    def notes_of_lists(self):
-        """What the plain lists leave out."""
-        (names, values), count, notes = self.lists.listed(), self.lists.count, []
-        if self.view:
-            told = (entries(count), number(self.count), shown_note(self.only))
-            notes.append("These lists have the %s of %s that fit %s." % told)
-        if names < count:
-            notes.append("These lists have room for %s of %s; the others are only counted." % (entries(names), number(count)))
-        if values < names:
-            notes.append("Values are shown for the first %s only." % number(values))
+    def few_reasons(self, entry):
+        """The entry with a reason of which there are not too many."""
+        text = entry.reason.text
+        if len(self.reasons) < MOST_REASONS or text in self.reasons:
+            self.reasons.add(text)
+            return entry
+        return entry._replace(reason=entry.reason._replace(text="%s: %s" % (text.partition(":")[0], OTHERS)))
+
+    def order(self, key):
+        standing, what = key
+        if standing == 2:
+            return standing, -self.counts[key], what
+        return standing, SEVERITIES.index(what) if what else len(SEVERITIES)
+
+    def heading(self, key):
+        """The beginning of a group, which has its number of entries. What is explained is closed."""
+        standing, what = key
+        title = what if standing == 2 else TITLES[standing] + (", severity " + what if what else "")
+        title = title if self.has_reasons else "Changes in the order of paths"
+        told = (STANDINGS[standing], " open" * (standing < 2), escape(title), entries(self.counts[key]))
+        return (GROUP % told).encode()
+
+    def write(self, file, room):
+        """Writes the groups, as far as there is room for them."""
+        keys = sorted(self.counts, key=self.order)
+        headings = [self.heading(key) for key in keys]
+        room -= sum(map(len, headings)) + len(keys) * 100
+        tables = Room(max(room - self.size, room // 8))
+        heads = Room(room - tables.left)
+        for key, heading in zip(keys, headings):
+            file.write(heading)
+            more = self.counts[key] - self.write_items(file, self.places.get(key, ()), heads, tables)
+            file.write(b"</ul>" + b"<p>%s more that this page has no room for</p>" % number(more).encode() * bool(more))
+            file.write(b"</details>\n")
+
+    def write_items(self, file, places, heads, tables):
+        """Writes entries with their values, or without them, by the rooms of heads and of tables. Returns how many."""
+        before = self.listed
+        for place in places:
+            self.spool.seek(place)
+            head, inner = self.spool.readline()[:-1], self.spool.readline()[:-1]
+            if not heads.takes(len(head) + len(ITEM)):
+                break
+            has_values = inner != LEFT_OUT and tables.takes(len(inner) + len(OPENING))
+            file.write(item(head.decode(), inner.decode() if has_values else "").encode())
+            self.listed += 1
+            self.valued += has_values
+        return self.listed - before
+
+    def notes(self, count, only):
+        """What the lists leave out of so many entries."""
+        fitting, notes = sum(self.counts.values()), []
+        if only:
+            notes.append("These lists have the %s of %s that fit %s." % (entries(fitting), number(count), shown_note(only)))
+        if self.listed < fitting:
+            told = (entries(self.listed), number(fitting))
+            notes.append("This page has room for %s of %s. The counts are those of all." % told)
+        if self.valued < self.listed:
+            notes.append("Values are on this page of the first %s only: it stays below 20 MB." % entries(self.valued))
         return notes
-
-    def notes_of_script(self):
-        """What the packed entries leave out."""
-        index, values, digests = (sum(stream.kept(name) for stream in self.streams) for name in LAYERS)
-        notes = []
-        if index < self.count:
-            told = (entries(index), number(self.count))
-            notes.append("This page has room for %s of %s. The counts above are those of all." % told)
-        if values < index:
-            notes.append("Values are on this page of %s." % entries(values))
-        if digests < values and any(stream.more_digests for stream in self.streams):
-            notes.append(
-                "Of each entry the strongest digest is on this page; the other digests only of %s, so that the page "
-                "stays below 20 MB." % entries(digests)
-            )
-        return notes
-
-    def packed_parts(self):
-        """The packed entries, each layer in an element of its own."""
-        for place, stream in enumerate(self.streams):
-            for name, layer in stream.layers.items():
-                yield b'<script type="text/plain" id="%s%d">\n' % (name.encode(), place)
-                yield from layer.parts()
-                yield b"</script>\n"
-
-
-def blocks_of(file):
-    file.seek(0)
-    yield from iter(lambda: file.read(BLOCK), b"")
 
 
 def page(reader, title, is_plain, only=""):
     """Yields the page of the lines of a Reader, when all of them have been read and are good."""
-    contents, lists = PageEntries(is_plain, only), Spool()
-    report, title = Report(reader, contents.take, contents.begin), os.fsencode(title or "")
-    for part in contents.lists.parts() if report.count else ():
-        lists.write(part)
-    notes = contents.notes_of_lists()
-    if is_plain or not report.count:
-        yield head(report, title, "", notes)
-        yield b'<main id="content" tabindex="-1">\n'
-        yield from blocks_of(lists)
-        yield b"</main>\n</body>\n</html>\n"
-        return
-    for stream in contents.streams:
-        stream.end_chunk()
-    script, data, controls = script_of(), contents.data(), part_of("controls.html").encode()
-    other = len(head(report, title, script, [])) + len(data) + len(controls) + len(script.encode())
-    contents.cut(MOST - other - lists.tell() - RESERVE)
-    yield head(report, title, script, contents.notes_of_script())
-    yield controls + b"<noscript>\n" + paragraphs(notes).encode()
-    yield from blocks_of(lists)
-    yield b'</noscript>\n<script type="application/json" id="data">' + data + b"</script>\n"
-    yield from contents.packed_parts()
-    yield b"<script>" + script.encode() + b"</script>\n</body>\n</html>\n"
+    view, groups, lists, title = View(only), Groups("reasons" in reader.summary), Spool(), os.fsencode(title or "")
+    for entry in entries_of(reader):
+        if not (is_plain and only) or view.fits(words_of(entry)):
+            groups.add(entry)
+    has_script = bool(reader.count) and not is_plain
+    script, controls = (script_of(), part_of("controls.html")) if has_script else ("", "")
+    order = "importance" if groups.has_reasons else "path"
+    controls += '<div id="content" tabindex="-1" data-order="%s" data-state="%s">\n' % (order, escape(only * has_script))
+    groups.write(lists, MOST - RESERVE - len(head(reader, title, script, [])) - len(controls))
+    yield head(reader, title, script, groups.notes(reader.count, only * is_plain))
+    yield controls.encode()
+    lists.seek(0)
+    yield from lists
+    yield b"</div>\n</main>\n</body>\n</html>\n"

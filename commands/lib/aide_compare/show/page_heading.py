@@ -2,6 +2,7 @@
 import base64
 import hashlib
 import os
+import re
 from html import escape
 
 from aide_compare.base.names import KINDS, SEVERITIES, SIDES
@@ -9,17 +10,17 @@ from aide_compare.base.shown_text import shown, shown_date, shown_note
 from aide_compare.compare.reason_counts import GRADE_KEYS, KEYS, ReasonCounts
 from aide_compare.lines.reader import bytes_of
 from aide_compare.show.page_items import entries, number
-from aide_compare.show.rows import DATE
 from aide_compare.show.page_view import STANDINGS
 
 HERE = os.path.dirname(os.path.abspath(__file__))
 POLICY = "default-src 'none'; base-uri 'none'; form-action 'none'; style-src '%s'"
 OUTCOMES = {True: "The two databases differ", False: "No differences between the two databases"}
-CARDS = (("unexplained", "Not explained"), ("unverified", "Explained, not verified"), ("explained", "Explained"))
+CARDS = dict(zip(STANDINGS, ("Not explained", "Explained, not verified", "Explained")))
 KNOWN = set(
     """format differences total added removed changed entries old new reasons left_out skipped host @timestamp status old_time
     new_time old_digest new_digest""".split()
 )
+DATE = re.compile("[0-9]{4}-[0-9]{2}-[0-9]{2}T[0-9]{2}:[0-9]{2}:[0-9]{2}Z")
 MOST_MEMBERS, MOST_LETTERS = 20, 5000
 HINT = (
     "Reasons are hints: those of the grades dpkg and rpm come from records of the host, and whoever was root before AIDE ran "
@@ -42,8 +43,10 @@ def beginning(title, script="", **parts):
     """The beginning of a page, up to the entries. `title` is a text; the parts are markup."""
     style = part_of("page.css")
     policy = POLICY % policy_name(style) + ("; script-src '%s'" % policy_name(script) if script else "")
-    parts = {"heading": escape(title), "databases": "", **parts, "title": escape(title), "style": style, "policy": policy}
-    return (part_of("page.html") % parts).encode("utf-8", "backslashreplace")
+    fixed = {"title": escape(title), "style": style, "policy": policy, "script": script and "<script>%s</script>\n" % script}
+    return (part_of("page.html") % {"heading": escape(title), "databases": "", **parts, **fixed}).encode(
+        "utf-8", "backslashreplace"
+    )
 
 
 def member(summary, name):
@@ -83,27 +86,25 @@ def cards(rows):
     return '<dl class="counts">%s</dl>' % "".join(text % (name, words, number(count)) for name, words, count in rows)
 
 
-def counts(report):
-    """The counts of what is explained, if that was asked, and of each kind, and how many entries to look at: a narrow screen
-    has this line in their place, as a link to them."""
-    summary, reasons, text = report.summary, None, ""
+def counts(reader):
+    """The counts of what is explained and how severe the rest is, if that was asked, and of each kind; and how many entries to
+    look at: a narrow screen has this line in their place, as a link to them."""
+    summary, count, told, text = reader.summary, reader.count, "", ""
     if "reasons" in summary:
         given = summary["reasons"]
         reasons = ReasonCounts(**{key: given[key] for key in KEYS + GRADE_KEYS if type(given.get(key)) is int})
-        text += cards((*card, getattr(reasons, name)) for card, name in zip(CARDS, STANDINGS))
+        severe = ", ".join("%s %s" % (number(getattr(reasons, name)), name) for name in SEVERITIES if getattr(reasons, name))
+        for title, words in (
+            ("Severity of what is not explained or not verified", severe),
+            ("Explained by", reasons.grades()),
+        ):
+            told += '<p class="severities">%s: %s</p>\n' % (title, words) if words else ""
+        told += '<p class="hint">%s</p>\n' % HINT
+        text, count = cards((name, words, getattr(reasons, name)) for name, words in CARDS.items()), reasons.unanswered
     rows = [(kind, kind.capitalize(), summary[kind]) for kind in KINDS]
     text += cards(rows + [("all", "Entries in the new database", summary["total"])])
-    count = report.count if reasons is None else reasons.unanswered
     look = '<p class="look"><a href="#content">%s to look at</a></p>\n' % number(count) if count else ""
-    return '<div class="cards">%s</div>\n%s%s' % (text, worth(reasons) if reasons else "", look)
-
-
-def worth(reasons):
-    """How severe is what is not explained, and what reasons are worth."""
-    severe = ", ".join("%s %s" % (number(getattr(reasons, name)), name) for name in SEVERITIES if getattr(reasons, name))
-    rows = (("Severity of what is not explained or not verified", severe), ("Explained by", reasons.grades()))
-    text = "".join('<p class="severities">%s: %s</p>\n' % row for row in rows if row[1])
-    return '%s<p class="hint">%s</p>\n' % (text, HINT)
+    return '<div class="cards">%s</div>\n%s%s' % (text, told, look)
 
 
 def left_out(value):
@@ -122,27 +123,18 @@ def skipped(value):
         yield "The column %s is not compared: the program does not know it." % shown_note(str(name))
 
 
-def remarks(report, more):
-    """What a reader should know of what is missing."""
-    found = [left_out(report.summary.get("left_out")), *skipped(report.summary.get("skipped"))]
-    return paragraphs(found + more)
-
-
-def paragraphs(texts):
-    return "".join('<p class="remark">%s</p>\n' % escape(text) for text in texts if text)
-
-
-def head(report, title, script, more):
-    """The beginning of the page of a report. Without a title it has that of the host."""
-    summary, host = report.summary, member(report.summary, "host")
+def head(reader, title, script, notes):
+    """The beginning of the page of a report; without a title it has that of the host. The notes say what is missing."""
+    summary, host = reader.summary, member(reader.summary, "host")
     title = shown(title[:MOST_LETTERS]) if title else "File changes on %s" % host if host else "File changes"
     kinds = ": " + ", ".join("%s %s" % (number(summary[kind]), kind) for kind in KINDS)
+    remarks = filter(None, [left_out(summary.get("left_out")), *skipped(summary.get("skipped")), *notes])
     return beginning(
         title,
         script,
         heading=escape(title + kinds),
         outcome=OUTCOMES[summary["differences"]],
         databases=facts(summary) + databases(summary),
-        counts=counts(report),
-        remarks=remarks(report, more),
+        counts=counts(reader),
+        remarks="".join('<p class="remark">%s</p>\n' % escape(text) for text in remarks),
     )

@@ -1,7 +1,6 @@
 // The tree of directories: how many entries each has, how it is shown, and how keys move in it.
 // So many nested directories are open at first: very deep elements are too much for some browsers.
-const CHILDREN = 200, DEEP = 20;
-const SIGNS = ['+', '\u2212', '~'];
+const CHILDREN = 200, DEEP = 20, KINDS = choices.kind, SIGNS = ['+', '\u2212', '~'];
 const nodeOf = (path, name, parent) => ({ path, name, parent, children: new Map(), counts: [0, 0, 0], direct: 0, below: 0 });
 // The directories; each comes after the one that it is in. An entry that is itself a directory belongs to its node.
 const root = nodeOf('', '', null), nodes = [root], opened = new Set([root]);
@@ -18,35 +17,24 @@ function childOf(parent, name) {
 // The node of a directory; undefined if no entry is in it.
 const nodeAt = (path) => path.split('/').slice(1).reduce((node, name) => node && node.children.get(name), root);
 
-function placeEntries() {
+function placeEntries(entries) {
   for (const entry of entries) entry.node = entry.path.split('/').slice(1, -1).reduce(childOf, root);
   for (const entry of entries) {
     entry.node = entry.node.children.get(entry.path.slice(entry.path.lastIndexOf('/') + 1)) || entry.node;
   }
 }
 
-// All entries in each order that was asked for: they are sorted once.
-const sorted = new Map();
-function inOrder(order) {
-  if (!sorted.has(order)) sorted.set(order, ordered(entries, order));
-  return sorted.get(order);
-}
-
-// Counts what fits, directory by directory, and keeps what is in the chosen one, in the chosen order.
-function filter() {
-  const folded = view.path.toLowerCase(), everywhere = { ...view, directory: '' };
-  shownOrder = view.order || (data.hasReasons ? 'importance' : 'path');
-  const fitting = inOrder(shownOrder).filter((entry) => fits(everywhere, folded, entry));
+// Counts some entries, directory by directory.
+function countNodes(entries) {
   for (const node of nodes) Object.assign(node, { counts: [0, 0, 0], direct: 0, below: 0 });
-  for (const { node, kind } of fitting) {
-    node.counts[kind] += 1;
+  for (const { node, kind } of entries) {
+    node.counts[KINDS.indexOf(kind)] += 1;
     node.direct += 1;
   }
   for (const node of nodes.slice(1).reverse()) {
     node.counts.forEach((count, kind) => { node.parent.counts[kind] += count; });
     if (total(node)) node.parent.below += 1;
   }
-  matching = view.directory ? fitting.filter((entry) => fits(view, folded, entry)) : fitting;
 }
 
 // Directories that hold nothing but one directory are shown together with it.
@@ -62,22 +50,18 @@ function shownChildren(node) {
 }
 
 function bar({ counts }, whole) {
-  const picture = make('svg', { class: 'bar', viewBox: '0 0 100 8', preserveAspectRatio: 'none', 'aria-hidden': 'true' });
-  let left = 0;
-  counts.forEach((count, kind) => {
-    const width = 100 * count / whole;
-    if (count) picture.append(make('rect', { class: KINDS[kind], x: left, width, height: 8 }));
-    left += width;
-  });
-  return picture;
+  const parts = KINDS.map((kind) => make('span', { class: kind }));
+  parts.forEach((part, kind) => { part.style.width = 100 * counts[kind] / whole + '%'; });
+  return make('span', { class: 'bar', 'aria-hidden': 'true' }, ...parts);
 }
 
 const treeItem = (label, row) => make('li', { role: 'treeitem', 'aria-label': label, tabindex: -1 }, row);
 const isChosen = (node) => view.directory !== '' && node.path === view.directory;
 
 function folderItem({ node, name }, whole, waiting) {
-  const kinds = KINDS.map((word, kind) => ({ word, kind, count: node.counts[kind] })).filter(({ count }) => count);
-  const numbers = kinds.flatMap(({ word, kind, count }) => [make('span', { class: word }, SIGNS[kind] + number(count)), ' ']);
+  const all = KINDS.map((word, kind) => ({ word, sign: SIGNS[kind], count: node.counts[kind] }));
+  const kinds = all.filter(({ count }) => count);
+  const numbers = kinds.flatMap(({ word, sign, count }) => [make('span', { class: word }, sign + number(count)), ' ']);
   const row = make('div', { class: 'folder' }, make('span', { class: node.below ? 'fold' : '' }), make('code', {}, name),
     bar(node, whole), make('span', { class: 'numbers' }, ...numbers));
   const item = treeItem(name + ', ' + kinds.map(({ word, count }) => number(count) + ' ' + word).join(', '), row);
