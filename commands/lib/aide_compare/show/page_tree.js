@@ -66,7 +66,6 @@ function folderItem({ node, name }, whole, waiting) {
     bar(node, whole), make('span', { class: 'numbers' }, ...numbers));
   const item = treeItem(name + ', ' + kinds.map(({ word, count }) => number(count) + ' ' + word).join(', '), row);
   item.node = node;
-  item.setAttribute('aria-selected', isChosen(node));
   if (node.below) {
     const list = make('ul', { role: 'group' });
     item.append(list);
@@ -80,6 +79,7 @@ function folderItem({ node, name }, whole, waiting) {
 function fill(...first) {
   const waiting = [first];
   while (waiting.length) fillOne(waiting, ...waiting.pop());
+  showChosen();
 }
 
 function fillOne(waiting, list, node, from = 0) {
