@@ -26,9 +26,9 @@ PLANTED = (
         (LIB + "show/page.py", "return standing, -self.counts[key], what", "return standing, self.counts[key], what"),
         (LIB + "show/page.py", "SEVERITIES.index(what) if what else len(SEVERITIES)", "what"),
         (
-            LIB + "show/page_view.py",
-            "0 if entry.reason is None else 1 + entry.reason.is_verified",
-            "0 if entry.reason is None else 2",
+            LIB + "show/rows.py",
+            'standing=1 + told["verified"]',
+            "standing=2",
         ),
         (LIB + "show/page_heading.py", "</p>\\n' % HINT", '</p>\\n\' % ""'),
         (LIB + "show/page_heading.py", "if type(given.get(key)) is int", "if key in given"),

@@ -161,21 +161,21 @@ function countedWords(name) {
 // A row of buttons that are pressed or not, for the words of a filter. Arrow keys go from one to the next.
 function showChoices(name, title) {
   const buttons = countedWords(name).map(([word, count]) => choiceButton(name, word, STANDINGS[word] || word, count));
-  const hidden = name === 'reason' ? buttons.slice(REASONS) : [], row = make('span', { class: 'choices' }, ...buttons);
+  const row = make('span', { class: 'choices' }, ...buttons);
   if (!buttons.length) return;
   buttons[0].tabIndex = 0;
-  for (const button of hidden) button.hidden = true;
-  if (hidden.length) {
-    const more = make('button', { type: 'button', tabindex: -1 }, number(hidden.length) + ' more');
+  if (name === 'reason' && buttons.length > REASONS) {
+    const more = make('button', { type: 'button', tabindex: -1 }, number(buttons.length - REASONS) + ' more');
     on(more, 'click', () => {
-      for (const button of hidden) button.hidden = false;
-      focusOn(hidden[0], row);
       more.remove();
+      row.classList.remove('few');
+      focusOn(buttons[REASONS], row);
     });
     row.append(more);
+    row.classList.add('few');
   }
-  on(row, 'keydown', (event) =>
-    moveFocus(event, row, [...row.children].filter((one) => !one.hidden), ['ArrowLeft', 'ArrowRight']));
+  const seen = () => [...row.children].filter((one) => one.offsetParent);
+  on(row, 'keydown', (event) => moveFocus(event, row, seen(), ['ArrowLeft', 'ArrowRight']));
   find('filters').append(make('div', { class: 'row', id: name, role: 'toolbar', 'aria-label': title },
     make('span', { class: 'name' }, title), row));
 }

@@ -10,8 +10,8 @@ from aide_compare.base.names import SEVERITIES
 from aide_compare.base.shown_text import shown_note
 from aide_compare.show.page_heading import head, part_of
 from aide_compare.show.page_items import entries, head_of, item, number, table
-from aide_compare.show.page_view import CHOICES, ORDERS, STANDINGS, View, standing_of, words_of
-from aide_compare.show.rows import entries_of
+from aide_compare.show.page_view import CHOICES, ORDERS, View, words_of
+from aide_compare.show.rows import STANDINGS, entries_of
 
 SCRIPTS = ("page_logic.js", "page_tree.js", "page.js")
 # The most bytes of a page, of which values get at least an eighth.
@@ -55,11 +55,11 @@ class Groups:
 
     def add(self, entry):
         entry = self.few_reasons(entry) if entry.reason else entry
-        standing = standing_of(entry) if self.has_reasons else 0
+        standing = entry.standing if self.has_reasons else 0
         severity = entry.severity if self.has_reasons and standing < 2 else None
-        key = (standing, entry.reason.text if standing == 2 else severity)
+        key = (standing, entry.reason if standing == 2 else severity)
         heads, tables = self.rooms.setdefault((standing, severity), (Room(MOST), Room(MOST)))
-        head = head_of(entry, entry.reason.text if standing == 1 else "").encode()
+        head = head_of(entry, entry.reason if standing == 1 else "").encode()
         self.counts[key] += 1
         self.size += len(head) + len(ITEM)
         if heads.takes(len(head)):
@@ -69,11 +69,10 @@ class Groups:
 
     def few_reasons(self, entry):
         """The entry with a reason of which there are not too many."""
-        text = entry.reason.text
-        if len(self.reasons) < MOST_REASONS or text in self.reasons:
-            self.reasons.add(text)
+        if len(self.reasons) < MOST_REASONS or entry.reason in self.reasons:
+            self.reasons.add(entry.reason)
             return entry
-        return entry._replace(reason=entry.reason._replace(text="%s: %s" % (text.partition(":")[0], OTHERS)))
+        return entry._replace(reason="%s: %s" % (entry.reason.partition(":")[0], OTHERS))
 
     def order(self, key):
         standing, what = key

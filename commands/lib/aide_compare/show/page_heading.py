@@ -10,7 +10,7 @@ from aide_compare.base.shown_text import shown, shown_date, shown_note
 from aide_compare.compare.reason_counts import GRADE_KEYS, KEYS, ReasonCounts
 from aide_compare.lines.reader import bytes_of
 from aide_compare.show.page_items import entries, number
-from aide_compare.show.page_view import STANDINGS
+from aide_compare.show.rows import STANDINGS
 
 HERE = os.path.dirname(os.path.abspath(__file__))
 POLICY = "default-src 'none'; base-uri 'none'; form-action 'none'; style-src '%s'"

@@ -6,10 +6,8 @@ from urllib.parse import parse_qsl
 
 from aide_compare.base.names import KINDS, SEVERITIES
 from aide_compare.lines.attributes import STRENGTH
-from aide_compare.show.rows import LABELS
+from aide_compare.show.rows import LABELS, STANDINGS
 
-# How an entry stands: nothing explains it, something does that was not verified, or something does.
-STANDINGS = ("unexplained", "not_verified", "explained")
 ORDERS = {
     "importance": "what matters most",
     "path": "path",
@@ -29,19 +27,14 @@ def attributes_of(entry):
     return dict.fromkeys(DIGESTS if row.label in STRENGTH else row.label for row in entry.rows)
 
 
-def standing_of(entry):
-    """How an entry stands, as a place in STANDINGS."""
-    return 0 if entry.reason is None else 1 + entry.reason.is_verified
-
-
 def words_of(entry):
     """What an entry has of each filter, and its path."""
     return {
         "kind": {entry.kind},
-        "standing": {STANDINGS[standing_of(entry)]},
+        "standing": {STANDINGS[entry.standing]},
         "severity": {entry.severity},
         "attribute": set(attributes_of(entry)),
-        "reason": {entry.reason and entry.reason.text},
+        "reason": {entry.reason},
         "path": entry.name,
     }
 

@@ -14,6 +14,8 @@ LABELS = [label for label in FORMS if label not in STRENGTH] + list(STRENGTH)
 NOTED = frozenset((*FIELDS, *TIMES, "Perm", "UID", "GID"))
 # In place of an old value, if hosts with the same change had several. No text of a host is this object.
 VARIOUS = type("Various", (str,), {})("various")
+# How an entry stands: nothing explains it, something does that was not verified, or something does.
+STANDINGS = ("unexplained", "not_verified", "explained")
 GRADES = ("databases", "dpkg", "rpm", "archive", "rules")
 LETTERS = re.compile("[A-Za-z?!<>=:.+ -]{18}")
 PERM = re.compile("[0-7]{4}")
@@ -30,19 +32,15 @@ class Row(NamedTuple):
     new_note: str
 
 
-class ShownReason(NamedTuple):
-    text: str
-    is_verified: bool
-
-
 class PageEntry(NamedTuple):
-    """A change. `name` is its path as it is shown; in `rows` the digests come last."""
+    """A change. `name` is its path as it is shown; in `rows` the digests come last. `standing` is a place in STANDINGS."""
 
     kind: str
     name: str
     severity: Optional[str]
-    reason: Optional[ShownReason]
     rows: list
+    standing: int = 0
+    reason: str = ""
 
 
 class Malformed(Exception):
@@ -90,13 +88,13 @@ def entry_of(fields, various=()):
     """The PageEntry of an object of a change, without its reason."""
     severity = fields.get("severity")
     demand(severity is None or severity in SEVERITIES, "a severity has another name")
-    return PageEntry(fields["kind"], shown_path(bytes_of(fields, "path")), severity, None, rows_of(fields, various))
+    return PageEntry(fields["kind"], shown_path(bytes_of(fields, "path")), severity, rows_of(fields, various))
 
 
-def reason_of(told):
-    """A reason with what says so before its text: "dpkg: openssl 3.0.15-1"."""
+def with_reason(entry, told):
+    """The entry with its reason, and what says so before that: "dpkg: openssl 3.0.15-1"."""
     demand(type(told["verified"]) is bool and told["grade"] in GRADES, "a reason has another form")
-    return ShownReason("%s: %s" % (told["grade"], shown_note(told["text"])), told["verified"])
+    return entry._replace(standing=1 + told["verified"], reason="%s: %s" % (told["grade"], shown_note(told["text"])))
 
 
 def entries_of(reader):
@@ -108,7 +106,7 @@ def entries_of(reader):
         try:
             demand(LETTERS.fullmatch(fields["summary"]), "a summary string has 18 letters")
             entry = entry_of(fields)
-            entry = entry._replace(reason=reason_of(fields["reason"])) if "reason" in fields else entry
+            entry = with_reason(entry, fields["reason"]) if "reason" in fields else entry
         except (ValueError, KeyError, TypeError, AttributeError, IndexError):
             raise Refused(reader.number, "this is not a line of aide-compare json") from None
         except Malformed as malformed:
