@@ -92,7 +92,7 @@ COMMANDS = [
     Row("many hosts: quiet nights, hostile hosts, one report", "commands/try_tools.py", PART, GATE),
     Row("1,000 hosts over 4 workers, one of which is killed", "commands/try_tools.py", "40 hosts; 1,000", BOTH),
     Row("reports as JSON and as a page, whole and cut at each byte", "commands/try_viewers.py", Tool("try_viewers"), GATE),
-    Row("the page in Chromium 156: views, keyboard, no scripts", "commands/try_page.py", "109", HAND),
+    Row("the page in Chromium 156: views, keyboard, no scripts", "commands/try_page.py", "111", HAND),
     Row("a page of 106,576 changes; a report of 168 MB", "commands/try_page.py, try_viewers.py --large", "once", HAND),
     Row("installing, packing, removing; completions of three shells", "packaging/try_install.py", Tool("try_install"), GATE),
     Row("bugs planted in the commands: each still fits its source", "source/check_planted.py", Bugs(None), GATE),
