@@ -18,14 +18,14 @@ function make(tag, attributes, ...inner) {
 
 // An entry: its item, and what filters and orders need of it. `section` is the heading of its group.
 function entryOf(item, standing, section, place) {
-  const parts = {};
-  for (const part of (item.querySelector('summary') || item).children) parts[part.tagName] = part;
-  const { B, EM, CODE, SPAN, I } = parts, path = CODE.textContent, about = I ? I.textContent : '';
+  const head = item.querySelector('summary') || item, names = head.querySelector('i');
+  const wordOf = (tag) => (head.querySelector(tag) || { textContent: '' }).textContent;
+  const path = wordOf('code'), about = wordOf('i'), reason = standing === 'explained' ? section : wordOf('span');
   const [, grown, size] = /Size [+-](\d+)|(\d+) bytes$/.exec(about) || [];
   return {
-    item, standing, section, place, path, folded: path.toLowerCase(), key: path.replaceAll('/', '\0'), node: null,
-    kind: B.textContent, severity: EM ? EM.textContent : '', attributes: I ? I.title || about : '', told: null,
-    reason: SPAN ? SPAN.textContent : standing === 'explained' ? section : '', growth: Number(grown || size || 0),
+    item, standing, section, place, path, reason, folded: path.toLowerCase(), key: path.replaceAll('/', '\0'),
+    kind: wordOf('b'), severity: wordOf('em'), attributes: names && names.title || about, growth: Number(grown || size || 0),
+    node: null, told: null,
   };
 }
 

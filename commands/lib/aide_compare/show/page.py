@@ -14,7 +14,8 @@ from aide_compare.show.page_view import CHOICES, ORDERS, View, words_of
 from aide_compare.show.rows import STANDINGS, entries_of
 
 SCRIPTS = ("page_logic.js", "page_tree.js", "page.js")
-# The most bytes of a page, of which values get at least an eighth.
+# The most bytes of a page. Values get what heads leave, or an eighth if there are so many entries that a browser has enough to
+# do with their heads.
 MOST, RESERVE = 20000000, 8000
 TITLES = ("Not explained", "Explained, but not verified", "Explained")
 # Reasons after so many different ones are counted together.
@@ -93,7 +94,7 @@ class Groups:
         keys = sorted(self.counts, key=self.order)
         headings = [self.heading(key) for key in keys]
         room -= sum(map(len, headings)) + len(keys) * 100
-        tables = Room(max(room - self.size, room // 8))
+        tables = Room(room // 8 if self.size > room // 2 else room - self.size)
         heads = Room(room - tables.left)
         for key, heading in zip(keys, headings):
             file.write(heading)
