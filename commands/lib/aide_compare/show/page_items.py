@@ -2,7 +2,7 @@
 from html import escape
 
 from aide_compare.lines.attributes import STRENGTH
-from aide_compare.show.page_view import attributes_of
+from aide_compare.show.page_view import attribute_names
 from aide_compare.show.rows import VARIOUS
 
 HEADS = '<tr><th scope="col">Attribute<th scope="col">Old<th scope="col">New'
@@ -70,7 +70,7 @@ def growth_of(rows):
 
 def about(entry):
     """What is seen of the values while an entry is closed: facts, or else the names of the attributes."""
-    names = " ".join(attributes_of(entry))
+    names = " ".join(attribute_names(entry))
     facts = "" if entry.kind == "changed" else facts_of(entry)
     if facts:
         return ' <i title="%s">%s</i>' % (names, escape(facts))

@@ -22,7 +22,7 @@ CHOICES = {"kind": KINDS, "standing": STANDINGS, "severity": SEVERITIES, "attrib
 TEXTS = ("reason", "path", "directory")
 
 
-def attributes_of(entry):
+def attribute_names(entry):
     """The names of an entry's attributes."""
     return dict.fromkeys(DIGESTS if row.label in STRENGTH else row.label for row in entry.rows)
 
@@ -33,7 +33,7 @@ def words_of(entry):
         "kind": {entry.kind},
         "standing": {STANDINGS[entry.standing]},
         "severity": {entry.severity},
-        "attribute": set(attributes_of(entry)),
+        "attribute": set(attribute_names(entry)),
         "reason": {entry.reason},
         "path": entry.name,
     }
