@@ -104,7 +104,7 @@ def receive(place, command, name, given, deadline, jobs):
         if not part.size:
             raise place.fault("sent nothing")
         if not same_bytes(part.fd, place.file(name)):
-            part.keep(name)
+            part.put(name)
 
 
 def fetch(place, given, deadline, jobs=1):

@@ -8,7 +8,7 @@ import time
 from contextlib import closing, suppress
 
 from aide_compare.base.ending import Fault, Status, failing, reason, say, write_all
-from aide_compare.base.files import closed_after, copy_file, is_locked, new_file, open_regular, replace, unlink
+from aide_compare.base.files import NewFile, closed_after, copy_file, is_locked, open_regular, replace, unlink
 from aide_compare.base.folders import open_folder
 from aide_compare.base.options import duration, some_text
 from aide_compare.compare.state import State
@@ -57,36 +57,14 @@ def _make(path):
         os.mkdir(path, 0o700)
 
 
-class Part:
-    """A new file in the folder of a host, without a name until it is kept, so that nothing is left of one that is not."""
+class Part(NewFile):
+    """A new file in the folder of a host, and how many bytes were written to it."""
 
-    def __init__(self, folder):
-        self.folder, self.size = folder, 0
-        unlink(".part", folder)
-        self.fd, self.name = new_file(folder, ".part")
+    size = 0
 
     def write(self, data):
         write_all(self.fd, data)
         self.size += len(data)
-
-    def keep(self, name, replace=True):
-        """Gives the file its name, in the place of a former one; without `replace` a former one is a FileExistsError."""
-        os.fsync(self.fd)
-        first = self.name or ".linked" if replace else name
-        if not self.name:
-            if replace:
-                unlink(first, self.folder)
-            os.link("/proc/self/fd/%d" % self.fd, first, dst_dir_fd=self.folder)
-        elif not replace:
-            os.link(self.name, name, src_dir_fd=self.folder, dst_dir_fd=self.folder)
-        if replace:
-            os.rename(first, name, src_dir_fd=self.folder, dst_dir_fd=self.folder)
-            self.name = None
-
-    def close(self):
-        os.close(self.fd)
-        if self.name:
-            unlink(self.name, self.folder)
 
 
 class Place:
@@ -139,7 +117,7 @@ class Place:
         with closing(Part(self.fd)) as part, closed_after(open_regular(self.file(source))) as descriptor:
             copy_file(descriptor, part.fd)
             part.write(more)
-            part.keep(name, replace)
+            part.put(name, replace)
 
     def room(self, jobs):
         """The most bytes that this host may take now: with so many others at work, something is left for each of them."""

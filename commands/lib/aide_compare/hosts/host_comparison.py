@@ -148,7 +148,7 @@ def explain_host(place, given, comparison, jobs):
             with closing(Part(place.fd)) as part:
                 with open(os.dup(part.fd), "wb", BLOCK) as file:
                     file.writelines(_bounded(explained.lines(), min(MOST_LINES, place.room(jobs))))
-                part.keep("lines")
+                part.put("lines")
         return explained is not None
     except Fault as fault:
         comparison.reasons = None
@@ -161,7 +161,7 @@ def keep_lines(place, given, comparison, part, jobs):
     if given.reasons and comparison.differs and explain_host(place, given, comparison, jobs):
         return
     cut(part.fd, comparison.size, most_kept(place, given, jobs))
-    part.keep("lines")
+    part.put("lines")
 
 
 def stale_text(place, seconds):
@@ -193,7 +193,7 @@ def compare(place, given, jobs=1):
         told = told_of(comparison) + (state.error + "\n" if stale else "")
         with closing(Part(place.fd)) as part:
             part.write(told.encode("utf-8", "backslashreplace"))
-            part.keep("errors")
+            part.put("errors")
         place.write_state(state)
         return state
     except OSError as error:
