@@ -34,6 +34,8 @@ PLANTED = (
         "hosts_report.try_mail",
         (LIB + "commands/hosts_report.py", "in given.only_path:", "in given.only_path[:1]:"),
         (LIB + "commands/hosts_report.py", "else report.worst\n", "else False\n"),
+        (LIB + "commands/hosts_report.py", "report.text(given.color, command, BRIEF)", "report.text(given.color)"),
+        (LIB + "commands/hosts_report.py", '"%d more changes are left out. This command prints all:" % left_out, ', ""),
     )
     + seen_by(
         "hosts_page.try_removed",

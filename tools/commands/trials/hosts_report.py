@@ -129,9 +129,7 @@ def try_same(sandbox):
     )
     none = {"old": {}, "new": {}, "per_host": []}
     found = {(each["path"], each["hosts"]): {**none, **each} for each in changes}
-    folder, file, same, other = (
-        found.get(key, none) for key in (("/d", 4), ("/etc/p", 4), ("/usr/.x", 3), ("/usr/.x", 1))
-    )
+    folder, file, same, other = (found.get(key, none) for key in (("/d", 4), ("/etc/p", 4), ("/usr/.x", 3), ("/usr/.x", 1)))
     good = folder["per_host"] == ["Size"] and (folder["old"], folder["new"]) == ({"Perm": "0755"}, {"Perm": "0700"})
     sandbox.holds("a folder's size is its own", good, folder)
     good = file["per_host"] == ["Inode"] and not file["old"] and file["old_various"] == list(file["new"]) == ["Perm", "SHA256"]
@@ -165,6 +163,7 @@ def try_orders(sandbox):
     )
     for part in parts:
         sandbox.holds("the text has %r" % part, part in output, output)
+    sandbox.holds("a text that is brief as it is", hosts.report("--max-hosts", "2", "--brief")[1] == output, output)
     for words in (
         ["--max-hosts", "0"],
         ["--order", "x"],
@@ -281,6 +280,12 @@ def try_mail(sandbox):
     sandbox.holds("its bound", 10000 < len(mail) < 30 << 10, len(mail))
     listed, left = mail.count(b"\nadded on 2 of 4 hosts: File /n"), re.search(rb"cut: (\d+) more changes are left out", mail)
     sandbox.holds("what is left out", left and listed + int(left.group(1)) == 500, (listed, left and left.group()))
+    brief = hosts.report("--brief")[1]
+    listed, left = brief.count("\nadded on 2 of 4 hosts: File /n"), re.search(
+        r"\n(\d+) more changes .*\n    (.+) hosts report ", brief
+    )
+    good = left and 0 < listed == 500 - int(left.group(1)) and len(brief) < 5000
+    sandbox.holds("a brief text, and what it leaves out", good, (listed, brief[-300:]))
     command = mail.decode().rstrip("\n").split("\n")[-1].strip()
     done = subprocess.run(["sh", "-c", command], stdout=subprocess.PIPE, env=sandbox.environment())
     sandbox.holds("the command that prints all", done.stdout.count(b"\nadded on 2 of 4 hosts: File /n") == 500, command)

@@ -19,11 +19,11 @@ from aide_compare.lines.reader import bytes_of
 from aide_compare.show.reading import AGE
 
 NAME = "aide-compare hosts report"
-FORMATS = ("text", "json", "page")
+FORMATS = ("text", "brief", "json", "page")
 FORMAT = 2
 BLOCK = 1 << 18
 GREATEST = 10**12
-LEAST_MAIL = 16 << 10
+LEAST_MAIL, BRIEF = 16 << 10, 4 << 10
 
 
 def whole_command(given):
@@ -111,12 +111,16 @@ class HostsReport:
         self.body.seek(0)
         yield from iter(lambda: self.body.read(BLOCK), b"")
 
-    def text(self, choice=""):
-        """Yields the lines of the text, with severities in colours."""
-        from aide_compare.hosts.hosts_text import report_lines
+    def text(self, choice, command="", most=None):
+        """Yields the lines of the text, with severities in colours: all of them, or of at most so many bytes."""
+        from aide_compare.hosts.hosts_text import fitting, report_lines
         from aide_compare.show.colours import severity_in_colour
 
-        for line in report_lines(self.summary, self.hosts, self.changes()):
+        lines = report_lines(self.summary, self.hosts, self.changes())
+        if most:
+            lines, left_out = fitting(self.summary, self.hosts, self.changes(), most)
+            lines += ["%d more changes are left out. This command prints all:" % left_out, "    " + command] * bool(left_out)
+        for line in lines:
             yield (severity_in_colour(line, choice) + "\n").encode("utf-8", "backslashreplace")
 
     def page(self, command):
@@ -177,7 +181,9 @@ def options():
     parser.take("max-age", default=AGE, help="a host that was compared longer ago counts as not compared (26h; 0: no limit)")
     add("--time", type=duration, default=600, metavar="TIME", help="how long to wait for a run over a host (10m)")
     form = parser.add_mutually_exclusive_group()
-    form.add_argument("--format", choices=FORMATS, help="text (the default), json: one object a line, or page: for a browser")
+    what = "text (the default), brief: its beginning, json: one object a line, or page: for a browser"
+    form.add_argument("--format", choices=FORMATS, help=what)
+    form.add_argument("--brief", action="store_const", const="brief", dest="format", help="--format brief")
     add_sending(parser, form, help="mail the text, if a host differs or was not compared")
     parser.take("alarm", help="with --to or --quiet: unexplained: not if all changes are explained")
     parser.take("json", "page")
@@ -204,7 +210,12 @@ def main(arguments):
     report, command = HostsReport(names, given), shlex.join(whole_command(given))
     progress.done("the hosts are read")
     is_alarm = report.is_alarm if given.alarm == "unexplained" else report.worst
-    forms = {"text": lambda: report.text(given.color), "json": report.json, "page": lambda: report.page(command)}
+    forms = {
+        "text": lambda: report.text(given.color),
+        "brief": lambda: report.text(given.color, command, BRIEF),
+        "json": report.json,
+        "page": lambda: report.page(command),
+    }
     for name, output in outputs.items():
         output.commit_copy(kept(forms[name]()))
     if given.to:
