@@ -10,22 +10,26 @@ STATE, HINTS, MAIL, MESSAGE = (
 )
 STATUS = LIB + "commands/status.py"
 # The state says that a mail has told them before it is sent.
-TOLD_BEFORE = "        keep_told(alarm, state, kept)\n        send(way, alarm.message.held)\n"
+TOLD_BEFORE = "    keep_told(given, state, kept)\n    if message:\n        send(way, message)\n"
 
 PLANTED = seen_by(
     "columns.try_columns",
     (STATE, "for side in SIDES if self._names", "for side in SIDES[:1] if self._names"),
     (HINTS, "if len(sides) == 1 else", "if False else"),
-    (LIB + "show/occasion.py", '"skipped": done.skipped}', '"skipped": {}}'),
+    (LIB + "show/added.py", '"skipped": comparison.skipped}', '"skipped": {}}'),
     (LIB + "show/page_heading.py", ', *skipped(summary.get("skipped"))', ""),
     (HINTS, "shown(name, MOST_NAME)", "name.decode()[:MOST_NAME]"),
     (HINTS, "MOST_HEAD, MOST_NAME = 1 << 16", "MOST_HEAD, MOST_NAME = 1 << 20"),
     (HINTS, 're.split(b"[ \\t]+", spec)', "spec.split()"),
-    (MAIL, "        if self.unknown(state):\n            return False\n", ""),
-    (MAIL, "and name not in self.known]", "]"),
-    (MAIL, "self.known = given, Later(), None", "self.known = given, Later(), []"),
-    (MAIL, "    keep_told(alarm, state, kept)\n", ""),
-    (MAIL, "        send(way, alarm.message.held)\n    keep_told(alarm, state, kept)\n", TOLD_BEFORE),
+    (MAIL, "    if unknown_columns(given, state):\n        return False\n", ""),
+    (MAIL, "and name not in given.known]", "]"),
+    (
+        MAIL,
+        "        return None\n    try:\n        return read_state",
+        "        return []\n    try:\n        return read_state",
+    ),
+    (MAIL, "    keep_told(given, state, kept)\n", ""),
+    (MAIL, "    if message:\n        send(way, message)\n", TOLD_BEFORE),
     (MAIL, "if state.status > 7 or name in", "if name in"),
     (STATUS, """name.replace("\\\\", "\\\\\\\\").replace('"', '\\\\"')""", "name"),
     (STATUS, 'counts += " (%s)" % skipped if skipped else ""', "pass"),

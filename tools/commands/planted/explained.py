@@ -31,7 +31,7 @@ PLANTED = (
     + seen_by(
         RUNS % "try_no_reasons",
         (EXPLAINING, "    except Exception as error:", "    except ZeroDivisionError as error:"),
-        (EXPLAINING, "            self.write_nothing()\n            return None\n", "            return None\n"),
+        (EXPLAINING, "written(explained.lines() if explained else ())", "written(explained.lines())"),
     )
     + seen_by(
         RUNS % "try_records",
@@ -42,16 +42,16 @@ PLANTED = (
     + seen_by(
         RUNS % "try_lines",
         (
-            "commands/lib/aide_compare/show/occasion.py",
-            '{"left_out": {side: left_out.total for side, left_out in done.left_out.items()}, ',
-            "{",
+            "commands/lib/aide_compare/show/added.py",
+            'more = {"left_out": left_out, ',
+            "more = {",
         ),
         (EXPLAINING, "map(members_of, self.changes)", "map(members_of, self.changes[::-1])"),
     )
     + seen_by("attacks.try_fixed_reports", (COMPARISON, "options_in(settled) + texts.after", "texts.after"))
     + seen_by(
         RUNS % "try_outputs",
-        (RUN, "            self.wanted.write_nothing()\n        teller", "            pass\n        teller"),
+        (RUN, "            self.wanted.write(None)\n", "            pass\n"),
         (OUTPUTS, "flags != os.O_RDONLY and ", ""),
         (OUTPUTS, "PRIVATE = 0o600", "PRIVATE = 0o644"),
     )

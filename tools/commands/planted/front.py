@@ -23,7 +23,7 @@ PLANTED = (
         (LIB + "commands/accept.py", ":\n            tell(*_told", " or True:\n            tell(*_told"),
         (LIB + "commands/hosts_report.py", "(is_alarm or not given.quiet)", "not given.quiet"),
         (LIB + "commands/hosts_report.py", "    if len(on_stdout) + (given.format is not None) > 1:\n", "    if False:\n"),
-        (LIB + "show/colours.py", "if colour and are_wanted(choice) else line", "if colour else line"),
+        (LIB + "show/told.py", "if colour and are_wanted(choice) else line", "if colour else line"),
     )
     + seen_by("front.try_help", (FRONT, "(*HOSTS[word])(", '(*HOSTS["fetch"])('))
     + seen_by(

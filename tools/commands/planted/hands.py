@@ -42,11 +42,7 @@ PLANTED = (
         (CHECK, "defaults_for(CHECK, arguments) + ", ""),
         (MAIL, "parsed(own + runs + words), refusal", "parsed(own + words), refusal"),
         (MAIL, "parsed(own + runs + words), refusal", "parsed(runs + words), refusal"),
-        (
-            MAIL,
-            '    if not any(word.partition("=")[0] == "--state" for word in words[: end_of_options(words)]):',
-            "    if False:",
-        ),
+        (MAIL, 'if keeps or name != "--weekly"', "if True"),
         (MAIL, "without_state(given.words)", "given.words"),
         (MAIL, '"--format", "report", ', ""),
         (DEFAULTS, " if name in options]", "]"),
@@ -75,7 +71,7 @@ PLANTED = (
     + seen_by(
         "hands.try_lost_child",
         (HANDING, "        if not end_with(parent):\n", "        if False:\n"),
-        (RUN, "            self.wanted.write_nothing()\n        teller", "            pass\n        teller"),
+        (RUN, "            self.wanted.write(None)\n", "            pass\n"),
     )
     + seen_by(
         "own_user.try_own_user",

@@ -1,14 +1,13 @@
 """Bugs of aide-compare mail."""
 from .plant import seen_by
 
-MAIL, MESSAGE, CHANGES, SENDING, SMTP, CHILD, QUEUE, WEEKLY, HINTS, COMPARISON, FILES = (
+MAIL, MESSAGE, CHANGES, SENDING, CHILD, QUEUE, WEEKLY, HINTS, COMPARISON, FILES = (
     "commands/lib/aide_compare/%s.py" % name
     for name in (
         "commands/mail",
         "mail/message",
         "show/changes",
         "mail/sending",
-        "mail/smtp",
         "base/child",
         "mail/queue",
         "mail/weekly",
@@ -20,7 +19,7 @@ MAIL, MESSAGE, CHANGES, SENDING, SMTP, CHILD, QUEUE, WEEKLY, HINTS, COMPARISON, 
 PLANTED = (
     seen_by(
         "mail.try_queue",
-        (QUEUE, "            except OSError as error:\n", "            except FileNotFoundError as error:\n"),
+        (QUEUE, "with failing(", 'with __import__("contextlib").nullcontext('),
         (QUEUE, "                os.unlink(name, dir_fd=folder.fd)\n", ""),
         (QUEUE, "    if failed:\n        raise failed\n", ""),
         (QUEUE, " | os.O_NOFOLLOW | os.O_NONBLOCK", ""),
@@ -48,8 +47,12 @@ PLANTED = (
     )
     + seen_by(
         "mail.try_hostile",
-        (MESSAGE, 'shown_lines(data).encode("utf-8", "backslashreplace")', "data"),
-        (MESSAGE, "body = data if is_short else binascii.b2a_qp(data)", "body = data"),
+        (
+            MESSAGE,
+            'shown_lines(text).encode("utf-8", "backslashreplace")',
+            "text if isinstance(text, bytes) else text.encode()",
+        ),
+        (MESSAGE, '"quoted-printable", quopri.encodestring(data)', '"quoted-printable", data'),
     )
     + seen_by(
         "mail.try_texts",
@@ -59,19 +62,19 @@ PLANTED = (
             "    return 0 if given.alarm_sent_is_success else state.status\n",
             "    return state.status\n",
         ),
-        (MAIL, "        if comparison.status == Status.USAGE:", "        if False:"),
+        (MAIL, "    if comparison.status == Status.USAGE:", "    if False:"),
     )
     + seen_by(
         "mail.try_refusals",
         (MESSAGE, "if pair[0]))", "if True))"),
-        (SENDING, "    second = _refusal(way, shortened(message, why))\n", "    second = why\n"),
+        (SENDING, "    if _refusal(way, shortened(message, why)) is None:", "    if False:"),
         (
             SENDING,
-            '    raise Fault(\n        Status.DEVICE,\n        "cannot send the mail: %s%s"\n        % (why, "; the system log has a line at priority alert" if is_logged else "; there is no system log either"),\n',
-            '    return "cannot send the mail: %s%s" % (\n        why,\n        "; the system log has a line at priority alert" if is_logged else "; there is no system log either",\n',
+            '    raise Fault(Status.DEVICE, "cannot send the mail: %s; %s" % (why, log))\n',
+            '    return "cannot send the mail: %s; %s" % (why, log)\n',
         ),
-        (SENDING, "limit, given = time.monotonic() + self.seconds,", "limit, given = time.monotonic() + 60,"),
-        (SENDING, " if status else None\n", " if False else None\n"),
+        (SENDING, "status = process.wait(seconds)", "status = process.wait(60)"),
+        (SENDING, "    if status:\n", "    if False:\n"),
     )
     + seen_by(
         "mail.try_journal",
@@ -96,7 +99,7 @@ PLANTED = (
             "    except Exception as error:\n        return None, why_of(error)\n",
             "    except Fault as error:\n        return None, why_of(error)\n",
         ),
-        (MAIL, "            if room < 0:\n", "            if False:\n"),
+        (MESSAGE, "        if len(whole) > room:\n", "        if False:\n"),
     )
     + seen_by(
         "mail.try_room",
@@ -111,29 +114,37 @@ PLANTED = (
     + seen_by("smtp.try_killed", (CHILD, "        signal.setitimer(signal.ITIMER_REAL, seconds + 5)\n", ""))
     + seen_by(
         "smtp.try_servers",
-        (SMTP, 'whole.replace(b"\\n", b"\\r\\n"))', "whole)"),
-        (SMTP, '[each.strip() for each in to.split(",")]', "[to]"),
-        (SMTP, 'name.strip("[]")', "name"),
+        (SENDING, "send_message(mail, sender)", 'sendmail(sender, mail["To"].split(", "), mail.as_bytes())'),
+        (SENDING, "send_message(mail, sender)", 'send_message(mail, sender, mail["To"])'),
+        (SENDING, 'name.strip("[]")', "name"),
         (
-            SMTP,
-            "                connection.quit()\n",
-            '                pass\n            if connection.docmd("QUIT")[0] != 221:\n                raise OSError("no end")\n',
+            SENDING,
+            "            connection.quit()\n",
+            '            pass\n        if connection.docmd("QUIT")[0] != 221:\n            raise OSError("no end")\n',
         ),
         (
-            SMTP,
+            SENDING,
             "_no_longer_than(min(QUIT_SECONDS, (limit - time.monotonic()) / 2))",
             "connection.sock.settimeout(QUIT_SECONDS)",
         ),
     )
-    + seen_by("smtp.try_refusing_servers", (SMTP, "        if refused:  #", "        if None:  #"))
+    + seen_by("smtp.try_refusing_servers", (SENDING, "in refused.items())", "in ())"))
     + seen_by(
         "smtp.try_odd_servers",
-        (SMTP, "        _limit_memory(len(message))\n", ""),
-        (SMTP, "in_child(str(self.place), lambda: self._hand_over(message), self.seconds)", "self._hand_over(message)"),
+        (SENDING, "    _limit_memory(len(message))\n", ""),
+        (
+            SENDING,
+            "in_child(str(server), lambda: _hand_over(server, seconds, message), seconds)",
+            "_hand_over(server, seconds, message)",
+        ),
     )
-    + seen_by("smtp.try_places", (SMTP, "len(port) <= 5 and 0 < int(port) < 65536", "int(port) < 65536"))
+    + seen_by("smtp.try_places", (SENDING, "len(port) <= 5 and 0 < int(port) < 65536", "int(port) < 65536"))
     + seen_by(
         "mail.try_bounds",
-        (MESSAGE, "    if text and length <= room:\n", "    if text:\n"),
+        (
+            MESSAGE,
+            "map(clean, changes_text(reader_over(comparison.lines))), room)",
+            "map(clean, changes_text(reader_over(comparison.lines))), room + (1 << 30))",
+        ),
     )
 )

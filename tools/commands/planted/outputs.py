@@ -3,7 +3,7 @@ from .plant import seen_by
 
 LIB = "commands/lib/aide_compare/"
 RUN, EXPLAINING, OUTPUTS = LIB + "commands/compare.py", LIB + "show/explained.py", LIB + "compare/outputs.py"
-COLOURS, PROGRESS = LIB + "show/colours.py", LIB + "base/progress.py"
+COLOURS, PROGRESS = LIB + "show/told.py", LIB + "base/progress.py"
 
 PLANTED = (
     seen_by(
@@ -16,27 +16,32 @@ PLANTED = (
         ),
         (RUN, "len(taken) + (given.format is not None) > 1", "len(taken) > 1"),
         (EXPLAINING, "page(reader_over(lines), None, is_plain=False)", "page(reader_over(lines), None, is_plain=True)"),
-        (EXPLAINING, "for output in (self.lines, self.page):", "for output in (self.lines,):"),
+        (
+            EXPLAINING,
+            "        if self.page:\n            if explained:",
+            "        if self.page and explained:\n            if explained:",
+        ),
     )
     + seen_by(
         "explained.try_forms",
         (EXPLAINING, "(comparison.counts or ()) <= MOST_WEIGHED", "(comparison.counts or ()) < MOST_WEIGHED"),
         (EXPLAINING, "(comparison.counts or ()) <= MOST_WEIGHED", "(comparison.counts or ()) >= 0"),
         (EXPLAINING, "self.explainer.judge if sources else self.explainer.weigh", "self.explainer.judge"),
-        (RUN, "(self.form and not comparison.differs)", "False"),
+        (RUN, "report = comparison.report() if form and", 'report = comparison.report() if form == "report" and'),
         (
             LIB + "reasons/entry_words.py",
             'TIMES_IN_ORDER = ("mtime", "ctime", "atime")',
             'TIMES_IN_ORDER = ("ctime", "atime")',
         ),
-        (RUN, "(lambda text: None) if given.quiet else say", "say"),
+        (RUN, "tell(comparison, given.quiet)", "tell(comparison)"),
+        (RUN, "SIDES if comparison.differs and not given.quiet else ()", "SIDES if comparison.differs else ()"),
         (RUN, "None if taken or given.quiet else", "None if taken else"),
     )
     + seen_by(
         "terminal.try_terminal",
         (RUN, "os.isatty(1) and not given.after", "os.isatty(1)"),
         (RUN, "os.isatty(1) and not given.after", "False"),
-        (RUN, "guarded(whole)", "whole"),
+        (RUN, "whole = guarded(shlex.join(", "whole = str(shlex.join("),
         (COLOURS, 'return choice == "always"', "return True"),
         (COLOURS, ' and not os.environ.get("NO_COLOR")', ""),
         (
@@ -59,5 +64,5 @@ PLANTED = (
         (PROGRESS, " and time.monotonic() >= _due", ""),
         (RUN, "    if not given.quiet:\n        progress", "    if True:\n        progress"),
     )
-    + seen_by("explained.try_no_reasons", (RUN, "            elif comparison.status <= 7:\n", "            elif False:\n"))
+    + seen_by("explained.try_no_reasons", (RUN, "            elif report is not None and", "            elif False and"))
 )

@@ -1,7 +1,7 @@
 """Bugs of aide-compare: the configuration, the program that it runs, the answer, and what it says."""
 from .plant import seen_by
 
-CONFIGURATION, HINTS, PROGRAM, COMPARISON, RUN, FILES, FOLDERS, UNPACK, TIMES, OPTIONS, CHILD = (
+CONFIGURATION, HINTS, PROGRAM, COMPARISON, RUN, FILES, FOLDERS, UNPACK, TIMES, OPTIONS, CHILD, TOLD = (
     "commands/lib/aide_compare/%s.py" % name
     for name in (
         "compare/configuration",
@@ -15,6 +15,7 @@ CONFIGURATION, HINTS, PROGRAM, COMPARISON, RUN, FILES, FOLDERS, UNPACK, TIMES, O
         "base/times",
         "base/options",
         "base/child",
+        "show/told",
     )
 )
 # The state is emptied to find out whether it can be written; or it is written in its place and not in one step.
@@ -70,7 +71,7 @@ PLANTED = (
             "        return Status.OK\n",
         ),
         (COMPARISON, "(head.startswith(HEADS[status > 0]) or not head and not status)", "True"),
-        (RUN, 'shown_lines(comparison.errors).encode("utf-8", "backslashreplace")', "comparison.errors"),
+        (TOLD, "shown_lines(comparison.errors)", 'comparison.errors.decode("latin-1")'),
     )
     + seen_by(
         "faults.try_lines_program",
@@ -87,8 +88,8 @@ PLANTED = (
         ),
         (
             RUN,
-            '            raise Fault(Status.DEVICE, "cannot write the report: %s" % reason(error))\n',
-            "            pass\n",
+            'with failing("cannot write the report"):',
+            'with __import__("contextlib").suppress(OSError):',
         ),
     )
     + seen_by("faults.try_signals", (CHILD, "                if end_with(parent):\n", "                if True:\n"))
@@ -96,7 +97,7 @@ PLANTED = (
     + seen_by("age.try_old_files", (COMPARISON, "            check_age(opened[1], self.request.max_age)\n", ""))
     + seen_by(
         "run.try_runs",
-        (RUN, "explains or reads_lines or given.state is not None", "True"),
+        (RUN, "lines=given.state is not None", "lines=True"),
     )
     + seen_by("attacks.try_user", (RUN, "    if given.user:\n", "    if False:\n"))
     + seen_by(
@@ -107,7 +108,7 @@ PLANTED = (
             "        if state and not comparison.fault:\n            self.state.commit(state.text())\n",
         ),
     )
-    + seen_by("run.try_names", (RUN, "        if comparison.differs:\n", "        if False:\n"))
+    + seen_by("run.try_names", (RUN, "SIDES if comparison.differs and not", "SIDES if comparison.fault and not"))
     + seen_by(
         "attacks.try_devices",
         (
@@ -200,9 +201,9 @@ PLANTED = (
     + seen_by(
         "faults.try_closed_errors",
         (
-            RUN,
-            "        except OSError:\n            pass\n        for hint in comparison.hints:\n",
-            "        except BlockingIOError:\n            pass\n        for hint in comparison.hints:\n",
+            TOLD,
+            "    with suppress(OSError):\n",
+            "    with suppress(BlockingIOError):\n",
         ),
     )
     + seen_by(
@@ -216,9 +217,9 @@ PLANTED = (
     + seen_by(
         "run.try_reports",
         (
-            RUN,
-            "            write_all(2, shown_lines(comparison.errors)",
-            "            comparison.status > 7 and write_all(2, shown_lines(comparison.errors)",
+            TOLD,
+            "lines += [] if is_quiet else",
+            "lines += [] if comparison.status <= 7 else",
         ),
     )
     + seen_by(

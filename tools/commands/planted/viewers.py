@@ -150,9 +150,9 @@ PLANTED = (
         "viewers.try_occasion",
         (LIB + "lines/decoded.py", 'fields.get("summary", "")[:1] == "!"', "False"),
         (LIB + "lines/decoded.py", "        del old[label], new[label]\n", "        pass\n"),
-        (LIB + "show/occasion.py", "os.fsencode(getattr(done, side))", 'b""'),
-        (LIB + "show/occasion.py", "{name: value, **{key", '{"path": "", **{key'),
-        (LIB + "show/occasion.py", "copies[side].sha256 if copies", "'' if copies"),
+        (LIB + "show/added.py", "os.fsencode(getattr(comparison, side))", 'b""'),
+        (LIB + "show/added.py", "{name: value, **{key", '{"path": "", **{key'),
+        (LIB + "show/added.py", "copies[side].sha256 if copies", "'' if copies"),
         (LIB + "commands/streams.py", "comparison))\n    return comparison.status\n", "comparison))\n    return Status.OK\n"),
     )
     + seen_by(

@@ -91,7 +91,7 @@ def try_no_mailer(sandbox):
         text = file.read()
     for old, new in (
         ('"/dev/log", "/run/', '"%s", "/no/' % sandbox.path("log")),
-        ("    beside = [", "    return None\n    beside = ["),
+        ("in (*beside, *MAILERS):", "in ():"),
     ):
         sandbox.holds("a text of sending", old in text, old)
         text = text.replace(old, new)

@@ -15,7 +15,7 @@ from .sandbox import END, HEAD
 
 NO_PROCESS = """import os, sys
 sys.path.insert(0, sys.argv[1])
-from aide_compare.mail import sending, smtp
+from aide_compare.mail import sending
 sending.LOG, way = sys.argv[2], eval(sys.argv[3])
 def refused():
     raise OSError(24, "Too many open files")
@@ -171,7 +171,7 @@ def try_killed(sandbox):
 def try_no_process(sandbox):
     """A machine that has no process left for the mail: the system log has a line all the same."""
     prepare(sandbox)
-    for way in ("smtp.Smtp(smtp.Server('127.0.0.1', 1), 5)", "sending.Sendmail('/bin/true')"):
+    for way in ("sending.way_out(sending.Server('127.0.0.1', 1), 5)", "sending.way_out(None, 5)"):
         with socket.socket(socket.AF_UNIX, socket.SOCK_DGRAM) as log:
             log.bind(sandbox.path("log"))
             log.settimeout(5)

@@ -9,7 +9,6 @@ from tools.lib.tally import lines_program_of
 
 from aide_compare.lines.reader import Reader
 from aide_compare.show.added import Adding, added_lines
-from aide_compare.show.occasion import Occasion
 from aide_compare.show.page import page
 
 
@@ -33,7 +32,7 @@ def proved_lines(program, configuration):
 
 def objects_of(text):
     """The objects of proved lines, as aide-compare json writes them."""
-    lines = added_lines(Reader(io.BytesIO(text)), Occasion(), Adding(full=False))
+    lines = added_lines(Reader(io.BytesIO(text)), None, Adding(full=False))
     return [json.loads(line) for line in lines]
 
 

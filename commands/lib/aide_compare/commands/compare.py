@@ -4,17 +4,17 @@ import shlex
 
 from aide_compare.base import progress
 from aide_compare.base.defaults import RUN, defaults_for, place_of
-from aide_compare.base.ending import Fault, Status, reason, say, write_all
-from aide_compare.base.escapes import guarded, shown, shown_lines
+from aide_compare.base.ending import Fault, Status, failing, say, write_all
+from aide_compare.base.escapes import guarded, shown
 from aide_compare.base.files import Replacement, copy_file
 from aide_compare.base.names import SIDES
 from aide_compare.base.options import EVIDENCE, Parser, named_evidence, some_text
 from aide_compare.base.rights import give_up
 from aide_compare.base.times import date_of
 from aide_compare.compare.comparison import Comparison, Request
-from aide_compare.compare.exclusions import Exclusions, read_exclusions
+from aide_compare.compare.exclusions import read_exclusions
 from aide_compare.compare.outputs import Handed, Handing
-from aide_compare.show.colours import are_wanted, coloured
+from aide_compare.show.told import are_wanted, coloured, tell
 
 DESCRIPTION = "Compares two AIDE databases, plain or compressed by gzip. The report goes to standard output."
 TRY = "try: aide-compare compare --help"
@@ -47,24 +47,43 @@ def parser():
     return made
 
 
-def exclusions_of(given):
-    """What --exclude-from and --exclude leave out, or None. Without --exclude-from it is what the administrator's file names."""
+def request_of(given, databases, **more):
+    """What options ask for that compare two databases: these, or without names those of the configuration."""
+    old, new = databases or (None, None)
+    if old == new == "-":
+        raise Fault(Status.USAGE, "standard input has one database only")
+    texts = {name: getattr(given, name) for name in ("before", "after", "max_size")}
+    return Request(old=old, new=new, configuration=given.config, **texts, **more)
+
+
+def _exclusions(given):
+    """What --exclude-from and --exclude leave out. Without --exclude-from it is what the administrator's file names."""
     usual = None if given.exclude_from or given.no_defaults else place_of("without")
-    files = [usual] if usual else given.exclude_from
-    return Exclusions(read_exclusions(files, given.exclude)) if files or given.exclude else None
+    return read_exclusions([usual] if usual else given.exclude_from, given.exclude)
 
 
 class Task:
-    """A comparison as the options ask for it, and what is written of it. `given` are the options.
-    `reads_lines`: whoever is told of the comparison reads its lines. `makes_page`: he makes a page of them. `weighs`: he wants
-    what people read first."""
+    """A comparison as the options ask for it, and what is written of it. `given` are the options. `lines`: whoever is told of
+    the comparison reads its lines. `explains`: all of them, as a page has them. `weighs`: he wants what people read first."""
 
-    def __init__(self, given, reads_lines=False, makes_page=False, weighs=False):
+    def __init__(self, given, lines=True, explains=False, weighs=False):
         if named_evidence(given) and not given.reasons:
             raise Fault(Status.USAGE, "%s needs --reasons" % named_evidence(given), TRY)
-        self.handing = Handing(os.geteuid() == 0 and not given.user)
-        explains = bool(given.reasons or given.json or given.page or makes_page or weighs)
-        self.request, self.wanted = self._request(given, explains or reads_lines or given.state is not None), None
+        if len(given.databases) not in (0, 2):
+            few = "name both databases, OLD and NEW, or none"
+            many = "more than two databases: %s" % shown(given.databases[-1], 200)
+            raise Fault(Status.USAGE, few if len(given.databases) < 2 else many, TRY)
+        self.handing, self.wanted = Handing(os.geteuid() == 0 and not given.user), None
+        explains = bool(explains or weighs or given.reasons or given.json or given.page)
+        self.request = request_of(
+            given,
+            given.databases,
+            max_age=given.max_age,
+            max_report=given.max_report,
+            lines=lines or explains,
+            exclusions=_exclusions(given),
+            handing=self.handing,
+        )
         if explains:
             # The modules for it are more than all others together.
             from aide_compare.show.explained import Wanted
@@ -76,38 +95,18 @@ class Task:
         """Whether this process compares for its parent, with the rights of another user."""
         return self.handing.owner is not None
 
-    def _request(self, given, lines):
-        if len(given.databases) not in (0, 2):
-            few = "name both databases, OLD and NEW, or none"
-            many = "more than two databases: %s" % shown(given.databases[-1] if given.databases else "", 200)
-            raise Fault(Status.USAGE, few if len(given.databases) < 2 else many, TRY)
-        old, new = given.databases or (None, None)
-        if old == new == "-":
-            raise Fault(Status.USAGE, "standard input has one database only", TRY)
-        return Request(
-            old=old,
-            new=new,
-            configuration=given.config,
-            before=given.before,
-            after=given.after,
-            max_size=given.max_size,
-            max_age=given.max_age,
-            max_report=given.max_report,
-            lines=lines,
-            exclusions=exclusions_of(given),
-            handing=self.handing,
-        )
-
-    def carry_out(self, teller):
-        """Compares, explains, and writes what is wanted. The teller is told of the Comparison before that, of what was found
-        out then, and of all at the end. Returns the status, and the State if one is written."""
+    def carry_out(self, told, printed=lambda *_: None):
+        """Compares, explains, and writes what is wanted. Of the Comparison and of what explains it, None without that, first
+        comes what is `printed`: if it cannot be, nothing was compared; and when the state is written all is `told`. Returns
+        the status, and the State if one is written."""
         comparison, explained = Comparison(self.request), None
         try:
             comparison.run()
-            teller.begin(comparison)
             if self.wanted and comparison.status <= 7:
                 explained = self.wanted.explain(comparison)
-            teller.go_on(comparison, explained)
+            printed(comparison, explained)
+            if self.wanted and comparison.status <= 7:
+                self.wanted.write(explained)
         except Handed as handed:
             try:
                 return self._put_in_place(handed)
@@ -121,8 +120,8 @@ class Task:
         if state:
             self.state.commit(state.text())
         if self.wanted and comparison.status > 7:
-            self.wanted.write_nothing()
-        teller.end(comparison, explained)
+            self.wanted.write(None)
+        told(comparison, explained)
         return comparison.status, state
 
     def _put_in_place(self, handed):
@@ -143,69 +142,6 @@ def format_of(given):
     return None if taken or given.quiet else given.format or ("brief" if is_read else "report")
 
 
-class Printer:
-    """Tells what came out on standard output and standard error. `form`: what standard output gets, None for nothing."""
-
-    def __init__(self, given, form, arguments):
-        self.form, self.note = form, (lambda text: None) if given.quiet else say
-        self.has_colours = are_wanted(given.color)
-        whole = shlex.join(["aide-compare", "--format", "report", *arguments])
-        self.more = "" if given.format else "\nThe whole report: %s\n" % guarded(whole)
-
-    def begin(self, comparison):
-        """Passes on what the program wrote, and what explains it."""
-        progress.clear()
-        # Of a run that failed its cause is enough.
-        for note in () if comparison.fault else comparison.notes:
-            self.note(note)
-        if self.form == "report" or (self.form and not comparison.differs):
-            self._print(comparison)
-        try:
-            write_all(2, shown_lines(comparison.errors).encode("utf-8", "backslashreplace"))
-        except OSError:
-            pass
-        for hint in comparison.hints:
-            say(hint)
-        if comparison.differs:
-            self._introduce(comparison)
-
-    def _print(self, comparison, explained=None):
-        """Prints the report, or what people read first of the changes."""
-        try:
-            text = explained.brief() if explained else b""
-            if text:
-                write_all(1, coloured(text) if self.has_colours else text)
-                write_all(1, self.more.encode("utf-8", "backslashreplace"))
-            elif comparison.status <= 7:
-                report = comparison.report()
-                if comparison.status <= 7:
-                    copy_file(report, 1)
-        except OSError as error:
-            raise Fault(Status.DEVICE, "cannot write the report: %s" % reason(error))
-
-    def _introduce(self, comparison):
-        """Says which databases differ: a report names only their descriptors."""
-        for side in SIDES:
-            copy = comparison.copies[side]
-            written = "" if copy.written is None else "written %s, " % date_of(int(copy.written))
-            self.note("%s database: %s, %sSHA-256 %s" % (side, shown(copy.name), written, copy.sha256))
-
-    def go_on(self, comparison, explained):
-        """What people read first comes when all is known of it."""
-        progress.end()
-        if self.form == "brief" and comparison.differs:
-            self._print(comparison, explained)
-
-    def end(self, comparison, _):
-        progress.end()
-        for doubt in comparison.doubts:
-            say(doubt)
-        if comparison.reasons:
-            self.note(comparison.reasons.said())
-        if comparison.fault:
-            raise comparison.fault
-
-
 def main(arguments):
     given = parser().parse(defaults_for(RUN, arguments) + arguments)
     if given.user:
@@ -213,4 +149,29 @@ def main(arguments):
     form = format_of(given)
     if not given.quiet:
         progress.begin(2)
-    return Task(given, weighs=form == "brief").carry_out(Printer(given, form, arguments))[0]
+
+    def printed(comparison, explained):
+        """The report, or what people read first of the changes."""
+        progress.end()
+        text = explained.brief() if explained and form == "brief" and comparison.differs else b""
+        report = comparison.report() if form and comparison.status <= 7 and not text else None
+        with failing("cannot write the report"):
+            if text:
+                write_all(1, coloured(text) if are_wanted(given.color) else text)
+                whole = guarded(shlex.join(["aide-compare", "--format", "report", *arguments]))
+                write_all(1, b"" if given.format else b"\nThe whole report: %s\n" % whole.encode("utf-8", "backslashreplace"))
+            elif report is not None and comparison.status <= 7:
+                copy_file(report, 1)
+
+    def told(comparison, _):
+        """All else. A report names only the descriptors of the databases."""
+        progress.end()
+        for side in SIDES if comparison.differs and not given.quiet else ():
+            copy = comparison.copies[side]
+            written = "" if copy.written is None else "written %s, " % date_of(int(copy.written))
+            say("%s database: %s, %sSHA-256 %s" % (side, shown(copy.name), written, copy.sha256))
+        tell(comparison, given.quiet)
+        if comparison.reasons and not given.quiet:
+            say(comparison.reasons.said())
+
+    return Task(given, lines=given.state is not None, weighs=form == "brief").carry_out(told, printed)[0]

@@ -13,7 +13,7 @@ from aide_compare.base.options import Parser, matching
 from aide_compare.hosts.fetching import add_fetching, fetch
 from aide_compare.hosts.fleet_store import Place, add_place, check_name, share_of
 from aide_compare.hosts.host_comparison import add_comparison, compare_or_say, exclusions_of
-from aide_compare.show.colours import RED, YELLOW, in_colour
+from aide_compare.show.told import RED, YELLOW, in_colour
 
 NAME = "aide-compare hosts compare"
 MOST_LIST = 16 << 20

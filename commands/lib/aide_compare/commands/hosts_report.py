@@ -114,7 +114,7 @@ class HostsReport:
     def text(self, choice, command="", most=None):
         """Yields the lines of the text, with severities in colours: all of them, or of at most so many bytes."""
         from aide_compare.hosts.hosts_text import fitting, report_lines
-        from aide_compare.show.colours import severity_in_colour
+        from aide_compare.show.told import severity_in_colour
 
         lines = report_lines(self.summary, self.hosts, self.changes())
         if most:

@@ -8,8 +8,8 @@ Status: that of aide-compare-compare(1) for two databases.
 Example: aide-compare json --full old.gz new.gz"""
 
 
-def _options():
-    from aide_compare.show.occasion import member
+def main(arguments):
+    from aide_compare.show.added import Adding, added_lines, full_members, member, members, summary_of
 
     parser = parser_of_changes(NAME, DESCRIPTION, EPILOG)
     forms = {"choices": ("lines", "aide"), "default": "lines"}
@@ -19,23 +19,16 @@ def _options():
     parser.value("with", "NAME=VALUE", member, "an additional member for each line, such as site=berlin", **several)
     parser.flag("names", "the names that this host has for numbers of users and groups, as texts")
     parser.flag("no-text", "only the exact values, without the texts for people")
-    return parser
-
-
-def main(arguments):
-    from aide_compare.show.added import Adding, added_lines
-    from aide_compare.show.occasion import Occasion, members
-
-    given = _options().parse(arguments)
+    given = parser.parse(arguments)
     more = members(given.members)
 
     def parts_of(reader, comparison):
-        occasion = Occasion(comparison)
         if given.format == "lines":
-            return added_lines(reader, occasion, Adding(not given.no_text, given.names, given.full, more))
+            return added_lines(reader, comparison, Adding(not given.no_text, given.names, given.full, more))
         from aide_compare.lines.json_aide import aide_parts
 
-        full = occasion.members(reader.summary) if given.full else {}
-        return aide_parts(reader, occasion.summary(reader.summary), {**full, **more}, occasion.ended)
+        summary, ended = reader.summary, comparison and comparison.time
+        full = full_members(summary, comparison) if given.full else {}
+        return aide_parts(reader, summary_of(summary, comparison), {**full, **more}, ended)
 
     return write_changes(given, parts_of)

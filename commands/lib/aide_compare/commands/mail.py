@@ -15,9 +15,8 @@ from aide_compare.compare.hints import hint_for_owner
 from aide_compare.compare.reason_counts import counted
 from aide_compare.compare.state import read_state
 from aide_compare.mail import weekly
-from aide_compare.mail.message import build, clean, host, is_explained, subject, text_of
-from aide_compare.mail.sending import SECONDS, alert, deliver, way_out
-from aide_compare.mail.smtp import server
+from aide_compare.mail.message import build, clean, host, is_explained, subject, text_of, within
+from aide_compare.mail.sending import SECONDS, alert, deliver, server, way_out
 from aide_compare.show.told import told_of
 
 NAME = "aide-compare mail"
@@ -60,81 +59,69 @@ def without_state(words):
     return state.parse_own(words)[1]
 
 
-class Alarm:
-    """Puts the mail together, if what came out is an alarm. `known` are the columns that mails have told, of those that are not
-    compared, as the state of the last run says; None if no state is kept that a next run can see."""
+def known_columns(given):
+    """The columns that mails have told, of those that are not compared, as the state of the last run says; None if no state is
+    kept that a next run can see."""
+    if not (given.run and given.run.state):
+        return None
+    try:
+        return read_state(given.run.state).told
+    except Fault:
+        return []
 
-    def __init__(self, given):
-        self.given, self.message, self.known = given, Later(), None
-        if given.run and given.run.state:
-            try:
-                self.known = read_state(given.run.state).told
-            except Fault:
-                self.known = []
 
-    def begin(self, *_):
-        """Nothing is told before all is known."""
+def unknown_columns(given, state):
+    """The columns that are not compared, and that no earlier mail can have told."""
+    return [name for name in state.skipped_names if given.known is not None and name not in given.known]
 
-    go_on = begin
 
-    def unknown(self, state):
-        """The columns that are not compared, and that no earlier mail can have told."""
-        return [name for name in state.skipped_names if self.known is not None and name not in self.known]
+def is_quiet(given, state):
+    """Whether a State is no alarm."""
+    if unknown_columns(given, state):
+        return False
+    return state.status == 0 or (given.alarm == "unexplained" and 1 <= state.status <= 7 and is_explained(state))
 
-    def is_quiet(self, state):
-        if self.unknown(state):
-            return False
-        return state.status == 0 or (self.given.alarm == "unexplained" and 1 <= state.status <= 7 and is_explained(state))
 
-    def end(self, comparison, explained):
-        state, told = comparison.state(), self._told(comparison)
-        if comparison.status == Status.USAGE:  # Who has typed it sees it at once.
-            write_all(2, told.encode("utf-8", "backslashreplace"))
-        if not self.is_quiet(state):
-            self.message.commit(self._message_of(comparison, state, told, explained))
-
-    def _told(self, comparison):
-        hints = hint_for_owner(comparison.fault.text) if comparison.fault else ()
-        return told_of(comparison) + "".join("%s: %s\n" % (NAME, hint) for hint in hints)
-
-    def _message_of(self, comparison, state, told, explained):
-        given, brief = self.given, explained.brief() if explained else b""
-        command = shlex.join([find_front(), "--format", "report", *without_state(given.words)])
-        text, page = text_of(comparison, told, brief, given.max_mail, command), None
-        if given.html and comparison.differs:
-            page, why = page_of(explained, given.max_mail)
-            text += clean(("\n%s: there is no page: %s\n" % (NAME, why)).encode()) if page is None else b""
-        if given.fault:
-            text += clean(("\n%s: %s\n" % (NAME, given.fault)).encode("utf-8", "surrogateescape"))
-        return build(given.to, subject(state, self.unknown(state)), text, page)
+def message_of(given, comparison, explained):
+    """The mail of a comparison; nothing if it is no alarm."""
+    state, page = comparison.state(), None
+    hints = hint_for_owner(comparison.fault.text) if comparison.fault else ()
+    told = told_of(comparison) + "".join("%s: %s\n" % (NAME, hint) for hint in hints)
+    if comparison.status == Status.USAGE:  # Who has typed it sees it at once.
+        write_all(2, told.encode("utf-8", "backslashreplace"))
+    if is_quiet(given, state):
+        return b""
+    command, notes = shlex.join([find_front(), "--format", "report", *without_state(given.words)]), [given.fault]
+    if given.html and comparison.differs:
+        page, why = page_of(explained, given.max_mail)
+        notes.insert(0, "there is no page: %s" % why if why else "")
+    text = text_of(comparison, told, explained.brief() if explained else b"", given.max_mail, command)
+    text += clean("".join("\n%s: %s\n" % (NAME, note) for note in notes if note))
+    return build(given.to, subject(state, unknown_columns(given, state)), text, page)
 
 
 def page_of(explained, most):
-    """The plain page of the changes, or None with the reason: an alarm is not lost if there can be no page."""
+    """The plain page of the changes, and None; or None and the reason: an alarm is not lost if there can be no page."""
     from aide_compare.lines.reader import reader_over
     from aide_compare.show.added import written
     from aide_compare.show.page import page
 
-    parts, room = [], most // 2
+    if explained is None or explained.size > most:
+        return None, "the changes are not known" if explained is None else "the changes are too many for one"
     try:
-        if explained is None or explained.size > most:
-            return None, "the changes are not known" if explained is None else "the changes are too many for one"
-        for part in page(reader_over(written(explained.lines())), "File changes on %s" % host(), is_plain=True):
-            parts.append(part)
-            room -= len(part)
-            if room < 0:
-                return None, "it would be larger than --max-mail"
+        parts = page(reader_over(written(explained.lines())), "File changes on %s" % host(), is_plain=True)
+        whole = within(parts, most // 2)
     except Exception as error:
         return None, why_of(error)
-    return b"".join(parts), None
+    return whole, "it would be larger than --max-mail" if whole is None else None
 
 
 def way_of(given):
     """The way of a mail; none leaves before that is there."""
     if given.queue:
-        from aide_compare.mail.queue import Queue
+        from aide_compare.mail.queue import way_in
 
-        return Queue(given.queue)
+        return way_in(given.queue)
     return way_out(given.smtp, given.mail_time)
 
 
@@ -145,7 +132,7 @@ def send(way, message):
 
 
 def simple(given, subject, text):
-    return build(given.to, "aide on %s: %s" % (host(), subject), clean(text.encode("utf-8", "surrogateescape")))
+    return build(given.to, "aide on %s: %s" % (host(), subject), clean(text))
 
 
 def quiet_text(runs, explained):
@@ -164,48 +151,48 @@ def be_quiet(given, way, state):
         weekly.count(given.run.state, given.weekly, explained, lambda *sums: send(way, simple(given, *quiet_text(*sums))))
 
 
-def compared(given, alarm):
-    """Compares, and lets the alarm put a mail together. Returns the State, and where it is kept. A child that compares with the
+def compared(given):
+    """Compares, and puts the mail together. Returns the State, where it is kept, and the mail. A child that compares with the
     rights of another user ends here: its parent sends what it has put together."""
     task = None
     try:
         if given.refusal:
             raise given.refusal
-        task = compare.Task(given.run, reads_lines=True, makes_page=given.html)
-        task.state, alarm.message = task.state or task.handing.later(), task.handing.later()
-        status, state = task.carry_out(alarm)
+        task = compare.Task(given.run, explains=given.html)
+        task.state, message = task.state or task.handing.later(), task.handing.later()
+        status, state = task.carry_out(lambda *found: message.commit(message_of(given, *found)))
     except (Fault, MemoryError, OSError) as error:
         if task and task.is_child():
             raise
         comparison = Comparison(Request(old="", new=""))
         comparison.end_by(error)
-        alarm.end(comparison, None)
-        return comparison.state(), Later()
+        return comparison.state(), Later(), message_of(given, comparison, None)
     if task.is_child():
         os._exit(status)
-    return state, task.state
+    return state, task.state, message.held
 
 
-def keep_told(alarm, state, kept):
+def keep_told(given, state, kept):
     """The state says which columns mails have told, now that this mail is on its way: one that is lost is no mail."""
-    told = [name for name in alarm.known or () if state.status > 7 or name in state.skipped_names] + alarm.unknown(state)
+    told = [name for name in given.known or () if state.status > 7 or name in state.skipped_names]
+    told += unknown_columns(given, state)
     if told:
         kept.commit(state.with_told(told).text())
 
 
 def compare_and_mail(given):
-    alarm = Alarm(given)
-    state, kept = compared(given, alarm)
+    given.known = known_columns(given)
+    state, kept, message = compared(given)
     try:
         way = way_of(given)
     except Fault as fault:
         alert("%s; %s" % (fault.text, subject(state) if state.status else "no difference"))
         raise Fault(fault.status, "%s; the comparison ended with status %d" % (fault.text, state.status))
-    if alarm.is_quiet(state):
-        be_quiet(given, way, state)
+    if message:
+        send(way, message)
     else:
-        send(way, alarm.message.held)
-    keep_told(alarm, state, kept)
+        be_quiet(given, way, state)
+    keep_told(given, state, kept)
     return 0 if given.alarm_sent_is_success else state.status
 
 
@@ -259,16 +246,14 @@ def parsed(words):
 
 def with_defaults(words):
     """The options with the administrator's defaults before them. A fault in the defaults costs no mail, and the mail says it."""
-    added, refusal = {True: [], False: []}, None
+    own, runs, refusal = [], [], None
+    # A command by hand keeps no number of quiet runs.
+    keeps = any(word.partition("=")[0] == "--state" for word in words[: end_of_options(words)])
     try:
-        for word in defaults_for({**RUN, **MAIL}, words):
-            added[word.partition("=")[0] in MAIL].append(word)
+        own = defaults_for({name: MAIL[name] for name in MAIL if keeps or name != "--weekly"}, words)
+        runs = defaults_for(RUN, words)
     except Fault as fault:
         refusal = fault
-    own, runs = added[True], added[False]
-    if not any(word.partition("=")[0] == "--state" for word in words[: end_of_options(words)]):
-        # A command by hand keeps no number of quiet runs.
-        own = [word for word in own if word.partition("=")[0] != "--weekly"]
     try:
         given, why = parsed(own + runs + words), refusal
     except Fault as fault:

@@ -21,12 +21,12 @@ def main(arguments):
         parser.error("no such filter: %s" % shown(fault, 100))
 
     def parts_of(reader, comparison):
-        from aide_compare.show.occasion import Occasion
+        from aide_compare.show.added import full_members, summary_of
         from aide_compare.show.page import page
 
         if comparison:
-            occasion = Occasion(comparison)
-            reader.summary = {**occasion.summary(reader.summary), **occasion.members(reader.summary)}
+            summary = reader.summary
+            reader.summary = {**summary_of(summary, comparison), **full_members(summary, comparison)}
         return page(reader, given.title, given.plain, given.only)
 
     return write_changes(given, parts_of)

@@ -12,7 +12,7 @@ from aide_compare.base.options import ALARMS, Parser, end_of_options
 from aide_compare.base.times import age_in_words, date_of
 from aide_compare.compare.reason_counts import GRADE_KEYS, GRADES
 from aide_compare.compare.state import KEYS, not_compared, read_state
-from aide_compare.show.colours import painted
+from aide_compare.show.told import painted
 from aide_compare.show.reading import AGE, STATE, Reading
 
 NAME, CHECK_NAME = "aide-compare status", "check_aide_compare"

@@ -2,7 +2,7 @@
 import os
 import stat
 
-from aide_compare.base.ending import Fault, Status, failing, write_all
+from aide_compare.base.ending import Fault, Status, failing
 from aide_compare.base.escapes import shown
 from aide_compare.base.files import Spool, open_regular
 from aide_compare.base.options import Parser, some_text
@@ -61,27 +61,6 @@ def write_whole(parts, target):
         target.write(block)
 
 
-def _compared(given):
-    """The Comparison of two databases, after whatever it says."""
-    from aide_compare.compare.comparison import Comparison, Request
-    from aide_compare.compare.exclusions import Exclusions, read_exclusions
-    from aide_compare.show.told import told_of
-
-    old, new = given.files
-    if old == new == "-":
-        raise Fault(Status.USAGE, "standard input has one database only")
-    names = {name: getattr(given, name) for name in ("before", "after", "max_size")}
-    left_out = Exclusions(read_exclusions(given.exclude_from, given.exclude)) if given.exclude_from or given.exclude else None
-    comparison = Comparison(Request(old=old, new=new, configuration=given.config, exclusions=left_out, **names)).run()
-    if comparison.fault:
-        raise comparison.fault
-    if comparison.status > 7 or not given.quiet:
-        write_all(2, told_of(comparison).encode("utf-8", "backslashreplace"))
-    if comparison.is_cut:
-        raise Fault(Status.DEVICE, "the changes have more than %d bytes" % comparison.request.max_report)
-    return comparison
-
-
 def write_changes(given, parts_of):
     """Writes `parts_of(reader, comparison)` of two databases, or of lines, without a comparison then. The status is that of the
     comparison, or 0."""
@@ -90,7 +69,16 @@ def write_changes(given, parts_of):
     if len(given.files) < 2:
         path = given.files[0] if given.files else "-"
         return convert(path, lambda source, target: write_whole(parts_of(Reader(source), None), target))
-    comparison = _compared(given)
+    from aide_compare.commands.compare import request_of
+    from aide_compare.compare.comparison import Comparison
+    from aide_compare.compare.exclusions import read_exclusions
+    from aide_compare.show.told import tell
+
+    left_out = read_exclusions(given.exclude_from, given.exclude)
+    comparison = Comparison(request_of(given, given.files, exclusions=left_out)).run()
+    tell(comparison, given.quiet)
+    if comparison.is_cut:
+        raise Fault(Status.DEVICE, "the changes have more than %d bytes" % comparison.request.max_report)
     if comparison.status <= 7:
         with failing("cannot read or write"), open(1, "wb", buffering=BLOCK, closefd=False) as target:
             target.writelines(parts_of(reader_over(comparison.lines), comparison))

@@ -42,13 +42,13 @@ def _exclusion(text, place):
 
 
 def read_exclusions(files, patterns):
-    """The Exclusions of --exclude-from FILE and of --exclude PATTERN, in the order of the command line. Empty lines of a file
-    and those that begin with # are passed over; blanks at the ends of a line do not count."""
+    """The Exclusions of --exclude-from FILE and of --exclude PATTERN, in the order of the command line; None without any. Empty
+    lines of a file and those that begin with # are passed over; blanks at the ends of a line do not count."""
     rules = [_exclusion(*line) for path in files for line in lines_of(path, "the file of --exclude-from")]
     rules += [_exclusion(os.fsencode(text), "--exclude") for text in patterns]
     if len(rules) > MOST_LINES:
         raise Fault(Status.USAGE, "more than %d lines leave entries out" % MOST_LINES)
-    return rules
+    return Exclusions(rules) if files or patterns else None
 
 
 class Exclusions(Table):

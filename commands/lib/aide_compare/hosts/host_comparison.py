@@ -11,7 +11,7 @@ from aide_compare.base.ending import Fault, Status
 from aide_compare.base.names import SIDES
 from aide_compare.base.options import duration
 from aide_compare.compare.comparison import Comparison, Request
-from aide_compare.compare.exclusions import Exclusions, read_exclusions
+from aide_compare.compare.exclusions import read_exclusions
 from aide_compare.compare.state import State
 from aide_compare.compare.unpack import copy_database
 from aide_compare.hosts.fetching import RECORDS as NEWEST
@@ -54,7 +54,7 @@ def exclusions_of(given):
     unused = [name for name in VALUES if getattr(given, name) and not given.reasons]
     if unused:
         raise Fault(Status.USAGE, "--%s needs --reasons" % unused[0])
-    return Exclusions(read_exclusions(given.exclude_from, given.exclude)) if given.exclude_from or given.exclude else None
+    return read_exclusions(given.exclude_from, given.exclude)
 
 
 def limit(place, seconds, deadline):

@@ -1,9 +1,10 @@
 """The mails of aide-compare mail: built from changes and error lines, and never larger than allowed.
 
-The text is written by the rules of RFC 5322 and MIME. The package email of the standard library takes 60 ms to load and adds
-nothing here: each header is ASCII of our own, and the text is one part.
+The text is written by the rules of RFC 5322 and MIME. The package email of the standard library takes 60 ms to load, fails
+over odd addresses, and adds nothing here: each header is ASCII of our own.
 """
 import os
+import quopri
 import re
 import shlex
 import time
@@ -44,19 +45,14 @@ def opening(state):
     """The first lines of a mail: which databases, when each was written, and the command that accepts what was read."""
     if not (state.old_sha256 and state.new_sha256):
         return ""
-    lines = [
-        "%s database: %s%s" % (side, name, "" if written is None else ", written %s" % date_of(written))
-        for side, name, written in (("Old", state.old, state.old_written), ("New", state.new, state.new_written))
-    ]
+    text = ""
+    for side, name, written in (("Old", state.old, state.old_written), ("New", state.new, state.new_written)):
+        text += "%s database: %s%s\n" % (side, name, "" if written is None else ", written %s" % date_of(written))
     if "\\" in state.old + state.new:  # An escaped name is not the name, so no command is given that could mean another file.
-        lines.append("To accept what is reported here: aide-compare accept --sha256 %s NEW BASELINE" % state.new_sha256)
-    else:
-        names = [shlex.quote(os.path.abspath(name)) for name in (state.new, state.old)]
-        lines += [
-            "To accept what is reported here, and nothing else:",
-            "    aide-compare accept --sha256 %s %s %s" % (state.new_sha256, *names),
-        ]
-    return "\n".join(lines) + "\n\n"
+        return text + "To accept what is reported here: aide-compare accept --sha256 %s NEW BASELINE\n\n" % state.new_sha256
+    names = [shlex.quote(os.path.abspath(name)) for name in (state.new, state.old)]
+    accept = "aide-compare accept --sha256 %s %s %s" % (state.new_sha256, *names)
+    return text + "To accept what is reported here, and nothing else:\n    %s\n\n" % accept
 
 
 def beginning(brief, most):
@@ -67,17 +63,22 @@ def beginning(brief, most):
     return text[: text.rfind(b"\n", 0, most) + 1] + b"  ... (the list below has more)\n\n"
 
 
+def within(parts, room):
+    """The parts as one, or None if they have more than so many bytes."""
+    whole = bytearray()
+    for each in parts:
+        whole += each
+        if len(whole) > room:
+            return None
+    return bytes(whole)
+
+
 def _changes(comparison, room, command):
     """The text of the changes: whole if it has room, and otherwise the first paths."""
-    text, length = [], 0
-    for part in changes_text(reader_over(comparison.lines)) if not comparison.is_cut else ():
-        text.append(clean(part.encode("utf-8", "backslashreplace")))
-        length += len(text[-1])
-        if length > room:
-            break
-    if text and length <= room:
-        return b"".join(text)
-    return clean(cut_text(reader_over(comparison.lines), room - room // 4, command).encode("utf-8", "backslashreplace"))
+    text = None
+    if not comparison.is_cut:
+        text = within(map(clean, changes_text(reader_over(comparison.lines))), room)
+    return text or clean(cut_text(reader_over(comparison.lines), room - room // 4, command))
 
 
 def text_of(comparison, told, brief, most, command):
@@ -88,24 +89,21 @@ def text_of(comparison, told, brief, most, command):
         return clean(told + b"\n")
     first = beginning(brief, most // 2)
     text = _changes(comparison, most - most // 4 - len(first), command)
-    tail = clean(b"\n" + told + b"\n") if told else b""
-    return first + clean(opening(comparison.state()).encode("utf-8", "surrogateescape")) + text + tail
+    return first + clean(opening(comparison.state())) + text + (clean(b"\n" + told + b"\n") if told else b"")
 
 
-def clean(data):
-    return shown_lines(data).encode("utf-8", "backslashreplace")
+def clean(text):
+    """The bytes of lines for a mail, in which all bytes of others are escaped."""
+    return shown_lines(text).encode("utf-8", "backslashreplace")
 
 
 def part(data, kind="plain"):
     """The headers and the body of a part. Lines that are too long for mail need quoted-printable."""
-    import binascii
-
-    is_short = all(len(line) <= 990 for line in data.split(b"\n")) and b"\0" not in data and b"\r" not in data
-    body = data if is_short else binascii.b2a_qp(data)
-    return (
-        "Content-Type: text/%s; charset=utf-8\nContent-Transfer-Encoding: %s\n\n"
-        % (kind, "8bit" if is_short else "quoted-printable")
-    ).encode() + body
+    encoding = "8bit"
+    if b"\0" in data or b"\r" in data or any(len(line) > 990 for line in data.split(b"\n")):
+        encoding, data = "quoted-printable", quopri.encodestring(data)
+    head = "Content-Type: text/%s; charset=utf-8\nContent-Transfer-Encoding: %s\n\n" % (kind, encoding)
+    return head.encode() + data
 
 
 def build(address, subject, text, page=None):
@@ -115,20 +113,23 @@ def build(address, subject, text, page=None):
     if page is None:
         return head.encode() + part(text)
     mark = "aide-compare-" + os.urandom(16).hex()
-    head += 'Content-Type: multipart/alternative; boundary="%s"\n\n' % mark
-    between = ("\n--%s\n" % mark).encode()
-    return head.encode() + between[1:] + part(text) + between + part(page, "html") + ("\n--%s--\n" % mark).encode()
+    head += 'Content-Type: multipart/alternative; boundary="%s"\n' % mark
+    parts = (head.encode(), part(text), part(page, "html"))
+    return ("\n--%s\n" % mark).encode().join(parts) + ("\n--%s--\n" % mark).encode()
+
+
+def parsed(message):
+    """The Message that the bytes of a mail mean."""
+    import email
+
+    return email.message_from_bytes(message)
 
 
 def shortened(message, why):
     """A short mail in the place of one that was refused: its headers, its first lines, and the reason. It is made of the
     whole one, since that is all that a queue has."""
-    import email
-    import email.policy
-
-    whole = email.message_from_bytes(message, policy=email.policy.compat32)
+    whole = parsed(message)
     first = next((each for each in whole.walk() if each.get_content_type() == "text/plain"), whole)
     lines = (first.get_payload(decode=True) or b"").split(b"\n")[:25]
     reason = "The whole mail of %d bytes was refused: %s\nThe first lines of it:\n\n" % (len(message), why)
-    text = clean(reason.encode("utf-8", "surrogateescape") + b"\n".join(line[:300] for line in lines) + b"\n")
-    return build(str(whole["To"]), str(whole["Subject"]), text)
+    return build(whole["To"], whole["Subject"], clean(reason) + clean(b"\n".join(line[:300] for line in lines) + b"\n"))

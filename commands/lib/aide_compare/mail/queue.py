@@ -2,8 +2,9 @@
 import os
 import stat
 import time
+from functools import partial
 
-from aide_compare.base.ending import Fault, Status, reason
+from aide_compare.base.ending import Fault, Status, failing
 from aide_compare.base.escapes import shown
 from aide_compare.base.files import closed_after, open_folder, replace
 from aide_compare.mail.sending import alert, deliver
@@ -18,23 +19,18 @@ def names_in(folder):
         return sorted(name for name in os.listdir(listing) if name.endswith(".mail") and not name.startswith("."))
 
 
-class Queue:
-    """A way for messages, as Sendmail is: the message is kept for the second unit."""
+def way_in(path):
+    """A way for messages, as those of sending.py are: the message is kept for the second unit."""
+    with open_folder(path, make=True) as folder:
+        if len(names_in(folder)) >= MOST_WAITING:
+            alert("%d mails wait in %s: none can be sent" % (MOST_WAITING, path))
+            raise Fault(Status.DEVICE, "%d mails wait already in %s: none is sent" % (MOST_WAITING, shown(path)))
+    return partial(_keep, path)
 
-    def __init__(self, path):
-        self.path = path
-        with open_folder(path, make=True) as folder:
-            if len(names_in(folder)) >= MOST_WAITING:
-                alert("%d mails wait in %s: none can be sent" % (MOST_WAITING, path))
-                raise Fault(Status.DEVICE, "%d mails wait already in %s: none is sent" % (MOST_WAITING, shown(path)))
 
-    def send(self, message):
-        try:
-            name = "%020d-%d.mail" % (time.time_ns(), os.getpid())
-            replace(os.path.join(self.path, name), message, 0o600, "the mail that waits")
-        except Fault as fault:
-            return fault.text
-        return None
+def _keep(path, message):
+    name = "%020d-%d.mail" % (time.time_ns(), os.getpid())
+    replace(os.path.join(path, name), message, 0o600, "the mail that waits")
 
 
 def _read(folder, name):
@@ -53,11 +49,10 @@ def send_all(path, way):
     with open_folder(path, make=True) as folder:
         for name in names_in(folder):
             try:
-                deliver(way, _read(folder, name))
-                os.unlink(name, dir_fd=folder.fd)
+                with failing("cannot send or remove the mail %s" % shown(name)):
+                    deliver(way, _read(folder, name))
+                    os.unlink(name, dir_fd=folder.fd)
             except Fault as fault:
                 failed = fault
-            except OSError as error:
-                failed = Fault(Status.DEVICE, "cannot send or remove the mail %s: %s" % (shown(name), reason(error)))
     if failed:
         raise failed

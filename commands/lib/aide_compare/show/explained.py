@@ -5,10 +5,8 @@ import os
 from aide_compare.base import progress
 from aide_compare.base.ending import Fault, Status, why_of
 from aide_compare.base.escapes import shown
-from aide_compare.base.files import nameless
 from aide_compare.compare.outputs import Output
 from aide_compare.show.added import Adding, added_lines, written
-from aide_compare.show.occasion import Occasion
 from aide_compare.lines.reader import Refused, reader_over
 from aide_compare.reasons.explainer import Evidence, Explainer, evidence_of, members_of
 from aide_compare.reasons.kept_records import SUFFIX, mismatch
@@ -67,29 +65,21 @@ class Wanted:
         self.weighs = weighs
 
     def explain(self, comparison):
-        """Explains a comparison and writes what is wanted. Returns the Explained, None if the changes are not explained."""
-        weighs = self.weighs and sum(comparison.counts or ()) <= MOST_WEIGHED
-        explained = explain(comparison, self.sources, weighs)
-        if explained is None:
-            self.write_nothing()
-            return None
-        if self.lines or self.page:
-            self._write(written(explained.lines()))
-        return explained
+        """The Explained of a comparison; None if the changes are not explained."""
+        return explain(comparison, self.sources, self.weighs and sum(comparison.counts or ()) <= MOST_WEIGHED)
 
-    def _write(self, lines):
+    def write(self, explained):
+        """Writes what is wanted. Without an Explained both files are empty, so that nobody reads those of an earlier run."""
+        if self.lines or self.page:
+            lines = pages = written(explained.lines() if explained else ())
         if self.lines:
             self.lines.commit_copy(lines)
         if self.page:
-            from aide_compare.show.page import page
+            if explained:
+                from aide_compare.show.page import page
 
-            self.page.commit_copy(written(page(reader_over(lines), None, is_plain=False)))
-
-    def write_nothing(self):
-        """Without a comparison both files are empty, so that nobody reads those of an earlier one."""
-        for output in (self.lines, self.page):
-            if output:
-                output.commit_copy(nameless())
+                pages = written(page(reader_over(lines), None, is_plain=False))
+            self.page.commit_copy(pages)
 
 
 class Explained:
@@ -100,7 +90,7 @@ class Explained:
         if comparison.is_cut:
             most = comparison.request.max_report
             raise Refused(0, "its lines have more than %d bytes; --max-report allows more" % most)
-        self.descriptor, self.size, self.occasion = comparison.lines, comparison.size, Occasion(comparison)
+        self.comparison, self.descriptor, self.size = comparison, comparison.lines, comparison.size
         self.changes = self.counts = None
         if sources is None and not weighs:
             return
@@ -119,7 +109,7 @@ class Explained:
         """All lines, as aide-compare json --full and aide-compare reasons write them: the summary with the counts of the
         reasons, and each change with its reason, if they were looked for."""
         adding = Adding(reasons=self.counts._asdict(), members=map(members_of, self.changes)) if self.counts else Adding()
-        return added_lines(reader_over(self.descriptor), self.occasion, adding)
+        return added_lines(reader_over(self.descriptor), self.comparison, adding)
 
     def brief(self):
         """The bytes of what people read first; nothing if the changes were not looked at."""
