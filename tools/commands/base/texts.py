@@ -12,7 +12,8 @@ from aide_compare import VERSION
 from aide_compare.base import ending, escapes, options, times
 from aide_compare.compare import configuration, state
 from aide_compare.lines import attributes, reader
-from aide_compare.reasons import entries, entry_words
+from aide_compare.reasons import entries
+from aide_compare.show import brief
 
 ESCAPED = (
     (b"a b", "a b"),
@@ -112,7 +113,7 @@ def try_words(tally, _):
         ("changed with the times of before", (old, kept), "size 5 -> 6"),
         ("has other blocks", (moved, kept), "blocks"),
     ):
-        expect(tally, "what %s, and when" % label, entry_words.entry_words(*pair), want)
+        expect(tally, "what %s, and when" % label, brief.entry_words(*pair), want)
 
 
 def try_options(tally, _):

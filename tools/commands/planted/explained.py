@@ -6,7 +6,7 @@ EXPLAINING, BRIEF, WORDS, COUNTS, RUN, RECORDS, CHECK, MESSAGE, WEEKLY, COMPARIS
     for name in (
         "show/explained",
         "show/brief",
-        "reasons/entry_words",
+        "show/brief",
         "compare/reason_counts",
         "commands/compare",
         "reasons/kept_records",
@@ -15,7 +15,7 @@ EXPLAINING, BRIEF, WORDS, COUNTS, RUN, RECORDS, CHECK, MESSAGE, WEEKLY, COMPARIS
         "mail/weekly",
         "compare/comparison",
         "compare/outputs",
-        "show/listing",
+        "show/brief",
     )
 )
 RUNS, READERS = "explained.%s", "explained_readers.%s"

@@ -3,7 +3,7 @@ from .plant import seen_by
 
 LISTING, CHANGES, EXPLAINER, DATABASES, ENTRIES = (
     "commands/lib/aide_compare/%s.py" % name
-    for name in ("show/listing", "show/changes", "reasons/explainer", "reasons/by_databases", "reasons/entries")
+    for name in ("show/brief", "show/changes", "reasons/explainer", "reasons/by_databases", "reasons/entries")
 )
 PLANTED = (
     seen_by(
@@ -45,7 +45,7 @@ PLANTED = (
         "floods.try_flooded_mail",
         (LISTING, "ROOMS = (200, 100, 100)", "ROOMS = (200, 100, 10000)"),
         (LISTING, '(("owner", change.owner), OWNER_SHARE)', '(("owner", change.owner), 10**6)'),
-        (LISTING, "most_frequent(self.counts, MOST_FOLDERS)", "[], []"),
+        (LISTING, "most_frequent(counts, MOST_FOLDERS)", "[], []"),
     )
     + seen_by(
         "floods.try_cut_lists",

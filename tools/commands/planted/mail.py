@@ -47,11 +47,6 @@ PLANTED = (
     )
     + seen_by(
         "mail.try_hostile",
-        (
-            MESSAGE,
-            'shown_lines(text).encode("utf-8", "backslashreplace")',
-            "text if isinstance(text, bytes) else text.encode()",
-        ),
         (MESSAGE, '"quoted-printable", quopri.encodestring(data)', '"quoted-printable", data'),
     )
     + seen_by(

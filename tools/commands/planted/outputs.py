@@ -29,7 +29,7 @@ PLANTED = (
         (EXPLAINING, "self.explainer.judge if sources else self.explainer.weigh", "self.explainer.judge"),
         (RUN, "report = comparison.report() if form and", 'report = comparison.report() if form == "report" and'),
         (
-            LIB + "reasons/entry_words.py",
+            LIB + "show/brief.py",
             'TIMES_IN_ORDER = ("mtime", "ctime", "atime")',
             'TIMES_IN_ORDER = ("ctime", "atime")',
         ),
@@ -50,7 +50,7 @@ PLANTED = (
             'SEVERITY, TITLE = re.compile("(high|medium) ", re.M)',
         ),
         (
-            LIB + "show/listing.py",
+            LIB + "show/brief.py",
             "path = shown(change.path, MOST_PATHS",
             'path = str(change.path, "latin-1")[:1000] or (MOST_PATHS',
         ),
