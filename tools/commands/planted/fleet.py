@@ -46,8 +46,12 @@ PLANTED = (
     + seen_by("fleet.try_accepting", (LIB + "commands/hosts.py", "required=True", "required=False"))
     + seen_by(
         "state.try_check_faults",
-        (LIB + "commands/status.py", "    except Fault as fault:\n        return answer(UNKNOWN, fault.text)\n", ""),
-        (LIB + "show/reading.py", "age < -AHEAD", "False"),
+        (
+            LIB + "commands/status.py",
+            "    except (Fault, MemoryError, OSError) as error:",
+            "    except (MemoryError, OSError) as error:",
+        ),
+        (LIB + "compare/state.py", "None if age < -AHEAD else max(age, 0)", "max(age, 0)"),
         (LIB + "commands/status.py", '.replace("|", "!")', ""),
     )
     + seen_by(
@@ -70,7 +74,7 @@ PLANTED = (
             "WARNING if state.status == 1 else CRITICAL",
             "WARNING if state.status & 1 else CRITICAL",
         ),
-        (LIB + "show/reading.py", "= max(age, 0), age", "= age, age"),
+        (LIB + "compare/state.py", "else max(age, 0)", "else age"),
     )
     + seen_by(
         "state.try_metrics",
@@ -80,7 +84,14 @@ PLANTED = (
             "name, name, value or 0) for name, words, value in values)",
         ),
     )
-    + seen_by("state.try_log", (LIB + "commands/status.py", " or reading.future:", ":"))
+    + seen_by(
+        "state.try_log",
+        (
+            LIB + "commands/status.py",
+            "state.age is None or state.age > most_age",
+            "state.age is not None and state.age > most_age",
+        ),
+    )
     + seen_by("state.try_rules", ("contrib/logcheck/aide-compare", " changed=0$", " changed=0"))
     + seen_by(
         "age.try_readers",

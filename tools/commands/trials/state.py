@@ -13,7 +13,7 @@ FORM = (
     "old_sha256=\nnew_sha256=%(digest)s\nold=/o\nnew=/n\nold_written=\nnew_written=\nerror=%(error)s\nlater=unknown\n"
 )
 NONE = {"status": 0, "added": 0, "removed": 0, "changed": 0, "error": "", "digest": "a" * 64}
-MODULES = ("commands/status", "show/reading", "compare/state")
+MODULES = ("commands/status", "compare/state")
 
 
 def try_readers(sandbox):

@@ -7,11 +7,10 @@ from aide_compare.base.rights import user_of
 from aide_compare.base.times import date_of
 from aide_compare.commands.accept_steps import MOST_BYTES, accept, digest_of_former, digits_of
 from aide_compare.compare.baseline import Baseline
-from aide_compare.compare.state import read_state
+from aide_compare.compare.state import DAILY, read_state
 from aide_compare.reasons.kept_records import Records
 
 NAME = "aide-compare accept"
-STATE = "/var/lib/aide-compare/daily/state"
 DESCRIPTION = (
     "Makes NEW the baseline, if the SHA-256 of its unpacked bytes is DIGEST. The former baseline is kept "
     "as BASELINE.previous."
@@ -85,7 +84,7 @@ def _parser():
     made = Parser(NAME, DESCRIPTION, "do not tell what was done", epilog=EPILOG)
     digest = "the SHA-256 in the report or mail that was read: 16 to 64 hexadecimal digits, or all of it in base64"
     made.value("sha256", "DIGEST", digits_of, digest)
-    made.take("state", help="tell the time and the counts of the comparison from this file (%s); it decides nothing" % STATE)
+    made.take("state", help="tell the time and the counts of the comparison from this file (%s); it decides nothing" % DAILY)
     made.take("max-size", default=MOST_BYTES, help="refuse a database that has more bytes unpacked (1024G)")
     made.take("keep-open")
     made.flag(
@@ -125,7 +124,7 @@ def main(arguments):
         return Status.OK
     state, unknown, (new, path) = None, "", given.files
     try:
-        state = read_state(given.state or STATE)
+        state = read_state(given.state or DAILY)
     except Fault as fault:
         if given.state:
             raise

@@ -12,11 +12,11 @@ from aide_compare.base.program import find_front
 from aide_compare.commands.hosts_compare import hosts_of
 from aide_compare.commands.mail import add_sending
 from aide_compare.compare.outputs import Output
+from aide_compare.compare.state import AGE
 from aide_compare.hosts.fleet_store import STORE, share_of
 from aide_compare.hosts.host_changes import ChangeLines, encoded, same_changes, standing_of
 from aide_compare.hosts.hosts_read import CUT, WHOLE, read_host
 from aide_compare.lines.reader import bytes_of
-from aide_compare.show.reading import AGE
 
 NAME = "aide-compare hosts report"
 FORMATS = ("text", "brief", "json", "page")

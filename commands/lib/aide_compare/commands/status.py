@@ -4,16 +4,15 @@ import json
 import os
 
 from aide_compare.base.defaults import CHECK, defaults_for
-from aide_compare.base.ending import Done, Fault, Status, reason, tell, write_all
+from aide_compare.base.ending import Done, Fault, Status, tell, why_of, write_all
 from aide_compare.base.escapes import guarded, shown
 from aide_compare.base.files import replace
 from aide_compare.base.names import SEVERITIES
 from aide_compare.base.options import ALARMS, Parser, end_of_options
 from aide_compare.base.times import age_in_words, date_of
 from aide_compare.compare.reason_counts import GRADE_KEYS, GRADES
-from aide_compare.compare.state import KEYS, not_compared, read_state
+from aide_compare.compare.state import AGE, DAILY, KEYS, not_compared, read_state
 from aide_compare.show.told import painted
-from aide_compare.show.reading import AGE, STATE, Reading
 
 NAME, CHECK_NAME = "aide-compare status", "check_aide_compare"
 MOST, MOST_OF_CHECK = 8000, 300
@@ -75,7 +74,7 @@ class Limit:
 def check_parser(made=None):
     """The options of the check."""
     made = made or Parser(CHECK_NAME, CHECK_DESCRIPTION, "changes nothing here", epilog=CHECK_EPILOG)
-    made.take("state", default=STATE, help="what aide-compare has written (%s)" % STATE)
+    made.take("state", default=DAILY, help="what aide-compare has written (%s)" % DAILY)
     made.take("max-age", default=AGE, help="an older result counts as no comparison, or is UNKNOWN (26h)")
     made.take("alarm", help="which changes count (differences: all)")
     made.value("warning", "LIMIT", Limit, "WARNING from this limit on")
@@ -97,13 +96,12 @@ def parser():
 def line_of(path, most_age):
     """The line. Its first two words say whether anybody has to read on."""
     try:
-        reading = Reading(path)
+        state = read_state(path)
     except Fault:
         return "no comparison: %s cannot be read, or is no state file of aide-compare" % shown(path)
-    state = reading.state
-    if reading.age > most_age or reading.future:
+    if state.age is None or state.age > most_age:
         return "no comparison: the last one ended at " + date_of(state.time)
-    counts = "status=%d added=%s removed=%s changed=%s" % ((state.status,) + reading.counts("?"))
+    counts = "status=%d added=%s removed=%s changed=%s" % (state.status, *(state.counts or ("?",) * 3))
     skipped = not_compared(state.skipped_names)
     counts += " (%s)" % skipped if skipped else ""
     if state.status == 0:
@@ -116,10 +114,8 @@ def line_of(path, most_age):
 
 def write_line(given):
     line = guarded(line_of(given.state, given.max_age))[:MOST]
-    if given.quiet and line.startswith("no difference:"):
-        return Status.OK
-    tell(painted(line, given.color))
-    return Status.OK
+    if not (given.quiet and line.startswith("no difference:")):
+        tell(painted(line, given.color))
 
 
 def write_json(given):
@@ -128,7 +124,6 @@ def write_json(given):
     skipped = {"skipped": state.skipped} if state.skipped else {}
     known = {**{key: getattr(state, key) for key in KEYS}, **state.more, **skipped}
     tell(json.dumps(known, sort_keys=True))
-    return Status.OK
 
 
 def metrics_of(state):
@@ -146,7 +141,6 @@ def write_metrics(given):
         write_all(1, text.encode())
     else:
         replace(given.output, text.encode(), what="the metrics")
-    return Status.OK
 
 
 def alarm_of(state, given):
@@ -161,17 +155,17 @@ def alarm_of(state, given):
     return OK
 
 
-def numbers_of(state, counts):
+def numbers_of(state):
     """The numbers of a comparison, for graphs."""
-    numbers = "added=%s removed=%s changed=%s " % counts
+    numbers = "added=%s removed=%s changed=%s " % (state.counts or ("U",) * 3)
     return numbers + ("%s " % state.reasons.line() if state.reasons else "")
 
 
-def text_of(state, counts):
+def text_of(state):
     """What a comparison found, in words."""
     if state.status > 7:
         return "no comparison, status %d: %s" % (state.status, state.error)
-    text = "%s added, %s removed, %s changed" % counts if state.status else "no difference"
+    text = "%s added, %s removed, %s changed" % (state.counts or ("?",) * 3) if state.status else "no difference"
     if state.reasons and state.status:
         grades = state.reasons.grades()
         text = "%s: %s%s" % (state.reasons.words(), text, "; explained by " + grades if grades else "")
@@ -182,13 +176,11 @@ def judged(given):
     """A status, a text and the numbers for graphs."""
     if not os.path.lexists(given.state):
         return UNKNOWN, "there is no %s; aide-compare --state writes it" % shown(given.state), ""
-    reading = Reading(given.state)
-    state, age = reading.state, reading.age
-    if reading.future:
+    state = read_state(given.state)
+    if state.age is None:
         return UNKNOWN, "the last comparison is in the future: " + date_of(state.time), ""
-    numbers = (numbers_of(state, reading.counts("U")) if state.status <= 7 else "") + "age=%ds" % age
-    text = text_of(state, reading.counts("?"))
-    if age > given.max_age:
+    numbers, text = (numbers_of(state) if state.status <= 7 else "") + "age=%ds" % state.age, text_of(state)
+    if state.age > given.max_age:
         words = (age_in_words(given.max_age), date_of(state.time), text)
         return UNKNOWN, "the last comparison is older than %s: %s: %s" % words, numbers
     if state.status == 0:
@@ -210,12 +202,8 @@ def check(arguments, made=None):
         return answer(*judged((made or check_parser()).parse(defaults_for(CHECK, arguments) + arguments)))
     except Done:
         return UNKNOWN
-    except Fault as fault:
-        return answer(UNKNOWN, fault.text)
-    except MemoryError:
-        return answer(UNKNOWN, "out of memory")
-    except OSError as error:
-        return answer(UNKNOWN, "a call of the system failed: " + reason(error))
+    except (Fault, MemoryError, OSError) as error:
+        return answer(UNKNOWN, why_of(error))
 
 
 def main(arguments):
@@ -227,4 +215,5 @@ def main(arguments):
         made.error("only --format prometheus has an OUTPUT")
     if given.warning or given.critical or given.alarm != ALARMS[0]:
         made.error("--alarm, --warning and --critical are for --format nagios")
-    return {"line": write_line, "prometheus": write_metrics, "json": write_json}[given.format](given)
+    {"line": write_line, "prometheus": write_metrics, "json": write_json}[given.format](given)
+    return Status.OK

@@ -1,6 +1,7 @@
 """The state file: the result of the last run of aide-compare, for the commands that show it."""
 import os
 import re
+import time
 from collections import namedtuple
 
 from aide_compare.base.ending import Fault, Status, failing
@@ -12,6 +13,8 @@ from aide_compare.compare.reason_counts import counts_of_keys
 from aide_compare.lines.reader import status_of
 
 MOST_BYTES, MOST_TOLD = 65536, 3
+# The state of the daily run, how old it may be, and how much the clocks of two machines that share a file may differ.
+DAILY, AGE, AHEAD = "/var/lib/aide-compare/daily/state", 26 * 3600, 300
 NEEDED = ("status", "time")
 NUMBERS = NEEDED + KINDS + ("old_written", "new_written")
 KEYS = NEEDED + KINDS + ("old_sha256", "new_sha256", "old", "new", "old_written", "new_written", "error")
@@ -34,6 +37,12 @@ class State(namedtuple("State", KEYS + ("more",), defaults=(None,) * 3 + ("",) *
     def reasons(self):
         """The ReasonCounts of a run with --reasons, or None."""
         return counts_of_keys(self.more) if self.counts else None
+
+    @property
+    def age(self):
+        """How many seconds ago the run ended; None if it ended after now, so that one of the clocks is wrong."""
+        age = int(time.time()) - self.time
+        return None if age < -AHEAD else max(age, 0)
 
     def _names(self, key):
         return [name for name in self.more.get(key, "").split(" ") if name]

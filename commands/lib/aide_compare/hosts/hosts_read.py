@@ -8,10 +8,10 @@ from aide_compare.base.ending import Fault, Status, reason
 from aide_compare.base.escapes import shown
 from aide_compare.base.files import open_regular
 from aide_compare.base.times import age_in_words, date_of
+from aide_compare.compare.state import read_state
 from aide_compare.hosts.fleet_store import Place, check_name
 from aide_compare.hosts.host_comparison import size_before_cut
 from aide_compare.lines.reader import Refused, counts_in, reader_over
-from aide_compare.show.reading import Reading
 
 MEMBERS = frozenset("kind path path_hex summary type old new severity reason".split())
 WHOLE, CUT, UNREADABLE = "whole", "cut", "unreadable"
@@ -56,12 +56,11 @@ def state_of(place, name, age):
     """The host by its state. One that is too old says nothing of today."""
     if not os.path.lexists(place.state_path):
         return Host(name, Status.DEVICE, "was never compared")
-    reading = Reading(place.state_path)
-    state = reading.state
-    if reading.future:
+    state = read_state(place.state_path)
+    if state.age is None:
         return Host(name, Status.DEVICE, "was compared in the future; is the clock of this host right?")
-    if age and reading.age > age:
-        return Host(name, Status.DEVICE, "was compared %s ago and not since" % age_in_words(reading.age), state)
+    if age and state.age > age:
+        return Host(name, Status.DEVICE, "was compared %s ago and not since" % age_in_words(state.age), state)
     return Host(name, state.status, state.error, state)
 
 
