@@ -1,11 +1,10 @@
 """Bugs of aide-compare accept."""
 from .plant import seen_by
 
-ACCEPT, ACCEPTING, BASELINE, RIGHTS, OPEN, SOUND = (
+ACCEPT, BASELINE, RIGHTS, OPEN, SOUND = (
     "commands/lib/aide_compare/%s.py" % name
     for name in (
         "commands/accept",
-        "commands/accept_steps",
         "compare/baseline",
         "base/rights",
         "compare/kept_open",
@@ -49,13 +48,13 @@ PLANTED = (
     )
     + seen_by(
         "accept.try_refusals",
-        (ACCEPTING, "if not offered.sha256.startswith(given.sha256):", "if False:"),
+        (ACCEPT, "if not offered.sha256.startswith(given.sha256):", "if False:"),
         (ACCEPT, "        if given.state:\n            raise\n", ""),
         (ACCEPT, "        return Status.DEVICE\n    return Status.OK", "    return Status.OK"),
     )
     + seen_by(
         "accept.try_digests",
-        (ACCEPTING, "done.is_replaced = done.former != done.sha256", "done.is_replaced = True"),
+        (ACCEPT, "done.is_replaced = done.former != done.sha256", "done.is_replaced = True"),
         (BASELINE, "if is_done and self._identity(name) not", "if False and name not"),
     )
     + seen_by("accept.try_told", (ACCEPT, "state.old_sha256 != done.former", "False"))
@@ -78,14 +77,14 @@ PLANTED = (
         "accept_kills.try_kills",
         (BASELINE, EXCHANGE, NO_NAME),
         (BASELINE, EXCHANGE, COPY_FIRST),
-        (ACCEPTING, "    baseline.settle()\n", ""),
+        (ACCEPT, "    baseline.settle()\n", ""),
     )
     + seen_by("accept_partly.try_late_failure", (BASELINE, EXCHANGE, COPY_FIRST))
     + seen_by("accept_partly.try_unsound", (SOUND, "if found.status > 7:", "if False:"))
     + seen_by(
         "accept_partly.try_refused",
-        (ACCEPTING, "refuse_unsound(offered.copy, old)", "refuse_unsound(offered.copy)"),
-        (ACCEPTING, "unused = patterns.unused()", "unused = []"),
+        (ACCEPT, "refuse_unsound(offered.copy, old)", "refuse_unsound(offered.copy)"),
+        (ACCEPT, "unused = patterns.unused()", "unused = []"),
         (OPEN, "if former.columns != latter.columns:", "if False:"),
     )
     + seen_by("accept_partly.try_many", (OPEN, "yield key_of(fields", "yield bytes(fields"))
@@ -95,8 +94,8 @@ PLANTED = (
     )
     + seen_by(
         "accept_partly.try_explained_only",
-        (ACCEPTING, "not (change.reason and change.reason.verified)", "not change.reason"),
-        (ACCEPTING, "        become(baseline.owner)\n", ""),
+        (ACCEPT, "not (change.reason and change.reason.verified)", "not change.reason"),
+        (ACCEPT, "        become(baseline.owner)\n", ""),
     )
     + seen_by(
         "accept.try_owner",
@@ -108,20 +107,23 @@ PLANTED = (
     )
     + seen_by(
         "accept_attacks.try_swapped_database",
-        (ACCEPTING, "self.fd = reopened(packed, os.O_RDONLY)", "self.fd = os.open(path, os.O_RDONLY)"),
+        (ACCEPT, "self.fd = reopened(packed, os.O_RDONLY)", "self.fd = os.open(path, os.O_RDONLY)"),
     )
     + seen_by(
         "accept_attacks.try_baseline_at_calls",
-        (ACCEPTING, REPLACE, THROUGH_A_LINK),
+        (ACCEPT, REPLACE, THROUGH_A_LINK),
         (RIGHTS, "        _become(_entry_of(uid), [])\n", ""),
     )
-    + seen_by("accept_attacks.try_baseline_in_a_loop", (ACCEPTING, REPLACE, THROUGH_A_LINK))
-    + seen_by("accept_attacks.try_folder_at_calls", (ACCEPTING, REPLACE, FOLDER_BY_NAME))
-    + seen_by("accept_attacks.try_folder_in_a_loop", (ACCEPTING, REPLACE, FOLDER_BY_NAME))
-    + seen_by("accept_attacks.try_names_taken", (ACCEPTING, REPLACE, THROUGH_A_LINK))
-    + seen_by("accept_attacks.try_moved_folder", (BASELINE, "if new != list(identity(os.stat(self.name, dir_fd=folder.fd, follow_symlinks=False))):", "if False:"))
+    + seen_by("accept_attacks.try_baseline_in_a_loop", (ACCEPT, REPLACE, THROUGH_A_LINK))
+    + seen_by("accept_attacks.try_folder_at_calls", (ACCEPT, REPLACE, FOLDER_BY_NAME))
+    + seen_by("accept_attacks.try_folder_in_a_loop", (ACCEPT, REPLACE, FOLDER_BY_NAME))
+    + seen_by("accept_attacks.try_names_taken", (ACCEPT, REPLACE, THROUGH_A_LINK))
+    + seen_by(
+        "accept_attacks.try_moved_folder",
+        (BASELINE, "if new != list(identity(os.stat(self.name, dir_fd=folder.fd, follow_symlinks=False))):", "if False:"),
+    )
     + seen_by(
         "accept.try_told",
-        (ACCEPTING, 'return None if baseline.former is None else ""', "return None"),
+        (ACCEPT, 'return None if baseline.former is None else ""', "return None"),
     )
 )

@@ -81,7 +81,7 @@ PLANTED = (
     )
     + seen_by(
         "accept_kills.try_kills_of_records",
-        ("commands/lib/aide_compare/commands/accept_steps.py", '"" if given.no_packages else SUFFIX', '""'),
+        ("commands/lib/aide_compare/commands/accept.py", '"" if given.no_packages else SUFFIX', '""'),
     )
     + seen_by(
         "without.try_left_out",

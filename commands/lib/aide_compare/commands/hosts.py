@@ -7,7 +7,6 @@ from aide_compare.base.files import closed_after, copy_file, open_regular
 from aide_compare.base.options import Parser
 from aide_compare.base.times import date_of
 from aide_compare.commands import accept
-from aide_compare.commands.accept_steps import digits_of
 from aide_compare.compare.comparison import refuse_unsound
 from aide_compare.compare.state import read_state
 from aide_compare.compare.unpack import copy_database, database_digest, open_database
@@ -166,7 +165,7 @@ def accept_one(arguments):
     first = "HOST has no baseline yet: keep what was fetched, and print its SHA-256, which is to be that on\nHOST: "
     which.add_argument("--first", action="store_true", help=first + "zcat -f /var/lib/aide/aide.db.new | sha256sum")
     digest = "the SHA-256 of the unpacked database that was read, or its first 16 digits or more"
-    which.add_argument("--sha256", type=digits_of, metavar="DIGEST", help=digest)
+    which.add_argument("--sha256", type=accept.digits_of, metavar="DIGEST", help=digest)
     parser.take("keep-open", help="with --sha256: all but the changes of these paths; see aide-compare accept")
     given = parser.parse(arguments)
     if given.first and given.keep_open:
