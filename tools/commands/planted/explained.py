@@ -12,7 +12,7 @@ EXPLAINING, BRIEF, WORDS, COUNTS, RUN, RECORDS, CHECK, MESSAGE, WEEKLY, COMPARIS
         "reasons/kept_records",
         "commands/status",
         "mail/message",
-        "mail/weekly",
+        "commands/mail",
         "compare/comparison",
         "compare/outputs",
         "show/brief",
@@ -118,7 +118,7 @@ PLANTED = (
             '    return text[:most] + b"  ... (the list below has more)\\n\\n"\n',
         ),
     )
-    + seen_by(READERS % "try_sign_of_life", (WEEKLY, "    changes += explained\n", ""))
+    + seen_by(READERS % "try_sign_of_life", (WEEKLY, "    changes += state.reasons.explained if state.reasons else 0\n", ""))
     + seen_by(
         READERS % "try_metrics_and_log",
         (

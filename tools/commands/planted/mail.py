@@ -10,7 +10,7 @@ MAIL, MESSAGE, CHANGES, SENDING, CHILD, QUEUE, WEEKLY, HINTS, COMPARISON, FILES 
         "mail/sending",
         "base/child",
         "mail/queue",
-        "mail/weekly",
+        "commands/mail",
         "compare/hints",
         "compare/comparison",
         "base/files",

@@ -2,10 +2,14 @@
 import os
 import re
 import shlex
+import time
+from contextlib import closing, suppress
 
 from aide_compare.base import progress
 from aide_compare.base.defaults import MAIL, RUN, defaults_for
 from aide_compare.base.ending import Fault, Status, say, why_of, write_all
+from aide_compare.base.escapes import shown
+from aide_compare.base.files import Replacement, read_file
 from aide_compare.base.options import Parser, duration, end_of_options, matching, some_text
 from aide_compare.base.program import find_front
 from aide_compare.commands import compare
@@ -14,7 +18,6 @@ from aide_compare.compare.outputs import Later
 from aide_compare.compare.hints import hint_for_owner
 from aide_compare.compare.reason_counts import counted
 from aide_compare.compare.state import read_state
-from aide_compare.mail import weekly
 from aide_compare.mail.message import build, clean, host, is_explained, subject, text_of, within
 from aide_compare.mail.sending import SECONDS, alert, deliver, server, way_out
 from aide_compare.show.told import told_of
@@ -24,6 +27,7 @@ DESCRIPTION = """Runs aide-compare with all other arguments, and mails the repor
 nothing was compared. No mail is sent if there is no difference."""
 EPILOG = """Status: that of aide-compare-compare(1); 18 if no mail can be sent. With --alarm-sent-is-success it is 0 if the mail
 went out or was kept in the queue."""
+DAYS = ("Mon", "Tue", "Wed", "Thu", "Fri", "Sat", "Sun")
 UNIT = re.compile(r"[A-Za-z0-9:_.\\@-]{1,255}")  # As systemd.unit(5) has it.
 
 
@@ -38,7 +42,7 @@ def add_sending(parser, group=None, **to):
 
 def parser():
     made = Parser(NAME, DESCRIPTION, epilog=EPILOG, usage="%(prog)s [OPTIONS] [ARGUMENTS of aide-compare]")
-    unit, day = matching(UNIT, "the name of a unit"), {"nargs": "?", "const": "Mon", "choices": weekly.DAYS}
+    unit, day = matching(UNIT, "the name of a unit"), {"nargs": "?", "const": "Mon", "choices": DAYS}
     add_sending(made, default="root", help="where the mail goes (root)")
     made.flag("html", "send the report as a text and as a page")
     made.take("alarm", help="with --reasons: unexplained mails nothing if every change is explained (differences)")
@@ -144,11 +148,33 @@ def quiet_text(runs, explained):
     )
 
 
+def quiet_runs(path):
+    """The number of quiet runs, the time of the last heartbeat, and the number of explained changes; zeros without such a
+    file. One with two numbers is of a time when no changes were explained."""
+    with suppress(Fault):
+        words = read_file(path, 100).split()
+        if len(words) in (2, 3) and all(word.isdigit() for word in words):
+            return tuple(map(int, words + [b"0"]))[:3]
+    return 0, 0, 0
+
+
 def be_quiet(given, way, state):
-    """A run that raises no alarm: it is counted, and once a week a mail says so."""
-    if given.weekly:
-        explained = state.reasons.explained if state.reasons else 0
-        weekly.count(given.run.state, given.weekly, explained, lambda *sums: send(way, simple(given, *quiet_text(*sums))))
+    """Counts a run that raises no alarm, and its explained changes, in a file beside the state. On the day, or a week after the
+    last heartbeat, a mail has both counts, and they begin anew."""
+    path, now = given.run.state + ".quiet", int(time.time())
+    runs, sent, changes = quiet_runs(path)
+    sent = sent if sent <= now else 0  # A clock that was ahead must not silence the signs of life.
+    runs += 1
+    changes += state.reasons.explained if state.reasons else 0
+    today, last = time.localtime(now), time.localtime(sent)
+    is_day = DAYS[today.tm_wday] == given.weekly and today[:3] != last[:3]
+    if os.path.isdir(path):
+        raise Fault(Status.DEVICE, "cannot write the number of quiet runs in %s: it is a directory" % shown(path))
+    with closing(Replacement(path, what="the number of quiet runs in").begin()) as file:
+        if is_day or (sent and now - sent > 7 * 86400):
+            send(way, simple(given, *quiet_text(runs, changes)))
+            runs, sent, changes = 0, now, 0
+        file.commit(b"%d %d %d\n" % (runs, sent, changes))
 
 
 def compared(given):
@@ -190,7 +216,7 @@ def compare_and_mail(given):
         raise Fault(fault.status, "%s; the comparison ended with status %d" % (fault.text, state.status))
     if message:
         send(way, message)
-    else:
+    elif given.weekly:
         be_quiet(given, way, state)
     keep_told(given, state, kept)
     return 0 if given.alarm_sent_is_success else state.status
@@ -221,7 +247,7 @@ def empty_queue(given):
 def with_day(words):
     """The words with the day of --weekly, which stands after it or is left out."""
     cut, named = end_of_options(words), [*words[1:], ""]
-    days = [word == "--weekly" and day not in weekly.DAYS for word, day in zip(words[:cut], named)]
+    days = [word == "--weekly" and day not in DAYS for word, day in zip(words[:cut], named)]
     return [word + "=Mon" * is_bare for word, is_bare in zip(words, days)] + words[cut:]
 
 

@@ -1,1 +1,1 @@
-"""Messages, the ways to send them, the queue and the heartbeat."""
+"""Messages, the ways to send them, and the queue."""
