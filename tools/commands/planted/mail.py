@@ -58,6 +58,7 @@ PLANTED = (
             "    return state.status\n",
         ),
         (MAIL, "    if comparison.status == Status.USAGE:", "    if False:"),
+        (MAIL, 'Output(given.run.state, "the state file").fd is not None', "False"),
     )
     + seen_by(
         "mail.try_refusals",

@@ -15,6 +15,7 @@ PLANTED = (
             'FORMATS, STDOUT = ("report", "brief"), ("-",)',
         ),
         (RUN, "len(taken) + (given.format is not None) > 1", "len(taken) > 1"),
+        (RUN, 'for name in ("json", "page", "state") if', 'for name in ("json", "page") if'),
         (EXPLAINING, "page(reader_over(lines), None, is_plain=False)", "page(reader_over(lines), None, is_plain=True)"),
         (
             EXPLAINING,

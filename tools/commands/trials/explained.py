@@ -161,7 +161,17 @@ def try_outputs(sandbox):
         sandbox.holds("in place of the report: %s" % words, done.status == 7 and same(done.output) == same(lines), done)
     done = run(sandbox, "--page", "-", "o.db", "n.db")
     sandbox.holds("a page in place of the report", done.status == 7 and done.output.startswith(b"<!doctype html>"), done)
-    for words in (["--json", "-", "--page", "-"], ["--json", "-", "--brief"], ["--page", "/dev/stdout", "--format", "report"]):
+    done = run(sandbox, "--state", "-", "o.db", "n.db")
+    sandbox.write("of.state", done.output)
+    state = sandbox.state("of.state")
+    sandbox.holds("the state in place of the report", done.status == 7 and COUNTS.items() <= state.items(), done)
+    for words in (
+        ["--json", "-", "--page", "-"],
+        ["--json", "-", "--brief"],
+        ["--page", "/dev/stdout", "--format", "report"],
+        ["--state", "-", "--json", "-"],
+        ["--state", "-", "--format", "report"],
+    ):
         done = run(sandbox, *words, "o.db", "n.db")
         sandbox.expect("two on standard output: %s" % words, done, 15, b"", b"only one of")
     with open(sandbox.path("there"), "rb") as file:

@@ -148,6 +148,7 @@ def try_texts(sandbox):
         ["--to", "é"],
         ["--max-mail", "x"],
         ["--weekly", "--", "x"],
+        ["--state", "-"],
         ["--weekly=Foo"],
     ):
         answer = call(sandbox, "old.db", "new.db", *words)

@@ -6,19 +6,20 @@ from aide_compare.base import progress
 from aide_compare.base.defaults import RUN, defaults_for, place_of
 from aide_compare.base.ending import Fault, Status, failing, say, write_all
 from aide_compare.base.escapes import guarded, shown
-from aide_compare.base.files import Replacement, copy_file
+from aide_compare.base.files import copy_file
 from aide_compare.base.names import SIDES
 from aide_compare.base.options import EVIDENCE, Parser, named_evidence, some_text
 from aide_compare.base.rights import give_up
 from aide_compare.base.times import date_of
 from aide_compare.compare.comparison import Comparison, Request
 from aide_compare.compare.exclusions import read_exclusions
-from aide_compare.compare.outputs import Handed, Handing
+from aide_compare.compare.outputs import Handed, Handing, Output
 from aide_compare.show.told import are_wanted, coloured, tell
 
 DESCRIPTION = "Compares two AIDE databases, plain or compressed by gzip. The report goes to standard output."
 TRY = "try: aide-compare compare --help"
 FORMATS, STDOUT = ("report", "brief"), ("-", "/dev/stdout", "/dev/fd/1")
+EVERYBODY_READS = 0o644
 EPILOG = """Times are as in 90s, 15m, 26h or 3d; a plain number is seconds. Sizes are in bytes, or as in 500k, 20M or 1G.
 Where another user can write in the directory of the state file, or above it, it is written with that user's privileges.
 Root compares with the privileges of the user in whose directory the baseline is, unless --user names another one.
@@ -36,7 +37,7 @@ def parser():
     add("databases", nargs="*", metavar="OLD NEW", type=some_text, help=databases)
     take("config", help="the configuration (/dev/null with OLD NEW, otherwise AIDE's, /etc/aide/aide.conf or /etc/aide.conf)")
     take("after", "before")
-    take("state", help="write the status, the time, the counts and both SHA-256 to FILE")
+    take("state", help="write the status, the time, the counts and both SHA-256 to FILE; - is standard output")
     take("max-size", default=Request.max_size)
     take("max-report", default=Request.max_report, help="refuse a longer report (1G)")
     take("max-age", default=0, help="refuse a new database that is older, as 50h, or from the future (0: no limit)")
@@ -89,7 +90,8 @@ class Task:
             from aide_compare.show.explained import Wanted
 
             self.wanted = Wanted(given, self.handing.later, weighs)
-        self.state = self.handing.later(Replacement(given.state, what="the state file").begin()) if given.state else None
+        state = Output(given.state, "the state file", EVERYBODY_READS).begin() if given.state else None
+        self.state = self.handing.later(state) if state else None
 
     def is_child(self):
         """Whether this process compares for its parent, with the rights of another user."""
@@ -135,9 +137,9 @@ class Task:
 
 def format_of(given):
     """What standard output gets, one of FORMATS; nothing with -q, and if it is the file of another output."""
-    taken = [name for name in ("json", "page") if getattr(given, name) in STDOUT]
+    taken = [name for name in ("json", "page", "state") if getattr(given, name) in STDOUT]
     if len(taken) + (given.format is not None) > 1:
-        raise Fault(Status.USAGE, "only one of --json, --page and --format can be on standard output", TRY)
+        raise Fault(Status.USAGE, "only one of --json, --page, --state and --format can be on standard output", TRY)
     is_read = os.isatty(1) and not given.after  # Who gives options of the report wants to see that.
     return None if taken or given.quiet else given.format or ("brief" if is_read else "report")
 

@@ -14,7 +14,7 @@ from aide_compare.base.options import Parser, duration, end_of_options, matching
 from aide_compare.base.program import find_front
 from aide_compare.commands import compare
 from aide_compare.compare.comparison import Comparison, Request
-from aide_compare.compare.outputs import Later
+from aide_compare.compare.outputs import Later, Output
 from aide_compare.compare.hints import hint_for_owner
 from aide_compare.compare.reason_counts import counted
 from aide_compare.compare.state import read_state
@@ -265,6 +265,8 @@ def parsed(words):
         raise Fault(Status.USAGE, "--alarm unexplained needs --reasons, which finds out what explains a change")
     if given.weekly and not given.run.state:
         raise Fault(Status.USAGE, "--weekly needs --state, beside which the number of quiet runs is kept")
+    if given.run.state and Output(given.run.state, "the state file").fd is not None:
+        raise Fault(Status.USAGE, "--state needs a file here, which the next run reads: %s" % shown(given.run.state, 200))
     if given.unit_failed and not given.send_queue:
         raise Fault(Status.USAGE, "--unit-failed needs --send-queue")
     return given

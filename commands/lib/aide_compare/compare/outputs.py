@@ -24,16 +24,17 @@ PRIVATE = 0o600
 
 class Output:
     """The place that a path means. `begin` finds out before the work whether it can be written. A file is replaced in one
-    step, and only its owner may read it; -, /dev/stdout, /dev/stderr and /dev/fd/N are what the caller has opened."""
+    step, and only its owner may read it without another mode; -, /dev/stdout, /dev/stderr and /dev/fd/N are what the caller has
+    opened."""
 
-    def __init__(self, path, what):
-        self.path, self.what, self.file = path, what, None
+    def __init__(self, path, what, mode=PRIVATE):
+        self.path, self.what, self.mode, self.file = path, what, mode, None
         self.words = "cannot write %s %s" % (what, shown(path))
         self.fd = STREAMS.get(path, given_descriptor(path))
 
     def begin(self):
         if self.fd is None:
-            self.file = Replacement(self.path, PRIVATE, self.what).begin()
+            self.file = Replacement(self.path, self.mode, self.what).begin()
         elif not self._is_open():
             raise Fault(Status.DEVICE, self.words + ": the caller has not opened it for writing")
         return self
@@ -43,6 +44,13 @@ class Output:
             flags = fcntl.fcntl(self.fd, fcntl.F_GETFL) & os.O_ACCMODE
             return flags != os.O_RDONLY and not fcntl.fcntl(self.fd, fcntl.F_GETFD) & fcntl.FD_CLOEXEC
         return False
+
+    def commit(self, data):
+        """Writes these bytes."""
+        if self.file:
+            return self.file.commit(data)
+        with failing(self.words):
+            write_all(self.fd, data)
 
     def commit_copy(self, descriptor):
         """Writes what the file of a descriptor has."""

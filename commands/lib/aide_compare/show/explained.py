@@ -1,4 +1,4 @@
-"""The changes of a comparison, explained and written for people and for programs, after the report went out untouched."""
+"""The changes of a comparison, explained and written for people and for programs."""
 import argparse
 import os
 
