@@ -10,7 +10,7 @@ STATE, HINTS, MAIL, MESSAGE = (
 )
 STATUS = LIB + "commands/status.py"
 # The state says that a mail has told them before it is sent.
-TOLD_BEFORE = "    keep_told(given, state, kept)\n    if message:\n        send(way, message)\n"
+TOLD_BEFORE = "    keep_told(given, state, kept)\n    if message:\n        deliver(way, message)\n"
 
 PLANTED = seen_by(
     "columns.try_columns",
@@ -29,7 +29,7 @@ PLANTED = seen_by(
         "        return []\n    try:\n        return read_state",
     ),
     (MAIL, "    keep_told(given, state, kept)\n", ""),
-    (MAIL, "    if message:\n        send(way, message)\n", TOLD_BEFORE),
+    (MAIL, "    if message:\n        deliver(way, message)\n", TOLD_BEFORE),
     (MAIL, "if state.status > 7 or name in", "if name in"),
     (STATUS, """name.replace("\\\\", "\\\\\\\\").replace('"', '\\\\"')""", "name"),
     (STATUS, 'counts += " (%s)" % skipped if skipped else ""', "pass"),

@@ -3,7 +3,7 @@ import os
 import shlex
 
 from aide_compare.base import progress
-from aide_compare.base.ending import Fault, Status, say, write_blocks
+from aide_compare.base.ending import Fault, Status, write_blocks
 from aide_compare.base.files import Spool, nameless
 from aide_compare.base.folders import open_folder
 from aide_compare.base.line_sorter import LineSorter
@@ -149,9 +149,7 @@ class HostsReport:
                 "",
             ]
         text = clean("\n".join(lines).encode("utf-8", "backslashreplace"))
-        note = deliver(way, build(given.to, headline(self.summary), text))
-        if note:
-            say(note)
+        deliver(way, build(given.to, headline(self.summary), text))
 
 
 def options():

@@ -129,12 +129,6 @@ def way_of(given):
     return way_out(given.smtp, given.mail_time)
 
 
-def send(way, message):
-    note = deliver(way, message)
-    if note:
-        say(note)
-
-
 def simple(given, subject, text):
     return build(given.to, "aide on %s: %s" % (host(), subject), clean(text))
 
@@ -172,7 +166,7 @@ def be_quiet(given, way, state):
         raise Fault(Status.DEVICE, "cannot write the number of quiet runs in %s: it is a directory" % shown(path))
     with closing(Replacement(path, what="the number of quiet runs in").begin()) as file:
         if is_day or (sent and now - sent > 7 * 86400):
-            send(way, simple(given, *quiet_text(runs, changes)))
+            deliver(way, simple(given, *quiet_text(runs, changes)))
             runs, sent, changes = 0, now, 0
         file.commit(b"%d %d %d\n" % (runs, sent, changes))
 
@@ -215,7 +209,7 @@ def compare_and_mail(given):
         alert("%s; %s" % (fault.text, subject(state) if state.status else "no difference"))
         raise Fault(fault.status, "%s; the comparison ended with status %d" % (fault.text, state.status))
     if message:
-        send(way, message)
+        deliver(way, message)
     elif given.weekly:
         be_quiet(given, way, state)
     keep_told(given, state, kept)
@@ -239,7 +233,7 @@ def empty_queue(given):
     way, failed = way_of(given), failed_unit(given)
     if failed:
         text = "%s failed%s. Its lines: journalctl -u %s\n" % (failed + (shlex.quote(failed[0]),))
-        send(way, simple(given, "the comparison failed", text))
+        deliver(way, simple(given, "the comparison failed", text))
     send_all(given.send_queue, way)
     return 0
 
@@ -302,6 +296,6 @@ def main(arguments):
     if given.send_queue:
         return empty_queue(given)
     if given.test:
-        send(way_of(given), simple(given, "test", "This is a test of aide-compare mail. Mails of this host arrive.\n"))
+        deliver(way_of(given), simple(given, "test", "This is a test of aide-compare mail. Mails of this host arrive.\n"))
         return 0
     return compare_and_mail(given)

@@ -14,7 +14,7 @@ from collections import namedtuple
 from functools import partial
 
 from aide_compare.base.child import bound_of, ended, in_child, kill_group
-from aide_compare.base.ending import Fault, Status, failing
+from aide_compare.base.ending import Fault, Status, failing, say
 from aide_compare.base.escapes import shown
 from aide_compare.base.files import closed_after, in_memory
 from aide_compare.mail.message import parsed, shortened
@@ -158,13 +158,13 @@ def _refusal(way, message):
 
 
 def deliver(way, message):
-    """Sends a message; a short one if it is refused; then a line in the system log. None if the message went out whole, or a
-    text that says what went out instead; a Fault if no mail went."""
+    """Sends a message; a short one if it is refused, and says so; then a line in the system log, and a Fault."""
     why = _refusal(way, message)
     if why is None:
-        return None
+        return
     if _refusal(way, shortened(message, why)) is None:
-        return "only a short mail was sent: %s" % why
+        say("only a short mail was sent: %s" % why)
+        return
     is_logged = alert("no mail could be sent (%s): %s" % (why, parsed(message)["Subject"]))
     log = "the system log has a line at priority alert" if is_logged else "there is no system log either"
     raise Fault(Status.DEVICE, "cannot send the mail: %s; %s" % (why, log))
