@@ -3,8 +3,8 @@ import os
 
 from aide_compare.base.defaults import defaults_for
 from aide_compare.base.files import Spool
-from aide_compare.base.options import EVIDENCE
-from aide_compare.commands.streams import convert, parser_of
+from aide_compare.base.options import EVIDENCE, Parser
+from aide_compare.commands.streams import convert
 from aide_compare.compare.unpack import copy_database
 from aide_compare.lines.reader import Reader, Refused, with_members
 from aide_compare.reasons.explainer import Explainer, evidence_of, members_of
@@ -44,12 +44,10 @@ def _write(source, target, databases, given):
 
 
 def main(arguments):
-    parser = parser_of(
-        NAME,
-        "the lines",
-        "Adds a severity to each entry of aide-compare json, and a reason where evidence explains it.",
-        "Example: aide-compare json old.gz new.gz | %s --databases old.gz new.gz" % NAME,
-    )
+    does = "Adds a severity to each entry of aide-compare json, and a reason where evidence explains it."
+    example = "Example: aide-compare json old.gz new.gz | %s --databases old.gz new.gz" % NAME
+    parser = Parser(NAME, does, epilog=example)
+    parser.add_argument("file", nargs="?", default="-", help='the lines; standard input if it is left out or "-"')
     parser.add_argument("--databases", nargs=2, metavar=("OLD", "NEW"), required=True, help="the databases that were compared")
     parser.take("max-size", default=MOST_DATABASE, help="refuse a database that has more bytes unpacked (4G)")
     parser.take(*EVIDENCE, "no-defaults")

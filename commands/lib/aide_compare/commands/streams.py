@@ -6,16 +6,10 @@ from aide_compare.base.ending import Fault, Status, failing
 from aide_compare.base.escapes import shown
 from aide_compare.base.files import Spool, open_regular
 from aide_compare.base.options import Parser, some_text
+from aide_compare.compare.unpack import given_descriptor
 from aide_compare.lines.reader import BLOCK, Reader, Refused, reader_over
 
 REFUSED = 65
-STREAMS = ("-", "/dev/stdin")
-
-
-def parser_of(name, what, does, more, usage=None):
-    parser = Parser(name, does, epilog=more, usage=usage)
-    parser.add_argument("file", nargs="?", default="-", help='%s; standard input if it is left out or "-"' % what)
-    return parser
 
 
 def parser_of_changes(name, does, more):
@@ -32,12 +26,12 @@ def parser_of_changes(name, does, more):
 
 def _opened(path):
     """The input: a regular file, or what the caller has opened, named as /dev/stdin or /dev/fd/N."""
-    number = path[8:] if path.startswith("/dev/fd/") else "0" if path in STREAMS else ""
-    if not (number.isascii() and number.isdigit() and len(number) < 8):
+    given = given_descriptor(path)
+    if given is None:
         return open(open_regular(path), "rb", buffering=BLOCK)
-    if stat.S_ISDIR(os.fstat(int(number)).st_mode):
+    if stat.S_ISDIR(os.fstat(given).st_mode):
         raise Fault(Status.DEVICE, "cannot read %s: it is a directory" % shown(path))
-    return open(int(number), "rb", buffering=BLOCK, closefd=False)
+    return open(given, "rb", buffering=BLOCK, closefd=False)
 
 
 def convert(path, work):
