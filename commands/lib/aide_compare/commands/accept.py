@@ -91,13 +91,6 @@ def digest_of_former(baseline, most):
     return ""
 
 
-def _old_copy(baseline, most):
-    descriptor = baseline.reading()
-    if descriptor is None:
-        raise Fault(Status.DEVICE, "there is no baseline %s that can be read, so nothing stays open" % shown(baseline.path))
-    return copy_opened(Opened("old", baseline.path, descriptor), most)
-
-
 def _own_copy(copy):
     """The same bytes in a file of this user's: the program could not open that of another user."""
     target = nameless()
@@ -144,7 +137,10 @@ def _unexplained_keys(given, baseline, copies):
 
 def _with_open_part(given, offered, baseline):
     """The Copy of the new database with the old entries of what stays open, and the counts of these."""
-    old = _old_copy(baseline, given.max_size)
+    descriptor = baseline.reading()
+    if descriptor is None:
+        raise Fault(Status.DEVICE, "there is no baseline %s that can be read, so nothing stays open" % shown(baseline.path))
+    old = copy_opened(Opened("old", baseline.path, descriptor), given.max_size)
     refuse_unsound(offered.copy, old)
     patterns, unexplained = Patterns(given.keep_open), Listed(())
     if given.explained_only:

@@ -29,10 +29,12 @@ REASONS = (
     ("explained_changes", "explained", "Changes with a reason that is verified."),
     ("not_verified_changes", "not_verified", "Changes with a reason that is not verified."),
     ("unexplained_changes", "unexplained", "Changes without a reason."),
-    ("high_changes", "high", "Changes of high severity that are unexplained or not verified."),
-    ("medium_changes", "medium", "Changes of medium severity that are unexplained or not verified."),
-    ("low_changes", "low", "Changes of low severity that are unexplained or not verified."),
-) + tuple(("%s_changes" % key, key, "Changes explained by the grade %s." % grade) for grade, key in zip(GRADES, GRADE_KEYS))
+    *(
+        ("%s_changes" % name, name, "Changes of %s severity that are unexplained or not verified." % name)
+        for name in SEVERITIES
+    ),
+    *(("%s_changes" % key, key, "Changes explained by the grade %s." % grade) for grade, key in zip(GRADES, GRADE_KEYS)),
+)
 TEXT = "# HELP aide_compare_%s %s\n# TYPE aide_compare_%s gauge\naide_compare_%s %d\n"
 COLUMNS = "# HELP aide_compare_skipped_column A column that is not compared.\n# TYPE aide_compare_skipped_column gauge\n"
 FORMS = ("line", "prometheus", "nagios", "json")

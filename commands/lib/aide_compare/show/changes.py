@@ -3,6 +3,7 @@ from collections import Counter
 
 from aide_compare.base.escapes import guarded, shown
 from aide_compare.base.names import KINDS, SIDES
+from aide_compare.compare.reason_counts import most_frequent
 from aide_compare.lines.attributes import FORMS, STRENGTH
 from aide_compare.lines.reader import Refused, bytes_of, counts_in
 from aide_compare.lines.decoded import texts_of, values_of
@@ -76,8 +77,9 @@ class CutList:
 
     def folders(self):
         """Lines for the folders of which most is left out."""
-        for folder, count in sorted(self.rest.items(), key=lambda pair: (-pair[1], pair[0]))[:MOST_FOLDERS]:
-            yield "%s: %d more\n" % (shown(folder, MOST_PATHS), count)
+        return [
+            "%s: %d more\n" % (shown(folder, MOST_PATHS), count) for folder, count in most_frequent(self.rest, MOST_FOLDERS)[0]
+        ]
 
 
 def cut_text(reader, most, command):
@@ -92,7 +94,7 @@ def cut_text(reader, most, command):
     for kind in ORDER:
         found = lists[kind]
         text += "\n%s entries:\n\n" % kind.capitalize() if found.lines else ""
-        for place, line in enumerate(found.lines[: MOST_PATHS - paths] + list(found.folders())):
+        for place, line in enumerate(found.lines[: MOST_PATHS - paths] + found.folders()):
             room -= len(line.encode("utf-8", "backslashreplace"))
             if room < 0:
                 break
