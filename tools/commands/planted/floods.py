@@ -1,25 +1,25 @@
 """Bugs of what people read first: its order, its shares, and the files that have the content of before."""
 from .plant import seen_by
 
-LISTING, CHANGES, EXPLAINER, DATABASES, ENTRIES = (
+BRIEF, CHANGES, EXPLAINER, DATABASES, ENTRIES = (
     "commands/lib/aide_compare/%s.py" % name
     for name in ("show/brief", "show/changes", "reasons/explainer", "reasons/by_databases", "reasons/entries")
 )
 PLANTED = (
     seen_by(
         "floods.try_order",
-        (LISTING, "key=lambda change: change.old_at is None", "key=lambda change: 0"),
-        (LISTING, "before[place] >= FIRST_FEW", "False"),
-        (LISTING, "FIRST_FEW = 5", "FIRST_FEW = 30"),
-        (LISTING, "for group in range(len(ROOMS)):", "for group in (0, 2, 1):"),
-        (LISTING, "return 0 if owner in (None, ROOT) else 1 if owner < FIRST_USER else 2", "return 0"),
+        (BRIEF, "key=lambda change: change.old_at is None", "key=lambda change: 0"),
+        (BRIEF, "before[place] >= FIRST_FEW", "False"),
+        (BRIEF, "FIRST_FEW = 5", "FIRST_FEW = 30"),
+        (BRIEF, "for group in range(len(ROOMS)):", "for group in (0, 2, 1):"),
+        (BRIEF, "return 0 if owner in (None, ROOT) else 1 if owner < FIRST_USER else 2", "return 0"),
         (
-            LISTING,
+            BRIEF,
             "FOLDER_SHARE, OWNER_SHARE, MOST_FOLDERS = 20, 50, 10",
             "FOLDER_SHARE, OWNER_SHARE, MOST_FOLDERS = 20, 99, 10",
         ),
         (
-            LISTING,
+            BRIEF,
             'self.severity == "high" and change.owner == ROOT',
             'self.severity == "high" and change.owner in (None, ROOT)',
         ),
@@ -28,24 +28,23 @@ PLANTED = (
     )
     + seen_by(
         "floods.try_folders",
-        (LISTING, "keys[change] = place[0],", "keys[change] = False,"),
-        (LISTING, "place = folders.is_only_that(change), change.folder()", "place = False, change.folder()"),
-        (LISTING, "if not (stat.S_ISDIR(change.old_mode) and stat.S_ISDIR(change.new_mode)):", "if change.is_replaced:"),
-        (LISTING, "return has_other_names(old, new, differences(old, new))", "return True"),
+        (BRIEF, "keys[change] = place[0],", "keys[change] = False,"),
+        (BRIEF, "place = folders.is_only_that(change), change.folder()", "place = False, change.folder()"),
+        (BRIEF, "if not (stat.S_ISDIR(change.old_mode) and stat.S_ISDIR(change.new_mode)):", "if change.is_replaced:"),
+        (BRIEF, "return has_other_names(old, new, differences(old, new))", "return True"),
         (
-            LISTING,
+            BRIEF,
             "is_named = change.path in self.named and self.is_only_that(change)",
             "is_named = self.is_only_that(change)",
         ),
-        (LISTING, "change.path in self.named and self.is_only_that(change)", "change.path in self.named"),
-        (LISTING, "[change.folder()] if change.is_replaced else []", "[change.folder()]"),
-        (LISTING, "        self.count += is_named\n", ""),
+        (BRIEF, "change.path in self.named and self.is_only_that(change)", "change.path in self.named"),
+        (BRIEF, "[change.folder()] if change.is_replaced else []", "[change.folder()]"),
+        (BRIEF, "        self.count += is_named\n", ""),
     )
     + seen_by(
         "floods.try_flooded_mail",
-        (LISTING, "ROOMS = (200, 100, 100)", "ROOMS = (200, 100, 10000)"),
-        (LISTING, '(("owner", change.owner), OWNER_SHARE)', '(("owner", change.owner), 10**6)'),
-        (LISTING, "most_frequent(counts, MOST_FOLDERS)", "[], []"),
+        (BRIEF, "ROOMS = (200, 100, 100)", "ROOMS = (200, 100, 10000)"),
+        (BRIEF, "most_frequent(counts, MOST_FOLDERS)", "[], []"),
     )
     + seen_by(
         "floods.try_cut_lists",
