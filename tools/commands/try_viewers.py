@@ -42,6 +42,7 @@ REFUSED, USAGE, DEVICE = 65, 15, 18
 # Letters by their class, and yet nothing is seen of them: the Hangul fillers and the empty Braille pattern.
 BLANKS_THAT_ARE_LETTERS = "\u115f\u1160\u2800\u3164\uffa0"
 
+
 def is_page_refused(lines):
     return is_refused(lambda: list(entries_of(Reader(io.BytesIO(lines)))))
 

@@ -66,7 +66,9 @@ class Trial(Scratch, Tally):
         self.program = os.path.abspath(program)
 
     def run(self, *words, stdout=subprocess.PIPE, program=None):
-        done = subprocess.run([program or self.program, *words], stdin=subprocess.DEVNULL, stdout=stdout, stderr=subprocess.PIPE)
+        done = subprocess.run(
+            [program or self.program, *words], stdin=subprocess.DEVNULL, stdout=stdout, stderr=subprocess.PIPE
+        )
         output = done.stdout.decode(errors="replace") if done.stdout is not None else ""
         return done.returncode, output, done.stderr.decode(errors="replace")
 

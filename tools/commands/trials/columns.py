@@ -80,7 +80,9 @@ def try_names(sandbox):
         sandbox.write("odd.db", OLD.replace(b"fstype", name))
         answer = sandbox.call(TOOL, "--state", "state", "odd.db", "odd.db")
         sandbox.expect("the name %r" % name[:9], answer, 0, None, told)
-        sandbox.holds("the state with the name %r" % name[:9], sandbox.call("aide-compare status", "--state", "state").status == 0)
+        sandbox.holds(
+            "the state with the name %r" % name[:9], sandbox.call("aide-compare status", "--state", "state").status == 0
+        )
     sandbox.write("far.db", b"#" * (1 << 16) + b"\n" + OLD)
     sandbox.expect("a far name", sandbox.call(TOOL, "far.db", "far.db"), 0, None, b"the column #4 is not compared")
 

@@ -216,7 +216,9 @@ def try_forms(sandbox):
     prepare(sandbox)
     answer = sandbox.call(TOOL, "--brief", "o.db", "n.db")
     sandbox.expect("without reasons", answer, 7, None, b"new database: n.db")
-    sandbox.holds("the text without reasons", answer.output.decode() == UNJUDGED and b"unexplained" not in answer.errors, answer)
+    sandbox.holds(
+        "the text without reasons", answer.output.decode() == UNJUDGED and b"unexplained" not in answer.errors, answer
+    )
     for name, seconds in (("t1.db", b"1700000000"), ("t2.db", b"-1")):
         text = b"@@begin_db\n@@db_spec name attr perm mtime ctime\n/t 388 100644 %s %s\n" % (seconds, seconds) + END
         sandbox.write(name, text)
@@ -225,7 +227,9 @@ def try_forms(sandbox):
     for most, is_brief in ((3, False), (4, True)):
         sandbox.edit(name, line, "MOST_WEIGHED = %d" % most)
         answer = sandbox.call(TOOL, "--brief", "o.db", "n.db")
-        sandbox.holds("more changes than are weighed: %d" % most, answer.output == (UNJUDGED.encode() if is_brief else report), answer)
+        sandbox.holds(
+            "more changes than are weighed: %d" % most, answer.output == (UNJUDGED.encode() if is_brief else report), answer
+        )
         line = "MOST_WEIGHED = %d" % most
     sandbox.edit(name, line, "MOST_WEIGHED = 200000")
     answer = sandbox.call(TOOL, "--brief", "t1.db", "t2.db")
@@ -235,7 +239,9 @@ def try_forms(sandbox):
     answer = run(sandbox, "-q", "--state", "state", "--exclude", "/etc/*", "o.db", "n.db")
     sandbox.expect("quiet", answer, 5, b"", b"")
     sandbox.holds("the state of it", sandbox.state()["changed"] == "1", sandbox.state())
-    sandbox.expect("quiet, and a fault", sandbox.call(TOOL, "--quiet", "o.db", "no.db"), 18, b"", b"cannot open the new database")
+    sandbox.expect(
+        "quiet, and a fault", sandbox.call(TOOL, "--quiet", "o.db", "no.db"), 18, b"", b"cannot open the new database"
+    )
 
 
 def try_lines(sandbox):

@@ -16,7 +16,16 @@ SIGNALS = ["HUP", "INT", "QUIT", "TERM", "KILL"]
 
 
 def try_faults(sandbox):
-    for trial in (try_limits, try_damage, try_files, try_rooms, try_programs, try_lines_program, try_closed_errors, try_secrecy):
+    for trial in (
+        try_limits,
+        try_damage,
+        try_files,
+        try_rooms,
+        try_programs,
+        try_lines_program,
+        try_closed_errors,
+        try_secrecy,
+    ):
         trial(sandbox)
 
 
@@ -82,7 +91,9 @@ def try_files(sandbox):
     sandbox.expect(
         "a missing database", sandbox.call(TOOL, "missing", "new.db"), 18, b"", b"cannot open the old database missing: "
     )
-    sandbox.expect("a folder", sandbox.call(TOOL, "old.db", "."), 18, b"", b"cannot open the new database .: it is a directory")
+    sandbox.expect(
+        "a folder", sandbox.call(TOOL, "old.db", "."), 18, b"", b"cannot open the new database .: it is a directory"
+    )
     sandbox.expect(
         "the folder of a missing database", sandbox.call(TOOL, "old.db", "x/y"), 18, b"", b"cannot open the new database x/y: "
     )

@@ -79,7 +79,10 @@ def try_misspelt(sandbox):
     text = sandbox.read("odd conf") + b" report_ignore_chnaged_attrs = s\ndatabases=p\nreports=p\n"
     sandbox.write("odd conf", text)
     for words, told in (
-        ((), b"odd conf:6: report_ignore_chnaged_attrs is no option, but a group; did you mean report_ignore_changed_attrs?\n"),
+        (
+            (),
+            b"odd conf:6: report_ignore_chnaged_attrs is no option, but a group; did you mean report_ignore_changed_attrs?\n",
+        ),
         ((), b"odd conf:7: databases is no option, but a group; did you mean database?\n"),
         (("-A", "\nreport_levl=p"), b"-A:2: report_levl is no option, but a group; did you mean report_level?\n"),
         (("-B", "report_xxxxxxxxxxxx=p"), b"-B:1: report_xxxxxxxxxxxx is no option, but a group\n"),
@@ -87,7 +90,11 @@ def try_misspelt(sandbox):
     ):
         answer = sandbox.call(TOOL, "-c", "odd conf", "old.db", "new.db", *words)
         sandbox.expect("misspelt: %s" % told[:40], answer, 7, right.output, told)
-        sandbox.holds("no other group is told", answer.errors.count(b"is no option") == (5 if b"more" in told else 2 + len(words) // 2), answer)
+        sandbox.holds(
+            "no other group is told",
+            answer.errors.count(b"is no option") == (5 if b"more" in told else 2 + len(words) // 2),
+            answer,
+        )
 
 
 def try_configuration_hints(sandbox):

@@ -73,7 +73,9 @@ def try_colours(sandbox):
     words = (*explained.REASONS, "o.db", "n.db")
     wanted = explained.BRIEF.encode().replace(b"  high ", b"  %shigh%s " % (RED, PLAIN))
     wanted = wanted.replace(b"  medium ", b"  %smedium%s " % (YELLOW, PLAIN))
-    wanted = re.sub(rb"(?m)^(2 unex.*|Unexplained:|Not verified:|Explained:)$", lambda found: BOLD + found.group() + PLAIN, wanted)
+    wanted = re.sub(
+        rb"(?m)^(2 unex.*|Unexplained:|Not verified:|Explained:)$", lambda found: BOLD + found.group() + PLAIN, wanted
+    )
     for no_color, given, is_coloured in (
         ("", (), True),
         ("1", (), False),
@@ -81,7 +83,11 @@ def try_colours(sandbox):
         ("1", ("--color", "always"), True),
     ):
         text = on_terminal(sandbox, *given, *words, NO_COLOR=no_color)[1]
-        sandbox.holds("colours with NO_COLOR=%s and %s" % (no_color, given), (wanted if is_coloured else explained.BRIEF.encode()) in text, text)
+        sandbox.holds(
+            "colours with NO_COLOR=%s and %s" % (no_color, given),
+            (wanted if is_coloured else explained.BRIEF.encode()) in text,
+            text,
+        )
     for given, is_coloured in (([], False), (["--color", "auto"], False), (["--color=always"], True)):
         text = sandbox.call(TOOL, "--brief", *given, *words).output
         sandbox.holds("in a pipe: %s" % given, text == (wanted if is_coloured else explained.BRIEF.encode()), text)
@@ -95,7 +101,11 @@ def try_hostile(sandbox):
     sandbox.write("h\033[2J.db", explained.NEW.replace(b"/usr/.x%20y", name))
     status, text = on_terminal(sandbox, *explained.REASONS, "o.db", "h\033[2J.db")
     ours = re.sub(rb"\033\[(1|1;31|33|0)m", b"", text)
-    sandbox.holds("only our own colours", status == 7 and b"\033" not in ours and b"h\\033[2J.db" in ours and b"\n  high  x" not in ours, text)
+    sandbox.holds(
+        "only our own colours",
+        status == 7 and b"\033" not in ours and b"h\\033[2J.db" in ours and b"\n  high  x" not in ours,
+        text,
+    )
 
 
 def slow(sandbox, seconds):
@@ -127,7 +137,10 @@ def try_progress(sandbox):
     for label, answer in (
         ("in a pipe", sandbox.call(TOOL, "o.db", "n.db").errors),
         ("with -q", on_terminal(sandbox, "-q", "o.db", "n.db", with_progress=True)[1]),
-        ("without a terminal that obeys", on_terminal(sandbox, "o.db", "n.db", output=False, with_progress=True, TERM="dumb")[1]),
+        (
+            "without a terminal that obeys",
+            on_terminal(sandbox, "o.db", "n.db", output=False, with_progress=True, TERM="dumb")[1],
+        ),
     ):
         sandbox.holds("nothing of it %s" % label, b"\r" not in answer and b"pass" not in answer, answer)
     sandbox.edit("lib/aide_compare/base/progress.py", "EVERY, FIRST = 0.1, 0.1", "EVERY, FIRST = 900.0, 900.0")
@@ -138,7 +151,11 @@ def try_progress(sandbox):
 
 def try_verbose(sandbox):
     answer = sandbox.call(TOOL, "-v", "--brief", "o.db", "n.db")
-    steps = [b"the old database is read, %d bytes: " % len(explained.OLD), b"the program has run: ", b"the changes are looked at: "]
+    steps = [
+        b"the old database is read, %d bytes: " % len(explained.OLD),
+        b"the program has run: ",
+        b"the changes are looked at: ",
+    ]
     sandbox.expect("each step", answer, 7, explained.UNJUDGED.encode(), steps)
     answer = sandbox.call(TOOL, "o.db", "n.db")
     sandbox.holds("no step without -v", b"database is read" not in answer.errors, answer)

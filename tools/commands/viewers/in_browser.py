@@ -125,7 +125,9 @@ def try_filters(browser, path, tally):
     tally.add(
         "removed ones", wait_for(browser, FOUND, "%d of %d entries" % (count, total)) + wait_for(browser, removed, count)
     )
-    tally.add("all of them are removed", wait_for(browser, "document.querySelectorAll('#list b[class]:not(.removed)').length", 0))
+    tally.add(
+        "all of them are removed", wait_for(browser, "document.querySelectorAll('#list b[class]:not(.removed)').length", 0)
+    )
     click(browser, "#kind button", "removed")
     click(browser, "#attribute button", "Digests")
     tally.add(

@@ -40,7 +40,7 @@ def holds_code(trial, name, folder, private):
     wanted = wanted_of(found)
     given = {path: data for path, (_, data) in files(found).items() if is_byte_code(path)}
     trial.holds(name + ": each module, and no other, has byte code", set(given) == set(wanted), set(given) ^ set(wanted))
-    trial.holds(name + ": there are modules", len(wanted) > 100, len(wanted))
+    trial.holds(name + ": there are modules", len(wanted) > 60, len(wanted))
     other = [path for path in given if given[path][4:16] != wanted.get(path)]
     trial.holds(name + ": byte code has the sum of its module", not other, other)
     named = [path for path in given if private.encode() in given[path]]

@@ -119,7 +119,7 @@ def is_page(sandbox, done):
 def has_lists(sandbox, done):
     """A page without script, of the entries that were added or removed."""
     text = sandbox.read("/tmp/page.html")
-    found = ["<code>%s</code>" % name in text for name in "abc"]
+    found = ["<code>/%s</code>" % name in text for name in "abc"]
     sandbox.holds(
         "the lists",
         not done[1] and not faults_in(done[2]) and "<script" not in text and found[2] is False and any(found),

@@ -122,6 +122,6 @@ PLANTED = (
         (LINES, 'return name + "_hex", string', "return name, string"),
         (LINES, "if kind_of(change, settings)]", "if shown(change, settings)]"),
         (LINES, 'members.append((name, b"null") if path is None else', 'members.append((name, b"") if not path else'),
-        (LINES, '[(name, truth(settings[name])) for name in BOOL_OPTIONS]', '[(name, b"true") for name in BOOL_OPTIONS]'),
+        (LINES, "[(name, truth(settings[name])) for name in BOOL_OPTIONS]", '[(name, b"true") for name in BOOL_OPTIONS]'),
     )
 )
