@@ -27,7 +27,7 @@ FILES = [
     exactly(569, "tools.source.check_docs"),
     exactly(114, "tools.source.check_layout"),
     exactly(102, "tools.source.check_layers"),
-    exactly(1007, "tools.source.check_planted"),
+    exactly(1006, "tools.source.check_planted"),
     exactly(1921, "tools.wrong_bodies.check"),
 ]
 

@@ -38,15 +38,8 @@ COPY_FIRST = """        self._rename(self.part, self.previous)
         if exchange(self.folder, self.previous, self.name):
             self._check(self.previous, self.former)
 """
-RECORDS_FIRST = """            self._put_away()
-            found = self._named_copy(source, self.mark)
-"""
 PLANTED = (
     seen_by(
-        "accept_kills.try_kills_of_records",
-        (BASELINE, "            found = self._named_copy(source, self.mark)\n", RECORDS_FIRST),
-    )
-    + seen_by(
         "accept.try_refusals",
         (ACCEPT, "if not offered.sha256.startswith(given.sha256):", "if False:"),
         (ACCEPT, "        if given.state:\n            raise\n", ""),

@@ -82,7 +82,7 @@ def try_little_memory(sandbox):
         (size for size in range(4, 60) if b"cannot start: " in with_memory(sandbox, size, "../alone/" + TOOL).errors), 60
     )
     sandbox.holds("the interpreter starts with little memory", least < 40, least)
-    for size in [*range(least + 1, least + 6), *range(least + 6, 60, 3)]:
+    for size in [*range(least, least + 6), *range(least + 6, 60, 3)]:
         sandbox.write("state", b"as before\n")
         answer = with_memory(sandbox, size, TOOL, "old.db", "new.db", "--state", "state")
         status = 22 if b": out of memory\n" in answer.errors else 18
