@@ -168,11 +168,11 @@ def main(arguments):
     def told(comparison, _):
         """All else. A report names only the descriptors of the databases."""
         progress.end()
+        tell(comparison, given.quiet)
         for side in SIDES if comparison.differs and not given.quiet else ():
             copy = comparison.copies[side]
             written = "" if copy.written is None else "written %s, " % date_of(int(copy.written))
             say("%s database: %s, %sSHA-256 %s" % (side, shown(copy.name), written, copy.sha256))
-        tell(comparison, given.quiet)
         if comparison.reasons and not given.quiet:
             say(comparison.reasons.said())
 
