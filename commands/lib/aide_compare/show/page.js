@@ -18,13 +18,14 @@ function make(tag, attributes, ...inner) {
 
 // An entry: its item, and what filters and orders need of it. `section` is the heading of its group.
 function entryOf(item, standing, section, place) {
-  const head = item.querySelector('summary') || item, names = head.querySelector('i');
-  const wordOf = (tag) => (head.querySelector(tag) || { textContent: '' }).textContent;
-  const path = wordOf('code'), about = wordOf('i'), reason = standing === 'explained' ? section : wordOf('span');
+  const opening = item.firstElementChild, head = opening.tagName === 'DETAILS' ? opening.firstElementChild : item, parts = {};
+  for (let part = head.firstElementChild; part; part = part.nextElementSibling) parts[part.tagName] = part;
+  const wordOf = (tag) => parts[tag] ? parts[tag].textContent : '', names = parts.I;
+  const path = wordOf('CODE'), about = wordOf('I'), reason = standing === 'explained' ? section : wordOf('SPAN');
   const [, grown, size] = /Size [+-](\d+)|(\d+) bytes$/.exec(about) || [];
   return {
     item, standing, section, place, path, reason, folded: path.toLowerCase(), key: path.replaceAll('/', '\0'),
-    kind: wordOf('b'), severity: wordOf('em'), attributes: names && names.title || about, growth: Number(grown || size || 0),
+    kind: wordOf('B'), severity: wordOf('EM'), attributes: names && names.title || about, growth: Number(grown || size || 0),
     node: null, told: null,
   };
 }
