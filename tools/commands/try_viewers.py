@@ -31,7 +31,7 @@ from tools.commands.viewers.refused import LINE_EDITS, rich_lines
 from tools.commands.viewers.schema import Validator, schema_of_lines
 from tools.commands.viewers.texts import text_faults, try_table, try_zones
 
-from aide_compare.base.shown_text import shown, shown_path
+from aide_compare.base.escapes import shown_path, shown_value
 from aide_compare.lines import reader
 from aide_compare.lines.reader import Reader, Refused
 from aide_compare.show.page import script_of
@@ -161,7 +161,7 @@ def try_shown(seed, tally):
     texts += [
         bytes(pick.choice(b"a /\\0129<\xc3\xa9\xff\xe2\x80\xae") for _ in range(pick.randint(1, 12))) for _ in range(2000)
     ]
-    for show in (shown, shown_path):
+    for show in (shown_value, shown_path):
         faults = [
             "%r is shown as %r" % (text, show(text))
             for text in texts

@@ -9,7 +9,7 @@ from tools.commands.base.calls import expect, expect_fault, outcome
 from tools.oracle.configuration import BOOL_OPTIONS, SET_OPTIONS
 
 from aide_compare import VERSION
-from aide_compare.base import ending, escapes, options, times
+from aide_compare.base import ending, escapes, options, words
 from aide_compare.compare import configuration, state
 from aide_compare.lines import attributes, reader
 from aide_compare.reasons import entries
@@ -73,13 +73,13 @@ def try_escapes(tally, _):
 
 def try_times(tally, _):
     for text, want in TIMES:
-        expect(tally, "the time %r" % text, outcome(times.seconds_of, text), want)
+        expect(tally, "the time %r" % text, outcome(words.seconds_of, text), want)
     for text in NO_TIMES:
-        expect_fault(tally, "the time %r" % text, outcome(times.seconds_of, text), 15)
-    expect(tally, "a date", times.date_of(1795602777), "2026-11-25T10:32:57Z")
-    expect(tally, "no date", times.date_of(1 << 62), "@%d" % (1 << 62))
-    expect(tally, "a minute", times.minute_of(1795602777), "2026-11-25 10:32 UTC")
-    expect(tally, "no minute", times.minute_of(1 << 62), "@%d" % (1 << 62))
+        expect_fault(tally, "the time %r" % text, outcome(words.seconds_of, text), 15)
+    expect(tally, "a date", words.date_of(1795602777), "2026-11-25T10:32:57Z")
+    expect(tally, "no date", words.date_of(1 << 62), "@%d" % (1 << 62))
+    expect(tally, "a minute", words.minute_of(1795602777), "2026-11-25 10:32 UTC")
+    expect(tally, "no minute", words.minute_of(1 << 62), "@%d" % (1 << 62))
     for seconds, want in (
         (119, "119 seconds"),
         (120, "2 minutes"),
@@ -88,7 +88,7 @@ def try_times(tally, _):
         (259199, "71 hours"),
         (259200, "3 days"),
     ):
-        expect(tally, "the age %d" % seconds, times.age_in_words(seconds), want)
+        expect(tally, "the age %d" % seconds, words.age_in_words(seconds), want)
 
 
 def try_words(tally, _):

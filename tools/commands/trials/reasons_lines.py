@@ -262,7 +262,7 @@ def try_interface(sandbox):
     """The module as the other commands use it: objects in, what each of them gets out."""
     records, _ = modules()
     from types import SimpleNamespace
-    from aide_compare.compare.reason_counts import ReasonCounts as Counts
+    from aide_compare.compare.state import ReasonCounts as Counts
     from aide_compare.reasons.explainer import Explainer, evidence_of, members_of
 
     host = Host()

@@ -96,7 +96,7 @@ class Sandbox(Scratch):
 
     def point_defaults(self):
         """The administrator's folder is one of the trial, and never that of this machine."""
-        self.edit("lib/aide_compare/base/defaults.py", 'FOLDER = "/etc/aide-compare"', "FOLDER = %r" % self.path("etc"))
+        self.edit("lib/aide_compare/base/options.py", 'FOLDER = "/etc/aide-compare"', "FOLDER = %r" % self.path("etc"))
 
     @contextlib.contextmanager
     def mounted(self, name, *words):

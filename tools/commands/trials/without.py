@@ -14,7 +14,7 @@ NEW = HEAD + b"/etc/a 36 100644 2\n/etc/a.bak 36 100644 1\n/var/log 36 40755 1\n
 # Hostile paths, in a process that may take so many seconds of processor time.
 HOSTILE = """import resource, sys
 sys.path.insert(0, sys.argv[1])
-from aide_compare.base.patterns import Pattern
+from aide_compare.base.paths import Pattern
 resource.setrlimit(resource.RLIMIT_CPU, (20, 20))
 hostile = (b"/" + b"*a" * 20 + b"b", b"/" + b"a" * 4000), (b"/" + b"**/a/" * 20 + b"b", b"/b" + b"/a" * 2000)
 print(*(Pattern(text).matches(path[1:].split(b"/")) for text, path in hostile))
@@ -116,22 +116,22 @@ def modules():
     path = os.path.join(HERE, "commands", "lib")
     if path not in sys.path:
         sys.path.append(path)
-    from aide_compare.base import patterns
+    from aide_compare.base import paths
 
-    return patterns
+    return paths
 
 
 def try_patterns(sandbox):
-    patterns = modules()
+    paths = modules()
     for text, path, want in PATTERNS:
-        got = patterns.Pattern(text).matches(path[1:].split(b"/"))
+        got = paths.Pattern(text).matches(path[1:].split(b"/"))
         sandbox.holds("the pattern %r and %r" % (text, path), got == want, got)
         sandbox.holds("the plain definition, %r and %r" % (text, path), means(text, path) == want)
     for text in NO_PATTERNS:
         try:
-            patterns.Pattern(text)
+            paths.Pattern(text)
             sandbox.holds("%r is no pattern" % text, not text, "taken")
-        except patterns.BadPattern:
+        except paths.BadPattern:
             sandbox.holds("%r is no pattern" % text, True)
 
 
@@ -182,7 +182,7 @@ def class_has(text, byte):
 
 def try_random(sandbox):
     """Random patterns over few letters, so that many fit, beside the plain definition."""
-    patterns, numbers = modules(), random.Random(20261125)
+    paths, numbers = modules(), random.Random(20261125)
     fits = wrong = 0
     for _ in range(20000):
         text = b"/" + b"/".join(
@@ -194,7 +194,7 @@ def try_random(sandbox):
         if any(b"**" in piece and piece != b"**" for piece in text.split(b"/")):
             continue
         path = b"/" + b"/".join(bytes(numbers.choices(b"ab", k=numbers.randint(1, 4))) for _ in range(numbers.randint(1, 5)))
-        got = patterns.Pattern(text).matches(path[1:].split(b"/"))
+        got = paths.Pattern(text).matches(path[1:].split(b"/"))
         fits, wrong = fits + got, wrong + (got != means(text, path))
     sandbox.holds("random patterns", fits > 1000 and wrong == 0, (fits, wrong))
 

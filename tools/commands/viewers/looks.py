@@ -11,7 +11,7 @@ from tools.commands.viewers.pages import page_faults, standing_of
 from tools.commands.viewers.refused import rich_lines
 
 from aide_compare.base.escapes import shown as escaped
-from aide_compare.base.names import SEVERITIES
+from aide_compare.base.words import SEVERITIES
 from aide_compare.lines.reader import Refused
 from aide_compare.show.page_view import CHOICES, View
 from aide_compare.show.rows import GRADES

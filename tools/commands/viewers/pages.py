@@ -9,7 +9,7 @@ from html.parser import HTMLParser
 from tools.commands.viewers import HTML  # noqa: F401, it puts the modules of the commands in reach.
 from tools.oracle.attributes import ATTRIBUTES as KNOWN
 
-from aide_compare.base.shown_text import shown_note
+from aide_compare.base.escapes import shown_note
 
 TAGS = set(
     """html head meta title style body header main h1 h2 p dl dt dd div details summary code small section label

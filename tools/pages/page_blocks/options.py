@@ -31,7 +31,7 @@ def try_defaults(holds):
     """The page of a comparison names the options that the administrator's file may have for it."""
     page = read("man/aide-compare-compare.1")
     text = page.partition(".Sh DEFAULTS\n")[2].partition("from there")[0].partition(" takes ")[2]
-    code = "import sys; sys.path.insert(0, sys.argv[1]); from aide_compare.base import defaults; print(*defaults.RUN)"
+    code = "import sys; sys.path.insert(0, sys.argv[1]); from aide_compare.base import options; print(*options.RUN)"
     done = subprocess.run([sys.executable, "-c", code, HERE + "/commands/lib"], stdout=subprocess.PIPE)
     wanted = set(done.stdout.decode().split())
     holds("the page names the options of the defaults", wanted and named_in(text) == wanted, (named_in(text), wanted))

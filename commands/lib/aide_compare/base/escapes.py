@@ -1,15 +1,22 @@
-"""Bytes of others as people may see them. Every command that shows such bytes uses `shown` or `shown_lines`.
+"""Bytes of others as people may see them. Every command that shows such bytes uses `shown` or `shown_lines`; a page has more to
+hide, and uses `shown_value`, `shown_path` and `shown_note`, so that nothing is invisible or changes what stands around it.
 
 Escaped, as a backslash and three octal digits for each byte, as paths are in reports: control bytes and the backslash,
 bytes that are no UTF-8, and the characters that a terminal or a reader obeys in place of showing them: the controls U+0080
 to U+009F, the separators of lines and paragraphs, and all format controls, such as those that turn the direction of text.
 """
+import re
 
 # The characters of the category Cf (Unicode 15), with the two separators of the categories Zl and Zp.
 _FORMAT_CONTROLS = (
     "AD 600-605 61C 6DD 70F 890-891 8E2 180E 200B-200F 2028-202E 2060-206F FEFF FFF0-FFFB 110BD 110CD 13430-1343F "
     "1BCA0-1BCA3 1D173-1D17A E0000-E007F"
 )
+# Printable ASCII without the backslash, and without blanks at its ends.
+PLAIN = re.compile(r"[!-\[\]-~](?:[ -\[\]-~]*[!-\[\]-~])?")
+PLAIN_PATH = re.compile(rb"[!-\[\]-~]*")
+# Letters by their class, and yet blank.
+BLANK_LETTERS = "\u115f\u1160\u2800\u3164\uffa0"
 
 
 def _escaped(data):
@@ -57,3 +64,43 @@ def guarded(text):
 def shown_lines(data):
     """Whole lines: newlines and tabs stay, and backslashes, since the reports and error lines have escapes of their own."""
     return _bytes_of(data).decode("utf-8", "surrogateescape").translate(_BUT_LINES)
+
+
+def _octal(text):
+    return _escaped(text.encode("utf-8", "surrogateescape"))
+
+
+def _seen(text):
+    """A text in which every character is seen."""
+    if text.isprintable() and not any(letter in text for letter in BLANK_LETTERS):
+        return text
+    return "".join(
+        character if character.isprintable() and character not in BLANK_LETTERS else _octal(character) for character in text
+    )
+
+
+def shown_value(value):
+    """Bytes as text on a page: as the report prints them, and in the same way all that has no shape of its own.
+
+    To what all commands escape come unusual blanks, letters that no font has, and blanks at the beginning and the end.
+    """
+    text = shown(value, len(value))
+    if PLAIN.fullmatch(text):
+        return text
+    text = _seen(text)
+    inner = text.strip(" ")
+    if not inner:
+        return _octal(text)
+    before, after = len(text) - len(text.lstrip(" ")), len(text) - len(text.rstrip(" "))
+    return _octal(" " * before) + inner + _octal(" " * after)
+
+
+def shown_path(path):
+    """A path on a page, each of its names shown by itself."""
+    return path.decode() if PLAIN_PATH.fullmatch(path) else "/".join(shown_value(name) for name in path.split(b"/"))
+
+
+def shown_note(text, most=200):
+    """A text for people that a command of ours has written, such as a reason, in which names are escaped already."""
+    note = _seen(guarded(text[: most + 1]))
+    return note[:most] + "..." if len(note) > most else note

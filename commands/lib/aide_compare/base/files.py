@@ -10,16 +10,10 @@ from contextlib import closing, suppress
 
 from aide_compare.base.ending import Fault, Status, failing, why_of, write_all
 from aide_compare.base.escapes import shown
-from aide_compare.base.folders import (
-    ANYBODY,
-    Folder,
-    closed_after,
-    failure,
-    open_folder,
-    walked,
-)  # noqa: F401 (for those who use this module)
+from aide_compare.base.folders import ANYBODY, closed_after, failure, open_folder, walked
 
 BLOCK = HELD = 1 << 18
+MOST_LINES, MOST_BYTES = 10000, 1 << 20  # Of a file of the administrator.
 NO_TMPFILE = (errno.EOPNOTSUPP, errno.EISDIR, errno.EINVAL)
 RENAME_EXCHANGE, NO_EXCHANGE = 2, (errno.EINVAL, errno.ENOSYS, errno.EOPNOTSUPP)
 NEW_FILE = os.O_CREAT | os.O_EXCL | os.O_RDWR | os.O_NOFOLLOW | os.O_CLOEXEC
@@ -76,6 +70,34 @@ def read_file(path, most, what=""):
     """The bytes of a regular file, at most so many. `what` says what it is, such as "the state file "."""
     with closed_after(open_regular(path, what)) as descriptor:
         return read_whole(descriptor, most, what + shown(path))
+
+
+def open_trusted(path, what):
+    """A descriptor of a file of the administrator, which no user but root and the caller may be able to change. `what` says what
+    it is, such as "the rules"."""
+    descriptor = open_regular(path, what + " ")
+    try:
+        with open_folder(os.path.dirname(path) or ".") as folder:
+            found = os.fstat(descriptor)
+            if not folder.is_safe() or found.st_uid not in (0, os.geteuid()) or found.st_mode & 0o022:
+                raise Fault(Status.DEVICE, "other users can write %s %s" % (what, shown(path)))
+        return descriptor
+    except BaseException:
+        os.close(descriptor)
+        raise
+
+
+def lines_of(path, what):
+    """The lines of a file that say something, each with the place where it stands. Blanks at the ends do not count."""
+    with closed_after(open_trusted(path, what)) as descriptor:
+        text = read_whole(descriptor, MOST_BYTES, "%s %s" % (what, shown(path)))
+    lines = [
+        (line.strip(b" \t\r"), "%s, line %d" % (shown(path, 200), number)) for number, line in enumerate(text.split(b"\n"), 1)
+    ]
+    lines = [(line, place) for line, place in lines if line and not line.startswith(b"#")]
+    if len(lines) > MOST_LINES:
+        raise Fault(Status.USAGE, "%s %s has more than %d lines" % (what, shown(path), MOST_LINES))
+    return lines
 
 
 def copy_file(source, target):

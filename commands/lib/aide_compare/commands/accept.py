@@ -11,11 +11,10 @@ from aide_compare.base.child import in_child
 from aide_compare.base.ending import Fault, Status, say, tell, write_all
 from aide_compare.base.escapes import shown
 from aide_compare.base.files import closed_after, copy_file, nameless, reopened
-from aide_compare.base.names import KINDS, SIDES
 from aide_compare.base.options import EVIDENCE, Parser, named_evidence, some_text
-from aide_compare.base.path_keys import key_of_path
+from aide_compare.base.paths import key_of_path
 from aide_compare.base.rights import become, user_of
-from aide_compare.base.times import date_of
+from aide_compare.base.words import KINDS, SIDES, date_of
 from aide_compare.compare.baseline import Baseline
 from aide_compare.compare.comparison import Comparison, Request, refuse_unsound
 from aide_compare.compare.kept_open import Listed, Patterns, keep_open

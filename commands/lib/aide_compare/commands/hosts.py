@@ -5,7 +5,7 @@ import time
 from aide_compare.base.ending import Fault, Status, say, tell, write_all
 from aide_compare.base.files import closed_after, copy_file, open_regular
 from aide_compare.base.options import Parser
-from aide_compare.base.times import date_of
+from aide_compare.base.words import date_of
 from aide_compare.commands import accept
 from aide_compare.compare.comparison import refuse_unsound
 from aide_compare.compare.state import read_state

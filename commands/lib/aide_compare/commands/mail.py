@@ -6,17 +6,16 @@ import time
 from contextlib import closing, suppress
 
 from aide_compare.base import progress
-from aide_compare.base.defaults import MAIL, RUN, defaults_for
 from aide_compare.base.ending import Fault, Status, say, why_of, write_all
 from aide_compare.base.escapes import shown
 from aide_compare.base.files import Replacement, read_file
-from aide_compare.base.options import Parser, duration, end_of_options, matching, some_text
+from aide_compare.base.options import MAIL, RUN, Parser, defaults_for, duration, end_of_options, matching, some_text
 from aide_compare.base.program import find_front
+from aide_compare.base.words import counted
 from aide_compare.commands import compare
 from aide_compare.compare.comparison import Comparison, Request
-from aide_compare.compare.outputs import Later, Output
 from aide_compare.compare.hints import hint_for_owner
-from aide_compare.compare.reason_counts import counted
+from aide_compare.compare.outputs import Later, Output
 from aide_compare.compare.state import read_state
 from aide_compare.mail.message import build, clean, host, is_explained, subject, text_of, within
 from aide_compare.mail.sending import SECONDS, alert, deliver, server, way_out

@@ -1,9 +1,8 @@
 """The command aide-compare reasons: the lines of aide-compare json with reasons and severities, and otherwise byte for byte."""
 import os
 
-from aide_compare.base.defaults import defaults_for
 from aide_compare.base.files import Spool
-from aide_compare.base.options import EVIDENCE, Parser
+from aide_compare.base.options import EVIDENCE, Parser, defaults_for
 from aide_compare.commands.streams import convert
 from aide_compare.compare.unpack import copy_database
 from aide_compare.lines.reader import Reader, Refused, with_members

@@ -9,7 +9,7 @@ from aide_compare.base.escapes import shown
 from aide_compare.base.files import Spool
 from aide_compare.base.line_sorter import LineSorter
 from aide_compare.base.options import Parser, some_text
-from aide_compare.base.path_keys import key_of, path_of
+from aide_compare.base.paths import key_of, path_of
 from aide_compare.compare.unpack import copy_database
 
 BLOCK = 1 << 16

@@ -3,15 +3,12 @@ import argparse
 import json
 import os
 
-from aide_compare.base.defaults import CHECK, defaults_for
 from aide_compare.base.ending import Done, Fault, Status, tell, why_of, write_all
 from aide_compare.base.escapes import guarded, shown
 from aide_compare.base.files import replace
-from aide_compare.base.names import SEVERITIES
-from aide_compare.base.options import ALARMS, Parser, end_of_options
-from aide_compare.base.times import age_in_words, date_of
-from aide_compare.compare.reason_counts import GRADE_KEYS, GRADES
-from aide_compare.compare.state import AGE, DAILY, KEYS, not_compared, read_state
+from aide_compare.base.options import ALARMS, CHECK, Parser, defaults_for, end_of_options
+from aide_compare.base.words import SEVERITIES, age_in_words, date_of
+from aide_compare.compare.state import AGE, DAILY, GRADES, GRADE_KEYS, KEYS, not_compared, read_state
 from aide_compare.show.told import painted
 
 NAME, CHECK_NAME = "aide-compare status", "check_aide_compare"

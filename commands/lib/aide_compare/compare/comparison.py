@@ -10,9 +10,8 @@ from contextlib import suppress
 from aide_compare.base.ending import Fault, Status, fault_of, write_all
 from aide_compare.base.escapes import shown, shown_lines
 from aide_compare.base.files import in_memory, nameless
-from aide_compare.base.names import KINDS, SIDES
 from aide_compare.base.program import CONFIGURATION, DATABASES, NEW, OLD, find_lines, find_program, run_program
-from aide_compare.base.times import age_in_words
+from aide_compare.base.words import KINDS, SIDES, age_in_words
 from aide_compare.compare.configuration import URLS, Texts, databases_of, default_configuration, options_in, without_includes
 from aide_compare.compare.exclusions import cut_copy
 from aide_compare.compare.hints import hints_of, notes_of, skipped_in

@@ -10,10 +10,8 @@ from functools import lru_cache
 
 from aide_compare.base.ending import Fault, Status, failing
 from aide_compare.base.escapes import shown
-from aide_compare.base.files import nameless, reopened
-from aide_compare.base.path_keys import unescaped
-from aide_compare.base.patterns import Table, pattern_of
-from aide_compare.base.trusted import lines_of
+from aide_compare.base.files import lines_of, nameless, reopened
+from aide_compare.base.paths import Table, pattern_of, unescaped
 
 MOST_LINES = 10000
 LINE = (1 << 20) + 1  # The longest line of a database, with its newline. aide-compare refuses a longer one.

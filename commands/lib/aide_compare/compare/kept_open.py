@@ -14,7 +14,7 @@ from operator import itemgetter
 from aide_compare.base.ending import Fault, Status, failing
 from aide_compare.base.escapes import shown
 from aide_compare.base.files import nameless, reopened
-from aide_compare.base.path_keys import key_of, path_of
+from aide_compare.base.paths import key_of, path_of
 from aide_compare.compare.unpack import Copy
 
 OLD, NEW = 0, 1

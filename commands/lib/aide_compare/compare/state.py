@@ -1,4 +1,4 @@
-"""The state file: the result of the last run of aide-compare, for the commands that show it."""
+"""The result of a run: how many changes something explains, in numbers and in words, and the state file that keeps it all."""
 import os
 import re
 import time
@@ -7,20 +7,83 @@ from collections import namedtuple
 from aide_compare.base.ending import Fault, Status, failing
 from aide_compare.base.escapes import guarded, shown
 from aide_compare.base.files import closed_after, open_regular
-from aide_compare.base.names import KINDS, SIDES
-from aide_compare.base.times import date_of
-from aide_compare.compare.reason_counts import counts_of_keys
+from aide_compare.base.words import KINDS, SEVERITIES, SIDES, counted, date_of
 from aide_compare.lines.reader import status_of
 
 MOST_BYTES, MOST_TOLD = 65536, 3
 # The state of the daily run, how old it may be, and how much the clocks of two machines that share a file may differ.
 DAILY, AGE, AHEAD = "/var/lib/aide-compare/daily/state", 26 * 3600, 300
+REASON_KEYS = ("explained", "not_verified", "unexplained") + SEVERITIES
+# The grades of evidence by which changes are explained, the strongest first, and the keys of their counts.
+GRADES = ("archive", "databases", "dpkg", "rpm")
+GRADE_KEYS = tuple("explained_" + grade for grade in GRADES)
 NEEDED = ("status", "time")
 NUMBERS = NEEDED + KINDS + ("old_written", "new_written")
 KEYS = NEEDED + KINDS + ("old_sha256", "new_sha256", "old", "new", "old_written", "new_written", "error")
 NUMBER, DIGEST = re.compile("-?[0-9]{1,19}"), re.compile("(?:[0-9a-f]{64})?")
 # The further key that has the columns which mails have told.
 TOLD = "told_columns"
+
+
+class ReasonCounts(namedtuple("ReasonCounts", REASON_KEYS + GRADE_KEYS, defaults=(0,) * len(GRADES))):
+    """The first three add up to all changes. The next three count, by severity, those that are not explained: the ones
+    that are unexplained, and the ones whose reason is not verified. The last ones count those that are explained by their
+    grades; a state of an earlier version has none of these."""
+
+    @property
+    def total(self):
+        return self.explained + self.unanswered
+
+    @property
+    def unanswered(self):
+        """How many changes somebody has to look at."""
+        return self.not_verified + self.unexplained
+
+    def fits(self, changes):
+        """Whether these can be the counts of so many changes."""
+        is_whole = self.total == changes and self.high + self.medium + self.low == self.unanswered
+        return min(self) >= 0 and is_whole and sum(self[len(REASON_KEYS) :]) in (0, self.explained)
+
+    def grades(self):
+        """As in "archive 300, dpkg 12"; "" if nothing is explained."""
+        return ", ".join("%s %d" % pair for pair in zip(GRADES, self[len(REASON_KEYS) :]) if pair[1])
+
+    def words(self):
+        """As in "3 unexplained of 512 changes, 1 high"."""
+        if not self.unanswered:
+            return "%s, all explained" % counted(self.total, "change")
+        pairs = ((self.unexplained, "unexplained"), (self.not_verified, "not verified"))
+        parts = ", ".join("%d %s" % pair for pair in pairs if pair[0])
+        return ", ".join(["%s of %s" % (parts, counted(self.total, "change"))] + self.severities())
+
+    def said(self):
+        """As in "3 unexplained of 512 changes, 1 high; explained by dpkg 509"."""
+        grades = self.grades()
+        return self.words() + ("; explained by " + grades if grades else "")
+
+    def severities(self):
+        """As in "1 high", "3 medium"; low ones are not named."""
+        return ["%d %s" % (count, name) for name, count in zip(SEVERITIES[:2], (self.high, self.medium)) if count]
+
+    def line(self):
+        """As in "unexplained=3 not_verified=0 explained=509 high=1 medium=0 low=2", and after it the counts of the grades by
+        which something is explained."""
+        keys = ("unexplained", "not_verified", "explained") + SEVERITIES
+        keys += tuple(key for key in GRADE_KEYS if getattr(self, key))
+        return " ".join("%s=%d" % (key, getattr(self, key)) for key in keys)
+
+
+def counts_of_keys(values):
+    """The ReasonCounts in a map of texts, such as the further keys of a state; None if it has none of the keys. A ValueError
+    if it has only some of them, or one that is no number."""
+    found = {key: values[key] for key in ReasonCounts._fields if key in values}
+    if not found:
+        return None
+    if tuple(found) not in (REASON_KEYS, REASON_KEYS + GRADE_KEYS) or not all(
+        re.fullmatch("[0-9]{1,18}", text) for text in found.values()
+    ):
+        raise ValueError("only some counts of reasons, or no numbers")
+    return ReasonCounts(*map(int, found.values()))
 
 
 class State(namedtuple("State", KEYS + ("more",), defaults=(None,) * 3 + ("",) * 4 + (None,) * 2 + ("", {}))):

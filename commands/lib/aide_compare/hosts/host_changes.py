@@ -6,8 +6,8 @@ count: times, inodes, and what the file system makes of a file.
 import hashlib
 import json
 
-from aide_compare.base.names import SEVERITIES, SIDES
-from aide_compare.base.path_keys import key_of
+from aide_compare.base.paths import key_of
+from aide_compare.base.words import SEVERITIES, SIDES
 from aide_compare.lines.attributes import FORMS
 from aide_compare.lines.reader import bytes_of
 

@@ -8,8 +8,8 @@ from argparse import Namespace
 from contextlib import closing
 
 from aide_compare.base.ending import Fault, Status
-from aide_compare.base.names import SIDES
 from aide_compare.base.options import duration
+from aide_compare.base.words import SIDES
 from aide_compare.compare.comparison import Comparison, Request
 from aide_compare.compare.exclusions import read_exclusions
 from aide_compare.compare.state import State

@@ -1,8 +1,8 @@
 """The report of all hosts as one page without a script: the counts, the hosts, and each change with the hosts that have it."""
 from html import escape
 
+from aide_compare.base.escapes import shown_note
 from aide_compare.base.files import Spool
-from aide_compare.base.shown_text import shown_note
 from aide_compare.hosts.hosts_text import ORDERS, Share, headline, host_lists, names_of, reason_words
 from aide_compare.show.page_heading import beginning, cards
 from aide_compare.show.page_items import head_of, item, number, table

@@ -7,7 +7,7 @@ import time
 from aide_compare.base.ending import Fault, Status, reason
 from aide_compare.base.escapes import shown
 from aide_compare.base.files import open_regular
-from aide_compare.base.times import age_in_words, date_of
+from aide_compare.base.words import age_in_words, date_of
 from aide_compare.compare.state import read_state
 from aide_compare.hosts.fleet_store import Place, check_name
 from aide_compare.hosts.host_comparison import size_before_cut

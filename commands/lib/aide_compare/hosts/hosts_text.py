@@ -2,7 +2,7 @@
 from collections import Counter
 
 from aide_compare.base.escapes import guarded, shown
-from aide_compare.compare.reason_counts import counted, most_frequent
+from aide_compare.base.words import counted, most_frequent
 from aide_compare.hosts.host_changes import is_explained
 from aide_compare.hosts.hosts_read import CUT, UNREADABLE
 from aide_compare.lines.reader import bytes_of

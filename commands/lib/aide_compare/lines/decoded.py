@@ -14,7 +14,7 @@ from functools import lru_cache
 from urllib.parse import unquote_to_bytes
 
 from aide_compare.base.escapes import shown
-from aide_compare.base.names import SIDES
+from aide_compare.base.words import SIDES
 from aide_compare.lines.attributes import FORMS
 
 NUMBERS = frozenset(label for label, form in FORMS.items() if form in ("number", "time"))

@@ -4,7 +4,7 @@ import json
 import re
 
 from aide_compare.base.files import Spool
-from aide_compare.base.names import KINDS, SIDES
+from aide_compare.base.words import KINDS, SIDES
 from aide_compare.lines.attributes import FORMS
 from aide_compare.lines.decoded import acl_lists, attributes_of, decoded, exact_bytes, kinds_of, values_of
 from aide_compare.lines.reader import BLOCK, Refused, bytes_of

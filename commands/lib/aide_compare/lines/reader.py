@@ -3,7 +3,7 @@ paths, and an end. The end says the counts again, so that a stream that was cut 
 import json
 import os
 
-from aide_compare.base.names import KINDS, SIDES
+from aide_compare.base.words import KINDS, SIDES
 
 FORMAT, BLOCK = 2, 1 << 18
 # An entry has at most the bytes of two lines of databases, and six times as many in JSON, some of them in base 16 too.

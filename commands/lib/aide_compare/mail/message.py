@@ -10,8 +10,7 @@ import shlex
 import time
 
 from aide_compare.base.escapes import shown_lines
-from aide_compare.base.names import KINDS
-from aide_compare.base.times import date_of
+from aide_compare.base.words import KINDS, date_of
 from aide_compare.compare.state import not_compared
 from aide_compare.lines.reader import reader_over
 from aide_compare.show.changes import changes_text, cut_text

@@ -2,7 +2,7 @@
 from collections import namedtuple
 from functools import lru_cache
 
-from aide_compare.compare.reason_counts import ReasonCounts
+from aide_compare.compare.state import ReasonCounts
 
 # What explains an entry: its class, a text for people, whether the content is verified, and where the evidence is from.
 Reason = namedtuple("Reason", "name text verified grade")

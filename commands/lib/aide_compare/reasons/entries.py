@@ -8,7 +8,7 @@ from functools import partial
 
 from aide_compare.base.ending import Fault, Status
 from aide_compare.base.files import reopened
-from aide_compare.base.path_keys import key_of, key_of_path, unescaped
+from aide_compare.base.paths import key_of, key_of_path, unescaped
 from aide_compare.lines.attributes import DIGEST_COLUMNS as DIGESTS
 
 fields_of = re.compile(rb"[^ \t\n]+").findall

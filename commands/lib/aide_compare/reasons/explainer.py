@@ -4,11 +4,11 @@ from collections import namedtuple
 
 from aide_compare.base.ending import Fault, Status
 from aide_compare.base.escapes import shown
-from aide_compare.base.names import SEVERITIES
-from aide_compare.base.path_keys import key_of_path
+from aide_compare.base.paths import key_of_path
+from aide_compare.base.words import SEVERITIES
 from aide_compare.lines.reader import bytes_of
-from aide_compare.reasons.archive import Archive
 from aide_compare.reasons import by_databases
+from aide_compare.reasons.archive import Archive
 from aide_compare.reasons.changes import Change, counts_by_reason
 from aide_compare.reasons.compiled import explain_compiled
 from aide_compare.reasons.entries import OrderedDatabase, differences, usr_of

@@ -9,9 +9,8 @@ from contextlib import ExitStack, contextmanager, suppress
 from itertools import groupby
 
 from aide_compare.base.ending import Fault, Status
-from aide_compare.base.files import in_memory, reopened
+from aide_compare.base.files import in_memory, open_trusted, reopened
 from aide_compare.base.folders import closed_after, open_folder
-from aide_compare.base.trusted import open_trusted
 from aide_compare.reasons.content import Vouched
 from aide_compare.reasons.packed import Refuted, copied, unpacked
 

@@ -5,9 +5,9 @@ from collections import namedtuple
 
 from aide_compare.base.ending import Fault, Status
 from aide_compare.base.escapes import shown
-from aide_compare.base.names import SEVERITIES
-from aide_compare.base.patterns import Pattern, Table, pattern_of
-from aide_compare.base.trusted import lines_of
+from aide_compare.base.files import lines_of
+from aide_compare.base.paths import Pattern, Table, pattern_of
+from aide_compare.base.words import SEVERITIES
 from aide_compare.reasons.by_databases import has_grown
 from aide_compare.reasons.changes import Reason
 from aide_compare.reasons.entries import CONTENT, DIGESTS, RUN_BITS, TIMES

@@ -9,8 +9,7 @@ from collections import namedtuple
 from aide_compare.base.ending import Fault, Status
 from aide_compare.base.escapes import shown
 from aide_compare.base.files import nameless
-from aide_compare.base.names import SIDES
-from aide_compare.base.times import date_of
+from aide_compare.base.words import SIDES, date_of
 from aide_compare.lines.decoded import texts_of
 from aide_compare.lines.reader import BLOCK, ENCODE, Refused, counts_in, status_of, with_members
 

@@ -12,9 +12,7 @@ from collections import Counter
 
 from aide_compare.base.escapes import guarded, shown
 from aide_compare.base.files import file_kind
-from aide_compare.base.names import SEVERITIES
-from aide_compare.base.times import date_of, minute_of
-from aide_compare.compare.reason_counts import counted, most_frequent
+from aide_compare.base.words import SEVERITIES, counted, date_of, minute_of, most_frequent
 from aide_compare.reasons.by_databases import has_other_names
 from aide_compare.reasons.entries import DIGESTS, differences
 

@@ -5,9 +5,9 @@ from array import array
 from collections import Counter
 from html import escape
 
+from aide_compare.base.escapes import shown_note
 from aide_compare.base.files import Spool
-from aide_compare.base.names import SEVERITIES
-from aide_compare.base.shown_text import shown_note
+from aide_compare.base.words import SEVERITIES
 from aide_compare.show.page_heading import head, part_of
 from aide_compare.show.page_items import entries, head_of, item, number, table
 from aide_compare.show.page_view import CHOICES, ORDERS, View, words_of

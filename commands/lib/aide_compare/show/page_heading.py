@@ -5,9 +5,9 @@ import os
 import re
 from html import escape
 
-from aide_compare.base.names import KINDS, SEVERITIES, SIDES
-from aide_compare.base.shown_text import shown, shown_date, shown_note
-from aide_compare.compare.reason_counts import GRADE_KEYS, KEYS, ReasonCounts
+from aide_compare.base.escapes import shown_note, shown_value
+from aide_compare.base.words import KINDS, SEVERITIES, SIDES
+from aide_compare.compare.state import GRADE_KEYS, REASON_KEYS, ReasonCounts
 from aide_compare.lines.reader import bytes_of
 from aide_compare.show.page_items import entries, number
 from aide_compare.show.rows import STANDINGS
@@ -54,7 +54,7 @@ def member(summary, name):
     value = summary.get(name)
     if not isinstance(value, str):
         return ""
-    return shown_date(value) if DATE.fullmatch(value) else shown_note(value)
+    return value.replace("T", " ").replace("Z", " UTC") if DATE.fullmatch(value) else shown_note(value)
 
 
 def facts(summary):
@@ -73,7 +73,7 @@ def databases(summary):
         fields, time = summary[side], member(summary, side + "_time")
         lines += "<dt>%s</dt><dd><code>%s</code>%s<small>SHA-256 <code>%s</code></small></dd>" % (
             side.capitalize(),
-            escape(shown(bytes_of(fields, "path")[:MOST_LETTERS])),
+            escape(shown_value(bytes_of(fields, "path")[:MOST_LETTERS])),
             " <span>of %s</span>" % escape(time) if time else "",
             fields["sha256"],
         )
@@ -92,7 +92,7 @@ def counts(reader):
     summary, count, told, text = reader.summary, reader.count, "", ""
     if "reasons" in summary:
         given = summary["reasons"]
-        reasons = ReasonCounts(**{key: given[key] for key in KEYS + GRADE_KEYS if type(given.get(key)) is int})
+        reasons = ReasonCounts(**{key: given[key] for key in REASON_KEYS + GRADE_KEYS if type(given.get(key)) is int})
         severe = ", ".join("%s %s" % (number(getattr(reasons, name)), name) for name in SEVERITIES if getattr(reasons, name))
         for title, words in (
             ("Severity of what is not explained or not verified", severe),
@@ -126,7 +126,7 @@ def skipped(value):
 def head(reader, title, script, notes):
     """The beginning of the page of a report; without a title it has that of the host. The notes say what is missing."""
     summary, host = reader.summary, member(reader.summary, "host")
-    title = shown(title[:MOST_LETTERS]) if title else "File changes on %s" % host if host else "File changes"
+    title = shown_value(title[:MOST_LETTERS]) if title else "File changes on %s" % host if host else "File changes"
     kinds = ": " + ", ".join("%s %s" % (number(summary[kind]), kind) for kind in KINDS)
     remarks = filter(None, [left_out(summary.get("left_out")), *skipped(summary.get("skipped")), *notes])
     return beginning(

@@ -4,7 +4,7 @@ page_logic.js has the same filters for the script, and the orders. One table of 
 """
 from urllib.parse import parse_qsl
 
-from aide_compare.base.names import KINDS, SEVERITIES
+from aide_compare.base.words import KINDS, SEVERITIES
 from aide_compare.lines.attributes import STRENGTH
 from aide_compare.show.rows import LABELS, STANDINGS
 

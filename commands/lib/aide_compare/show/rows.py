@@ -2,9 +2,9 @@
 import re
 from typing import NamedTuple, Optional
 
-from aide_compare.base.names import SEVERITIES, SIDES
-from aide_compare.base.shown_text import PLAIN, shown, shown_note, shown_path
-from aide_compare.compare.reason_counts import KEYS
+from aide_compare.base.escapes import PLAIN, shown_note, shown_path, shown_value
+from aide_compare.base.words import SEVERITIES, SIDES
+from aide_compare.compare.state import REASON_KEYS
 from aide_compare.lines.attributes import FORMS, STRENGTH
 from aide_compare.lines.decoded import FIELDS, TIMES, texts_of, values_of
 from aide_compare.lines.reader import Refused, bytes_of
@@ -55,11 +55,11 @@ def demand(holds, words):
 def value_of(value):
     """A value as it is shown."""
     if type(value) is str:
-        return value if PLAIN.fullmatch(value) else shown(value.encode("utf-8"))
+        return value if PLAIN.fullmatch(value) else shown_value(value.encode("utf-8"))
     if value is None or value is VARIOUS:
         return value
     demand(type(value) in (int, bytes), "a value is a number or a text")
-    return shown(value) if type(value) is bytes else str(value)
+    return shown_value(value) if type(value) is bytes else str(value)
 
 
 def note_of(text):
@@ -99,8 +99,8 @@ def with_reason(entry, told):
 
 def entries_of(reader):
     """Yields the PageEntry of each change of a Reader."""
-    counts = reader.summary.get("reasons", dict.fromkeys(KEYS, 0))
-    if not isinstance(counts, dict) or not all(type(counts.get(name)) is int for name in KEYS):
+    counts = reader.summary.get("reasons", dict.fromkeys(REASON_KEYS, 0))
+    if not isinstance(counts, dict) or not all(type(counts.get(name)) is int for name in REASON_KEYS):
         raise Refused(reader.number, "a count of reasons is a number")
     for _, fields in reader:
         try:

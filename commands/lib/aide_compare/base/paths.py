@@ -1,8 +1,12 @@
-"""Patterns of paths: `*`, `?` and `[..]` within a piece of a path, and `**` for any number of whole pieces. Rows with patterns
-are looked up in their order.
+"""Paths: their keys, by which they are put in order, and patterns, by which rows of a table are found.
 
-A pattern is cut at each `/`, as a path is, and compared piece by piece. The work for a path grows with its length times that
-of the pattern and no faster, since paths come from hosts that nobody may trust.
+A key is a text whose order by bytes is the order of the paths, piece by piece. A slash becomes the byte 1, below every other
+byte of a key, so that a folder comes before all that is in it, and that before its neighbours. The bytes 0 to 10 become the
+byte 2 and a printable one, which keeps their order. So a key has no NUL, tab or newline, and can be a field of a line.
+
+A pattern has `*`, `?` and `[..]` within a piece of a path, and `**` for any number of whole pieces. It is cut at each `/`, as a
+path is, and compared piece by piece. The work for a path grows with its length times that of the pattern and no faster, since
+paths come from hosts that nobody may trust.
 """
 import fnmatch
 import re
@@ -11,11 +15,32 @@ from operator import itemgetter
 from aide_compare.base.ending import Fault, Status
 from aide_compare.base.escapes import shown
 
+_ENCODED, _LOW, _FORM = re.compile(rb"%([0-9A-Fa-f]{2})"), re.compile(rb"[\x00-\x0a]"), re.compile(rb"\x02(.)", re.S)
 MOST_PATH = 4096  # PATH_MAX of Linux: no path of a file is longer, so no row means a longer one.
 WILD = re.compile(rb"[*?\[\\]")
 # What fnmatch takes otherwise: an escaped byte, and a class, whose first byte may be any, with its sign before that.
 TOKEN = re.compile(rb"\\(.?)|\[(?:([!^])|(?![!^]))(.[^]]*)\]|\[", re.S)
 RANGE = re.compile(rb"(.)-(.)", re.S)
+
+
+def unescaped(field):
+    """A path with its escapes decoded; `%` without two hexadecimal digits stands for itself."""
+    return _ENCODED.sub(lambda found: bytes([int(found.group(1), 16)]), field)
+
+
+def key_of(field):
+    """The key of a path that is written as a field of a database."""
+    return key_of_path(unescaped(field))
+
+
+def key_of_path(path):
+    """The key of a path whose escapes are decoded already."""
+    return _LOW.sub(lambda found: bytes([2, found.group()[0] + 32]), path).replace(b"/", b"\x01")
+
+
+def path_of(key):
+    """The path that has a key."""
+    return _FORM.sub(lambda found: bytes([found.group(1)[0] - 32]), key.replace(b"\x01", b"/"))
 
 
 class BadPattern(ValueError):

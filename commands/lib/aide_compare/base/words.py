@@ -1,8 +1,13 @@
-"""Times with units, as every command takes and shows them."""
+"""The words that all commands have: the sides and the kinds of changes, counts, and times with units."""
 import time
 
 from aide_compare.base.ending import Fault, Status
 from aide_compare.base.escapes import shown
+
+# In the order in which states, lines and pages have them.
+SIDES = ("old", "new")
+KINDS = ("added", "removed", "changed")
+SEVERITIES = ("high", "medium", "low")
 
 UNITS = {"s": 1, "m": 60, "h": 3600, "d": 86400}
 MOST_SECONDS = 30 * 86400
@@ -40,3 +45,15 @@ def age_in_words(seconds):
         if seconds < unit * most:
             return "%d %s" % (seconds // unit, name)
     return "%d days" % (seconds // 86400)
+
+
+def counted(number, word):
+    """A number and a word, which is in the plural unless the number is 1."""
+    plural = word[:-1] + "ies" if word.endswith("y") else word + "s"
+    return "%d %s" % (number, word if number == 1 else plural)
+
+
+def most_frequent(counts, most):
+    """The greatest of some counts, so many of them, and the others: each as it is counted, with its count."""
+    pairs = sorted(counts.items(), key=lambda pair: (-pair[1], pair[0]))
+    return pairs[:most], pairs[most:]
