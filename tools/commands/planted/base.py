@@ -20,7 +20,7 @@ from .plant import seen_by
     "commands/lib/aide_compare/%s.py" % name
     for name in (
         "base/escapes",
-        "base/times",
+        "base/words",
         "base/options",
         "compare/state",
         "lines/reader",

@@ -7,7 +7,7 @@ EXPLAINING, BRIEF, WORDS, COUNTS, RUN, RECORDS, CHECK, MESSAGE, WEEKLY, COMPARIS
         "show/explained",
         "show/brief",
         "show/brief",
-        "compare/reason_counts",
+        "compare/state",
         "commands/compare",
         "reasons/kept_records",
         "commands/status",

@@ -5,14 +5,14 @@ from .plant import seen_by
 DEFAULTS, HANDING, RUN, MAIL, CHECK, REASONS, FOLDERS, TRUSTED = (
     "commands/lib/aide_compare/%s.py" % name
     for name in (
-        "base/defaults",
+        "base/options",
         "compare/outputs",
         "commands/compare",
         "commands/mail",
         "commands/status",
         "commands/reasons",
         "base/folders",
-        "base/trusted",
+        "base/files",
     )
 )
 SETUP = "commands/lib/aide_compare/commands/setup.py"

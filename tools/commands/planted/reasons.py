@@ -7,7 +7,7 @@ DATABASES, ENTRIES, PACKAGES, MADE, TABLES, DPKG, INDEXES, ARCHIVE = (
     LIB + name + ".py" for name in ("by_databases", "entries", "packages", "made", "tables", "dpkg", "indexes", "archive")
 )
 CONTENT, RECORDS, EXPLAINER, PACKED = (LIB + name + ".py" for name in ("content", "records", "explainer", "packed"))
-TRUSTED, SEVERITIES = "commands/lib/aide_compare/base/trusted.py", "commands/share/severity.conf"
+TRUSTED, SEVERITIES = "commands/lib/aide_compare/base/files.py", "commands/share/severity.conf"
 
 
 PLANTED = (

@@ -12,7 +12,7 @@ CONFIGURATION, HINTS, PROGRAM, COMPARISON, RUN, FILES, FOLDERS, UNPACK, TIMES, O
         "base/files",
         "base/folders",
         "compare/unpack",
-        "base/times",
+        "base/words",
         "base/options",
         "base/child",
         "show/told",

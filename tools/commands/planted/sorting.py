@@ -6,13 +6,9 @@ LIB = "commands/lib/aide_compare/"
 PLANTED = (
     seen_by(
         "sorting.try_order",
-        (LIB + "base/path_keys.py", 'field.replace(b"/", b"\\x01")', "field"),
-        (
-            LIB + "base/path_keys.py",
-            '_UNUSUAL = re.compile(rb"[\\x00-\\x0a%]")',
-            '_UNUSUAL = re.compile(rb"[\\x00-\\x0a]")',
-        ),
-        (LIB + "base/path_keys.py", "LAST_ESCAPED = 1, 2, 32, 10", "LAST_ESCAPED = 1, 2, 32, 1"),
+        (LIB + "base/paths.py", '.replace(b"/", b"\\x01")', ""),
+        (LIB + "base/paths.py", "return key_of_path(unescaped(field))", "return key_of_path(field)"),
+        (LIB + "base/paths.py", 're.compile(rb"[\\x00-\\x0a]")', 're.compile(rb"[\\x00-\\x01]")'),
         (
             LIB + "commands/sort.py",
             "    yield from database.lines_after()\n",

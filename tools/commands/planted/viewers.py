@@ -16,7 +16,7 @@ PLANTED = (
         (LIB + "show/rows.py", "value if PLAIN.fullmatch(value) else", "value if True else"),
         (
             LIB + "show/rows.py",
-            "return shown(value) if type(value) is bytes",
+            "return shown_value(value) if type(value) is bytes",
             'return value.decode("latin-1") if type(value) is bytes',
         ),
     )
@@ -71,7 +71,7 @@ PLANTED = (
     )
     + seen_by(
         "viewers.try_blank_ends",
-        (LIB + "base/shown_text.py", 'octal(" " * before) + inner + octal(" " * after)', "inner"),
+        (LIB + "base/escapes.py", '_octal(" " * before) + inner + _octal(" " * after)', "inner"),
     )
     + seen_by(
         "viewers.try_script",
@@ -108,8 +108,8 @@ PLANTED = (
     )
     + seen_by(
         "viewers.try_shown",
-        (LIB + "base/shown_text.py", "escapes.shown(value, len(value))", 'value.decode("utf-8", "surrogateescape")'),
-        (LIB + "base/shown_text.py", "character not in BLANK_LETTERS", "True"),
+        (LIB + "base/escapes.py", "shown(value, len(value))", 'value.decode("utf-8", "surrogateescape")'),
+        (LIB + "base/escapes.py", "character not in BLANK_LETTERS", "True"),
     )
     + seen_by(
         "viewers.try_commands",

@@ -2,7 +2,7 @@
 from .plant import seen_by
 
 WITHOUT, PATTERNS, TRUSTED = (
-    "commands/lib/aide_compare/%s.py" % name for name in ("compare/exclusions", "base/patterns", "base/trusted")
+    "commands/lib/aide_compare/%s.py" % name for name in ("compare/exclusions", "base/paths", "base/files")
 )
 PLANTED = (
     seen_by("without.try_names", (WITHOUT, 'unescaped(fields[self.columns["name"]])', 'fields[self.columns["name"]]'))

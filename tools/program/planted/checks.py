@@ -6,7 +6,7 @@ MODULES = {
     for name in ("check_docs", "check_edits", "check_layers", "check_layout", "check_planted", "check_tools")
 }
 MODULES["check_bodies"] = "tools.wrong_bodies.check"
-TIMES = "commands/lib/aide_compare/base/times.py"
+TIMES = "commands/lib/aide_compare/base/words.py"
 EDITS = "crates/aide_words/must-fail/"
 WORDS = "tools/wrong_bodies/bodies/aide_words/called.txt"
 
