@@ -10,7 +10,7 @@ from unittest import mock
 
 from tools.commands.base.calls import expect, expect_fault, outcome
 
-from aide_compare.base import files, program, rights
+from aide_compare.base import files, processes, program
 from aide_compare.base.folders import ANYBODY, open_folder
 from aide_compare.compare import unpack
 
@@ -216,7 +216,7 @@ def try_rights(tally, _):
     want = repr(((OTHER,) * 3, [], ["0" * 16] * 2, 5)).encode()
     groups = os.getgroups()
     os.setgroups([0, 4])
-    expect(tally, "the rights of another user", outcome(rights.with_rights_of, OTHER, look), want)
+    expect(tally, "the rights of another user", outcome(processes.with_rights_of, OTHER, look), want)
     os.setgroups(groups)
     for label, work, part in (
         ("a fault", lambda: files.open_regular("/etc/shadow"), "ermission denied"),
@@ -226,7 +226,7 @@ def try_rights(tally, _):
         ("no end", lambda: time.sleep(60), "more than 1 seconds"),
     ):
         begun = time.monotonic()
-        expect_fault(tally, "work that ends by " + label, outcome(rights.with_rights_of, OTHER, work, 1), 18, part)
+        expect_fault(tally, "work that ends by " + label, outcome(processes.with_rights_of, OTHER, work, 1), 18, part)
         tally.add("the time of " + label, [] if time.monotonic() - begun < 50 else ["too long"])
 
 

@@ -6,7 +6,7 @@ ACCEPT, BASELINE, RIGHTS, OPEN, SOUND = (
     for name in (
         "commands/accept",
         "compare/baseline",
-        "base/rights",
+        "base/processes",
         "compare/kept_open",
         "compare/comparison",
     )

@@ -24,7 +24,7 @@ PLANTED = (
         ),
     )
     + seen_by(
-        "fleet.try_ended", (LIB + "base/child.py", "    ctypes.CDLL(None).prctl(PR_SET_PDEATHSIG, signal.SIGKILL)\n", "")
+        "fleet.try_ended", (LIB + "base/processes.py", "    ctypes.CDLL(None).prctl(PR_SET_PDEATHSIG, signal.SIGKILL)\n", "")
     )
     + seen_by("fleet.try_slow", (LIB + "hosts/fetching.py", "}, self.deadline):\n", "}):\n"))
     + seen_by(

@@ -8,7 +8,7 @@ MAIL, MESSAGE, CHANGES, SENDING, CHILD, QUEUE, WEEKLY, HINTS, COMPARISON, FILES 
         "mail/message",
         "show/changes",
         "mail/sending",
-        "base/child",
+        "base/processes",
         "mail/queue",
         "commands/mail",
         "compare/hints",
@@ -35,7 +35,7 @@ PLANTED = (
         "mail.try_hint",
         (HINTS, '"cannot open the (old|new) database', '"cannot open the (old) database'),
         (
-            "commands/lib/aide_compare/base/rights.py",
+            "commands/lib/aide_compare/base/processes.py",
             "    except KeyError:\n        return pwd",
             "    except IndexError:\n        return pwd",
         ),

@@ -14,7 +14,7 @@ CONFIGURATION, HINTS, PROGRAM, COMPARISON, RUN, FILES, FOLDERS, UNPACK, TIMES, O
         "compare/unpack",
         "base/words",
         "base/options",
-        "base/child",
+        "base/processes",
         "show/told",
     )
 )
@@ -267,7 +267,7 @@ PLANTED = (
     + seen_by(
         "attacks.try_user",
         (
-            "commands/lib/aide_compare/base/rights.py",
+            "commands/lib/aide_compare/base/processes.py",
             "    if os.getuid() == os.geteuid() == entry.pw_uid:\n        return\n",
             "",
         ),

@@ -248,7 +248,7 @@ class Replacement:
                 return work()
             if len(others) > 1 or ANYBODY in others or os.geteuid() != 0:
                 raise Fault(Status.DEVICE, "other users can write in its directory or above it")
-            from aide_compare.base.rights import with_rights_of
+            from aide_compare.base.processes import with_rights_of
 
             return with_rights_of(min(others), work, keep=(self.folder.fd, *needed))
         except (Fault, OSError) as error:

@@ -4,9 +4,9 @@ import signal
 from collections import namedtuple
 
 from aide_compare.base import progress
-from aide_compare.base.child import pump, started
 from aide_compare.base.ending import Fault, Status, reason
 from aide_compare.base.escapes import shown
+from aide_compare.base.processes import pump, started
 
 OLD, NEW, CONFIGURATION = 3, 4, 5  # Its descriptors, beside the standard ones.
 DATABASES = "database_in=file:/proc/self/fd/%d\ndatabase_new=file:/proc/self/fd/%d" % (OLD, NEW)

@@ -7,13 +7,12 @@ import os
 import re
 from contextlib import suppress
 
-from aide_compare.base.child import in_child
 from aide_compare.base.ending import Fault, Status, say, tell, write_all
 from aide_compare.base.escapes import shown
 from aide_compare.base.files import closed_after, copy_file, nameless, reopened
 from aide_compare.base.options import EVIDENCE, Parser, named_evidence, some_text
 from aide_compare.base.paths import key_of_path
-from aide_compare.base.rights import become, user_of
+from aide_compare.base.processes import become, in_child, user_of
 from aide_compare.base.words import KINDS, SIDES, date_of
 from aide_compare.compare.baseline import Baseline
 from aide_compare.compare.comparison import Comparison, Request, refuse_unsound

@@ -7,7 +7,7 @@ from aide_compare.base.ending import Fault, Status, failing, say, write_all
 from aide_compare.base.escapes import guarded, shown
 from aide_compare.base.files import copy_file
 from aide_compare.base.options import EVIDENCE, RUN, Parser, defaults_for, named_evidence, place_of, some_text
-from aide_compare.base.rights import give_up
+from aide_compare.base.processes import give_up
 from aide_compare.base.words import SIDES, date_of
 from aide_compare.compare.comparison import Comparison, Request
 from aide_compare.compare.exclusions import read_exclusions

@@ -5,11 +5,11 @@ import select
 import signal
 import time
 
-from aide_compare.base.child import end_with, kill_group
 from aide_compare.base.ending import Fault, Status, fault_of, tell, write_all
 from aide_compare.base.escapes import guarded, shown
 from aide_compare.base.files import read_file, read_whole
 from aide_compare.base.options import Parser, matching
+from aide_compare.base.processes import end_with, kill_group
 from aide_compare.hosts.fetching import add_fetching, fetch
 from aide_compare.hosts.fleet_store import Place, add_place, check_name, share_of
 from aide_compare.hosts.host_comparison import add_comparison, compare_or_say, exclusions_of

@@ -289,7 +289,7 @@ def with_defaults(words):
 def main(arguments):
     given = with_defaults(arguments)
     if given.user:
-        from aide_compare.base.rights import give_up
+        from aide_compare.base.processes import give_up
 
         give_up(given.user)
     if given.send_queue:

@@ -86,7 +86,7 @@ class Baseline:
         """Does work in the folder over an open file, with the rights that the folder asks for."""
         if self.owner is None:
             return work()
-        from aide_compare.base.rights import with_rights_of
+        from aide_compare.base.processes import with_rights_of
 
         seconds = SECONDS_FOR_WORK + os.fstat(source).st_size // BYTES_A_SECOND
         return with_rights_of(self.owner, work, seconds, (self.folder, source))

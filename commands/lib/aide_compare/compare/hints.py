@@ -5,7 +5,7 @@ import re
 
 from aide_compare.base.escapes import shown
 from aide_compare.base.files import reopened
-from aide_compare.base.rights import user_of
+from aide_compare.base.processes import user_of
 
 LINE = re.compile(rb"aide: (old database|new database|config|before|after):(\d+): (.*)")
 OPENING = re.compile(rb"aide: (?:cannot open the (old|new) database|the (old|new) database changed)")

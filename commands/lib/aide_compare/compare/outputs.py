@@ -8,13 +8,12 @@ import fcntl
 import os
 from contextlib import suppress
 
-from aide_compare.base.child import end_with
 from aide_compare.base.ending import Fault, Status, failing, write_all
 from aide_compare.base.escapes import shown
 from aide_compare.base.files import Replacement, copy_file, nameless
 from aide_compare.base.folders import ANYBODY, open_folder
+from aide_compare.base.processes import become, end_with, name_of
 from aide_compare.base.program import KNOWN
-from aide_compare.base.rights import become, name_of
 from aide_compare.compare.state import MOST_BYTES, parse_state
 from aide_compare.compare.unpack import given_descriptor
 

@@ -4,10 +4,10 @@ import re
 import time
 from contextlib import closing
 
-from aide_compare.base.child import ended, kill_group, pump, started
 from aide_compare.base.ending import Fault, failing, say
 from aide_compare.base.escapes import shown
 from aide_compare.base.options import matching, size
+from aide_compare.base.processes import ended, kill_group, pump, started
 from aide_compare.hosts.fleet_store import Part, no_room, same_bytes
 
 PATH, MOST, MOST_ERRORS = "/var/lib/aide/aide.db.new", 1 << 30, 65536

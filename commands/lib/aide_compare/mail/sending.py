@@ -13,10 +13,10 @@ import time
 from collections import namedtuple
 from functools import partial
 
-from aide_compare.base.child import bound_of, ended, in_child, kill_group
 from aide_compare.base.ending import Fault, Status, failing, say
 from aide_compare.base.escapes import shown
 from aide_compare.base.files import closed_after, in_memory
+from aide_compare.base.processes import bound_of, ended, in_child, kill_group
 from aide_compare.mail.message import parsed, shortened
 
 SECONDS = 60

@@ -14,9 +14,9 @@ import sys
 from collections import namedtuple
 from itertools import zip_longest
 
-from aide_compare.base.child import in_child
 from aide_compare.base.ending import Fault
 from aide_compare.base.escapes import shown
+from aide_compare.base.processes import in_child
 from aide_compare.reasons.changes import Reason
 from aide_compare.reasons.content import bytes_of
 from aide_compare.reasons.entries import is_rewritten

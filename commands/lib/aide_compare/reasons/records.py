@@ -13,12 +13,12 @@ import stat
 import subprocess
 import tarfile
 
-from aide_compare.base.child import bound_of
 from aide_compare.base.ending import Fault, Status, failing, write_all
 from aide_compare.base.escapes import shown
 from aide_compare.base.files import nameless, open_regular, open_trusted, read_whole
 from aide_compare.base.folders import closed_after, open_folder
 from aide_compare.base.private_room import private_room
+from aide_compare.base.processes import bound_of
 from aide_compare.compare.unpack import BLOCK, Opened, copy_opened
 from aide_compare.reasons.content import STRONG, digests_of
 from aide_compare.reasons.packed import Bounded, members
