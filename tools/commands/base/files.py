@@ -327,21 +327,20 @@ def try_programs(tally, folder):
             place = stub("exit 0", "libexec/aide-compare/aide")
             expect(tally, "the program for " + library, outcome(program.find_program), place)
         os.remove(place)
-    output, old, new = files.nameless(folder), files.nameless(folder), files.nameless(folder)
+    old, new = files.nameless(folder), files.nameless(folder)
     os.write(old, b"old\n"), os.write(new, b"new\n")
     path = stub('cat /proc/self/fd/3 /proc/self/fd/4; echo "$LC_ALL $1"; echo why >&2; exit 5')
     for databases in ((old, new), (new, old)):
-        os.ftruncate(output, 0)
-        os.lseek(output, 0, os.SEEK_SET)
-        ended = program.run_program(path, ["a b"], {1: output, 3: databases[0], 4: databases[1]})
+        kept = bytearray()
+        ended = program.run_program(path, ["a b"], {3: databases[0], 4: databases[1]}, kept.extend)
         want = b"old\nnew\nC a b\n" if databases[0] == old else b"new\nold\nC a b\n"
-        found = ended.status, ended.errors, os.pread(output, 100, 0)
-        expect(tally, "the descriptors of the program", found, (5, b"why\n", want))
-    kept = []
-    ended = program.run_program(path, ["a b"], {3: old, 4: new}, 6, kept.append)
-    expect(tally, "a report that is cut", (b"".join(kept), ended.size), (b"old\nne", 14))
+        expect(tally, "the descriptors of the program", (*ended, bytes(kept)), (5, b"why\n", want))
+    kept = bytearray()
+    drain = program.Drain(6, kept.extend)
+    program.run_program(path, ["a b"], {3: old, 4: new}, drain.take)
+    expect(tally, "a report that is cut", (bytes(kept), drain.size), (b"old\nne", 14))
     for body, why in (("kill -9 $$", "was ended by signal 9"), ("exit 99", "could not be run: status 99")):
-        found = outcome(program.run_program, stub(body), [], {1: output, 3: old, 4: new})
+        found = outcome(program.run_program, stub(body), [], {3: old, 4: new}, len)
         expect_fault(tally, "the end by " + body, found, 18, why)
-    for descriptor in (output, old, new):
+    for descriptor in (old, new):
         os.close(descriptor)

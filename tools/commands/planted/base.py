@@ -75,7 +75,7 @@ PLANTED = (
         ),
         (RIGHTS, "    os.setgroups(groups)\n", ""),
         (CHILD, "        _close_all_but(set(keep) | {writing})\n", ""),
-        (CHILD, "        left = every if deadline is None else deadline - time.monotonic()\n", "        left = 60\n"),
+        (CHILD, "        left = deadline - time.monotonic()\n", "        left = 60\n"),
         (CHILD, "guarded(text) + beside", "guarded(text)"),
         (UNPACK, "BLOCK, FEW = 1 << 18, 1 << 12", "BLOCK, FEW = 1 << 18, 1 << 18"),
         (UNPACK, "packed.read(len(GZIP))", "packed.read1(len(GZIP))"),

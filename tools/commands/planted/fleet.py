@@ -26,7 +26,7 @@ PLANTED = (
     + seen_by(
         "fleet.try_ended", (LIB + "base/processes.py", "    ctypes.CDLL(None).prctl(PR_SET_PDEATHSIG, signal.SIGKILL)\n", "")
     )
-    + seen_by("fleet.try_slow", (LIB + "hosts/fetching.py", "}, self.deadline):\n", "}):\n"))
+    + seen_by("fleet.try_slow", (LIB + "hosts/fetching.py", "takers, deadline=deadline)", "takers)"))
     + seen_by(
         "fleet.try_hostile",
         (

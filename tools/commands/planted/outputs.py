@@ -60,8 +60,11 @@ PLANTED = (
         "terminal.try_progress",
         (PROGRESS, "os.isatty(descriptor) and ", ""),
         (PROGRESS, "    if _is_shown:\n", "    if False:\n"),
-        (PROGRESS, " - own\n", "\n"),
-        (PROGRESS, "+= 0 < at < last[number]", "+= 0"),
+        (
+            PROGRESS,
+            "passes, read = divmod(int(counts.readline().split()[1]), whole)",
+            "passes, read = 0, int(counts.readline().split()[1])",
+        ),
         (PROGRESS, " and time.monotonic() >= _due", ""),
         (RUN, "    if not given.quiet:\n        progress", "    if True:\n        progress"),
     )

@@ -82,10 +82,10 @@ PLANTED = (
     + seen_by(
         "reasons_rpm_records.try_program",
         (RECORDS, '"--dbpath", folder, "-qa"', '"-qa"'),
-        (RECORDS, '"timeout": SECONDS', '"timeout": SECONDS + 40'),
-        (RECORDS, "preexec_fn=_bound, ", ""),
-        (RECORDS, '            with failing("rpm\'s records cannot be read"):\n', "            if True:\n"),
-        (RECORDS, "        except subprocess.SubprocessError:\n", "        except ZeroDivisionError:\n"),
+        (RECORDS, "time.monotonic() + SECONDS)", "time.monotonic() + SECONDS + 40)"),
+        (RECORDS, "if len(text) > MOST_TEXT:", "if False:"),
+        (RECORDS, '        with failing("rpm\'s records cannot be read"):\n', "        if True:\n"),
+        (RECORDS, "SECONDS) != 0:\n", "SECONDS) is None:\n"),
         (RECORDS, "is_rpms, kept = member.name == RPM_NAME, ", "is_rpms, kept = False, "),
     )
 )

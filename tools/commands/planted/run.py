@@ -67,8 +67,8 @@ PLANTED = (
         "faults.try_programs",
         (
             PROGRAM,
-            '        raise Fault(Status.DEVICE, "%s was ended by signal %d" % (shown(program), os.WTERMSIG(ended)))\n',
-            "        return Status.OK\n",
+            '        raise Fault(Status.DEVICE, "%s was ended by signal %d" % (shown(program), -ended))\n',
+            "        return Status.OK, b''\n",
         ),
         (COMPARISON, "(head.startswith(HEADS[status > 0]) or not head and not status)", "True"),
         (TOLD, "shown_lines(comparison.errors)", 'comparison.errors.decode("latin-1")'),
@@ -81,11 +81,7 @@ PLANTED = (
     )
     + seen_by(
         "attacks.try_bounds",
-        (
-            CHILD,
-            "        bound_of(resource.RLIMIT_FSIZE, most)\n",
-            "        pass\n",
-        ),
+        (COMPARISON, "os.SEEK_CUR) + len(block) > most:", "os.SEEK_CUR) > most:"),
         (
             RUN,
             'with failing("cannot write the report"):',

@@ -33,8 +33,8 @@ NO_END = """
 import os, sys, time
 sys.path.insert(0, sys.argv[1])
 from aide_compare.base.ending import write_all
-from aide_compare.hosts import fetching
-real, fetching.STOP_SECONDS, begin = os.write, 0.2, time.monotonic()
+from aide_compare.base import processes
+real, processes.STOP_SECONDS, begin = os.write, 0.2, time.monotonic()
 os.write = lambda descriptor, data: 0
 try:
     write_all(1, b"x")
@@ -49,7 +49,7 @@ child = os.fork()
 if not child:
     os.setpgid(0, 0)
     time.sleep(60)
-print(fetching.stop(child), time.monotonic() - begin < 10)
+print(processes.stop(child), time.monotonic() - begin < 10)
 """
 
 

@@ -9,14 +9,18 @@ from . import explained
 
 TOOL = "aide-compare"
 RED, YELLOW, BOLD, PLAIN = b"\033[1;31m", b"\033[33m", b"\033[1m", b"\033[0m"
-# In place of the program: it reads both files twice, slowly, as the program would a large one, and then becomes the program.
+# In place of the program: it reads nearly all of both files twice, slowly, as the program would. Then it takes away what makes
+# them large, and becomes the program.
+PADDING = 4 << 20
 SLOW = """import os, sys, time
 for side in (3, 4, 3, 4) if sys.argv[1] == "-E" else ():
     file = os.open("/proc/self/fd/%%d" %% side, os.O_RDONLY)
     for _ in range(2):
-        os.read(file, os.fstat(file).st_size // 2)
+        os.read(file, os.fstat(file).st_size * 9 // 20)
         time.sleep(%s)
     os.close(file)
+for side in (3, 4) if sys.argv[1] == "-E" else ():
+    os.truncate("/proc/self/fd/%%d" %% side, max(os.fstat(side).st_size - %d, 0))
 os.execv(%r, [%r] + sys.argv[1:])"""
 
 
@@ -111,7 +115,7 @@ def try_hostile(sandbox):
 def slow(sandbox, seconds):
     real = sandbox.program + ".real"
     os.rename(sandbox.program, real)
-    text = "#!/usr/bin/env python3\n" + SLOW % (seconds, real, real)
+    text = "#!/usr/bin/python3 -IS\n" + SLOW % (seconds, PADDING, real, real)
     sandbox.write("libexec/aide-compare/aide", text, 0o755)
     return real
 
@@ -120,11 +124,13 @@ def try_progress(sandbox):
     """How far it is, on a terminal only: the passes and the bytes of both files. It is gone before anything else is written."""
     explained.prepare(sandbox)
     sandbox.edit("lib/aide_compare/base/progress.py", "EVERY, FIRST = 0.25, 1.0", "EVERY, FIRST = 0.1, 0.1")
+    for name, small in (("o.db", explained.OLD), ("n.db", explained.NEW)):
+        sandbox.write(name, small + b"\n" * PADDING)
     real = slow(sandbox, 0.4)
     begun = time.monotonic()
     status, text = on_terminal(sandbox, "o.db", "n.db", output=False, with_progress=True)
     seconds = time.monotonic() - begun
-    told = re.findall(rb"\rcomparing: pass (\d) of at most 6, (\d+)% of 0 MB\033\[K", text)
+    told = re.findall(rb"\rcomparing: pass (\d) of at most 6, (\d+)% of 8 MB\033\[K", text)
     shares = {number: [int(share) for one, share in told if one == number] for number in (b"1", b"2")}
     sandbox.holds("two passes", status == 7 and {number for number, _ in told} == {b"1", b"2"}, text)
     good = all(part and part == sorted(part) for part in shares.values())
@@ -147,6 +153,7 @@ def try_progress(sandbox):
     text = on_terminal(sandbox, "o.db", "n.db", output=False, with_progress=True)[1]
     sandbox.holds("nothing of it before its time", b"\r" not in text and b"pass" not in text, text)
     os.rename(real, sandbox.program)
+    explained.prepare(sandbox)
 
 
 def try_verbose(sandbox):

@@ -2,6 +2,7 @@
 it may; and the rights of another user, so that a user who can write in a folder gains nothing from what root does there."""
 import ctypes
 import fcntl
+import math
 import os
 import pwd
 import resource
@@ -15,6 +16,7 @@ from aide_compare.base.escapes import guarded, shown
 from aide_compare.base.folders import closed_after
 
 MOST_RESULT, BLOCK = 1 << 20, 1 << 18
+PAUSE, STOP_SECONDS = 0.25, 10
 FIRST_FREE, NOT_STARTED = 10, 127
 PR_SET_PDEATHSIG = 1
 
@@ -31,36 +33,51 @@ def bound_of(kind, most):
     resource.setrlimit(kind, (min([most] + [limit for limit in limits if limit >= 0]), limits[1]))
 
 
-def started(words, given, most=None, own_group=False, environment=None):
-    """The number of the process of a program. `given` are its descriptors by the numbers that they have there. The kernel ends
-    it if this process ends first. No file that it writes gets more than `most` bytes."""
+def _started(words, given, environment):
+    """The number of the process of a program, in a group of its own. `given` are its descriptors by the numbers that they have
+    there; other standard ones are /dev/null. The kernel ends it if this process ends first."""
     parent, places = os.getpid(), {}
     with ExitStack() as opened:
         for place, descriptor in given.items():  # Under numbers that are not among those that it is given.
             copy = closed_after(fcntl.fcntl(descriptor, fcntl.F_DUPFD_CLOEXEC, FIRST_FREE))
             places[place] = opened.enter_context(copy)
+        null = opened.enter_context(closed_after(os.open("/dev/null", os.O_RDWR | os.O_CLOEXEC)))
         child = os.fork()
         if child == 0:
             try:
-                if own_group:
-                    os.setpgid(0, 0)
+                os.setpgid(0, 0)
                 if end_with(parent):
-                    _become_program(words, places, most, environment or os.environ)
+                    for place, descriptor in {**dict.fromkeys(range(3), null), **places}.items():
+                        os.dup2(descriptor, place)
+                    for number in (signal.SIGPIPE, signal.SIGXFSZ):
+                        signal.signal(number, signal.SIG_DFL)
+                    os.execvpe(words[0], words, environment)
             finally:
                 os._exit(NOT_STARTED)
         return child
 
 
-def _become_program(words, places, most, environment):
-    """In the child: the program takes the place of this process."""
-    for place, descriptor in places.items():
-        os.dup2(descriptor, place)
-    for number in (signal.SIGPIPE, signal.SIGXFSZ):
-        signal.signal(number, signal.SIG_DFL)
-    if most is not None:
-        signal.signal(signal.SIGXFSZ, signal.SIG_IGN)
-        bound_of(resource.RLIMIT_FSIZE, most)
-    os.execvpe(words[0], words, environment)
+def run(words, takers, given=(), environment=os.environ, deadline=math.inf, watch=None):
+    """Runs a program to its end. Returns its exit code, negative for a signal; None if it was not over by the deadline, and is
+    killed then. What it writes to a descriptor with a taker goes there through a pipe. `given` are its other descriptors, by
+    their numbers. Meanwhile it calls now and then what `watch(child)` gives."""
+    status, readings = None, {}
+    with ExitStack() as opened:
+        with ExitStack() as writing:
+            places = dict(given)
+            for place, taker in takers.items():
+                reading, places[place] = os.pipe()
+                opened.callback(os.close, reading)
+                writing.callback(os.close, places[place])
+                readings[reading] = taker
+            child = _started(words, places, environment)
+        try:
+            if pump(readings, deadline, watch and watch(child)):
+                status = ended(child, deadline)
+        finally:
+            if status is None:
+                stop(child)
+    return status
 
 
 def _close_all_but(kept):
@@ -89,15 +106,15 @@ def _live(work, seconds, writing, keep):
     write_all(writing, answer)
 
 
-def pump(takers, deadline=None, every=None, tell=None):
+def pump(takers, deadline=math.inf, tell=None):
     """Gives what comes from each descriptor to its taker until all have ended; False if the time is over before that.
-    Meanwhile it calls `tell` now and then: `every` so many seconds."""
+    Meanwhile it calls `tell` now and then."""
     waiting = dict(takers)
     while waiting:
-        left = every if deadline is None else deadline - time.monotonic()
-        if left is not None and left <= 0:
+        left = deadline - time.monotonic()
+        if left <= 0:
             return False
-        for descriptor in select.select(list(waiting), [], [], left)[0]:
+        for descriptor in select.select(list(waiting), [], [], min(left, PAUSE))[0]:
             block = os.read(descriptor, BLOCK)
             if block:
                 waiting[descriptor](block)
@@ -129,15 +146,21 @@ def kill_group(child):
 
 
 def ended(child, deadline):
-    """The wait status with which a child ends; None if it has not ended by then: one in a call that does not return cannot be
-    ended."""
+    """The exit code of a child, negative for a signal; None if it has not ended by the deadline."""
     while True:
-        found, status = os.waitpid(child, os.WNOHANG)
+        found, status = os.waitpid(child, 0 if deadline == math.inf else os.WNOHANG)
         if found:
-            return status
+            return os.waitstatus_to_exitcode(status)
         if time.monotonic() >= deadline:
             return None
         time.sleep(0.01)
+
+
+def stop(child):
+    """Kills a child with its group: its exit code. One in a call that does not return does not end by that, and is left to
+    itself after some seconds."""
+    kill_group(child)
+    return ended(child, time.monotonic() + STOP_SECONDS)
 
 
 def in_child(what, work, seconds, keep=(), beside=""):
@@ -155,9 +178,7 @@ def in_child(what, work, seconds, keep=(), beside=""):
         with closed_after(reading):
             answer = _answer_of(reading, time.monotonic() + seconds)
     finally:
-        with suppress(ProcessLookupError):
-            os.kill(child, signal.SIGKILL)
-        ended(child, time.monotonic() + 5)
+        stop(child)
     if answer is None:
         raise Fault(Status.DEVICE, "%s took more than %d seconds" % (what, seconds))
     if answer[:1] == b"=":

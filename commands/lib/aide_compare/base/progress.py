@@ -66,34 +66,19 @@ def tell(what, done, whole):
         _due, _is_shown = time.monotonic() + EVERY, True
 
 
-def _position(process, place, file):
-    """How far a process has read a file, by its descriptor with this number."""
-    found = os.stat("/proc/%d/fd/%s" % (process, place))
-    if (found.st_dev, found.st_ino) != (file.st_dev, file.st_ino):
-        return 0
-    with open("/proc/%d/fdinfo/%s" % (process, place), "rb") as info:
-        return int(info.read(100).split()[1])
+def watching(databases):
+    """For a program that reads these files again and again: what gives, by its number, what to call now and then; None without
+    a terminal. It reads both in each pass, and hardly anything else."""
+    if _terminal is None or not databases:
+        return None
+    whole = max(sum(os.fstat(descriptor).st_size for descriptor in databases), 1)
 
+    def watched(process):
+        def look():
+            with suppress(OSError, ValueError, IndexError), open("/proc/%d/io" % process) as counts:
+                passes, read = divmod(int(counts.readline().split()[1]), whole)
+                tell("comparing: pass %d of at most %d" % (min(passes + 1, MOST_PASSES), MOST_PASSES), read, whole)
 
-def watched(process, given):
-    """What to call now and then while a process reads files again and again, and after how many seconds; nothing without a
-    terminal. `given` are the files' descriptors by the numbers under which the process has got them. It opens them anew, under
-    other numbers: a file that stands before where it was has been opened once more, for the next pass."""
-    if _terminal is None or not given:
-        return None, None
-    files, own = [os.fstat(descriptor) for descriptor in given.values()], set(map(str, given))
-    last, passes, whole = [0] * len(files), [1] * len(files), sum(file.st_size for file in files)
+        return look
 
-    def look():
-        if not _is_due():
-            return
-        with suppress(OSError, ValueError, IndexError):
-            places = set(os.listdir("/proc/%d/fd" % process)) - own
-            for number, file in enumerate(files):
-                at = max(_position(process, place, file) for place in places)
-                passes[number] += 0 < at < last[number]
-                last[number] = at or last[number]
-        read = sum(at for at, each in zip(last, passes) if each == max(passes))
-        tell("comparing: pass %d of at most %d" % (min(max(passes), MOST_PASSES), MOST_PASSES), read, whole)
-
-    return look, EVERY
+    return watched

@@ -10,7 +10,7 @@ from contextlib import suppress
 from aide_compare.base.ending import Fault, Status, fault_of, write_all
 from aide_compare.base.escapes import shown, shown_lines
 from aide_compare.base.files import in_memory, nameless
-from aide_compare.base.program import CONFIGURATION, DATABASES, NEW, OLD, find_lines, find_program, run_program
+from aide_compare.base.program import CONFIGURATION, DATABASES, NEW, OLD, Drain, find_lines, find_program, run_program
 from aide_compare.base.words import KINDS, SIDES, age_in_words
 from aide_compare.compare.configuration import URLS, Texts, databases_of, default_configuration, options_in, without_includes
 from aide_compare.compare.exclusions import cut_copy
@@ -118,7 +118,7 @@ class Comparison:
     def settings(self, texts):
         """What the program says of a configuration, None if it refuses it."""
         found = []
-        status, errors, _ = self._run(find_lines(), "-D", texts, found.append, MOST_SETTINGS)
+        status, errors = self._run(find_lines(), "-D", texts, Drain(MOST_SETTINGS, found.append).take)
         self._end_with(status, errors, texts)
         if status > 7:
             return None
@@ -171,8 +171,9 @@ class Comparison:
     def _run_for_lines(self):
         """Takes the lines of aide_lines, of which those beyond a limit are only counted."""
         self.lines = nameless() if self.request.target is None else self.request.target
-        program, keep = find_lines(), lambda data: write_all(self.lines, data)
-        status, errors, self.size = self._run(program, "-E", self.texts, keep, self._most_lines)
+        program, drain = find_lines(), Drain(self._most_lines, lambda data: write_all(self.lines, data))
+        status, errors = self._run(program, "-E", self.texts, drain.take)
+        self.size = drain.size
         self._end_with(status, errors, self.texts)
         if status > 7:
             return
@@ -191,9 +192,13 @@ class Comparison:
         """A descriptor of the program's own report, which is written when it is asked for first."""
         if self._report is None:
             self._report, most = nameless(), self.request.max_report
-            status, errors, size = self._run(find_program(), "-E", self.texts, self._report, most)
-            if status == Status.DEVICE and size >= most:
-                raise Fault(Status.DEVICE, "the report has more than %d bytes; --max-report allows more" % most)
+
+            def take(block):
+                if os.lseek(self._report, 0, os.SEEK_CUR) + len(block) > most:
+                    raise Fault(Status.DEVICE, "the report has more than %d bytes; --max-report allows more" % most)
+                write_all(self._report, block)
+
+            status, errors = self._run(find_program(), "-E", self.texts, take)
             is_other = self.request.lines and (status, errors) != (self.status, self.errors)
             self._end_with(status, errors, self.texts)
             head = os.pread(self._report, len(HEADS[0]), 0)
@@ -218,23 +223,21 @@ class Comparison:
         why = "does not run here: %s" % said if said else "ended with status %d, but its answer does not say so" % self.status
         return Fault(Status.DEVICE, "%s %s" % (shown(program), why))
 
-    def _run(self, program, job, texts, target, most):
-        """Runs a program: its status, its error lines, and how many bytes it has written. The target is a descriptor, or is
-        given the first bytes."""
+    def _run(self, program, job, texts, take):
+        """Runs a program, whose answer goes to `take`: its status and its error lines."""
         defined, moved = texts.defining_host()
         given = dict(zip((OLD, NEW), (self.compared[side] for side in SIDES if side in self.compared)))
         options = b"\n" + DATABASES.encode() if job == "-E" else b""
         words = [job, "-c", "/dev/null", b"--after=" + texts.after + options]
         words += [b"--before=" + defined.before] if defined.before else []
-        keep = target if callable(target) else None
         try:
             if defined.config:
                 given[CONFIGURATION], words[2] = in_memory(defined.config), "/proc/self/fd/%d" % CONFIGURATION
-            ended = run_program(program, words, given if keep else {1: target, **given}, most, keep)
+            status, errors = run_program(program, words, given, take)
         finally:
             if CONFIGURATION in given:
                 os.close(given[CONFIGURATION])
-        return ended.status, _moved_back(ended.errors, moved), ended.size if keep else os.fstat(target).st_size
+        return status, _moved_back(errors, moved)
 
     def _end_with(self, status, errors, texts):
         """A program has ended so over these texts."""
@@ -244,7 +247,7 @@ class Comparison:
     def _is_group(self, name):
         """Whether the texts define a group of this name: only then an option can have it as its value."""
         texts = self.given._replace(after=self.given.after + b"\nreport_force_attrs=" + name)
-        return self._run(find_lines(), "-D", texts, lambda data: None, MOST_SETTINGS)[0] == 0
+        return self._run(find_lines(), "-D", texts, lambda block: None)[0] == 0
 
 
 def _moved_back(errors, count):

@@ -1,17 +1,14 @@
 """Fetches the database of a host by ssh, with a bound on bytes, error lines and time."""
-import os
 import re
-import time
 from contextlib import closing
 
 from aide_compare.base.ending import Fault, failing, say
 from aide_compare.base.escapes import shown
 from aide_compare.base.options import matching, size
-from aide_compare.base.processes import ended, kill_group, pump, started
+from aide_compare.base.processes import run
 from aide_compare.hosts.fleet_store import Part, no_room, same_bytes
 
 PATH, MOST, MOST_ERRORS = "/var/lib/aide/aide.db.new", 1 << 30, 65536
-STOP_SECONDS = 10
 RECORDS = "aide.db.new.packages"
 SEND_RECORDS = "tar -C /var/lib/dpkg -czf - status diversions info"
 SSH = (
@@ -31,21 +28,11 @@ def add_fetching(parser):
     parser.value("path", "PATH", path, "the file on HOST (%s)" % PATH, default=PATH)
 
 
-def stop(child):
-    """Kills a child with its group. One that waits for a device does not end by that, and is left to itself in the end."""
-    kill_group(child)
-    return ended(child, time.monotonic() + STOP_SECONDS)
-
-
 class Transfer:
     """What a host sends: its database into a part, and the first of its error lines."""
 
-    def __init__(self, place, part, most, deadline, seconds):
-        self.place, self.part, self.most = place, part, most
-        self.deadline, self.seconds, self.errors = deadline, seconds, b""
-
-    def too_slow(self):
-        return self.place.fault("had not sent all of it after %d seconds" % self.seconds)
+    def __init__(self, place, part, most):
+        self.place, self.part, self.most, self.errors = place, part, most, b""
 
     def take_output(self, block):
         if self.part.size + len(block) > self.most:
@@ -60,30 +47,6 @@ class Transfer:
         if len(self.errors) > MOST_ERRORS:
             raise self.place.fault("sent more than %d bytes of errors" % MOST_ERRORS)
 
-    def end(self, child):
-        """The status of ssh, which may go on after it has closed its output."""
-        status = ended(child, self.deadline)
-        if status is None:
-            raise self.too_slow()
-        return os.waitstatus_to_exitcode(status)
-
-    def run(self, words):
-        output, errors = os.pipe(), os.pipe()
-        child = None
-        try:
-            child = started(words, {1: output[1], 2: errors[1]}, own_group=True)
-            for descriptor in (output[1], errors[1]):
-                os.close(descriptor)
-            if not pump({output[0]: self.take_output, errors[0]: self.take_errors}, self.deadline):
-                raise self.too_slow()
-            status, child = self.end(child), None
-            return status
-        finally:
-            if child:
-                stop(child)
-            for descriptor in (output[0], errors[0]):
-                os.close(descriptor)
-
     def reason(self, status):
         """The last line that ssh or the host has written, without the carriage return at its end."""
         lines = [line for line in re.split(rb"[\r\n]+", self.errors) if line.strip()]
@@ -95,8 +58,11 @@ class Transfer:
 def receive(place, command, name, given, deadline, jobs):
     """What a host sends becomes a file. The same bytes again leave the file's time, which tells how old it is."""
     with failing("%s: cannot keep what it sent" % place.host), closing(Part(place.fd)) as part:
-        transfer = Transfer(place, part, min(given.max_sent, place.room(jobs)), deadline, given.time)
-        status = transfer.run(SSH + [place.host, command])
+        transfer = Transfer(place, part, min(given.max_sent, place.room(jobs)))
+        takers = {1: transfer.take_output, 2: transfer.take_errors}
+        status = run(SSH + [place.host, command], takers, deadline=deadline)
+        if status is None:
+            raise place.fault("had not sent all of it after %d seconds" % given.time)
         if status == 127 and not transfer.errors:
             raise place.fault("there is no program ssh")
         if status != 0:

@@ -8,17 +8,16 @@ import gzip
 import io
 import os
 import re
-import resource
 import stat
-import subprocess
 import tarfile
+import time
 
 from aide_compare.base.ending import Fault, Status, failing, write_all
 from aide_compare.base.escapes import shown
 from aide_compare.base.files import nameless, open_regular, open_trusted, read_whole
 from aide_compare.base.folders import closed_after, open_folder
 from aide_compare.base.private_room import private_room
-from aide_compare.base.processes import bound_of
+from aide_compare.base.processes import run
 from aide_compare.compare.unpack import BLOCK, Opened, copy_opened
 from aide_compare.reasons.content import STRONG, digests_of
 from aide_compare.reasons.packed import Bounded, members
@@ -86,12 +85,6 @@ def has_rpm():
     return os.path.isfile(RPM) and database_folder() is not None
 
 
-def _bound():
-    """In the process that becomes rpm: it writes no larger file, and leaves no core behind when it tries to."""
-    bound_of(resource.RLIMIT_FSIZE, MOST_TEXT)
-    bound_of(resource.RLIMIT_CORE, 0)
-
-
 class RpmRecords:
     """rpm's records as they are now. The folder of its database must be root's or the caller's. rpm reads a copy of the
     database, whose `digests` are known, so that what it says is what stands in these bytes."""
@@ -110,15 +103,12 @@ class RpmRecords:
 
     def read(self, name):
         """The text of all packages. It is bounded in time and size, and does not depend on settings of the caller."""
-        try:
-            with failing("rpm's records cannot be read"):
-                if not os.path.isfile(self.path):
-                    return self._asked(self.folder)
-                with private_room() as room:
-                    self._copy_to(room)
-                    return self._asked("/proc/%d/fd/%d" % (os.getpid(), room))
-        except subprocess.SubprocessError:
-            raise Fault(Status.DEVICE, "rpm's records cannot be read: rpm failed, wrote too much, or took too long") from None
+        with failing("rpm's records cannot be read"):
+            if not os.path.isfile(self.path):
+                return self._asked(self.folder)
+            with private_room() as room:
+                self._copy_to(room)
+                return self._asked("/proc/%d/fd/%d" % (os.getpid(), room))
 
     def _copy_to(self, folder):
         """Copies the database into a folder, and notes the digests of the copy."""
@@ -139,12 +129,18 @@ class RpmRecords:
     def _asked(self, folder):
         """What rpm says of the database in a folder."""
         words = [RPM, "--dbpath", folder, "-qa", "--queryformat", QUERY]
-        given = {"stdin": subprocess.DEVNULL, "stderr": subprocess.DEVNULL, "timeout": SECONDS, "check": True}
         settings = {"LC_ALL": "C", "PATH": "/usr/bin:/bin", "HOME": "/nonexistent"}
-        with closed_after(nameless()) as target:
-            subprocess.run(words, stdout=target, env=settings, preexec_fn=_bound, **given)
-            os.lseek(target, 0, os.SEEK_SET)
-            return read_whole(target, MOST_TEXT, "rpm's records")
+        failed = Fault(Status.DEVICE, "rpm's records cannot be read: rpm failed, wrote too much, or took too long")
+        text = bytearray()
+
+        def take(block):
+            text.extend(block)
+            if len(text) > MOST_TEXT:
+                raise failed
+
+        if run(words, {1: take}, environment=settings, deadline=time.monotonic() + SECONDS) != 0:
+            raise failed
+        return bytes(text)
 
 
 class KeptRecords:
