@@ -1,8 +1,9 @@
-//! The two calls whose contracts are the headline.
+//! The calls whose contracts are the headline.
+use super::lines::{LINES, MODE_600, MODE_644};
 use super::session::{CONF, site_of, words_of};
 use aide_conf::{Need, Settings};
 use aide_db::{Desk, Limits, MemorySources};
-use aide_headline::{compare_databases, run_program};
+use aide_headline::{compare_as_lines, compare_databases, run_lines_program, run_program};
 use aide_report::{MemorySink, Outcome, RunFault, Sink};
 use aide_session::{Site, Words};
 use std::alloc::Global;
@@ -46,11 +47,37 @@ fn compared<W: Sink>(
     Some(compare_databases(&task, LIMITS, &mut desk, &mut sources, out))
 }
 
+/// Compares two databases and writes their lines. It has no contract, for the same reason.
+fn compared_as_lines<W: Sink>(
+    alloc: Global,
+    old: &[u8],
+    new: &[u8],
+    out: &mut W,
+) -> Option<Result<Outcome, RunFault>> {
+    let settings = Settings::read(alloc, b"", CONF, b"", Need::Compare).ok()?;
+    let task = settings.task()?;
+    let mut desk = Desk::reserved(alloc, LIMITS.line).ok()?;
+    let mut sources = MemorySources::new(old, new);
+    Some(compare_as_lines(&task, LIMITS, &mut desk, &mut sources, out))
+}
+
 /// The status of the program. It has no contract, for the same reason.
 fn status_of<S: Site, W: Sink>(alloc: Global, words: &Words, site: &mut S, out: &mut W) -> u8 {
     let mut desk = Desk::new(alloc);
     let mut err = MemorySink::new(alloc);
     run_program(alloc, words, &mut desk, site, out, &mut err)
+}
+
+/// The status of the program that writes lines. It has no contract, for the same reason.
+fn lines_status_of<S: Site, W: Sink>(
+    alloc: Global,
+    words: &Words,
+    site: &mut S,
+    out: &mut W,
+) -> u8 {
+    let mut desk = Desk::new(alloc);
+    let mut err = MemorySink::new(alloc);
+    run_lines_program(alloc, words, &mut desk, site, out, &mut err)
 }
 
 #[test]
@@ -81,5 +108,31 @@ fn runs_the_whole_program(rt: HostRuntime) -> Result<(), Fail> {
     let status = status_of(rt.alloc(), &words, &mut site, &mut out);
     assert!(rt; status == 7, "status {status}");
     assert!(rt; out.bytes() == SUMMARY, "report");
+    Ok(())
+}
+
+#[test]
+fn writes_the_lines_of_two_databases(rt: HostRuntime) {
+    let mut out = MemorySink::new(rt.alloc());
+    match compared_as_lines(rt.alloc(), MODE_644, MODE_600, &mut out) {
+        Some(Ok(outcome)) => assert!(rt; outcome.status() == 4, "status {}", outcome.status()),
+        _ => assert!(rt; false, "no lines"),
+    }
+    assert!(rt; out.bytes() == LINES, "lines");
+    match compared_as_lines(rt.alloc(), OLD, CUT, &mut out) {
+        Some(Err(RunFault::Database(fault))) => assert!(rt; fault.line == 4, "line {}", fault.line),
+        _ => assert!(rt; false, "no fault of a database"),
+    }
+    assert!(rt; out.bytes() == LINES, "nothing more");
+}
+
+#[test]
+fn runs_the_whole_program_of_lines(rt: HostRuntime) -> Result<(), Fail> {
+    let mut site = site_of(rt.alloc(), CONF, MODE_644, MODE_600)?;
+    let words = words_of(rt.alloc(), "aide -E -c /conf")?;
+    let mut out = MemorySink::new(rt.alloc());
+    let status = lines_status_of(rt.alloc(), &words, &mut site, &mut out);
+    assert!(rt; status == 4, "status {status}");
+    assert!(rt; out.bytes() == LINES, "lines");
     Ok(())
 }

@@ -6,11 +6,11 @@ use aide_session::{Memory, Site, Words, lines_session, lines_session_on};
 use std::alloc::Global;
 use std::test::Fail;
 
-const OLD: &[u8] = b"@@begin_db\n@@db_spec name perm\n/file 100644\n@@end_db\n";
+pub(super) const MODE_644: &[u8] = b"@@begin_db\n@@db_spec name perm\n/file 100644\n@@end_db\n";
 
-const NEW: &[u8] = b"@@begin_db\n@@db_spec name perm\n/file 100600\n@@end_db\n";
+pub(super) const MODE_600: &[u8] = b"@@begin_db\n@@db_spec name perm\n/file 100600\n@@end_db\n";
 
-const LINES: &[u8] =
+pub(super) const LINES: &[u8] =
     b"{\"format\":2,\"differences\":true,\"total\":1,\"added\":0,\"removed\":0,\"changed\":1,\
 \"entries\":1,\"old\":{\"path\":\"/old\",\
 \"sha256\":\"dd01a417f12d32fdcd8f7452cb192f8283d2ff2d0d20269043c2976e0ff555a8\",\
@@ -54,7 +54,7 @@ fn ended_on<S: Site>(alloc: Global, words: &Words, desk: &mut Desk<Global>, site
 
 #[test]
 fn writes_the_lines_of_changes(rt: HostRuntime) -> Result<(), Fail> {
-    let mut site = site_of(rt.alloc(), CONF, OLD, NEW)?;
+    let mut site = site_of(rt.alloc(), CONF, MODE_644, MODE_600)?;
     let words = words_of(rt.alloc(), "aide -E -c /conf")?;
     let mut desk = Desk::new(rt.alloc());
     let ended = ended_on(rt.alloc(), &words, &mut desk, &mut site);
@@ -68,7 +68,7 @@ fn writes_the_lines_of_changes(rt: HostRuntime) -> Result<(), Fail> {
 
 #[test]
 fn says_what_a_configuration_sets(rt: HostRuntime) -> Result<(), Fail> {
-    let mut site = site_of(rt.alloc(), CONF, OLD, NEW)?;
+    let mut site = site_of(rt.alloc(), CONF, MODE_644, MODE_600)?;
     let words = words_of(rt.alloc(), "aide -D -c /conf")?;
     let ended = ended(rt.alloc(), &words, &mut site);
     assert!(rt; ended.status == 0, "status {}", ended.status);
