@@ -7,8 +7,8 @@
 - Each file of a crate's specs/ is reached from the contract of a public call, as tools/source/public_specs.py finds, or
   cited by the laws of the crate, and no file of specs/code/ is.
 - Each clause that docs/LIBRARY.md names for a call is a clause of this call.
-- docs/HEADLINE.md is what tools/source/headline_page.py prints of the definitions, and docs/TRIALS.md has the table that
-  tools/gate/trials_page.py makes of its rows and of the numbers of the gate.
+- docs/HEADLINE.md and docs/HEADLINE_LINES.md are what tools/source/headline_page.py prints of the definitions, and
+  docs/TRIALS.md has the table that tools/gate/trials_page.py makes of its rows and of the numbers of the gate.
 - Each block of a page whose blocks no trial runs has a mark: run by hand, no command, or copied from a file. In README.md,
   examples/README.md and the manual tools.pages.try_commands asks for a row of each, and in the recipes tools.pages.try_recipes
   for a mark.
@@ -114,7 +114,7 @@ def check_copies(page, text, tally):
 
 
 def check_blocks(page, text, tally):
-    if page in MARKDOWN + [headline_page.PAGE] + ["docs/" + name for name in PAGES]:
+    if page in MARKDOWN + [headline_page.PAGE, headline_page.LINES_PAGE] + ["docs/" + name for name in PAGES]:
         return
     before = ""
     for part in paragraphs(text):
@@ -176,7 +176,8 @@ def main():
             check_names(page, text, tally)
             check_copies(page, text, tally)
             check_blocks(page, text, tally)
-    tally.is_so("written page", headline_page.PAGE, read_text(headline_page.PAGE) == headline_page.page())
+    for name, text in headline_page.pages().items():
+        tally.is_so("written page", name, read_text(name) == text)
     tally.is_so("written page", trials_page.PAGE, read_text(trials_page.PAGE) == trials_page.page())
     check_promised(tally)
     check_clauses(tally)

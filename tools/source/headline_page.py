@@ -1,8 +1,9 @@
-"""Prints docs/HEADLINE.md: the headline, and each definition that it rests on, with the sentence over it.
+"""Prints docs/HEADLINE.md and docs/HEADLINE_LINES.md: the headline, of the report and of the lines of JSON, and each definition
+that it rests on, with the sentence over it.
 
 From the contracts of `aide_headline` this follows each name to its definition, and from there to the definitions that it
 uses, as tools/source/public_specs.py does for all public calls. A definition stands before those that it uses. With --write
-the page is written; tools/source/check_docs.py compares it with the definitions.
+the pages are written; tools/source/check_docs.py compares them with the definitions.
 """
 import os
 import re
@@ -12,9 +13,11 @@ import textwrap
 from tools.lib.arguments import parser_of
 from tools.source.definitions import TOP, WORD, Definitions, crates, imports_of
 
-PAGE = "docs/HEADLINE.md"
+PAGE, LINES_PAGE = "docs/HEADLINE.md", "docs/HEADLINE_LINES.md"
 COMPARE = "crates/aide_headline/src/comparison.rt"
 PROGRAM = "crates/aide_headline/src/program.rt"
+COMPARE_LINES = "crates/aide_headline/src/lines.rt"
+PROGRAM_LINES = "crates/aide_headline/src/lines_program.rt"
 RUN = "crates/aide_report/src/comparison.rt"
 WIDTH = 138
 # Lines of a definition that are no longer than this share a line.
@@ -40,6 +43,8 @@ MEANINGS = {
     "encode_of": "the base64 text of bytes",
     "encode_lower": "bytes in hexadecimal, in small letters",
     "sha256": "the SHA-256 of bytes, by FIPS 180-4",
+    "lower_digits": "the sixteen digits of hexadecimal, with small letters",
+    "is_utf8": "whether bytes are UTF-8 (RFC 3629), so that no character is longer than it has to be and none is a surrogate",
     "Text": "a list of bytes",
 }
 INTRO = """\
@@ -57,6 +62,13 @@ record r. If a definition has several lines, the first that fits counts; `_` fit
 a line. A name that two files define, such as `row_of`, is that of the same file or of the part that is spoken of. In the clauses `.old` is
 before the call, `.new` after it, and `.now` is what a reference points to. `S.x`, `W.x` and `E.x` are what contracts see of the sources or
 the site, of the output and of standard error; a table at the end has them.
+"""
+INTRO_OF_LINES = """\
+# The headline of the lines of JSON, and what it rests on besides
+
+This page is written by `python3 -m tools.source.headline_page --write`, and compared with the definitions by the tests, like
+[HEADLINE.md](HEADLINE.md). That page says how to read a definition, and has all definitions that the report needs too: the maps, their
+changes, the summary string, what arguments ask for. Here stand only those that the lines need besides.
 """
 ASKED = """\
 Its premise also says which job the arguments ask for, and that the configuration is accepted with these settings. What that means is not
@@ -86,9 +98,9 @@ def clauses_of(contract, names):
 class Page:
     """The page, part by part: each definition is printed once."""
 
-    def __init__(self):
-        self.definitions = Definitions(crates())
-        self.lines, self.printed, self.outside = INTRO.split("\n")[:-1], [], []
+    def __init__(self, definitions, intro, printed=()):
+        self.definitions = definitions
+        self.lines, self.printed, self.outside = intro.split("\n")[:-1], list(printed), []
 
     def add(self, *lines):
         self.lines += lines
@@ -221,21 +233,24 @@ def types_of(outside):
     return lines
 
 
-def library_words(outside):
-    """The words of the library: a table of those that need trust, and a list of the others. Another crate's word without a
-    meaning in the table ends the program."""
+def library_words(outside, known=()):
+    """The words of the library that are not `known` from another page: a table of those that need trust, and a list of the others.
+    Another crate's word without a meaning in the table ends the program."""
     own = crates()
-    of_library = [each for each in outside if each[0] not in own]
-    names = {name for _, _, name in of_library}
+    of_library = [each for each in outside if each[0] not in own and each not in known]
     untold = [each for each in of_library if each[0] != "std" and each[2] not in MEANINGS]
-    if untold or set(MEANINGS) - names:
-        sys.exit("MEANINGS has to have %s, and not %s" % (untold, sorted(set(MEANINGS) - names)))
+    if untold:
+        sys.exit("MEANINGS has to have %s" % untold)
     lines = ["| Word | From | Means |", "|---|---|---|"]
     for name, means in MEANINGS.items():
-        crate, file = [each[:2] for each in of_library if each[2] == name][0]
-        lines.append("| `%s` | `%s`, `%s` | %s |" % (name, crate, file, means))
+        for crate, file in [each[:2] for each in of_library if each[2] == name][:1]:
+            lines.append("| `%s` | `%s`, `%s` | %s |" % (name, crate, file, means))
     plain = sorted({name for _, file, name in of_library if name not in MEANINGS and "declared" not in file})
-    return lines, ", ".join("`%s`" % name for name in plain)
+    return ["", "## Words of the toolchain's library", "", WORDS, "", *lines, "", *wrapped(PLAIN + listed(plain) + ".", "")]
+
+
+def listed(names):
+    return ", ".join("`%s`" % name for name in names)
 
 
 def premises(definitions):
@@ -250,34 +265,47 @@ def premises(definitions):
     return lines + [""]
 
 
-def page():
-    """The text of the page."""
-    made, run = Page(), read(RUN)
-    compare, program = contract_of(read(COMPARE), "compare_databases"), contract_of(read(PROGRAM), "run_program")
+def begun(intro, definitions, compared, program, printed=()):
+    """A page with its introduction and the clauses of two calls, each of which is its file and its name; and both contracts."""
+    made, contracts = Page(definitions, intro, printed), []
+    made.add("", "## The clauses")
+    for words, (file, name) in (("Two databases", compared), ("The whole program, by arguments and files", program)):
+        contracts.append(contract_of(read(file), name))
+        made.add("", "%s (`%s`):" % (words, file), "")
+        made.block("rust", contracts[-1])
+    return made, contracts
+
+
+def pages():
+    """The texts of both pages, by their names."""
+    definitions, run = Definitions(crates()), read(RUN)
+    made, (compare, program) = begun(INTRO, definitions, (COMPARE, "compare_databases"), (PROGRAM, "run_program"))
     told = "\n".join(clauses_of(contract_of(run, "run"), ["consistent", "opens_told"]))
-    made.add("", "## The clauses", "", "Two databases (`%s`):" % COMPARE, "")
-    made.block("rust", compare)
-    made.add("", "The whole program, by arguments and files (`%s`):" % PROGRAM, "")
-    made.block("rust", program)
     made.part("What the first call rests on", [], compare, imports_of(read(COMPARE)))
-    made.part("What the second call has besides", premises(made.definitions), program, imports_of(read(PROGRAM)), PREMISES)
+    made.part("What the second call has besides", premises(definitions), program, imports_of(read(PROGRAM)), PREMISES)
+    printed = list(made.printed)
     made.part("Only for files that tell no bytes", [FILES, "", "```rust", told, "```", ""], told, imports_of(run))
     made.add("", "## What contracts see of the sources, the site and the sinks", "", *members_of([compare, program]))
     made.add("", "## Types of the code", "", *types_of(made.outside))
-    table, plain = library_words(made.outside)
-    made.add("", "## Words of the toolchain's library", "", WORDS, "", *table, "", *wrapped(PLAIN + plain + ".", ""))
-    return "\n".join(made.lines) + "\n"
+    made.add(*library_words(made.outside))
+    calls = (COMPARE_LINES, "compare_as_lines"), (PROGRAM_LINES, "run_lines_program")
+    lines, (compare, program) = begun(INTRO_OF_LINES, definitions, *calls, printed)
+    imports = {**imports_of(read(COMPARE_LINES)), **imports_of(read(PROGRAM_LINES))}
+    lines.part("What both calls have besides", [], compare + program, imports, PREMISES)
+    lines.add(*library_words(lines.outside, made.outside))
+    return {PAGE: "\n".join(made.lines) + "\n", LINES_PAGE: "\n".join(lines.lines) + "\n"}
 
 
 def main():
     parser = parser_of("tools.source.headline_page", __doc__)
-    parser.add_argument("--write", action="store_true", help="write " + PAGE)
+    parser.add_argument("--write", action="store_true", help="write %s and %s" % (PAGE, LINES_PAGE))
     arguments = parser.parse_args()
-    if arguments.write:
-        with open(os.path.join(TOP, PAGE), "w", encoding="utf-8") as file:
-            file.write(page())
-    else:
-        sys.stdout.write(page())
+    for name, text in pages().items():
+        if arguments.write:
+            with open(os.path.join(TOP, name), "w", encoding="utf-8") as file:
+                file.write(text)
+        else:
+            sys.stdout.write(text)
     return 0
 
 
