@@ -1,5 +1,5 @@
-//! The headline: what a comparison of two databases promises, and what the whole program does, for the report and for lines
-//! of JSON.
+//! The headline: what a comparison of two databases promises, and what the whole program does, for
+//! the report and for lines of JSON.
 #![tactic(auto)]
 
 mod comparison;
