@@ -14,7 +14,7 @@ import time
 
 from aide_compare.base.ending import Fault, Status, failing, write_all
 from aide_compare.base.escapes import shown
-from aide_compare.base.files import nameless, open_regular, open_trusted, read_whole
+from aide_compare.base.files import open_regular, open_trusted, read_whole
 from aide_compare.base.folders import closed_after, open_folder
 from aide_compare.base.private_room import private_room
 from aide_compare.base.processes import run
