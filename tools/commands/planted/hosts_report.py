@@ -76,11 +76,11 @@ PLANTED = (
     + seen_by(
         "cut_lines.try_cut_stream",
         (LIB + "hosts/hosts_read.py", "if counts_in(reader.summary) != host.state.counts:", "if False:"),
-        (LIB + "commands/hosts.py", "except Refused:\n            size", "except Fault:\n            size"),
+        (LIB + "hosts/hosts_read.py", "    except Refused:\n", "    except Fault:\n"),
     )
     + seen_by(
         "hosts_report.try_not_compared",
-        (LIB + "hosts/hosts_read.py", "        place.lock(time.monotonic() + given.time, fcntl.LOCK_SH)\n", ""),
+        (LIB + "hosts/hosts_read.py", "        place.lock(time.monotonic() + seconds, fcntl.LOCK_SH)\n", ""),
     )
     + seen_by(
         "hosts_ends.try_many_hosts",

@@ -66,7 +66,6 @@ def try_cut_stream(sandbox):
     found = hosts.objects()[1]
     got = [found[name]["report"] for name in ("short", "other")]
     sandbox.holds("damaged lines, and those of another run", got == ["unreadable"] * 2, got)
-    status, output, errors = hosts.call("aide-compare hosts compare-one", "--max-report", "20k", "long")
-    said = "long: the changes were cut: their lines have "
-    good = status == 3 and said in errors and "/n0009\n" in output
+    status, output, errors = hosts.call("aide-compare hosts compare", "--max-report", "20k", "--one", "long")
+    good = status == 3 and words in errors and "/n0009\n" in output
     sandbox.holds("a single host says so", good, (status, output[-300:], errors))

@@ -30,7 +30,7 @@ def commands_of(page):
     if name == "check_aide_compare":
         return [[check]]
     if name == "aide-compare-hosts":
-        return [[front, "hosts", word] for word in ("fetch", "compare", "compare-one", "accept", "report")]
+        return [[front, "hosts", word] for word in ("fetch", "compare", "accept", "report")]
     return [[front, *name.split("-", 3)[2:]]]
 
 

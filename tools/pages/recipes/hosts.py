@@ -196,8 +196,7 @@ def digest_in(state):
 def try_first(trial):
     """A first baseline, then one that came after the report was read, a wrong digest, and the right one."""
     accept, fetch, compare = (
-        tool(trial, name)
-        for name in ("aide-compare hosts accept", "aide-compare hosts fetch", "aide-compare hosts compare-one")
+        tool(trial, "aide-compare hosts " + words) for words in ("accept", "fetch", "compare --no-fetch --one")
     )
     put_host(trial, "new-one", OLD, None)
     trial.holds("a first database is fetched", trial.run([*fetch, "new-one"])[0] == 0)
@@ -229,11 +228,11 @@ def try_stale(trial):
     """A host whose AIDE does not run any more sends the same bytes for ever."""
     put_host(trial, "stale", OLD)
     kept = trial.path(STORE + "/hosts/stale/aide.db.new")
-    words = [*tool(trial, "aide-compare hosts fetch"), "stale"], [*tool(trial, "aide-compare hosts compare-one"), "stale"]
+    words = [[*tool(trial, "aide-compare hosts " + word), "stale"] for word in ("fetch", "compare --no-fetch --one")]
     trial.holds("a fresh database", [trial.run(each)[0] for each in words] == [0, 0])
     os.utime(kept, (time.time() - 51 * 3600,) * 2)
     got = [trial.run(each) for each in words]
-    trial.holds("the same bytes for 51 hours", [each[0] for each in got] == [0, 18] and "same database" in got[1][2], got)
+    trial.holds("the same bytes for 51 hours", [each[0] for each in got] == [0, 18] and "same database" in got[1][1], got)
     trial.holds("the state says so too", "\nstatus=18\n" in "\n" + trial.read(STORE + "/states/stale"))
     put_host(trial, "stale", OLD + "# later\n", None)
     trial.holds("other bytes are fresh again", [trial.run(each)[0] for each in words] == [0, 0])
@@ -306,23 +305,22 @@ def try_options(trial):
     trial.holds("a host for options", trial.run([*tool(trial, "aide-compare hosts fetch"), "other"])[0] == 0)
     line = "report_ignore_changed_attrs=s+p"
     conf = trial.write("/tmp/one line.conf", line + "\n")
-    compare = tool(trial, "aide-compare hosts compare-one")
+    compare = tool(trial, "aide-compare hosts compare --no-fetch --one")
     for words in (["other", "-A", line], ["--config", conf, "other"], ["-c", conf, "--", "other"]):
         done = trial.run(compare + words)
         trial.holds(
-            "aide-compare hosts compare-one with options",
+            "aide-compare hosts compare --one with options",
             done[0] == 3 and "added File: /a é\n" in done[1] and "/c" not in done[1] and "to accept it" in done[2],
             (words, done),
         )
     done = trial.run([*compare, "other", "same"])
-    trial.holds("aide-compare hosts compare-one with two hosts", done[0] == 15 and done[2], done)
+    trial.holds("aide-compare hosts compare --one with two hosts", done[0] == 15 and done[2], done)
 
 
 def try_words(trial):
     """Arguments that are wrong end with 15 and a line, and --help says what there is."""
     for name in (
         "aide-compare hosts fetch",
-        "aide-compare hosts compare-one",
         "aide-compare hosts accept",
         "aide-compare hosts compare",
         "aide-compare hosts report",

@@ -11,7 +11,6 @@ COMMANDS = ("compare", "json", "page", "reasons", "mail", "accept", "status", "s
 HOSTS = {
     "fetch": ("hosts", "fetch_one"),
     "compare": ("hosts_compare", "main"),
-    "compare-one": ("hosts", "compare_one"),
     "accept": ("hosts", "accept_one"),
     "report": ("hosts_report", "main"),
 }
@@ -41,7 +40,6 @@ man aide-compare
 HOSTS_USAGE = """\
 usage: aide-compare hosts fetch [OPTIONS] HOST          its new database, by ssh
        aide-compare hosts compare [OPTIONS] HOSTS-FILE  fetch and compare all
-       aide-compare hosts compare-one [OPTIONS] HOST    the report of one host
        aide-compare hosts accept [OPTIONS] HOST         a new baseline of a host
        aide-compare hosts report [OPTIONS] HOSTS-FILE   what differs on all
 

@@ -1,9 +1,8 @@
-"""aide-compare hosts: what is done for many hosts, and here what is done for one of them: it is fetched, compared, accepted."""
+"""aide-compare hosts: what is done for many hosts, and here what is done for one of them: it is fetched, accepted."""
 import os
 import time
 
-from aide_compare.base.ending import Fault, Status, say, tell, write_all
-from aide_compare.base.files import closed_after, copy_file, open_regular
+from aide_compare.base.ending import Fault, Status, tell
 from aide_compare.base.options import Parser
 from aide_compare.base.words import date_of
 from aide_compare.commands import accept
@@ -12,19 +11,8 @@ from aide_compare.compare.state import read_state
 from aide_compare.compare.unpack import copy_database, database_digest, open_database
 from aide_compare.hosts.fetching import add_fetching, fetch
 from aide_compare.hosts.fleet_store import Place, add_place, check_name, no_room
-from aide_compare.hosts.host_comparison import (
-    BASELINES,
-    MISSING,
-    MOST_BASELINE,
-    NEWEST,
-    add_comparison,
-    compare_or_say,
-    exclusions_of,
-    size_before_cut,
-)
-from aide_compare.lines.reader import Refused, reader_over
+from aide_compare.hosts.host_comparison import BASELINES, MISSING, MOST_BASELINE, NEWEST
 from aide_compare.reasons.kept_records import mark_of
-from aide_compare.show.changes import changes_text
 
 NAME = "aide-compare hosts "
 
@@ -57,41 +45,6 @@ def fetch_one(arguments):
     place, deadline = opened(given)
     fetch(place, given, deadline)
     return Status.OK
-
-
-def print_changes(place):
-    """Prints the changes that were kept, for people."""
-    with closed_after(open_regular(place.file("lines"))) as descriptor:
-        try:
-            for text in changes_text(reader_over(descriptor)):
-                write_all(1, text.encode("utf-8", "backslashreplace"))
-        except Refused:
-            size = size_before_cut(descriptor)
-            say("%s: the changes were cut: their lines have %s bytes, and --max-report allows fewer" % (place.host, size))
-
-
-def compare_one(arguments):
-    parser = parser_of(
-        "compare-one",
-        "Compares the database that was fetched from HOST with its baseline, prints the changes and keeps them.",
-        "Status: that of aide-compare. 18 also means that there is no baseline\n"
-        "yet, or that AIDE has written no new database on HOST for too long.",
-        quiet="print neither changes nor notes: only why nothing was compared",
-    )
-    add_comparison(parser)
-    given = parser.parse(arguments)
-    exclusions_of(given)
-    place, deadline = opened(given)
-    state = compare_or_say(place, given, 1, deadline)
-    if not given.quiet:
-        with closed_after(open_regular(place.file("errors"))) as errors:
-            copy_file(errors, 2)
-        if 0 < state.status <= 7:
-            print_changes(place)
-            say("to accept it: aide-compare hosts accept --sha256 %s %s" % (state.new_sha256, place.host))
-    elif state.status > 7:
-        say(state.error)
-    return state.status
 
 
 def accept_first(place, given):

@@ -5,14 +5,17 @@ import select
 import signal
 import time
 
-from aide_compare.base.ending import Fault, Status, fault_of, tell, write_all
+from aide_compare.base.ending import Fault, Status, fault_of, say, tell, write_all
 from aide_compare.base.escapes import guarded, shown
-from aide_compare.base.files import read_file, read_whole
+from aide_compare.base.files import closed_after, copy_file, open_regular, read_file, read_whole
 from aide_compare.base.options import Parser, matching
 from aide_compare.base.processes import end_with, kill_group
 from aide_compare.hosts.fetching import add_fetching, fetch
 from aide_compare.hosts.fleet_store import Place, add_place, check_name, share_of
 from aide_compare.hosts.host_comparison import add_comparison, compare_or_say, exclusions_of
+from aide_compare.hosts.hosts_read import read_host
+from aide_compare.hosts.hosts_text import WHY, not_listed
+from aide_compare.show.changes import change_lines
 from aide_compare.show.told import RED, YELLOW, in_colour
 
 NAME = "aide-compare hosts compare"
@@ -152,6 +155,21 @@ def compare_all(hosts, given):
     return worst
 
 
+def print_changes(host, given):
+    """What the comparison of a single host has noted, its changes for people, and how to accept them."""
+    found = read_host(host, given.store, given.time, 0, lambda fields: write_all(1, change_text(fields)))
+    with closed_after(open_regular("%s/hosts/%s/errors" % (given.store, host))) as errors:
+        copy_file(errors, 2)
+    if found.differs:
+        if found.report in WHY:
+            say(not_listed(found.fields()))
+        say("to accept it: aide-compare hosts accept --sha256 %s %s" % (found.state.new_sha256, host))
+
+
+def change_text(fields):
+    return "".join(change_lines(fields)).encode("utf-8", "backslashreplace")
+
+
 def options():
     parser = Parser(
         NAME,
@@ -167,7 +185,7 @@ def options():
     parser.value("share", "K/N", part, "only the hosts of the Kth of N shares", default=(1, 1))
     parser.take("alarm", help="with --quiet and --reasons: unexplained: not those all explained")
     parser.flag("no-fetch", "compare what was fetched before")
-    parser.flag("one", "HOSTS-FILE is the name of one host")
+    parser.flag("one", "HOSTS-FILE is the name of one host, whose changes are printed too, without --quiet")
     add_place(parser)
     add_fetching(parser)
     add_comparison(parser)
@@ -181,7 +199,10 @@ def main(arguments):
     hosts = [given.file] if given.one else hosts_of(given.file, given.share)
     heed_signals()
     try:
-        return compare_all(hosts, given)
+        status = compare_all(hosts, given)
+        if given.one and status <= 7 and not given.quiet:
+            print_changes(given.file, given)
+        return status
     except Ended as ended:
         signal.signal(ended.args[0], signal.SIG_DFL)
         os.kill(os.getpid(), ended.args[0])

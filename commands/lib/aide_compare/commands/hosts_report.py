@@ -52,7 +52,8 @@ def read_hosts(names, given, sorter):
             if is_wanted(fields, given.only_path):
                 sorter.put(lines.of(place, fields))
 
-        hosts.append(read_host(name, given.store[share_of(name, len(given.store)) - 1], given, take))
+        store = given.store[share_of(name, len(given.store)) - 1]
+        hosts.append(read_host(name, store, given.time, given.max_age, take))
     return hosts
 
 

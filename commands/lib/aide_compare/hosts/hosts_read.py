@@ -97,7 +97,7 @@ def changes_of(host, place):
         os.close(descriptor)
 
 
-def read_host(name, store, given, take):
+def read_host(name, store, seconds, age, take):
     """Reads what a store keeps of a host, and gives each object of its changes to `take`. No run is at work on the host then."""
     place = None
     try:
@@ -107,8 +107,8 @@ def read_host(name, store, given, take):
         if not os.path.lexists("%s/hosts/%s" % (store, name)):
             return Host(name, Status.DEVICE, "was never compared")
         place = Place(store, name)
-        place.lock(time.monotonic() + given.time, fcntl.LOCK_SH)
-        host = state_of(place, name, given.max_age)
+        place.lock(time.monotonic() + seconds, fcntl.LOCK_SH)
+        host = state_of(place, name, age)
     except Fault as fault:
         host = Host(name, fault.status, fault.text)
     except OSError as error:

@@ -34,7 +34,7 @@ def counts_text(fields):
 
 def not_listed(fields):
     total = "?" if fields["added"] is None else fields["added"] + fields["removed"] + fields["changed"]
-    return "%s: %s; %d of %s changes are listed below" % (fields["host"], WHY[fields["report"]], fields["listed"], total)
+    return "%s: %s; %d of %s changes are listed" % (fields["host"], WHY[fields["report"]], fields["listed"], total)
 
 
 def host_lists(hosts):
