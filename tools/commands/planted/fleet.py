@@ -7,11 +7,13 @@ PLANTED = (
         "fleet.try_endless",
         (
             LIB + "hosts/fetching.py",
-            "if self.part.size + len(block) > self.most:",
-            "if self.part.size > 4 * self.most:",
+            "if self.size > self.most:",
+            "if self.size > 4 * self.most:",
         ),
     )
-    + seen_by("fleet.try_small_store", (LIB + "hosts/fetching.py", "min(given.max_sent, place.room(jobs))", "given.max_sent"))
+    + seen_by(
+        "fleet.try_small_store", (LIB + "hosts/fetching.py", "min(given.max_sent, place.room(given.jobs))", "given.max_sent")
+    )
     + seen_by(
         "fleet.try_told",
         (LIB + "hosts/fetching.py", 'rb"[\\r\\n]+"', 'rb"\\n"'),
@@ -19,14 +21,14 @@ PLANTED = (
         (LIB + "hosts/fetching.py", "        place.not_compared(fault.text)\n", ""),
         (
             LIB + "commands/hosts_compare.py",
-            "        if not found or ended != 0:\n",
-            "        if not found:\n            return self.host, 0, ''\n        if ended != 0:\n",
+            "        if found and ended == 0:\n",
+            "        if not found:\n            return self.host, 0, True, ''\n        if ended == 0:\n",
         ),
     )
     + seen_by(
         "fleet.try_ended", (LIB + "base/processes.py", "    ctypes.CDLL(None).prctl(PR_SET_PDEATHSIG, signal.SIGKILL)\n", "")
     )
-    + seen_by("fleet.try_slow", (LIB + "hosts/fetching.py", "takers, deadline=deadline)", "takers)"))
+    + seen_by("fleet.try_slow", (LIB + "hosts/fetching.py", "}, self.place.deadline):\n", "}):\n"))
     + seen_by(
         "fleet.try_hostile",
         (
@@ -38,11 +40,13 @@ PLANTED = (
     )
     + seen_by(
         "fleet.try_same_for",
-        (LIB + "hosts/host_comparison.py", "        if stale:\n", "        if stale and not state.status:\n"),
+        (LIB + "hosts/host_comparison.py", "    if stale:\n", "    if stale and not state.status:\n"),
         (LIB + "hosts/host_comparison.py", "-MOST_AHEAD <= age <= seconds", "age <= seconds"),
     )
     + seen_by("fleet.try_wrong", (LIB + "hosts/fleet_store.py", "NAME.fullmatch(host)", "NAME.match(host)"))
-    + seen_by("fleet.try_shared", (LIB + "hosts/fleet_store.py", "    if folder.others:\n", "    if False:\n"))
+    + seen_by(
+        "fleet.try_shared", (LIB + "hosts/fleet_store.py", "                if folder.others:", "                if False:")
+    )
     + seen_by("fleet.try_accepting", (LIB + "commands/hosts.py", "required=True", "required=False"))
     + seen_by(
         "state.try_check_faults",

@@ -26,16 +26,20 @@ PLANTED = (
             "sorted(labels - own), without(new, own)]",
             "sorted(labels - own)]",
         ),
-        (LIB + "hosts/host_changes.py", "self.is_old_same &= old == self.old", "pass"),
-        (LIB + "hosts/host_changes.py", "self.own |= own", "pass"),
+        (LIB + "hosts/host_changes.py", "if len(olds) > 1:", "if False:"),
+        (LIB + "hosts/host_changes.py", 'owns.update(own.decode().split(","))', "pass"),
         (LIB + "hosts/host_changes.py", 'fields["old_various"] = [label_of(name) for name in fields.pop("old")]', "pass"),
     )
     + seen_by(
         "hosts_report.try_mail",
         (LIB + "commands/hosts_report.py", "in given.only_path:", "in given.only_path[:1]:"),
-        (LIB + "commands/hosts_report.py", "else report.worst\n", "else False\n"),
-        (LIB + "commands/hosts_report.py", "report.text(given.color, command, BRIEF)", "report.text(given.color)"),
-        (LIB + "commands/hosts_report.py", '"%d more changes are left out. This command prints all:" % left_out, ', ""),
+        (LIB + "commands/hosts_report.py", "= report.worst if", "= False if"),
+        (LIB + "commands/hosts_report.py", "report.text(given.color, BRIEF)", "report.text(given.color)"),
+        (
+            LIB + "hosts/hosts_text.py",
+            'yield "%d more changes are left out. This command prints all:" % share.left_out',
+            "pass",
+        ),
     )
     + seen_by(
         "hosts_page.try_removed",
@@ -57,13 +61,13 @@ PLANTED = (
     + seen_by(
         "hosts_report.try_orders",
         (LIB + "commands/hosts_report.py", 'if order == "rare" else GREATEST - fields["hosts"]', ""),
-        (LIB + "commands/hosts_report.py", "return not patterns or any(", "return not patterns or all(not "),
+        (LIB + "commands/hosts_report.py", "or any(each.matches", "or all(not each.matches"),
         (LIB + "commands/mail.py", '"HOST[:PORT]", server', '"HOST[:PORT]", some_text'),
     )
     + seen_by(
         "cut_lines.try_every_cut",
         (LIB + "hosts/host_comparison.py", '.rfind(b"\\n") + 1\n    os.ftruncate', '.rfind(b"\\n")\n    os.ftruncate'),
-        (LIB + "hosts/hosts_read.py", "CUT if size_before_cut(descriptor) else UNREADABLE", "UNREADABLE"),
+        (LIB + "hosts/hosts_read.py", "CUT if is_cut(descriptor) else UNREADABLE", "UNREADABLE"),
     )
     + seen_by(
         "hosts_report.try_broken",
@@ -75,12 +79,12 @@ PLANTED = (
     )
     + seen_by(
         "cut_lines.try_cut_stream",
-        (LIB + "hosts/hosts_read.py", "if counts_in(reader.summary) != host.state.counts:", "if False:"),
-        (LIB + "hosts/hosts_read.py", "    except Refused:\n", "    except Fault:\n"),
+        (LIB + "hosts/hosts_read.py", "if counts_in(reader.summary) != counts_in(host):", "if False:"),
+        (LIB + "hosts/hosts_read.py", "    except (Fault, Refused):\n", "    except Fault:\n"),
     )
     + seen_by(
         "hosts_report.try_not_compared",
-        (LIB + "hosts/hosts_read.py", "        place.lock(time.monotonic() + seconds, fcntl.LOCK_SH)\n", ""),
+        (LIB + "hosts/hosts_read.py", "seconds, fcntl.LOCK_SH)", "seconds, fcntl.LOCK_UN)"),
     )
     + seen_by(
         "hosts_ends.try_many_hosts",
@@ -99,14 +103,14 @@ PLANTED = (
         "hosts_page.try_room",
         (
             LIB + "hosts/hosts_page.py",
-            "yield head(summary, hosts, remark_of(share.left_out, command))",
-            'yield head(summary, hosts, "")',
+            "yield head(summary, hosts, share.left_out, command)",
+            "yield head(summary, hosts, 0, command)",
         ),
     )
     + seen_by(
         "hosts_page.try_values",
         (LIB + "hosts/hosts_page.py", 'fields.get("old_various", ())', "()"),
-        (LIB + "hosts/hosts_text.py", 'if each["status"] > 7', "if False"),
+        (LIB + "hosts/hosts_text.py", 'if host["status"] > 7:', "if False:"),
         (LIB + "hosts/hosts_text.py", 'fields["hosts"] - len(fields["names"])', "0"),
         (LIB + "hosts/hosts_page.py", '"Not compared", "not_compared")', '"Not compared", "hosts")'),
     )
@@ -117,7 +121,7 @@ PLANTED = (
     + seen_by(
         "hosts_quiet.try_reports",
         (LIB + "show/rows.py", 'severity = fields.get("severity")', 'severity = fields.get("severities")'),
-        (LIB + "commands/hosts_report.py", 'report.is_alarm if given.alarm == "unexplained" else ', ""),
+        (LIB + "commands/hosts_report.py", " if given.alarm == ALARMS[0] else not all(map(is_explained, report.hosts))", ""),
         (
             LIB + "hosts/host_changes.py",
             "standing = 0 if reason is None else 1",

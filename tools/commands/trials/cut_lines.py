@@ -10,24 +10,22 @@ def try_cut_lines(sandbox):
         trial(sandbox)
 
 
-def cuts(text, counts, whole):
+def cuts(text, path, whole):
     """What is wrong with what is read of lines that are cut at each of their bytes in turn."""
     from tools.commands.base import TOP  # noqa: F401 (the modules of this tree)
-    from aide_compare.compare.state import State
     from aide_compare.hosts.host_comparison import cut
-    from aide_compare.hosts.hosts_read import Host, entries_of
+    from aide_compare.hosts.hosts_read import changes_of
 
     first = text.index(b"\n") + 1
     for size in range(first, len(text)):
-        descriptor = os.memfd_create("lines")
-        os.write(descriptor, text)
-        cut(descriptor, len(text), size)
-        host = Host("x", 7, "", State(7, 1, *counts))
-        found = list(entries_of(host, descriptor))
-        kept = os.fstat(descriptor).st_size
-        os.close(descriptor)
-        if host.report != "cut" or found != whole[: text[first:size].count(b"\n")] or kept > size + 100:
-            return "cut at %d: %s" % (size, (host.report, found))
+        with open(path, "wb+", 0) as file:
+            file.write(text)
+            cut(file.fileno(), len(text), size)
+        host = {"added": 1, "removed": 1, "changed": 2}
+        found = list(changes_of(host, path))
+        is_whole = found == whole[: text[first:size].count(b"\n")] and host["listed"] == len(found)
+        if host["report"] != "cut" or not is_whole or os.stat(path).st_size > size + 100:
+            return "cut at %d: %s" % (size, (host, found))
     return ""
 
 
@@ -37,7 +35,7 @@ def try_every_cut(sandbox):
     hosts.compared({"www1": (sandbox.read("store/hosts/www1/aide.db"), sandbox.read("store/hosts/www1/aide.db.new"))})
     text = sandbox.read("store/hosts/www1/lines")
     whole = [json.loads(line) for line in text.splitlines()[1:-1]]
-    got = cuts(text, (1, 1, 2), whole) if len(whole) == 4 else text
+    got = cuts(text, sandbox.path("lines"), whole) if len(whole) == 4 else text
     sandbox.holds("lines cut at each byte", got == "", got)
 
 

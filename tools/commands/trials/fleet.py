@@ -166,7 +166,7 @@ def try_endless(sandbox):
         "real = os.fstatvfs\n"
         "class S: f_bavail, f_frsize = 10240, 4096\n"
         "os.fstatvfs = lambda fd: S\n"
-        'print(f.Place(%r, "endless").room(8))' % (sandbox.path("lib"), sandbox.path("store"))
+        'print(f.Place(%r, "endless", 1).room(8))' % (sandbox.path("lib"), sandbox.path("store"))
     )
     got = subprocess.run([sys.executable, "-c", program], stdout=subprocess.PIPE).stdout
     sandbox.holds("a host never takes the room of the others", 0 < int(got or 0) * 9 <= ROOM, got)

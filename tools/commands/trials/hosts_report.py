@@ -278,7 +278,7 @@ def try_mail(sandbox):
     good = b"\nSubject: aide on 4 hosts: 2 differ, 1 not compared\n" in mail and mail.startswith(b"To: root\n")
     sandbox.holds("its subject", good and status == 18 and not output + errors, (status, output, errors, mail[:300]))
     sandbox.holds("its bound", 10000 < len(mail) < 30 << 10, len(mail))
-    listed, left = mail.count(b"\nadded on 2 of 4 hosts: File /n"), re.search(rb"cut: (\d+) more changes are left out", mail)
+    listed, left = mail.count(b"\nadded on 2 of 4 hosts: File /n"), re.search(rb"\n(\d+) more changes are left out", mail)
     sandbox.holds("what is left out", left and listed + int(left.group(1)) == 500, (listed, left and left.group()))
     brief = hosts.report("--brief")[1]
     listed, left = brief.count("\nadded on 2 of 4 hosts: File /n"), re.search(

@@ -1,6 +1,6 @@
-"""aide-compare hosts: what is done for many hosts, and here what is done for one of them: it is fetched, accepted."""
+"""aide-compare hosts: what is done for many hosts, and here what is done for one of them: it is fetched or accepted."""
 import os
-import time
+from contextlib import suppress
 
 from aide_compare.base.ending import Fault, Status, tell
 from aide_compare.base.options import Parser
@@ -10,7 +10,7 @@ from aide_compare.compare.comparison import refuse_unsound
 from aide_compare.compare.state import read_state
 from aide_compare.compare.unpack import copy_database, database_digest, open_database
 from aide_compare.hosts.fetching import add_fetching, fetch
-from aide_compare.hosts.fleet_store import Place, add_place, check_name, no_room
+from aide_compare.hosts.fleet_store import Place, add_place, no_room
 from aide_compare.hosts.host_comparison import BASELINES, MISSING, MOST_BASELINE, NEWEST
 from aide_compare.reasons.kept_records import mark_of
 
@@ -24,14 +24,6 @@ def parser_of(word, description, epilog, **more):
     return made
 
 
-def opened(given):
-    """The Place of the host, locked, and when its time is over."""
-    deadline = time.monotonic() + given.time
-    place = Place(given.store, check_name(given.host))
-    place.lock(deadline)
-    return place, deadline
-
-
 def fetch_one(arguments):
     parser = parser_of(
         "fetch",
@@ -41,23 +33,20 @@ def fetch_one(arguments):
     )
     add_fetching(parser)
     parser.take("reasons", help="fetch dpkg's records of HOST too, as evidence")
+    parser.set_defaults(jobs=1)
     given = parser.parse(arguments)
-    place, deadline = opened(given)
-    fetch(place, given, deadline)
+    fetch(Place(given.store, given.host, given.time), given)
     return Status.OK
 
 
 def accept_first(place, given):
     """The first baseline. A baseline that is there already is never replaced."""
-    refused = place.fault("has a baseline already; nothing was accepted", Status.DATABASE)
-    if place.has("aide.db"):
-        raise refused
     copy = copy_database("new", place.file("aide.db.new"), given.max_size)
     refuse_unsound(copy)
     try:
         place.copy("aide.db.new", "aide.db", replace=False)
     except FileExistsError:
-        raise refused
+        raise place.fault("has a baseline already; nothing was accepted", Status.DATABASE)
     except OSError as error:
         raise place.fault("cannot keep its baseline: %s" % no_room(error))
     keep_records(place)
@@ -68,17 +57,6 @@ def accept_first(place, given):
 def tell_of(place, given, text):
     if not given.quiet:
         tell("%s: %s: %s" % (NAME + "accept", place.host, text))
-
-
-def say_what(place, given):
-    """When the database was compared, and what differed, if the state knows it."""
-    try:
-        state = read_state(place.state_path)
-    except Fault:
-        return
-    if state.counts and state.new_sha256.startswith(given.sha256):
-        words = (date_of(state.time),) + state.counts
-        tell_of(place, given, "compared %s: added %d, removed %d, changed %d" % words)
 
 
 def keep_records(place):
@@ -95,8 +73,13 @@ def keep_records(place):
 
 
 def accept_next(place, given):
-    """The command aide-compare accept does the work."""
-    say_what(place, given)
+    """The command aide-compare accept does the work. Before it is said when the database was compared, and what differed, if the
+    state knows that."""
+    with suppress(Fault):
+        state = read_state(place.state_path)
+        if state.counts and state.new_sha256.startswith(given.sha256):
+            words = (date_of(state.time),) + state.counts
+            tell_of(place, given, "compared %s: added %d, removed %d, changed %d" % words)
     words = ["--keep-open=" + os.fsdecode(pattern.text) for pattern in given.keep_open] + ["--quiet"] * given.quiet
     names = [place.file("aide.db.new"), place.file("aide.db")]
     status = accept.main(["--no-packages", "--sha256=" + given.sha256, *words, *names])
@@ -123,7 +106,7 @@ def accept_one(arguments):
     given = parser.parse(arguments)
     if given.first and given.keep_open:
         raise Fault(Status.USAGE, "--keep-open goes with --sha256", "try: %s --help" % parser.prog)
-    place, _ = opened(given)
+    place = Place(given.store, given.host, given.time)
     if not place.has("aide.db.new"):
         raise place.fault(MISSING["aide.db.new"])
     return accept_first(place, given) if given.first else accept_next(place, given)

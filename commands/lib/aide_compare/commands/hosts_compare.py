@@ -4,6 +4,7 @@ import re
 import select
 import signal
 import time
+from contextlib import suppress
 
 from aide_compare.base.ending import Fault, Status, fault_of, say, tell, write_all
 from aide_compare.base.escapes import guarded, shown
@@ -11,29 +12,26 @@ from aide_compare.base.files import closed_after, copy_file, open_regular, read_
 from aide_compare.base.options import Parser, matching
 from aide_compare.base.processes import end_with, kill_group
 from aide_compare.hosts.fetching import add_fetching, fetch
-from aide_compare.hosts.fleet_store import Place, add_place, check_name, share_of
-from aide_compare.hosts.host_comparison import add_comparison, compare_or_say, exclusions_of
-from aide_compare.hosts.hosts_read import read_host
+from aide_compare.hosts.fleet_store import Place, add_place, share_of
+from aide_compare.hosts.host_comparison import add_comparison, compare, exclusions_of
+from aide_compare.hosts.hosts_read import differs, read_host
 from aide_compare.hosts.hosts_text import WHY, not_listed
 from aide_compare.show.changes import change_lines
 from aide_compare.show.told import RED, YELLOW, in_colour
 
 NAME = "aide-compare hosts compare"
-MOST_LIST = 16 << 20
+MOST_LIST, MOST_TEXT = 16 << 20, 300
 GRACE = 15
 PAUSE = 0.2  # A process that was ended may go on, in a call that does not return.
-ENDING = (signal.SIGTERM, signal.SIGHUP, signal.SIGINT, signal.SIGQUIT)
 
 
 def one_host(host, given):
     """The status of a host, whether all its changes are explained, and what its line says."""
     try:
-        deadline = time.monotonic() + given.time
-        place = Place(given.store, check_name(host))
-        place.lock(deadline)
+        place = Place(given.store, host, given.time)
         if not given.no_fetch:
-            fetch(place, given, deadline, given.jobs)
-        state = compare_or_say(place, given, given.jobs, deadline)
+            fetch(place, given)
+        state = compare(place, given)
     except (Fault, OSError, MemoryError) as error:
         fault = fault_of(error)
         return int(fault.status), False, fault.text
@@ -48,76 +46,52 @@ def one_host(host, given):
 
 
 class Worker:
-    """The process of one host, in a group of its own: its number, the pipe of its answer, and when it has to be over."""
+    """The process of one host, which the kernel ends if this one ends: its number, the pipe of its answer, and when it has to be
+    over."""
 
-    def __init__(self, host, given, others):
-        self.host, self.store, self.answer = host, given.store, b""
-        self.deadline = time.monotonic() + given.time + GRACE
+    def __init__(self, host, given):
+        self.host, self.store, self.deadline = host, given.store, time.monotonic() + given.time + GRACE
         self.fd, writing = os.pipe()
         parent = os.getpid()
         self.child = os.fork()
         if self.child == 0:
             try:
-                for number in ENDING:
-                    signal.signal(number, signal.SIG_DFL)
                 if end_with(parent):
-                    os.setpgid(0, 0)
-                    for descriptor in others + [self.fd]:
-                        os.close(descriptor)
-                    write_all(writing, ("%d %d %s" % one_host(host, given)).encode("utf-8", "backslashreplace"))
+                    status, is_explained, text = one_host(host, given)
+                    answer = "%d %d %s" % (status, is_explained, guarded(text)[:MOST_TEXT])
+                    write_all(writing, answer.encode("utf-8", "backslashreplace"))
             finally:
                 os._exit(0)
         os.close(writing)
 
     def result(self):
-        """The line of the host: its name, its status, whether all its changes are explained, and what the status says."""
-        os.close(self.fd)
+        """The line of the host: its name, its status, whether all its changes are explained, and what the status says. The
+        answer comes in one piece, since a pipe has room for it."""
+        with closed_after(self.fd):
+            answer = os.read(self.fd, 8 * MOST_TEXT)
         ended = os.waitstatus_to_exitcode(os.waitpid(self.child, 0)[1])
-        found = re.fullmatch(rb"([0-9]{1,3}) ([01]) (.*)", self.answer, re.S)
-        if not found or ended != 0:
-            text = "ended without an answer (%d)" % ended
-            try:
-                Place(self.store, self.host).not_compared("%s: %s" % (self.host, text))
-            except Fault:
-                pass
-            return self.host, int(Status.DEVICE), False, text
-        text = guarded(found.group(3).decode("utf-8", "replace"))
-        return self.host, int(found.group(1)), found.group(2) == b"1", text[:300]
-
-
-class Ended(BaseException):
-    """A signal asks this command to end."""
-
-
-def heed_signals():
-    def end(number, _):
-        raise Ended(number)
-
-    for number in ENDING:
-        if signal.getsignal(number) is not signal.SIG_IGN:
-            signal.signal(number, end)
+        found = re.fullmatch(rb"([0-9]{1,3}) ([01]) (.*)", answer, re.S)
+        if found and ended == 0:
+            return self.host, int(found.group(1)), found.group(2) == b"1", found.group(3).decode("utf-8", "replace")
+        text = "ended without an answer (%d)" % ended
+        with suppress(Fault, OSError):  # Another run may have the lock by now, and writes a state of its own.
+            Place(self.store, self.host, PAUSE).not_compared("%s: %s" % (self.host, text))
+        return self.host, int(Status.DEVICE), False, text
 
 
 def results(hosts, given):
-    """The results of all hosts as they end, so many at a time. Whatever happens here, no process is left."""
-    waiting, workers = list(reversed(hosts)), {}
-    try:
-        while waiting or workers:
-            while waiting and len(workers) < given.jobs:
-                worker = Worker(waiting.pop(), given, list(workers))
-                workers[worker.fd] = worker
-            left = min(worker.deadline for worker in workers.values()) - time.monotonic()
-            for descriptor in select.select(list(workers), [], [], max(left, PAUSE))[0]:
-                block = os.read(descriptor, 65536)
-                workers[descriptor].answer += block
-                if not block:
-                    yield workers.pop(descriptor).result()
-            for worker in workers.values():
-                if worker.deadline < time.monotonic():
-                    kill_group(worker.child)
-    finally:
+    """The results of all hosts as they end, so many at a time."""
+    waiting, workers = hosts[::-1], {}
+    while waiting or workers:
+        while waiting and len(workers) < given.jobs:
+            worker = Worker(waiting.pop(), given)
+            workers[worker.fd] = worker
+        left = min(worker.deadline for worker in workers.values()) - time.monotonic()
+        for descriptor in select.select(list(workers), [], [], max(left, PAUSE))[0]:
+            yield workers.pop(descriptor).result()
         for worker in workers.values():
-            kill_group(worker.child)
+            if worker.deadline < time.monotonic():
+                os.kill(worker.child, signal.SIGKILL)
 
 
 def hosts_of(path, share):
@@ -155,19 +129,19 @@ def compare_all(hosts, given):
     return worst
 
 
-def print_changes(host, given):
+def print_changes(name, given):
     """What the comparison of a single host has noted, its changes for people, and how to accept them."""
-    found = read_host(host, given.store, given.time, 0, lambda fields: write_all(1, change_text(fields)))
-    with closed_after(open_regular("%s/hosts/%s/errors" % (given.store, host))) as errors:
+
+    def show(fields):
+        write_all(1, ("\n" + "".join(change_lines(fields))).encode("utf-8", "backslashreplace"))
+
+    host = read_host(name, given.store, given.time, 0, show)
+    with closed_after(open_regular("%s/hosts/%s/errors" % (given.store, name))) as errors:
         copy_file(errors, 2)
-    if found.differs:
-        if found.report in WHY:
-            say(not_listed(found.fields()))
-        say("to accept it: aide-compare hosts accept --sha256 %s %s" % (found.state.new_sha256, host))
-
-
-def change_text(fields):
-    return "".join(change_lines(fields)).encode("utf-8", "backslashreplace")
+    if differs(host):
+        if host["report"] in WHY:
+            say(not_listed(host))
+        say("to accept it: aide-compare hosts accept --sha256 %s %s" % (host["new_sha256"], name))
 
 
 def options():
@@ -197,13 +171,7 @@ def main(arguments):
     given = options().parse(arguments)
     exclusions_of(given)
     hosts = [given.file] if given.one else hosts_of(given.file, given.share)
-    heed_signals()
-    try:
-        status = compare_all(hosts, given)
-        if given.one and status <= 7 and not given.quiet:
-            print_changes(given.file, given)
-        return status
-    except Ended as ended:
-        signal.signal(ended.args[0], signal.SIG_DFL)
-        os.kill(os.getpid(), ended.args[0])
-        return Status.DEVICE
+    status = compare_all(hosts, given)
+    if given.one and status <= 7 and not given.quiet:
+        print_changes(given.file, given)
+    return status

@@ -4,19 +4,20 @@ import shlex
 
 from aide_compare.base import progress
 from aide_compare.base.ending import Fault, Status, write_blocks
-from aide_compare.base.files import Spool, nameless
+from aide_compare.base.files import Spool
 from aide_compare.base.folders import open_folder
 from aide_compare.base.line_sorter import LineSorter
-from aide_compare.base.options import Parser, duration, matching, pattern, some_text
+from aide_compare.base.options import ALARMS, Parser, duration, matching, pattern, some_text
 from aide_compare.base.program import find_front
 from aide_compare.commands.hosts_compare import hosts_of
 from aide_compare.commands.mail import add_sending
 from aide_compare.compare.outputs import Output
 from aide_compare.compare.state import AGE
 from aide_compare.hosts.fleet_store import STORE, share_of
-from aide_compare.hosts.host_changes import ChangeLines, encoded, same_changes, standing_of
-from aide_compare.hosts.hosts_read import CUT, WHOLE, read_host
-from aide_compare.lines.reader import bytes_of
+from aide_compare.hosts.host_changes import SameChanges, standing_of
+from aide_compare.hosts.hosts_read import CUT, UNREADABLE, differs, is_explained, read_host
+from aide_compare.lines.reader import ENCODE, bytes_of
+from aide_compare.show.added import written
 
 NAME = "aide-compare hosts report"
 FORMATS = ("text", "brief", "json", "page")
@@ -38,65 +39,56 @@ def whole_command(given):
     return words + [os.path.abspath(given.file)]
 
 
-def is_wanted(fields, patterns):
-    pieces = bytes_of(fields, "path")[1:].split(b"/")
-    return not patterns or any(each.matches(pieces) for each in patterns)
-
-
-def read_hosts(names, given, sorter):
-    """Reads all hosts one after the other. Their changes go to the sorter."""
-    lines, hosts = ChangeLines(), []
-    for place, name in enumerate(names):
+def read_hosts(names, given):
+    """The objects of all hosts, which are read one after the other, and the changes that are asked for."""
+    changes, hosts = SameChanges(), []
+    for number, name in enumerate(names):
 
         def take(fields):
-            if is_wanted(fields, given.only_path):
-                sorter.put(lines.of(place, fields))
+            pieces = bytes_of(fields, "path")[1:].split(b"/")
+            if not given.only_path or any(each.matches(pieces) for each in given.only_path):
+                changes.add(number, fields)
 
         store = given.store[share_of(name, len(given.store)) - 1]
         hosts.append(read_host(name, store, given.time, given.max_age, take))
-    return hosts
+    return hosts, changes
 
 
 def ordered(changes, order):
-    """The objects of the changes as lines, in another order than that of paths if that is asked for."""
-    if order == "path":
-        for fields in changes:
-            yield encoded(fields).encode() + b"\n"
-        return
+    """The objects of the changes as lines in the order that is asked for. Within it they are in that of their paths."""
     sorter = LineSorter()
     for fields in changes:
-        key = fields["hosts"] if order == "rare" else GREATEST - fields["hosts"]
-        sorter.put(b"%d%d%012d\t%s\n" % (*standing_of(fields), key, encoded(fields).encode()))
-    for line in sorter.lines():
-        yield line[15:]
+        place = fields["hosts"] if order == "rare" else GREATEST - fields["hosts"]
+        key = b"" if order == "path" else b"%d%d%012d" % (*standing_of(fields), place)
+        sorter.put(b"%s\t%s\n" % (key, ENCODE(fields).encode()))
+    return (line.partition(b"\t")[2] for line in sorter.lines())
 
 
 class HostsReport:
     """The report: the summary, the objects of the hosts, and those of the changes in a private file, a line each."""
 
     def __init__(self, names, given):
-        self.body, count, sorter = Spool(), 0, LineSorter()
-        hosts = read_hosts(names, given, sorter)
-        for line in ordered(same_changes(sorter.lines(), names, given.max_hosts), given.order):
+        self.hosts, found = read_hosts(names, given)
+        self.body, self.command, count = Spool(), shlex.join(whole_command(given)), 0
+        for line in ordered(found.objects(names, given.max_hosts), given.order):
             self.body.write(line)
             count += 1
         self.body.flush()
-        differ = [host for host in hosts if host.differs]
-        self.is_alarm = any(not host.is_explained for host in hosts)
-        self.worst, self.hosts = max(host.status for host in hosts), [host.fields() for host in hosts]
+        self.worst = max(host["status"] for host in self.hosts)
+        differ = [host for host in self.hosts if differs(host)]
         self.summary = {
             "record": "summary",
             "format": FORMAT,
-            "hosts": len(hosts),
-            "unchanged": sum(host.status == 0 for host in hosts),
+            "hosts": len(names),
+            "unchanged": sum(host["status"] == 0 for host in self.hosts),
             "differ": len(differ),
-            "explained": sum(host.is_explained for host in differ),
-            "not_compared": sum(host.status > 7 for host in hosts),
-            "cut": sum(host.report == CUT for host in differ),
-            "not_listed": sum(host.report not in (WHOLE, CUT) for host in differ),
+            "explained": sum(map(is_explained, differ)),
+            "not_compared": sum(host["status"] > 7 for host in self.hosts),
+            "cut": sum(host["report"] == CUT for host in differ),
+            "not_listed": sum(host["report"] == UNREADABLE for host in differ),
             "changes": count,
             "order": given.order,
-            "lines": 1 + len(hosts) + count,
+            "lines": 1 + len(names) + count,
         }
 
     def changes(self):
@@ -108,30 +100,26 @@ class HostsReport:
     def json(self):
         """Yields the lines of JSON, in parts."""
         for fields in [self.summary] + self.hosts:
-            yield encoded(fields).encode() + b"\n"
+            yield ENCODE(fields).encode() + b"\n"
         self.body.seek(0)
         yield from iter(lambda: self.body.read(BLOCK), b"")
 
-    def text(self, choice, command="", most=None):
-        """Yields the lines of the text, with severities in colours: all of them, or of at most so many bytes."""
-        from aide_compare.hosts.hosts_text import fitting, report_lines
+    def text(self, choice="never", most=None):
+        """Yields the lines of the text, with severities in colours: all of them, or those that come to so many bytes."""
+        from aide_compare.hosts.hosts_text import report_lines
         from aide_compare.show.told import severity_in_colour
 
-        lines = report_lines(self.summary, self.hosts, self.changes())
-        if most:
-            lines, left_out = fitting(self.summary, self.hosts, self.changes(), most)
-            lines += ["%d more changes are left out. This command prints all:" % left_out, "    " + command] * bool(left_out)
-        for line in lines:
+        for line in report_lines(self.summary, self.hosts, self.changes(), self.command, most):
             yield (severity_in_colour(line, choice) + "\n").encode("utf-8", "backslashreplace")
 
-    def page(self, command):
+    def page(self):
         from aide_compare.hosts.hosts_page import page
 
-        return page(self.summary, self.hosts, self.changes(), command)
+        return page(self.summary, self.hosts, self.changes(), self.command)
 
-    def mail(self, given, is_alarm, command):
+    def mail(self, given, is_alarm):
         """Sends one mail about all hosts, and none if there is nothing to say."""
-        from aide_compare.hosts.hosts_text import fitting, headline
+        from aide_compare.hosts.hosts_text import headline
         from aide_compare.mail.message import build, clean
         from aide_compare.mail.sending import alert, deliver, way_out
 
@@ -140,17 +128,9 @@ class HostsReport:
         except Fault as fault:
             alert("%s; %s" % (fault.text, headline(self.summary)))
             raise
-        if not is_alarm:
-            return
-        lines, left_out = fitting(self.summary, self.hosts, self.changes(), given.max_mail * 3 // 4)
-        if left_out:
-            lines += [
-                "This mail is cut: %d more changes are left out. This command prints all:" % left_out,
-                "    " + command,
-                "",
-            ]
-        text = clean("\n".join(lines).encode("utf-8", "backslashreplace"))
-        deliver(way, build(given.to, headline(self.summary), text))
+        if is_alarm:
+            text = clean(b"".join(self.text(most=given.max_mail * 3 // 4)))
+            deliver(way, build(given.to, headline(self.summary), text))
 
 
 def options():
@@ -206,26 +186,19 @@ def main(arguments):
     for output in outputs.values():
         output.begin()
 
-    report, command = HostsReport(names, given), shlex.join(whole_command(given))
+    report = HostsReport(names, given)
     progress.done("the hosts are read")
-    is_alarm = report.is_alarm if given.alarm == "unexplained" else report.worst
+    is_alarm = report.worst if given.alarm == ALARMS[0] else not all(map(is_explained, report.hosts))
     forms = {
         "text": lambda: report.text(given.color),
-        "brief": lambda: report.text(given.color, command, BRIEF),
+        "brief": lambda: report.text(given.color, BRIEF),
         "json": report.json,
-        "page": lambda: report.page(command),
+        "page": report.page,
     }
     for name, output in outputs.items():
-        output.commit_copy(kept(forms[name]()))
+        output.commit_copy(written(forms[name]()))
     if given.to:
-        report.mail(given, is_alarm, command)
+        report.mail(given, is_alarm)
     elif not on_stdout and (is_alarm or not given.quiet):
         write_blocks(1, forms[given.format or "text"]())
     return report.worst
-
-
-def kept(parts):
-    """A private file with these parts."""
-    file = nameless()
-    write_blocks(file, parts)
-    return file

@@ -11,6 +11,7 @@ from aide_compare.show.rows import entry_of
 # The most bytes of a page, and of each of its lists of hosts.
 MOST, MOST_LIST, RESERVE = 20000000, 1500000, 8000
 MOST_WHY, MOST_COMMAND = 1000, 4000
+REMARK = '<p class="remark">This page has no room for %s more changes. This command prints all: <code>%s</code></p>\n'
 CARDS = (("all", "Hosts", "hosts"), ("changed", "Differ", "differ"), ("removed", "Not compared", "not_compared"))
 
 
@@ -26,8 +27,6 @@ def item_of(fields, hosts):
 
 def host_list(title, lines):
     """A list of hosts with its title; nothing if it is empty. What is missing is seen at once."""
-    if not lines:
-        return ""
     items, room = [], MOST_LIST
     for line in lines:
         items.append("<li>%s\n" % escape(shown_note(line, MOST_WHY)))
@@ -36,20 +35,12 @@ def host_list(title, lines):
             items[-1] = "<li>and %s more\n" % number(len(lines) - len(items) + 1)
             break
     text = "<details%s><summary>%s: %s</summary><ul>\n%s</ul></details>\n"
-    return text % (" open" if title.startswith("Not") else "", title, number(len(lines)), "".join(items))
+    return text % (" open" if title.startswith("Not") else "", title, number(len(lines)), "".join(items)) if lines else ""
 
 
-def remark_of(left_out, command):
-    """What the page leaves out, and how to see it."""
-    if not left_out:
-        return ""
-    told = (number(left_out), escape(shown_note(command, MOST_COMMAND)))
-    text = '<p class="remark">This page has no room for %s more changes. This command prints all: <code>%s</code></p>\n'
-    return text % told
-
-
-def head(summary, hosts, remark):
-    """The beginning of the page, up to the changes."""
+def head(summary, hosts, left_out, command):
+    """The beginning of the page, up to the changes: also how many of these it leaves out, and how to see them."""
+    remark = REMARK % (number(left_out), escape(shown_note(command, MOST_COMMAND))) if left_out else ""
     changes = "%s different changes, %s" % (number(summary["changes"]), ORDERS[summary["order"]])
     return beginning(
         headline(summary),
@@ -61,13 +52,13 @@ def head(summary, hosts, remark):
 
 def page(summary, hosts, changes, command, most=MOST):
     """Yields the page."""
-    room = most - len(head(summary, hosts, remark_of(summary["changes"], command))) - RESERVE
+    room = most - len(head(summary, hosts, summary["changes"], command)) - RESERVE
     share, items = Share(max(room, 0)), Spool()
     for fields in changes:
         text = item_of(fields, summary["hosts"]).encode("utf-8", "backslashreplace")
         if share.takes(fields, len(text)):
             items.write(text)
-    yield head(summary, hosts, remark_of(share.left_out, command))
+    yield head(summary, hosts, share.left_out, command)
     yield b'<div id="content" tabindex="-1">\n<ul>\n'
     items.seek(0)
     yield from items

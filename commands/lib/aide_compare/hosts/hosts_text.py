@@ -2,10 +2,10 @@
 from collections import Counter
 
 from aide_compare.base.escapes import guarded, shown
-from aide_compare.base.words import counted, most_frequent
+from aide_compare.base.words import KINDS, counted, most_frequent
 from aide_compare.hosts.host_changes import is_explained
-from aide_compare.hosts.hosts_read import CUT, UNREADABLE
-from aide_compare.lines.reader import bytes_of
+from aide_compare.hosts.hosts_read import CUT, UNREADABLE, differs
+from aide_compare.lines.reader import bytes_of, counts_in
 from aide_compare.show.changes import MOST_VALUE, values_in
 
 MOST_REASONS = 100
@@ -26,28 +26,25 @@ def headline(summary):
     return "aide on %d hosts: %d differ%s, %d not compared" % told
 
 
-def counts_text(fields):
-    if fields["added"] is None:
-        return "no counts are known"
-    return "added %d, removed %d, changed %d" % (fields["added"], fields["removed"], fields["changed"])
-
-
-def not_listed(fields):
-    total = "?" if fields["added"] is None else fields["added"] + fields["removed"] + fields["changed"]
-    return "%s: %s; %d of %s changes are listed" % (fields["host"], WHY[fields["report"]], fields["listed"], total)
+def not_listed(host):
+    total = "?" if host["added"] is None else sum(counts_in(host))
+    return "%s: %s; %d of %s changes are listed" % (host["host"], WHY[host["report"]], host["listed"], total)
 
 
 def host_lists(hosts):
     """The lists of hosts, each with its title: those that were not compared and why, those of which not all is listed, and
     all that differ."""
-    differ = [each for each in hosts if 1 <= each["status"] <= 7]
-    return {
-        "Not compared": [
-            "%s: %s (status %d)" % (each["host"], each["error"], each["status"]) for each in hosts if each["status"] > 7
-        ],
-        "Not all changes are listed": [not_listed(each) for each in differ if each["report"] in WHY],
-        "Hosts that differ": ["%s: %s" % (each["host"], counts_text(each)) for each in differ],
-    }
+    lists = {"Not compared": [], "Not all changes are listed": [], "Hosts that differ": []}
+    missing, cut, differ = lists.values()
+    for host in hosts:
+        if host["status"] > 7:
+            missing.append("%s: %s (status %d)" % (host["host"], host["error"], host["status"]))
+        elif differs(host):
+            counts = ", ".join("%s %s" % (kind, host[kind]) for kind in KINDS)
+            differ.append("%s: %s" % (host["host"], "no counts are known" if host["added"] is None else counts))
+            if host["report"] in WHY:
+                cut.append(not_listed(host))
+    return lists
 
 
 def names_of(fields):
@@ -82,36 +79,29 @@ class Share:
         return has_room
 
 
-def values(fields):
-    """The values of a change, one by one. An old one that is not the same on all hosts has no value here."""
-    various = fields.get("old_various", ())
-    for label, old, new in values_in(fields, various):
-        old = "(various)" if label in various else old
-        if fields["kind"] == "changed":
-            yield "%s %s -> %s" % (label, old or "none", new or "none")
-        else:
-            yield "%s %s" % (label, new if fields["kind"] == "added" else old)
-
-
 def change_lines(fields, hosts):
-    """The lines of a change. The path stands last in its line, so that no path can look like another line's words."""
+    """The lines of a change. The path stands last in its line, so that no path can look like another line's words. An old value
+    that is not the same on all hosts is not shown."""
     told = (fields["kind"], fields["hosts"], hosts, fields.get("type", "Entry"), shown(bytes_of(fields, "path")))
     yield "%s on %d of %d hosts: %s %s" % told
-    line = ", ".join(values(fields)) or shown(fields.get("summary") or "", 18)
+    various, values = fields.get("old_various", ()), []
+    for label, old, new in values_in(fields, various):
+        old = "(various)" if label in various else old
+        one = {"added": new, "removed": old}.get(fields["kind"])
+        values.append("%s %s" % (label, one or "%s -> %s" % (old or "none", new or "none")))
+    line = ", ".join(values) or shown(fields.get("summary") or "", 18)
     own = "of each host: " + ", ".join(fields["per_host"]) if fields.get("per_host") else ""
     reason = ", ".join(filter(None, (fields.get("severity"), reason_words(fields))))
-    for part in ("on " + names_of(fields), reason, line, own):
-        if part:
-            yield "    " + part
+    yield from ("    " + part for part in ("on " + names_of(fields), reason, line, own) if part)
     yield ""
 
 
-def some(title, lines, most):
-    """A list with its title; nothing if it is empty."""
+def listed(title, lines, most=None):
+    """A list with its title; nothing if it is empty. At most so many lines are shown."""
     if lines:
         yield title + ":"
         yield from ("  " + guarded(line) for line in lines[:most])
-        if len(lines) > most:
+        if most and len(lines) > most:
             yield "  and %d more" % (len(lines) - most)
         yield ""
 
@@ -121,7 +111,7 @@ def head_lines(summary, hosts, most):
     yield "%s, %d without differences" % (headline(summary), summary["unchanged"])
     yield ""
     for title, lines in host_lists(hosts).items():
-        yield from some(title, lines, most)
+        yield from listed(title, lines, most)
     if summary["changes"]:
         yield "%s, %s:" % (counted(summary["changes"], "different change"), ORDERS[summary["order"]])
         yield ""
@@ -139,22 +129,21 @@ def all_change_lines(changes, hosts, share):
         lines = list(change_lines(fields, hosts))
         if share.takes(fields, size_of(lines)):
             yield from lines
-    counts, _ = most_frequent(explained, len(explained))
-    lines = ["%s: %s" % (shown(text, MOST_VALUE), counted(count, "different change")) for text, count in counts]
-    yield from some("Explained", lines, len(lines))
+    counts = most_frequent(explained, len(explained))[0]
+    yield from listed(
+        "Explained", ["%s: %s" % (shown(text, MOST_VALUE), counted(count, "different change")) for text, count in counts]
+    )
 
 
-def report_lines(summary, hosts, changes):
-    """All lines of the text."""
-    yield from head_lines(summary, hosts, len(hosts))
-    yield from all_change_lines(changes, summary["hosts"], Share(1 << 62))
-
-
-def fitting(summary, hosts, changes, room):
-    """The lines of a text of at most so many bytes, and how many changes do not fit and are left out."""
-    lines = list(head_lines(summary, hosts, max(room // 2000, 10)))
-    share = Share(room - size_of(lines))
-    return lines + list(all_change_lines(changes, summary["hosts"], share)), share.left_out
+def report_lines(summary, hosts, changes, command, room=None):
+    """Yields the lines of the text: all of them, or those that come to so many bytes, and then the command that prints all."""
+    head = list(head_lines(summary, hosts, room and max(room // 2000, 10)))
+    share = Share(room - size_of(head) if room else 1 << 62)
+    yield from head
+    yield from all_change_lines(changes, summary["hosts"], share)
+    if share.left_out:
+        yield "%d more changes are left out. This command prints all:" % share.left_out
+        yield "    " + command
 
 
 def size_of(lines):
