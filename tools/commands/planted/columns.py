@@ -31,8 +31,8 @@ PLANTED = seen_by(
     (MAIL, "    keep_told(given, state, kept)\n", ""),
     (MAIL, "    if message:\n        deliver(way, message)\n", TOLD_BEFORE),
     (MAIL, "if state.status > 7 or name in", "if name in"),
-    (STATUS, """name.replace("\\\\", "\\\\\\\\").replace('"', '\\\\"')""", "name"),
-    (STATUS, 'counts += " (%s)" % skipped if skipped else ""', "pass"),
+    (STATUS, "json.dumps(name, ensure_ascii=False)", "'\"%s\"' % name"),
+    (STATUS, 'counts += " (%s)" % not_compared(state.skipped_names) if state.skipped else ""', "pass"),
     (STATUS, "filter(None, (text, not_compared(state.skipped_names)))", "[text]"),
     (MESSAGE, 're.sub(r"[^A-Za-z0-9._#-]", "?", name)', "name"),
 )

@@ -90,15 +90,19 @@ PLANTED = (
     + seen_by(READERS % "try_state", (COUNTS, "self.high + self.medium + self.low == self.unanswered", "True"))
     + seen_by(
         READERS % "try_check",
-        (CHECK, "    if reasons is None or not", "    if reasons is None:\n        return OK\n    if not"),
-        (CHECK, "else reasons.unanswered:", "else reasons.unexplained:"),
+        (
+            CHECK,
+            "    elif reasons is None:",
+            "    elif state.reasons is None:\n        status = OK\n    elif reasons is None:",
+        ),
+        (CHECK, "else reasons.unanswered)", "else reasons.unexplained)"),
     )
     + seen_by(
         READERS % "try_limits",
         (
             CHECK,
-            "            self.severities = SEVERITIES[: SEVERITIES.index(text) + 1]\n",
-            "            self.severities = (text,)\n",
+            "for name in SEVERITIES[: SEVERITIES.index(text) + 1])",
+            "for name in (text,))",
         ),
     )
     + seen_by(

@@ -84,8 +84,8 @@ PLANTED = (
         "state.try_metrics",
         (
             LIB + "commands/status.py",
-            "name, name, value) for name, words, value in values if value is not None)",
-            "name, name, value or 0) for name, words, value in values)",
+            "words, known[key]) for name, key, words in METRICS if known.get(key) is not None]",
+            "words, known.get(key) or 0) for name, key, words in METRICS]",
         ),
     )
     + seen_by(
