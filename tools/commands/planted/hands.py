@@ -27,7 +27,7 @@ PLANTED = (
         ),
         (SETUP, "os.path.isdir(DPKG) or os.path.isdir(RPM)", "os.path.isdir(DPKG)"),
         (SETUP, "    if given.quiet:  # Also", "    if False:  # Also"),
-        (SETUP, "        if self.is_debian:\n            show_and_run", "        if True:\n            show_and_run"),
+        (SETUP, "        if self.is_debian:\n            run", "        if True:\n            run"),
     )
     + seen_by(
         "hands.try_failed_unit",

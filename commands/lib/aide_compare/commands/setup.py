@@ -1,12 +1,10 @@
-"""Makes a machine ready for a comparison each day: what is missing is made, step by step, and what is there stays.
-
-A step says what it is before it does anything. It looks again at what it needs, so the command can be run a second time, or
-after it was interrupted.
-"""
+"""Makes a machine ready for a comparison each day: what is missing is made, step by step, and what is there stays. Each step looks
+again at what it needs, so the command can be run a second time, or after it was interrupted."""
 import os
 import stat
 import subprocess
-from collections import namedtuple
+from contextlib import suppress
+from functools import partial
 
 from aide_compare.base.ending import Fault, Status, failing, tell
 from aide_compare.base.escapes import shown
@@ -22,12 +20,8 @@ DATABASES = ROOT + "/var/lib/aide"
 DEBIANS, OTHERS = ("aide.db", "aide.db.new"), ("aide.db.gz", "aide.db.new.gz")
 DPKG, RPM = ROOT + "/var/lib/dpkg/info", ROOT + "/var/lib/rpm"
 OWN, DAILY = ROOT + "/var/lib/aide-compare", "daily"
-DEFAULTS, WITHOUT, CRON = (
-    ROOT + "/etc/aide-compare/defaults",
-    ROOT + "/etc/aide-compare/without",
-    ROOT + "/etc/cron.daily/aide-compare",
-)
-SYSTEMD = ROOT + "/run/systemd/system"
+DEFAULTS, WITHOUT = ROOT + "/etc/aide-compare/defaults", ROOT + "/etc/aide-compare/without"
+CRON, SYSTEMD = ROOT + "/etc/cron.daily/aide-compare", ROOT + "/run/systemd/system"
 PATH, AIDES_USER = "/usr/local/sbin:/usr/local/bin:/usr/sbin:/usr/bin:/sbin:/bin", "_aide"
 # Where the package, packaging/install and the repository have the examples.
 SHIPPED = ("/../../../../../share/doc/aide-compare/examples/", "/../../../../contrib/")
@@ -51,7 +45,10 @@ def shipped(name):
 
 
 def run(words, seconds=SECONDS, output=None):
-    """Runs a program of the system, which writes where this command writes, or elsewhere. Its status has to be 0."""
+    """Runs a program of the system, whose status has to be 0. It is shown first, and writes where this command writes, unless
+    its output goes elsewhere."""
+    if output is None:
+        tell("    " + " ".join(words))
     more = {"PATH": PATH, "LC_ALL": "C.UTF-8", "HOME": "/root"}
     streams = {"stdin": subprocess.DEVNULL, "stdout": output, "stderr": output}
     try:
@@ -61,29 +58,6 @@ def run(words, seconds=SECONDS, output=None):
         raise Fault(Status.DEVICE, "%s took more than %d seconds" % (words[0], seconds))
     if done.returncode:
         raise Fault(Status.DEVICE, "%s ended with status %d" % (words[0], done.returncode))
-
-
-def is_there(path):
-    """Whether there is something by a path, asked when it matters."""
-    return lambda: os.path.lexists(path)
-
-
-def show_and_run(words, seconds=SECONDS):
-    tell("    " + " ".join(words))
-    run(words, seconds)
-
-
-def is_enabled(unit):
-    """Whether systemd has a unit; it says nothing of that itself."""
-    try:
-        run(["systemctl", "is-enabled", "--quiet", unit], 60, subprocess.DEVNULL)
-        return True
-    except Fault:
-        return False
-
-
-# A step: `what` it makes, whether that `is_done`, how to `make` it, and what comes `after` it each time.
-Step = namedtuple("Step", "what is_done make after", defaults=(None,))
 
 
 class Machine:
@@ -101,23 +75,23 @@ class Machine:
         self.is_debian = os.path.lexists(ROOT + CONFIGURATIONS[0])
         self.baseline, self.new = DEBIANS if self.is_debian else OTHERS
 
-    def defaults(self):
+    def make_defaults(self):
         to = "--to %s\n" % self.given.to if self.given.to else ""
-        return (TEXT + to + (ONLY_UNEXPLAINED if self.given.alarm == "unexplained" else "")).encode()
+        replace(DEFAULTS, (TEXT + to + ONLY_UNEXPLAINED * (self.given.alarm == "unexplained")).encode())
 
-    def owns(self, name):
-        """Whether the user owns a database, or there is none."""
+    def owns(self, path, missing=True):
+        """Whether what is by a path is the user's; `missing` if there is nothing."""
         try:
-            return os.lstat(os.path.join(DATABASES, name)).st_uid == self.user.pw_uid
+            return os.lstat(path).st_uid == self.user.pw_uid
         except FileNotFoundError:
-            return True
+            return missing
 
     def make_baseline(self):
         """Lets AIDE write the first database. What it writes elsewhere than on Debian gets the baseline's name."""
         if self.is_debian:
-            show_and_run(["aideinit", "-y"], INIT_SECONDS)
+            run(["aideinit", "-y"], INIT_SECONDS)
             return
-        show_and_run(["aide", "--init"], INIT_SECONDS)
+        run(["aide", "--init"], INIT_SECONDS)
         with open_folder(DATABASES) as folder:
             if not folder.is_safe():
                 raise Fault(Status.DEVICE, "other users can write in %s" % DATABASES)
@@ -137,84 +111,79 @@ class Machine:
                 raise Fault(Status.DEVICE, "%s/%s is not a database of AIDE" % (DATABASES, name))
             os.fchown(opened, self.user.pw_uid, self.user.pw_gid)
 
-    def has_folder(self):
-        try:
-            return os.stat(os.path.join(OWN, DAILY), follow_symlinks=False).st_uid == self.user.pw_uid
-        except FileNotFoundError:
-            return False
-
     def make_folder(self):
         with open_folder(OWN, make=True) as folder:
             if not folder.is_safe():
                 raise Fault(Status.DEVICE, "other users can write in %s" % OWN)
-            if not os.path.lexists(os.path.join(OWN, DAILY)):
+            with suppress(FileExistsError):
                 os.mkdir(DAILY, 0o755, dir_fd=folder.fd)
             flags = os.O_RDONLY | os.O_DIRECTORY | os.O_NOFOLLOW | os.O_CLOEXEC
             with closed_after(os.open(DAILY, flags, dir_fd=folder.fd)) as inner:
                 os.fchown(inner, self.user.pw_uid, self.user.pw_gid)
 
     def has_job(self):
-        return is_enabled("aide-compare.timer") if self.has_systemd else os.path.lexists(CRON)
+        """Whether there is one, of which systemd says nothing itself."""
+        if not self.has_systemd:
+            return os.path.lexists(CRON)
+        try:
+            run(["systemctl", "is-enabled", "--quiet", "aide-compare.timer"], 60, subprocess.DEVNULL)
+            return True
+        except Fault:
+            return False
 
     def make_job(self):
         if self.has_systemd:
-            show_and_run(["systemctl", "enable", "--now", "aide-compare.timer"])
+            run(["systemctl", "enable", "--now", "aide-compare.timer"])
         else:
             replace(CRON, shipped("cron/aide-compare.cron.daily"), 0o755)
 
     def send_test(self):
-        if self.given.no_mail:
+        if self.given.no_mail or self.given.dry_run or self.given.check:
             return
         tell("a test mail%s" % (" to " + shown(self.given.to) if self.given.to else ""))
         to = ["--to=" + self.given.to] if self.given.to else []
         try:
-            show_and_run(["aide-compare", "mail", "--test", "--user", self.user.pw_name] + to)
+            run(["aide-compare", "mail", "--test", "--user", self.user.pw_name] + to)
         except Fault:
             raise Fault(Status.DEVICE, "the test mail was not sent; install a mail system, or go on with --no-mail")
 
     def steps(self):
-        """The job and the first mail leave files of their own. So they come before the baseline, which then has these."""
-        base = os.path.join(DATABASES, self.baseline)
-        job = "the timer aide-compare.timer" if self.has_systemd else CRON
+        """Yields the steps: what each makes, whether it is done, and how it is made. The job and the first mail leave files of
+        their own. So they come before the baseline, which then has these."""
+        base, folder = os.path.join(DATABASES, self.baseline), os.path.join(OWN, DAILY)
+        exists = os.path.lexists
         if self.is_debian:
-            yield Step(
-                "paths that change every day: " + WITHOUT,
-                is_there(WITHOUT),
-                lambda: replace(WITHOUT, shipped("aide/debian.without")),
-            )
-        yield Step("options of each day: " + DEFAULTS, is_there(DEFAULTS), lambda: replace(DEFAULTS, self.defaults()))
-        yield Step("a directory of %s's: %s/%s" % (self.user.pw_name, OWN, DAILY), self.has_folder, self.make_folder)
-        yield Step(job, self.has_job, self.make_job, self.send_test)
-        yield Step("the baseline %s, which takes several minutes" % base, is_there(base), self.make_baseline)
+            what = "paths that change every day: " + WITHOUT
+            yield what, exists(WITHOUT), lambda: replace(WITHOUT, shipped("aide/debian.without"))
+        yield "options of each day: " + DEFAULTS, exists(DEFAULTS), self.make_defaults
+        what = "a directory of %s's: %s" % (self.user.pw_name, folder)
+        yield what, self.owns(folder, missing=False), self.make_folder
+        yield "the timer aide-compare.timer" if self.has_systemd else CRON, self.has_job(), self.make_job
+        self.send_test()
+        yield "the baseline %s, which takes several minutes" % base, exists(base), self.make_baseline
         for name in (self.baseline, self.new):
-            what = "%s is %s's" % (os.path.join(DATABASES, name), self.user.pw_name)
-            yield Step(what, lambda name=name: self.owns(name), lambda name=name: self.give(name))
+            path = os.path.join(DATABASES, name)
+            yield "%s is %s's" % (path, self.user.pw_name), self.owns(path), partial(self.give, name)
         if os.path.isdir(DPKG) or os.path.isdir(RPM):
-            records = ["aide-compare", "accept", "--only-packages", base]
-            kept = base + ".packages"
-            yield Step("records of the packages: " + kept, is_there(kept), lambda: show_and_run(records))
+            kept, words = base + ".packages", ["aide-compare", "accept", "--only-packages", base]
+            yield "records of the packages: " + kept, exists(kept), partial(run, words)
 
 
-def check(machine):
-    """Says what is missing, and changes nothing."""
-    missing = [step.what for step in machine.steps() if not step.is_done()]
-    for what in missing:
-        tell("missing: " + what)
-    tell("%d things are missing" % len(missing) if missing else "nothing is missing")
+def take_steps(machine, given):
+    """Makes what is missing, or only says what that is."""
+    missing = 0
+    for number, (what, is_done, make) in enumerate(machine.steps(), 1):
+        missing += not is_done
+        if not given.check:
+            tell("%d. %s%s" % (number, what, ": is there" if is_done else ""))
+        elif not is_done:
+            tell("missing: " + what)
+        if not (is_done or given.check or given.dry_run):
+            make()
+    if not given.check:
+        return Status.OK
+    tell("%d things are missing" % missing if missing else "nothing is missing")
     return Status.DEVICE if missing else Status.OK
-
-
-def make(machine):
-    for number, step in enumerate(machine.steps(), 1):
-        done = step.is_done()
-        tell("%d. %s%s" % (number, step.what, ": is there" if done else ""))
-        if machine.given.dry_run:
-            continue
-        if not done:
-            step.make()
-        if step.after:
-            step.after()
-    return Status.OK
 
 
 def main(arguments):
@@ -236,9 +205,6 @@ def main(arguments):
         os.dup2(os.open("/dev/null", os.O_WRONLY | os.O_CLOEXEC), 1)
     if not any(os.path.lexists(ROOT + path) for path in CONFIGURATIONS):
         raise Fault(Status.DEVICE, "AIDE is not installed here, or has no configuration; on Debian: apt install aide")
-    machine = Machine(given)
-    if given.check:
-        return check(machine)
-    if os.geteuid() != 0 and not given.dry_run:
+    if os.geteuid() != 0 and not (given.dry_run or given.check):
         raise Fault(Status.USAGE, "only root can set this up; --dry-run and --check are for everybody")
-    return make(machine)
+    return take_steps(Machine(given), given)
