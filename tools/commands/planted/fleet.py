@@ -20,9 +20,9 @@ PLANTED = (
         (LIB + "hosts/fetching.py", "shown(lines[-1], 200)", "lines[-1].decode('latin-1')"),
         (LIB + "hosts/fetching.py", "        place.not_compared(fault.text)\n", ""),
         (
-            LIB + "commands/hosts_compare.py",
-            "        if found and ended == 0:\n",
-            "        if not found:\n            return self.host, 0, True, ''\n        if ended == 0:\n",
+            LIB + "commands/hosts.py",
+            "        if answer and ended == 0:\n",
+            "        if not answer:\n            return self.host, 0, True, ''\n        if ended == 0:\n",
         ),
     )
     + seen_by(

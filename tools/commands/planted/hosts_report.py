@@ -137,7 +137,7 @@ PLANTED = (
     + seen_by(
         "hosts_quiet.try_reasons",
         (
-            LIB + "commands/hosts_compare.py",
+            LIB + "commands/hosts.py",
             'is_told = status and not (is_explained and given.alarm == "unexplained")',
             "is_told = status",
         ),

@@ -7,10 +7,10 @@ from aide_compare.base.escapes import shown
 
 # Each is a module of its name, of which only the one that is asked for is loaded.
 COMMANDS = ("compare", "json", "page", "reasons", "mail", "accept", "status", "sort", "setup", "version")
-# What is done for one host is in one module; each of the others is a module and its function.
+# Each is a module and its function.
 HOSTS = {
     "fetch": ("hosts", "fetch_one"),
-    "compare": ("hosts_compare", "main"),
+    "compare": ("hosts", "compare_many"),
     "accept": ("hosts", "accept_one"),
     "report": ("hosts_report", "main"),
 }

@@ -1,4 +1,5 @@
 """aide-compare hosts report: what differs on all hosts, each change once, as text, as JSON, as a page or as a mail."""
+import json
 import os
 import shlex
 
@@ -9,15 +10,16 @@ from aide_compare.base.folders import open_folder
 from aide_compare.base.line_sorter import LineSorter
 from aide_compare.base.options import ALARMS, Parser, duration, matching, pattern, some_text
 from aide_compare.base.program import find_front
-from aide_compare.commands.hosts_compare import hosts_of
 from aide_compare.commands.mail import add_sending
 from aide_compare.compare.outputs import Output
 from aide_compare.compare.state import AGE
 from aide_compare.hosts.fleet_store import STORE, share_of
 from aide_compare.hosts.host_changes import SameChanges, standing_of
-from aide_compare.hosts.hosts_read import CUT, UNREADABLE, differs, is_explained, read_host
+from aide_compare.hosts.hosts_read import CUT, UNREADABLE, differs, hosts_of, is_explained, read_host
+from aide_compare.hosts.hosts_text import headline, report_lines
 from aide_compare.lines.reader import ENCODE, bytes_of
 from aide_compare.show.added import written
+from aide_compare.show.told import severity_in_colour
 
 NAME = "aide-compare hosts report"
 FORMATS = ("text", "brief", "json", "page")
@@ -92,8 +94,6 @@ class HostsReport:
         }
 
     def changes(self):
-        import json
-
         self.body.seek(0)
         return map(json.loads, self.body)
 
@@ -106,9 +106,6 @@ class HostsReport:
 
     def text(self, choice="never", most=None):
         """Yields the lines of the text, with severities in colours: all of them, or those that come to so many bytes."""
-        from aide_compare.hosts.hosts_text import report_lines
-        from aide_compare.show.told import severity_in_colour
-
         for line in report_lines(self.summary, self.hosts, self.changes(), self.command, most):
             yield (severity_in_colour(line, choice) + "\n").encode("utf-8", "backslashreplace")
 
@@ -119,7 +116,6 @@ class HostsReport:
 
     def mail(self, given, is_alarm):
         """Sends one mail about all hosts, and none if there is nothing to say."""
-        from aide_compare.hosts.hosts_text import headline
         from aide_compare.mail.message import build, clean
         from aide_compare.mail.sending import alert, deliver, way_out
 

@@ -86,13 +86,10 @@ class Place:
         disk = os.fstatvfs(self.fd)
         return disk.f_bavail * disk.f_frsize // (2 * jobs + 2)
 
-    def write_state(self, state):
-        replace(self.state_path, state.text(), what="the state")
-
     def not_compared(self, text):
         """The state says at once that nothing was compared, so that no check shows an older result."""
         try:
-            self.write_state(State(int(Status.DEVICE), int(time.time()), error=text))
+            replace(self.state_path, State(int(Status.DEVICE), int(time.time()), error=text).text(), what="the state")
         except (Fault, OSError) as fault:
             say("%s: its state cannot be written: %s" % (self.host, fault))
 

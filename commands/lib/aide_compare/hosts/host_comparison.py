@@ -8,14 +8,14 @@ from argparse import Namespace
 from contextlib import closing
 
 from aide_compare.base.ending import Fault, Status, write_all, write_blocks
-from aide_compare.base.files import NewFile
+from aide_compare.base.files import NewFile, replace
 from aide_compare.base.options import duration
 from aide_compare.base.words import SIDES
 from aide_compare.compare.comparison import Comparison, Request
 from aide_compare.compare.exclusions import read_exclusions
 from aide_compare.compare.state import State
 from aide_compare.compare.unpack import copy_database
-from aide_compare.hosts.fetching import RECORDS as NEWEST
+from aide_compare.hosts.fetching import RECORDS
 from aide_compare.hosts.fleet_store import no_room
 from aide_compare.lines.reader import LINE_LIMIT
 from aide_compare.reasons.kept_records import SUFFIX
@@ -102,13 +102,13 @@ def is_cut(descriptor):
 def explain_host(place, given, comparison):
     """Finds out what explains the changes, and keeps their lines; whether it has. The packages' records are those that the host
     has sent, and never those of this machine. Without reasons every change is an alarm."""
-    missing = [text for name, text in ((BASELINES, "the baseline"), (NEWEST, "now")) if not place.has(name)]
+    missing = [text for name, text in ((BASELINES, "the baseline"), (RECORDS, "now")) if not place.has(name)]
     evidence = {"packages": None, "packages_now": None, **{name: getattr(given, name) for name in VALUES}}
     if missing:
         text = "no package explains a change: there are no packages' records of %s" % " and of ".join(missing)
         comparison.doubts.append(text)
     else:
-        evidence.update(packages=place.file(BASELINES), packages_now=place.file(NEWEST))
+        evidence.update(packages=place.file(BASELINES), packages_now=place.file(RECORDS))
     try:
         if not comparison.counts or sum(comparison.counts) > MOST_CHANGES:
             raise Fault(Status.DEVICE, "there are more than %d changes" % MOST_CHANGES)
@@ -178,7 +178,7 @@ def compare(place, given):
     signal.setitimer(signal.ITIMER_REAL, max(place.deadline - time.monotonic(), 0.001), 2)
     try:
         state = kept_state(place, given)
-        place.write_state(state)
+        replace(place.state_path, state.text(), what="the state")
         return state
     except (Fault, OSError) as error:
         fault = error if isinstance(error, Fault) else place.fault("cannot keep its lines: %s" % no_room(error))

@@ -1,22 +1,34 @@
-"""What the store knows of each host of a file: its state, and the changes in the lines that were kept of it. A host is an object as
-the report in JSON has it."""
+"""The hosts of a file, and what the store knows of each: its state, and the changes in the lines that were kept of it. A host is an
+object as the report in JSON has it."""
 import errno
 import fcntl
 import os
 
 from aide_compare.base.ending import Fault, Status, reason
 from aide_compare.base.escapes import shown
-from aide_compare.base.files import closed_after, open_regular
+from aide_compare.base.files import closed_after, open_regular, read_file, read_whole
 from aide_compare.base.words import KINDS, age_in_words, date_of
 from aide_compare.compare.state import read_state
-from aide_compare.hosts.fleet_store import Place, check_name
+from aide_compare.hosts.fleet_store import Place, check_name, share_of
 from aide_compare.hosts.host_comparison import is_cut
 from aide_compare.lines.reader import Refused, counts_in, reader_over
 
 MEMBERS = frozenset("kind path path_hex summary type old new severity reason".split())
+MOST_LIST = 16 << 20
 WHOLE, CUT, UNREADABLE = "whole", "cut", "unreadable"
 # What a disk says of a place that is damaged, and a file system of the network of a file that is gone there.
 DAMAGED = (errno.EIO, errno.EBADMSG, errno.EUCLEAN, errno.ESTALE)
+
+
+def hosts_of(path, share):
+    """The names in a file, each once, and of these the part that is asked for."""
+    what = "the file of hosts "
+    data = read_whole(0, MOST_LIST, what) if path == "-" else read_file(path, MOST_LIST, what)
+    lines = (line.strip() for line in data.decode("utf-8", "surrogateescape").split("\n"))
+    names = list(dict.fromkeys(line for line in lines if line and not line.startswith("#")))
+    if not names:
+        raise Fault(Status.DEVICE, "there is no host in the file %s" % shown(path))
+    return [name for name in names if share_of(name, share[1]) == share[0]]
 
 
 def host_of(name, status, error, state=None):
