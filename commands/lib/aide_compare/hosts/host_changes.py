@@ -14,7 +14,7 @@ from aide_compare.lines.attributes import FORMS
 from aide_compare.lines.reader import ENCODE, bytes_of
 
 OWN = frozenset(["Bcount", "Atime", "Mtime", "Ctime", "Inode", "Linkcount"])
-MOST_SEEN = 100000
+MOST_SEEN, EXPLAINED = 100000, 2
 
 
 def digest_of(values):
@@ -35,12 +35,8 @@ def standing_of(fields):
     """How much somebody has to look at a change: what nothing explains, what is not verified, what is explained; and within
     these the severe ones first. The same for all changes without reasons."""
     reason = fields.get("reason")
-    standing = 0 if reason is None else 1 if not reason["verified"] else 2
+    standing = 0 if reason is None else 1 if not reason["verified"] else EXPLAINED
     return standing, SEVERITIES.index(fields["severity"]) if "severity" in fields else 0
-
-
-def is_explained(fields):
-    return standing_of(fields)[0] == 2
 
 
 class SameChanges:

@@ -3,7 +3,7 @@ from collections import Counter
 
 from aide_compare.base.escapes import guarded, shown
 from aide_compare.base.words import KINDS, counted, most_frequent
-from aide_compare.hosts.host_changes import is_explained
+from aide_compare.hosts.host_changes import EXPLAINED, standing_of
 from aide_compare.hosts.hosts_read import CUT, UNREADABLE, differs
 from aide_compare.lines.reader import bytes_of, counts_in
 from aide_compare.show.changes import MOST_VALUE, values_in
@@ -87,8 +87,8 @@ def change_lines(fields, hosts):
     various, values = fields.get("old_various", ()), []
     for label, old, new in values_in(fields, various):
         old = "(various)" if label in various else old
-        one = {"added": new, "removed": old}.get(fields["kind"])
-        values.append("%s %s" % (label, one or "%s -> %s" % (old or "none", new or "none")))
+        both = "%s -> %s" % (old or "none", new or "none")
+        values.append("%s %s" % (label, {"added": new, "removed": old, "changed": both}[fields["kind"]]))
     line = ", ".join(values) or shown(fields.get("summary") or "", 18)
     own = "of each host: " + ", ".join(fields["per_host"]) if fields.get("per_host") else ""
     reason = ", ".join(filter(None, (fields.get("severity"), reason_words(fields))))
@@ -106,23 +106,12 @@ def listed(title, lines, most=None):
         yield ""
 
 
-def head_lines(summary, hosts, most):
-    """The lines before the changes: how many hosts there are of each kind, and which, of each list the first ones."""
-    yield "%s, %d without differences" % (headline(summary), summary["unchanged"])
-    yield ""
-    for title, lines in host_lists(hosts).items():
-        yield from listed(title, lines, most)
-    if summary["changes"]:
-        yield "%s, %s:" % (counted(summary["changes"], "different change"), ORDERS[summary["order"]])
-        yield ""
-
-
 def all_change_lines(changes, hosts, share):
     """The lines of the changes that a Share takes. Those that are explained for certain have no lines of their own: a line
     says of each reason how many there are."""
     explained = Counter()
     for fields in changes:
-        if is_explained(fields):
+        if standing_of(fields)[0] == EXPLAINED:
             text = fields["reason"]["text"]
             explained[text if text in explained or len(explained) < MOST_REASONS else "other reasons"] += 1
             continue
@@ -136,10 +125,15 @@ def all_change_lines(changes, hosts, share):
 
 
 def report_lines(summary, hosts, changes, command, room=None):
-    """Yields the lines of the text: all of them, or those that come to so many bytes, and then the command that prints all."""
-    head = list(head_lines(summary, hosts, room and max(room // 2000, 10)))
-    share = Share(room - size_of(head) if room else 1 << 62)
+    """Yields the lines of the text: all of them, or those that come to so many bytes, and then the command that prints all. Of
+    each list of hosts such a text has the first ones."""
+    head = ["%s, %d without differences" % (headline(summary), summary["unchanged"]), ""]
+    for title, lines in host_lists(hosts).items():
+        head += listed(title, lines, room and max(room // 2000, 10))
+    if summary["changes"]:
+        head += ["%s, %s:" % (counted(summary["changes"], "different change"), ORDERS[summary["order"]]), ""]
     yield from head
+    share = Share(room - size_of(head) if room else 1 << 62)
     yield from all_change_lines(changes, summary["hosts"], share)
     if share.left_out:
         yield "%d more changes are left out. This command prints all:" % share.left_out
