@@ -7,8 +7,8 @@ PLANTED = (
         "fleet.try_endless",
         (
             LIB + "hosts/fetching.py",
-            "if self.size > self.most:",
-            "if self.size > 4 * self.most:",
+            "if os.fstat(part.fd).st_size + len(block) > most:",
+            "if os.fstat(part.fd).st_size > 4 * most:",
         ),
     )
     + seen_by(
@@ -28,7 +28,7 @@ PLANTED = (
     + seen_by(
         "fleet.try_ended", (LIB + "base/processes.py", "    ctypes.CDLL(None).prctl(PR_SET_PDEATHSIG, signal.SIGKILL)\n", "")
     )
-    + seen_by("fleet.try_slow", (LIB + "hosts/fetching.py", "}, self.place.deadline):\n", "}):\n"))
+    + seen_by("fleet.try_slow", (LIB + "hosts/fetching.py", ", deadline=place.deadline)", ")"))
     + seen_by(
         "fleet.try_hostile",
         (

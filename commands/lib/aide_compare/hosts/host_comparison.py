@@ -10,7 +10,6 @@ from contextlib import closing
 from aide_compare.base.ending import Fault, Status, write_all, write_blocks
 from aide_compare.base.files import NewFile, replace
 from aide_compare.base.options import duration
-from aide_compare.base.words import SIDES
 from aide_compare.compare.comparison import Comparison, Request
 from aide_compare.compare.exclusions import read_exclusions
 from aide_compare.compare.state import State
