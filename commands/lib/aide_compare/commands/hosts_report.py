@@ -6,14 +6,13 @@ import shlex
 from aide_compare.base import progress
 from aide_compare.base.ending import Fault, Status, write_blocks
 from aide_compare.base.files import Spool
-from aide_compare.base.folders import open_folder
 from aide_compare.base.line_sorter import LineSorter
 from aide_compare.base.options import ALARMS, Parser, duration, matching, pattern, some_text
 from aide_compare.base.program import find_front
 from aide_compare.commands.mail import add_sending
 from aide_compare.compare.outputs import Output
 from aide_compare.compare.state import AGE
-from aide_compare.hosts.fleet_store import STORE, share_of
+from aide_compare.hosts.fleet_store import SECONDS, STORE, share_of
 from aide_compare.hosts.host_changes import SameChanges, standing_of
 from aide_compare.hosts.hosts_read import CUT, UNREADABLE, differs, hosts_of, is_explained, read_host
 from aide_compare.hosts.hosts_text import headline, report_lines
@@ -21,11 +20,8 @@ from aide_compare.lines.reader import ENCODE, bytes_of
 from aide_compare.show.added import written
 from aide_compare.show.told import severity_in_colour
 
-NAME = "aide-compare hosts report"
-FORMATS = ("text", "brief", "json", "page")
-FORMAT = 2
-BLOCK = 1 << 18
-GREATEST = 10**12
+NAME, FORMAT = "aide-compare hosts report", 2
+BLOCK, GREATEST = 1 << 18, 10**12
 LEAST_MAIL, BRIEF = 16 << 10, 4 << 10
 
 
@@ -139,30 +135,24 @@ def options():
         "differences and each host was compared, more if a host was not. 15, 18 or 22 if it cannot do\n"
         "its work.",
     )
-    add = parser.add_argument
-    add(
-        "--store",
-        type=some_text,
-        action="append",
-        metavar="DIR",
-        help="where the reports are kept (%s); given N times: the Kth one is that of --share K/N" % STORE,
-    )
+    stores = "where the reports are kept (%s); given N times: the Kth one is that of --share K/N" % STORE
+    parser.value("store", "DIR", some_text, stores, action="append")
     orders = "changes by path (as JSON), on the fewest hosts first (as text), or on the most"
-    add("--order", choices=("path", "rare", "common"), help=orders)
-    paths = {"metavar": "PATTERN", "type": pattern, "action": "append", "default": []}
-    add("--only-path", help="only changes of these paths, as in /usr/local/**", **paths)
+    parser.add_argument("--order", choices=("path", "rare", "common"), help=orders)
+    paths = "only changes of these paths, as in /usr/local/**"
+    parser.value("only-path", "PATTERN", pattern, paths, action="append", default=[])
     count = matching("[1-9][0-9]{0,4}|100000", "a number from 1 to 100000", int)
-    add("--max-hosts", type=count, default=20, metavar="N", help="how many hosts of a change are named (20)")
+    parser.value("max-hosts", "N", count, "how many hosts of a change are named (20)", default=20)
     parser.take("max-age", default=AGE, help="a host that was compared longer ago counts as not compared (26h; 0: no limit)")
-    add("--time", type=duration, default=600, metavar="TIME", help="how long to wait for a run over a host (10m)")
+    parser.value("time", "TIME", duration, "how long to wait for a run over a host (10m)", default=SECONDS)
     form = parser.add_mutually_exclusive_group()
     what = "text (the default), brief: its beginning, json: one object a line, or page: for a browser"
-    form.add_argument("--format", choices=FORMATS, help=what)
+    form.add_argument("--format", choices=("text", "brief", "json", "page"), help=what)
     form.add_argument("--brief", action="store_const", const="brief", dest="format", help="--format brief")
     add_sending(parser, form, help="mail the text, if a host differs or was not compared")
     parser.take("alarm", help="with --to or --quiet: unexplained: not if all changes are explained")
     parser.take("json", "page")
-    add("file", metavar="HOSTS-FILE", help="a name a line; - is standard input")
+    parser.add_argument("file", metavar="HOSTS-FILE", help="a name a line; - is standard input")
     return parser
 
 
@@ -171,10 +161,7 @@ def main(arguments):
     given.order = given.order or ("path" if given.format == "json" else "rare")
     if given.max_mail < LEAST_MAIL:
         raise Fault(Status.USAGE, "--max-mail needs at least %d bytes" % LEAST_MAIL)
-    names = hosts_of(given.file, (1, 1))
-    given.store = given.store or [STORE]
-    if len(given.store) == 1:
-        open_folder(given.store[0]).close()
+    names, given.store = hosts_of(given.file), given.store or [STORE]
     outputs = {name: Output(path, "the " + name) for name, path in (("json", given.json), ("page", given.page)) if path}
     on_stdout = [output for output in outputs.values() if output.fd == 1]
     if len(on_stdout) + (given.format is not None) > 1:

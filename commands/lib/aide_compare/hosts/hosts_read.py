@@ -20,7 +20,7 @@ WHOLE, CUT, UNREADABLE = "whole", "cut", "unreadable"
 DAMAGED = (errno.EIO, errno.EBADMSG, errno.EUCLEAN, errno.ESTALE)
 
 
-def hosts_of(path, share):
+def hosts_of(path, share=(1, 1)):
     """The names in a file, each once, and of these the part that is asked for."""
     what = "the file of hosts "
     data = read_whole(0, MOST_LIST, what) if path == "-" else read_file(path, MOST_LIST, what)
