@@ -128,7 +128,7 @@ PLANTED = (
             "standing = 1 if reason is None else 0",
         ),
     )
-    + seen_by("hosts_quiet.try_idle", (LIB + "hosts/host_comparison.py", "            exclusions=exclusions_of(given),\n", ""))
+    + seen_by("hosts_quiet.try_idle", (LIB + "hosts/host_comparison.py", "            exclusions=given.exclusions,\n", ""))
     + seen_by(
         "hosts_quiet.try_records",
         (LIB + "hosts/fetching.py", "    place.remove(RECORDS)", "    pass"),

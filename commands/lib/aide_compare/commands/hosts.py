@@ -15,11 +15,12 @@ from aide_compare.base.processes import end_with
 from aide_compare.base.words import date_of
 from aide_compare.commands import accept
 from aide_compare.compare.comparison import refuse_unsound
+from aide_compare.compare.exclusions import read_exclusions
 from aide_compare.compare.state import read_state
 from aide_compare.compare.unpack import copy_database, database_digest, open_database
 from aide_compare.hosts.fetching import RECORDS, add_fetching, fetch
 from aide_compare.hosts.fleet_store import Place, add_place, no_room
-from aide_compare.hosts.host_comparison import BASELINES, MISSING, MOST_BASELINE, add_comparison, compare, exclusions_of
+from aide_compare.hosts.host_comparison import BASELINES, MISSING, MOST_BASELINE, VALUES, add_comparison, compare
 from aide_compare.hosts.hosts_read import differs, hosts_of, read_host
 from aide_compare.hosts.hosts_text import WHY, not_listed
 from aide_compare.reasons.kept_records import mark_of
@@ -184,7 +185,10 @@ def compare_parser():
 
 def compare_many(arguments):
     given = compare_parser().parse(arguments)
-    exclusions_of(given)
+    unused = [name for name in VALUES if getattr(given, name) and not given.reasons]
+    if unused:
+        raise Fault(Status.USAGE, "--%s needs --reasons" % unused[0])
+    given.exclusions = read_exclusions(given.exclude_from, given.exclude)
     hosts = [given.file] if given.one else hosts_of(given.file, given.share)
     status = compare_all(hosts, given)
     if given.one and status <= 7 and not given.quiet:

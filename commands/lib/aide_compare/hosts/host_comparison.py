@@ -11,7 +11,6 @@ from aide_compare.base.ending import Fault, Status, write_all, write_blocks
 from aide_compare.base.files import NewFile, replace
 from aide_compare.base.options import duration
 from aide_compare.compare.comparison import Comparison, Request
-from aide_compare.compare.exclusions import read_exclusions
 from aide_compare.compare.state import State
 from aide_compare.compare.unpack import copy_database
 from aide_compare.hosts.fetching import RECORDS
@@ -49,14 +48,6 @@ def add_comparison(parser):
     take("exclude-from", "exclude", "reasons", *VALUES)
 
 
-def exclusions_of(given):
-    """The Exclusions of what is left out, or None. A Fault for options that mean nothing without --reasons."""
-    unused = [name for name in VALUES if getattr(given, name) and not given.reasons]
-    if unused:
-        raise Fault(Status.USAGE, "--%s needs --reasons" % unused[0])
-    return read_exclusions(given.exclude_from, given.exclude)
-
-
 def compared(place, given, part):
     """The Comparison, with its lines in the part: cut, if they are longer than this host may have. Without --max-size, the new
     database may have four times the bytes of the old."""
@@ -70,7 +61,7 @@ def compared(place, given, part):
             before=given.before,
             after=given.after,
             copies={"old": old, "new": new},
-            exclusions=exclusions_of(given),
+            exclusions=given.exclusions,
             target=part.fd,
             max_report=min(MOST_LINES if given.reasons else given.max_report, place.room(given.jobs)),
         )
