@@ -96,6 +96,7 @@ def _live(work, seconds, writing, keep):
     if its parent was killed, and no process waits for it any more."""
     try:
         signal.signal(signal.SIGPIPE, signal.SIG_IGN)
+        end_with(os.getppid())  # Which the kernel forgets if the work takes other rights.
         signal.signal(signal.SIGALRM, signal.SIG_DFL)
         signal.setitimer(signal.ITIMER_REAL, seconds + 5)
         _close_all_but(set(keep) | {writing})
