@@ -81,6 +81,7 @@ PLANTED = (
         "cut_lines.try_cut_stream",
         (LIB + "hosts/hosts_read.py", "if counts_in(reader.summary) != counts_in(host):", "if False:"),
         (LIB + "hosts/hosts_read.py", "    except (Fault, Refused):\n", "    except Fault:\n"),
+        (LIB + "commands/hosts.py", "given.one and status <= 7 and not given.quiet:", "given.one and status <= 7:"),
     )
     + seen_by(
         "hosts_report.try_not_compared",

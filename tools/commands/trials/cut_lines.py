@@ -67,3 +67,5 @@ def try_cut_stream(sandbox):
     status, output, errors = hosts.call("aide-compare hosts compare", "--max-report", "20k", "--one", "long")
     good = status == 3 and words in errors and "/n0009\n" in output
     sandbox.holds("a single host says so", good, (status, output[-300:], errors))
+    status, output, errors = hosts.call("aide-compare hosts compare", "--quiet", "--one", "long")
+    sandbox.holds("with --quiet only its line", status == 3 and output.count("\n") == 2 and not errors, (output, errors))
