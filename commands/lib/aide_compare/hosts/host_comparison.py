@@ -67,7 +67,7 @@ def compared(place, given, part):
         )
     ).run()
     if comparison.fault:
-        raise place.fault(comparison.fault.text, comparison.fault.status)
+        raise comparison.fault
     return comparison
 
 
@@ -136,7 +136,7 @@ def kept_state(place, given):
     """Compares, keeps lines and errors, and returns the State."""
     for name, text in MISSING.items():
         if not place.has(name):
-            raise place.fault(text)
+            raise Fault(Status.DEVICE, text)
     with closing(NewFile(place.fd)) as part:
         comparison = compared(place, given, part)
         place.remove("lines")
@@ -161,7 +161,7 @@ def compare(place, given):
     program ends with this process."""
 
     def over(*_):
-        raise place.fault("was not compared within %d seconds" % given.time)
+        raise Fault(Status.DEVICE, "was not compared within %d seconds" % given.time)
 
     signal.signal(signal.SIGALRM, over)
     # Again after some seconds: Python drops an exception that comes while it takes an object away.
@@ -170,9 +170,11 @@ def compare(place, given):
         state = kept_state(place, given)
         replace(place.state_path, state.text(), what="the state")
         return state
-    except (Fault, OSError) as error:
-        fault = error if isinstance(error, Fault) else place.fault("cannot keep its lines: %s" % no_room(error))
-        place.not_compared(fault.text)
-        raise fault
+    except OSError as error:
+        fault = place.fault("cannot keep its lines: %s" % no_room(error))
+    except Fault as error:
+        fault = place.fault(error.text, error.status)
     finally:
         signal.setitimer(signal.ITIMER_REAL, 0)
+    place.not_compared(fault.text)
+    raise fault
