@@ -314,6 +314,11 @@ def compare_host(sandbox):
         os.environ["DIGEST"] = re.search("^new_sha256=(.*)$", file.read(), re.M).group(1)
 
 
+def has_changes_of_host(sandbox, done):
+    good = done[1].startswith("www 7 added 1, removed 1, changed 2\n1 hosts: ") and "\nchanged File: " in done[1]
+    sandbox.holds("the changes of one host, and how to accept them", good and "accept --sha256 " in done[2], done)
+
+
 def is_mailed_for_hosts(sandbox, done):
     mail = taken(sandbox.trial, "mailed") or ""
     good = "To: root\nSubject: aide on 1 hosts: 1 differ, 0 not compared\n" in mail and "\n    on www\n" in mail

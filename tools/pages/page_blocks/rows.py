@@ -254,6 +254,13 @@ ROWS = [
     Commands(HOSTS, "A new host:", [0], expectations.is_first_of_host),
     Commands(
         HOSTS,
+        "One host, with its changes:",
+        [7],
+        expectations.has_changes_of_host,
+        prepare=expectations.put_baseline,
+    ),
+    Commands(
+        HOSTS,
         "The database of a report that was read becomes the baseline:",
         [0],
         expectations.is_accepted_for_host,
