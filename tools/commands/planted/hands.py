@@ -2,7 +2,7 @@
 another user than root meets."""
 from .plant import seen_by
 
-DEFAULTS, HANDING, RUN, MAIL, CHECK, REASONS, FOLDERS, TRUSTED = (
+DEFAULTS, HANDING, RUN, MAIL, CHECK, FOLDERS, TRUSTED = (
     "commands/lib/aide_compare/%s.py" % name
     for name in (
         "base/options",
@@ -10,7 +10,6 @@ DEFAULTS, HANDING, RUN, MAIL, CHECK, REASONS, FOLDERS, TRUSTED = (
         "commands/compare",
         "commands/mail",
         "commands/status",
-        "commands/reasons",
         "base/folders",
         "base/files",
     )
@@ -48,7 +47,6 @@ PLANTED = (
         (DEFAULTS, " if name in options]", "]"),
         (DEFAULTS, '{OFF, "--help"', '{"--help"'),
     )
-    + seen_by("hands.try_defaults_of_reasons", (REASONS, "defaults_for(OPTIONS, arguments) + ", ""))
     + seen_by(
         "hands.try_faulty_defaults",
         (DEFAULTS, 'lines_of(path, "the defaults")] if path', "[]] if path"),

@@ -1,4 +1,4 @@
-"""Bugs of aide-compare reasons: each takes away one check of the evidence, so that something forged is believed."""
+"""Bugs of the search for reasons: each takes away one check of the evidence, so that something forged is believed."""
 from .plant import seen_by
 
 LIB = "commands/lib/aide_compare/reasons/"
@@ -231,7 +231,7 @@ PLANTED = (
         (EXPLAINER, "counts_by_reason(changes)", "counts_by_reason(changes[:0])"),
     )
     + seen_by(
-        "reasons_lines.try_damage",
+        "reasons_lines.try_interface",
         (EXPLAINER, 'if present != PRESENT[fields["kind"]]:', "if False:"),
     )
     + seen_by(

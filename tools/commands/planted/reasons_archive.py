@@ -1,4 +1,4 @@
-"""Bugs of aide-compare reasons with packages of a signed archive: each takes away one check, so that something forged is believed."""
+"""Bugs of the search for reasons with packages of a signed archive: each takes away one check, so that something forged is believed."""
 from .plant import seen_by
 from .reasons import ARCHIVE, INDEXES, PACKAGES, PACKED
 

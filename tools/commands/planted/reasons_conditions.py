@@ -1,4 +1,4 @@
-"""Bugs of aide-compare reasons: single conditions, columns and words of what dpkg's records and rules explain."""
+"""Bugs of the search for reasons: single conditions, columns and words of what dpkg's records and rules explain."""
 from .plant import seen_by
 from .reasons import DATABASES, ENTRIES, PACKAGES, TABLES
 

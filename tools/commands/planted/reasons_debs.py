@@ -1,4 +1,4 @@
-"""Bugs of aide-compare reasons: how packages and what they are packed in are read, and what then is no evidence."""
+"""Bugs of the search for reasons: how packages and what they are packed in are read, and what then is no evidence."""
 from .plant import seen_by
 from .reasons import ARCHIVE, INDEXES, PACKAGES, PACKED
 

@@ -1,4 +1,4 @@
-"""Bugs of aide-compare reasons: checks of what programs make of verified files, such as compiled Python and certificates."""
+"""Bugs of the search for reasons: checks of what programs make of verified files, such as compiled Python and certificates."""
 from .plant import seen_by
 from .reasons import CONTENT, DATABASES, ENTRIES, EXPLAINER, LIB, MADE
 

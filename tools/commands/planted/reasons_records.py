@@ -1,4 +1,4 @@
-"""Bugs of aide-compare reasons: which files of packages' records are kept and believed, and what bounds them."""
+"""Bugs of the search for reasons: which files of packages' records are kept and believed, and what bounds them."""
 from .plant import seen_by
 from .reasons import LIB, RECORDS
 

@@ -1,4 +1,4 @@
-"""Bugs of aide-compare reasons with records of rpm: each takes away one check, so that something forged is believed."""
+"""Bugs of the search for reasons with records of rpm: each takes away one check, so that something forged is believed."""
 from .plant import seen_by
 from .reasons import CONTENT, ENTRIES, LIB, RECORDS
 

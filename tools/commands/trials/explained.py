@@ -245,13 +245,11 @@ def try_forms(sandbox):
 
 
 def try_lines(sandbox):
-    """The lines are those of aide-compare json and aide-compare reasons, and the summary also says what was left out."""
+    """The lines are those of aide-compare json, and the summary also says what was left out."""
     prepare(sandbox)
     report = run(sandbox, "--json", "lines", "o.db", "n.db").output
     json_lines = sandbox.call("aide-compare json", "--full", "o.db", "n.db").output
-    reasons = sandbox.call(
-        "aide-compare reasons", "--databases", "o.db", "n.db", "--severity", "table", text=json_lines
-    ).output
+    reasons = sandbox.explain("--severity", "table", "o.db", "n.db").output
     sandbox.holds("the lines with reasons", sorted_members(read(sandbox, "lines")) == sorted_members(reasons) != [], reasons)
     answer = sandbox.call(TOOL, "--json", "lines", "o.db", "n.db")
     sandbox.expect("the lines alone", answer, 7, report, b"SHA-256")

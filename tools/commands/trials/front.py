@@ -7,7 +7,7 @@ import subprocess
 from .sandbox import DIFFER, NEW, OLD, sha256
 
 TOOL = "aide-compare"
-SUBCOMMANDS = "compare json page reasons mail accept status sort setup version".split()
+SUBCOMMANDS = "compare json page mail accept status sort setup version".split()
 HOSTS = "fetch compare accept report".split()
 LINES_PROGRAM = b"program of lines: "
 # A program in place of the proved one: it tells its arguments, and which signals it ignores.

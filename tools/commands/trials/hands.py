@@ -17,7 +17,6 @@ def try_hands(sandbox):
     for trial in (
         try_failed_unit,
         try_defaults,
-        try_defaults_of_reasons,
         try_faulty_defaults,
         try_bad_lines,
         try_owner,
@@ -126,19 +125,6 @@ def try_defaults(sandbox):
     answer = sandbox.call(TOOL, "--exclude-from", "own", "o.db", "n.db")
     good = b"by /srv/* (own, line 1)" in answer.errors and b"/etc/*" not in answer.errors
     sandbox.holds("another file in place of the usual one", good, answer)
-
-
-def try_defaults_of_reasons(sandbox):
-    """The command that explains lines takes the table of the defaults too."""
-    prepare(sandbox, "--reasons\n--weekly Mon\n")
-    lines = sandbox.call("aide-compare json", "o.db", "n.db").output
-    found = {}
-    for words in ((), ("--no-defaults",), ("--no-defaults", "--severity", "table")):
-        answer = sandbox.call("aide-compare reasons", *words, "--databases", "o.db", "n.db", text=lines)
-        sandbox.holds("the reasons with %r" % (words,), answer.status == 0, answer)
-        found[words] = answer.output
-    table, none, named = found.values()
-    sandbox.holds("the table of the defaults", table == named and table != none, found)
 
 
 def long_lines():

@@ -1,4 +1,4 @@
-"""All trials of aide-compare reasons, in groups that run side by side."""
+"""All trials of reasons, in groups that run side by side."""
 from . import (
     forged,
     reasons_archive,
@@ -121,7 +121,6 @@ def try_reasons_archive(sandbox):
 def try_reasons_lines(sandbox):
     for trial in (
         reasons_lines.try_same,
-        reasons_lines.try_damage,
         reasons_lines.try_refused,
         reasons_lines.try_records,
         reasons_records.try_kept,

@@ -233,13 +233,14 @@ def try_forged(sandbox):
     os.replace(sandbox.path("linked/tool_2_amd64.deb"), sandbox.path("elsewhere.deb"))
     os.symlink("../elsewhere.deb", sandbox.path("linked/tool_2_amd64.deb"))
     expect(sandbox, "a link in place of the package", HINTED, "--archive", "linked", "--keyring", "archive.gpg")
-    for label, words, status in (
-        ("no packages", ("--archive", "archive"), 15),
-        ("no such folder", ("--archive", "none"), 18),
-        ("no keyring", ("--archive", "archive", "--keyring", "none.gpg"), 18),
+    for label, words, said in (
+        ("no packages", ("--archive", "archive"), b""),
+        ("no such folder", ("--archive", "none"), b"no package explains a change: "),
+        ("no keyring", ("--archive", "archive", "--keyring", "none.gpg"), b"no package explains a change: "),
     ):
         answer, _ = host_of().ask(sandbox, *words, records=label != "no packages")
-        sandbox.expect(label, answer, status, b"")
+        good = answer.status == 7 and b'"class":"package' not in answer.output and said in answer.errors
+        sandbox.holds(label, good and b'"kind"' in answer.output, answer)
 
 
 def _try_bounded(sandbox, packed):

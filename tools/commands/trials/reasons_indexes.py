@@ -24,7 +24,7 @@ from .reasons_archive import (
     tool,
     write_archive,
 )
-from .reasons_host import NAME, Host, lines_of
+from .reasons_host import Host
 
 GOOD = b"[GNUPG:] GOODSIG 1 x\n[GNUPG:] VALIDSIG 1\n"
 STUB = """while [ "$1" != --status-fd ]; do shift; done
@@ -78,23 +78,19 @@ def try_missing(sandbox):
     write_archive(sandbox)
     host = host_of()
     host.ask(sandbox)
-    given = (
-        "--databases",
-        "host-old.db",
-        "host-new.db",
-        "--packages",
-        "host-old.packages",
-        "--packages-now",
-        "host-new.packages",
-    )
-    for label, words, status, said in (
-        ("with an archive", given + WORDS, 18, b"there is no program gpgv, so the archive's indexes cannot be verified"),
-        ("with an empty archive", given + ("--archive", "empty", "--keyring", "archive.gpg"), 0, b""),
-        ("without an archive", given, 0, b""),
+    given = ("--packages", "host-old.packages", "--packages-now", "host-new.packages")
+    missing = b"are not explained: there is no program gpgv, so the archive's indexes cannot be verified"
+    for label, words, has_reasons in (
+        ("with an archive", given + WORDS, False),
+        ("with an empty archive", given + ("--archive", "empty", "--keyring", "archive.gpg"), True),
+        ("without an archive", given, True),
     ):
         environment = {"PATH": sandbox.path("empty")}
-        answer = sandbox.call(NAME, *words, text=lines_of(host.old, host.new), environment=environment)
-        sandbox.expect("no gpgv, " + label, answer, status, b"" if status else [b'"reason":'], [said] if said else b"")
+        answer = sandbox.explain(*words, "host-old.db", "host-new.db", environment=environment)
+        good = (b'"reason":' in answer.output) == has_reasons == (missing not in answer.errors) and answer.status in range(
+            1, 8
+        )
+        sandbox.holds("no gpgv, " + label, good, answer)
 
 
 def try_listed(sandbox):

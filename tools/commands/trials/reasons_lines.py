@@ -1,5 +1,4 @@
-"""aide-compare reasons and its lines: nothing else of them changes, what is no whole report is refused, and so are files that
-others can write."""
+"""The lines with reasons: nothing else of them changes. Evidence that others can write is not used."""
 import gzip
 import io
 import json
@@ -8,19 +7,16 @@ import random
 import sys
 import tarfile
 
-from .reasons_host import LOG, NAME, NO_COUNTS, Entry, Host, lines_of
-from .sandbox import HERE, NEW, OLD
+from .reasons_host import LOG, NO_COUNTS, Entry, Host
+from .sandbox import HERE, OLD
 
 OURS = ("severity", "reason", "reasons")
-GIVEN = ("--databases", "o.db", "n.db")
 
 
-def without_ours(line):
-    """A line as it was: the members of this command, which are the last ones, are cut off by their text."""
-    fields = json.loads(line)
-    added = {name: fields[name] for name in OURS if name in fields}
-    tail = json.dumps(added, separators=(",", ":")).encode()[1:]
-    return line[: -len(tail) - 2] + b"}\n" if added and line.endswith(b"," + tail + b"\n") else line
+def without_ours(lines):
+    """The objects of lines as they were: without the members of reasons, and without the time."""
+    objects = [json.loads(line, object_pairs_hook=list) for line in lines.splitlines()]
+    return [[pair for pair in pairs if pair[0] not in OURS + ("@timestamp",)] for pairs in objects]
 
 
 def random_database(numbers, paths):
@@ -52,13 +48,13 @@ def try_same(sandbox):
         }
         for name in ("o.db", "n.db"):
             sandbox.write(name, random_database(numbers, paths))
-        before = sandbox.call("aide-compare json", *(["--no-text"] if number % 3 else ["--full"]), "o.db", "n.db")
+        before = sandbox.call("aide-compare", "--json", "-", "o.db", "n.db")
         sandbox.write("rules", b"size,perm /a* any\nadded,removed,size /** text \xff\n")
-        answer = sandbox.call(NAME, *GIVEN, *(("--rules", "rules") if number % 2 else ()), text=before.output)
-        lines = answer.output.splitlines(True)
-        objects = [json.loads(line) for line in lines]
-        sandbox.holds("random changes %d" % number, before.status in range(1, 8) and answer.status == 0, (before, answer))
-        same = b"".join(without_ours(line) for line in lines) == before.output
+        answer = sandbox.explain(*(("--rules", "rules") if number % 2 else ()), "o.db", "n.db")
+        objects = [json.loads(line) for line in answer.output.splitlines()]
+        good = before.status in range(1, 8) and answer.status == before.status
+        sandbox.holds("random changes %d" % number, good, (before, answer))
+        same = without_ours(answer.output) == without_ours(before.output)
         sandbox.holds("its lines are the same", same and len(objects) > 10, (before.output[:300], answer.output[:300]))
         counts = counts_of(objects)
         sandbox.holds(
@@ -66,12 +62,12 @@ def try_same(sandbox):
             objects[0]["reasons"] == counts and counts["not_verified"] == sum("reason" in fields for fields in objects[1:]),
             (objects[0], counts),
         )
-    answer = sandbox.call(NAME, *GIVEN, text=before.output.replace(b'"kind":"', b'"kind": "'))
-    same = b"".join(map(without_ours, answer.output.splitlines(True))) == before.output.replace(b'"kind":"', b'"kind": "')
-    sandbox.holds("lines with other blanks", same and answer.status == 0, answer)
+    given = before.output.replace(b'"kind":"', b'"kind": "')
+    answer = sandbox.call("aide-compare json", "--no-text", "--with", "site=x", text=given)
+    lines = [line.replace(b',"site":"x"}', b"}") for line in answer.output.splitlines(True)]
+    sandbox.holds("lines with other blanks", lines[1:] == given.splitlines(True)[1:] and answer.status == 0, answer)
     sandbox.write("same.db", OLD)
-    empty = sandbox.call("aide-compare json", "same.db", "same.db")
-    answer = sandbox.call(NAME, "--databases", "same.db", "same.db", text=empty.output)
+    answer = sandbox.explain("same.db", "same.db")
     sandbox.expect("no difference", answer, 0, [b'"reasons":{"explained":0,"not_verified":0,"unexplained":0,"high":0,'])
 
 
@@ -85,58 +81,6 @@ def counts_of(objects):
             counts[kind] += 1
             counts["explained_" + reason["grade"] if kind == "explained" else fields["severity"]] += 1
     return counts
-
-
-def try_damage(sandbox):
-    """Lines that are not whole, or are not of these databases, are refused, and nothing is written."""
-    sandbox.write("o.db", OLD)
-    sandbox.write("n.db", NEW)
-    lines = sandbox.call("aide-compare json", "o.db", "n.db").output
-    parts = lines.splitlines(True)
-    sandbox.expect("whole lines", sandbox.call(NAME, *GIVEN, text=lines), 0, [b'"severity":"medium"'])
-    cases = {
-        "cut": lines[:-1],
-        "an entry too few": b"".join(parts[:1] + parts[2:]),
-        "two entries in another order": b"".join(parts[:1] + parts[2:3] + parts[1:2] + parts[3:]),
-        "no summary": b"".join(parts[1:]),
-        "nothing": b"",
-        "no JSON": b"x\n" + lines,
-        "an array": b"[]\n" + lines,
-        "a list after the end": lines + parts[1],
-        "an unknown kind": lines.replace(b'"added",', b'"odd",'),
-        "a path without a slash": lines.replace(b'"/a"', b'"a"'),
-        "no path": lines.replace(b'"path":"/a"', b'"pat":"/a"'),
-        "a severity already": sandbox.call(NAME, *GIVEN, text=lines).output,
-        "the last change after the end": b"".join(parts[:-2] + parts[-1:] + parts[-2:-1]),
-        "no end": b"".join(parts[:-1]),
-        "another status at the end": lines.replace(b'"status":7}', b'"status":6}'),
-    }
-    for label, text in cases.items():
-        sandbox.expect(label, sandbox.call(NAME, *GIVEN, text=text), 65, b"", [b"line " if text else b"nothing was given"])
-    for label, words in (
-        ("databases of another report", ("--databases", "n.db", "n.db")),
-        ("swapped", ("--databases", "n.db", "o.db")),
-    ):
-        sandbox.expect(label, sandbox.call(NAME, *words, text=lines), 24, b"", [b"not those of the lines"])
-    for label, text in (
-        ("another kind", lines.replace(b'"kind":"added","path":"/a"', b'"kind":"changed","path":"/a"')),
-        ("another kind, by a member of old", lines.replace(b'"kind":"added",', b'"kind":"changed","uncertain":1,', 1)),
-        ("another path", lines.replace(b'"path":"/a"', b'"path":"/aa"')),
-    ):
-        sandbox.expect(label, sandbox.call(NAME, *GIVEN, text=text), 24, b"", [b"not those of the lines"])
-    sandbox.write("short.db", NEW.replace(b"/a 36 100644 5", b"/a 36 100644"))
-    sandbox.expect(
-        "a line that lacks a field", sandbox.call(NAME, "--databases", "o.db", "short.db", text=lines), 24, b"", [b"fields"]
-    )
-    for label, words, status in (
-        ("no databases", (), 15),
-        ("one database", ("--databases", "o.db"), 15),
-        ("a missing database", ("--databases", "o.db", "none"), 18),
-        ("too large", GIVEN + ("--max-size", "20"), 18),
-    ):
-        sandbox.expect(label, sandbox.call(NAME, *words, text=lines), status, b"")
-    sandbox.write("n.db.gz", gzip.compress(NEW))
-    sandbox.expect("a packed database", sandbox.call(NAME, "--databases", "o.db", "n.db.gz", text=lines), 0, [b'"severity"'])
 
 
 def try_refused(sandbox):
@@ -154,7 +98,7 @@ def try_refused(sandbox):
         "--severity": "severity",
     }
     words = [word for pair in options.items() for word in pair]
-    sandbox.expect("evidence of the caller", host.ask(sandbox, *words, records=False)[0], 0, [b'"reason"'])
+    sandbox.expect("evidence of the caller", host.ask(sandbox, *words, records=False)[0], 4, [b'"reason"'])
     for option, name in options.items():
         for label, mode, owner in (
             ("a group can write", 0o664, 0),
@@ -168,10 +112,13 @@ def try_refused(sandbox):
             os.chown(sandbox.path("theirs"), owner or os.getuid(), -1)
             changed = ["theirs" if word == name else word for word in words]
             os.rename(sandbox.path("kept"), sandbox.path(name))
-            answer = sandbox.call(
-                NAME, "--databases", "host-old.db", "host-new.db", *changed, text=lines_of(host.old, host.new)
-            )
-            sandbox.expect("%s, %s" % (option, label), answer, 18, b"", [b"other users can write"])
+            answer = sandbox.explain(*changed, "host-old.db", "host-new.db")
+            if option in ("--rules", "--severity"):
+                sandbox.expect("%s, %s" % (option, label), answer, 18, b"", [b"other users can write"])
+            else:
+                said = [b"aide-compare: no package explains a change: ", b"other users can write"]
+                sandbox.expect("%s, %s" % (option, label), answer, 4, [b'"kind"'], said)
+                sandbox.holds("%s, %s, no reason" % (option, label), b'"class":"package' not in answer.output, answer)
             os.remove(sandbox.path("theirs"))
     for label, text in (
         ("no archive", b"x" * 600),
@@ -181,9 +128,9 @@ def try_refused(sandbox):
     ):
         sandbox.write("damaged", text)
         answer, _ = host.ask(sandbox, "--packages", "damaged", "--packages-now", "host-new.packages", records=False)
-        sandbox.expect("records, " + label, answer, 18, b"", [b"damaged"])
+        sandbox.expect("records, " + label, answer, 4, [b'"kind"'], [b"no package explains a change: ", b"damaged"])
     answer, _ = host.ask(sandbox, "--packages-now", "host-new.packages", records=False)
-    sandbox.expect("records of now only", answer, 15, b"")
+    sandbox.holds("records of now only", answer.status == 4 and b'"class":"package' not in answer.output, answer)
 
 
 def large_member():
@@ -260,7 +207,7 @@ def try_records(sandbox):
 
 def try_interface(sandbox):
     """The module as the other commands use it: objects in, what each of them gets out."""
-    records, _ = modules()
+    _, fault = modules()
     from types import SimpleNamespace
     from aide_compare.compare.state import ReasonCounts as Counts
     from aide_compare.reasons.explainer import Explainer, evidence_of, members_of
@@ -278,6 +225,15 @@ def try_interface(sandbox):
             {"kind": "changed", "path": "/var/log/a"},
         ]
         found = [members_of(change) for change in explainer.judge(iter(given))]
+        for label, fields in (
+            ("another kind", {"kind": "changed", "path": "/b"}),
+            ("a path", {"kind": "added", "path": "/c"}),
+        ):
+            try:
+                found_of = Explainer(old.fileno(), new.fileno(), explainer.evidence).judge([fields])
+            except fault as refused:
+                found_of = refused.text if refused.status == 24 else refused
+            sandbox.holds("%s of another report" % label, "not those of the lines" in str(found_of), found_of)
     reason = {"class": "growing", "text": "grew, content not verified", "verified": False, "grade": "databases"}
     sandbox.holds("the members", found == [{"severity": "medium"}, {"severity": "low", "reason": reason}], found)
     sandbox.holds("the counts", explainer.counts == Counts(0, 1, 1, 0, 1, 1), explainer.counts)

@@ -115,7 +115,6 @@ def try_rotated(sandbox):
     case("renamed, without digests", MOVED, {"md5": "0", "sha256": "0"}, {"md5": "0", "sha256": "0"}, fresh)
     short = {"content": b"one", "sha256": "0"}
     case("renamed, with a digest of 128 bits", MOVED, short, short, fresh)
-    case("renamed, with digests that cannot be read", MOVED, {"md5": "!", "sha256": "!"}, {"md5": "!", "sha256": "!"}, fresh)
     case("renamed, and the old name is gone", MOVED_SAME, {"content": b"one"}, {"content": b"one"})
     case("renamed and grown", MOVED, {"content": b"one"}, {"content": b"one two", "mtime": LATER}, fresh)
     case("renamed and smaller", "-", {"content": b"one two"}, {"content": b"one", "mtime": LATER}, fresh, want_left="-")

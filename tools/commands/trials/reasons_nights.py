@@ -8,7 +8,7 @@ import json
 import os
 from urllib.parse import unquote_to_bytes
 
-from .reasons_host import COLUMNS, DPKG, NAME, Entry, in_short, packed
+from .reasons_host import COLUMNS, DPKG, Entry, in_short, packed
 from .sandbox import HERE
 
 FOLDER = os.path.join(HERE, "tools", "commands", "nights")
@@ -100,11 +100,8 @@ def explained(sandbox, name, parts):
         extra |= more
         sandbox.write("%s.db" % side, "@@begin_db\n@@db_spec %s\n%s@@end_db\n" % (" ".join(COLUMNS), text))
         sandbox.write("%s.packages" % side, packed(records))
-    lines = sandbox.call("aide-compare json", "old.db", "new.db").output
-    answer = sandbox.call(
-        NAME, "--databases", "old.db", "new.db", "--packages", "old.packages", "--packages-now", "new.packages", text=lines
-    )
-    sandbox.holds("%s is explained" % name, answer.status == 0, answer)
+    answer = sandbox.explain("--packages", "old.packages", "--packages-now", "new.packages", "old.db", "new.db")
+    sandbox.holds("%s is explained" % name, answer.status in range(1, 8), answer)
     return [json.loads(line) for line in answer.output.splitlines()], extra
 
 

@@ -57,7 +57,6 @@ def try_content(sandbox):
     case("the same content as before", BY_DPKG, b"/usr/bin/g", new=ONE, said=None)
     case("no digest in the databases", "-", b"/usr/bin/h", said=None, md5="0", sha256="0")
     case("no digest in the databases, the same size", "-", b"/usr/bin/k", new=ONE, said=None, md5="0", sha256="0")
-    case("no digest that can be read, the same size", "-", b"/usr/bin/l", new=ONE, said=None, md5="!", sha256="!")
     case("new, without a digest anywhere", "-", b"/usr/bin/i", old=None, said=None, md5="0", sha256="0")
     case("set-user-ID before and after", BY_DPKG, b"/usr/bin/j", mode=0o104755)
     case("everybody could write it before", BY_DPKG, b"/usr/bin/m", mode=0o100666)

@@ -6,7 +6,7 @@ import hashlib
 import json
 import os
 
-from .reasons_host import FILE_BITS, MORE_ACL, NAME, Entry, Host, base64_of, in_short, lines_of, packed
+from .reasons_host import FILE_BITS, MORE_ACL, Entry, Host, base64_of, in_short, packed
 
 BY_RPM, HINT = "package rpm!", "package rpm"
 ONE, TWO = b"one", b"two, of the upgraded package"
@@ -86,7 +86,7 @@ def put_rpm(sandbox, host, text, measured):
 
 def ask(sandbox, host, old, new, *words, measured=DATABASE):
     """What the command says of two nights with these records of rpm. Those of another program are kept ones."""
-    given = ("--databases", "rpm-old.db", "rpm-new.db", "--packages", "rpm-old.packages")
+    given = ("--packages", "rpm-old.packages")
     if isinstance(new, bytes) and measured != KEPT:
         put_rpm(sandbox, host, new, measured)
     else:
@@ -94,14 +94,14 @@ def ask(sandbox, host, old, new, *words, measured=DATABASE):
     for side, night, text in (("old", host.old, old), ("new", host.new, new)):
         sandbox.write("rpm-%s.db" % side, night.database())
         sandbox.write("rpm-%s.packages" % side, packed({"rpm": text}) if isinstance(text, bytes) else packed(text))
-    return sandbox.call(NAME, *given, *words, text=lines_of(host.old, host.new))
+    return sandbox.explain(*given, *words, "rpm-old.db", "rpm-new.db")
 
 
 def expect(sandbox, host, wanted, old, new, **more):
     """Checks the reasons of paths, as `Host.expect` does."""
     answer = ask(sandbox, host, old, new, **more)
-    sandbox.holds("reasons are given", answer.status == 0 and not sandbox.leftovers(), answer)
-    objects = [json.loads(text) for text in answer.output.splitlines()] if answer.status == 0 else []
+    sandbox.holds("reasons are given", answer.status <= 7 and not sandbox.leftovers(), answer)
+    objects = [json.loads(text) for text in answer.output.splitlines()]
     found = {each["path"].encode(): in_short(each.get("reason")) for each in objects if "kind" in each}
     for (label, path), want in wanted.items():
         got = found.get(path, "no change")

@@ -9,30 +9,31 @@ from .reasons_rpm import ONE, TWO, ask, line, package
 
 
 def try_damage(sandbox):
-    """Records that are damaged, cut, empty or of two kinds are refused."""
+    """Records that are damaged, cut, empty or of two kinds explain nothing."""
     host = Host()
     host.new.file(b"/usr/a", TWO, mode=0o100755)
     host.old.file(b"/usr/gone", ONE)
     old = package(b"tool", b"1-1", line(b"/usr/gone"))
     new = package(b"tool", b"2-1", line(b"/usr/a"))
     dpkgs = {"status": b"Package: a\nStatus: install ok installed\nArchitecture: all\nVersion: 2\n", "diversions": b""}
-    for label, before, now, words, status in (
-        ("none damaged", old, new, (), 0),
-        ("no packages now", old, b"", (), 18),
-        ("cut at the end", old, new[:-1], (), 18),
-        ("cut in a line", old, new[:-9], (), 18),
-        ("a line cut", old, new[:-9] + b"\n", (), 18),
-        ("a line more", old, new + b"x\n", (), 18),
-        ("no package first", old, b"x\n" + new, (), 18),
-        ("a package without a version", old, b"P\ttool\n" + new, (), 18),
-        ("the old ones damaged", b"x", new, (), 18),
-        ("dpkg's now", old, dpkgs, (), 15),
-        ("dpkg's before", dpkgs, new, (), 15),
-        ("neither", {"x": b""}, new, (), 18),
-        ("an archive of dpkg", old, new, ("--archive", "."), 15),
+    for label, before, now, words, is_good in (
+        ("none damaged", old, new, (), True),
+        ("no packages now", old, b"", (), False),
+        ("cut at the end", old, new[:-1], (), False),
+        ("cut in a line", old, new[:-9], (), False),
+        ("a line cut", old, new[:-9] + b"\n", (), False),
+        ("a line more", old, new + b"x\n", (), False),
+        ("no package first", old, b"x\n" + new, (), False),
+        ("a package without a version", old, b"P\ttool\n" + new, (), False),
+        ("the old ones damaged", b"x", new, (), False),
+        ("dpkg's now", old, dpkgs, (), False),
+        ("dpkg's before", dpkgs, new, (), False),
+        ("neither", {"x": b""}, new, (), False),
+        ("an archive of dpkg", old, new, ("--archive", "."), False),
     ):
         answer = ask(sandbox, host, before, now, *words)
-        good = answer.status == status and (status == 0 or not answer.output)
+        is_said = b" explains a change: " in answer.errors or b"the changes are not explained: " in answer.errors
+        good = answer.status == 3 and is_good == (b'"class":"package"' in answer.output) == (not is_said)
         sandbox.holds("records of rpm: " + label, good, answer)
 
 

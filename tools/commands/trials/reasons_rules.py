@@ -47,6 +47,8 @@ OTHERS = {
 }
 # If only one of these differs, equal digests explain the file without a rule.
 SAME_CONTENT, WITHOUT_DIGESTS = ("inode", "mtime", "ctime", "atime"), {"md5": "0", "sha256": "0"}
+# The attributes that no other trial asks for: the target of a link, and the time of access.
+ASKED = 1 << 1 | 1 << 6
 KINDS = (("a FIFO", 0o10644), ("a device", 0o20644), ("a disk", 0o60644), ("a socket", 0o140644), ("a folder", 0o40755))
 
 
@@ -59,7 +61,7 @@ def try_words(sandbox):
         rules.append("%s /srv/%s/* a text\n" % (word, word))
         for column, value in OTHERS.items():
             path = ("/srv/%s/%s" % (word, column)).encode()
-            more = {"atime": Entry.time(1000), **(WITHOUT_DIGESTS if column in SAME_CONTENT else {})}
+            more = {"atime": Entry.time(1000), "bits": ASKED, **(WITHOUT_DIGESTS if column in SAME_CONTENT else {})}
             host.old.file(path, b"one", **more)
             host.new.file(path, b"one", **{**more, column: value})
             wanted["a rule with %s" % word, path] = RULE if column in columns.split() else "-"

@@ -137,6 +137,10 @@ class Sandbox(Scratch):
             errors = (errors or b"") + b"\nit did not end\n"
         return Answer(output or b"", errors or b"", process.returncode)
 
+    def explain(self, *words, **more):
+        """What aide-compare answers that looks for reasons: its lines of JSON. The last words are the two databases."""
+        return self.call("aide-compare", "--reasons", "--json", "-", *words, **more)
+
     def leftovers(self):
         return os.listdir(self.room)
 

@@ -10,7 +10,7 @@ BASH = "share/bash-completion/completions/aide-compare"
 ZSH = "share/zsh/site-functions/_aide-compare"
 FISH = "share/fish/vendor_completions.d/aide-compare.fish"
 REPORT_OPTIONS = ["report_level"] + BOOL_OPTIONS + SET_OPTIONS
-SUBCOMMANDS = ["compare", "json", "page", "reasons", "mail", "accept", "status", "sort", "setup", "version"]
+SUBCOMMANDS = ["compare", "json", "page", "mail", "accept", "status", "sort", "setup", "version"]
 HOSTS = ["hosts " + word for word in ("fetch", "compare", "accept", "report")]
 
 # bash-completion reads the file inside of a function of its own.

@@ -146,8 +146,8 @@ ROWS = [
     ),
     Commands("man/aide-compare-page.1", "A page of the differences between two databases:", [7], expectations.has_page),
     Commands(
-        "man/aide-compare-reasons.1",
-        "The changes that nothing explains, on the host itself:",
+        RUN,
+        "The same changes for a program, on the host itself:",
         [0],
         expectations.prints_after_comparing("/a\n/b\n/c\n/d\n"),
         prepare=expectations.put_records,

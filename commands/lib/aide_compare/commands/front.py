@@ -6,7 +6,7 @@ from aide_compare.base.ending import Fault, Status, called, failing, write_all
 from aide_compare.base.escapes import shown
 
 # Each is a module of its name, of which only the one that is asked for is loaded.
-COMMANDS = ("compare", "json", "page", "reasons", "mail", "accept", "status", "sort", "setup", "version")
+COMMANDS = ("compare", "json", "page", "mail", "accept", "status", "sort", "setup", "version")
 # Each is a module and its function.
 HOSTS = {
     "fetch": ("hosts", "fetch_one"),
@@ -26,10 +26,10 @@ usage: aide-compare [compare] [OPTIONS] [OLD NEW]
 
   compare    compare two databases       json     a report as lines of JSON
   mail       compare, and send a mail    page     such lines as a page
-  status     the last result: for logs,  reasons  such lines with their reasons
-             Nagios and Prometheus       sort     put a database into path order
-  accept     make a database the         setup    make this machine ready
-             baseline                    version  the program, whether proved
+  status     the last result: for logs,  sort     put a database into path order
+             Nagios and Prometheus       setup    make this machine ready
+  accept     make a database the         version  the program, whether proved
+             baseline
   hosts      fetch, compare, accept and report: the same for many hosts
   help WORD  the options of a subcommand
 

@@ -106,8 +106,8 @@ class Explained:
             comparison.doubts.append("what packages explain is not verified: %s" % doubt)
 
     def lines(self):
-        """All lines, as aide-compare json --full and aide-compare reasons write them: the summary with the counts of the
-        reasons, and each change with its reason, if they were looked for."""
+        """All lines, as aide-compare json --full writes them: the summary with the counts of the reasons, and each change with
+        its reason, if they were looked for."""
         adding = Adding(reasons=self.counts._asdict(), members=map(members_of, self.changes)) if self.counts else Adding()
         return added_lines(reader_over(self.descriptor), self.comparison, adding)
 
