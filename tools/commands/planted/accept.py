@@ -11,19 +11,19 @@ ACCEPT, BASELINE, RIGHTS, OPEN, SOUND = (
         "compare/comparison",
     )
 )
-REPLACE = "        done.belongs = baseline.replace(source)\n"
+REPLACE = "        belongs = baseline.replace(source)\n"
 # The baseline is written by its name, so a link there is followed; or a new file takes its place in a folder that is
 # opened anew by its name.
 THROUGH_A_LINK = """        with open(baseline.path, "r+b") as file:
             file.write(os.pread(source, 1 << 20, 0))
-        done.belongs = os.stat(baseline.path).st_uid, os.stat(baseline.path).st_gid
+        belongs = os.stat(baseline.path).st_uid, os.stat(baseline.path).st_gid
 """
 FOLDER_BY_NAME = """        with open(baseline.path + ".new", "wb") as file:
             file.write(os.pread(source, 1 << 20, 0))
         if baseline.owner is not None:
             os.chown(baseline.path + ".new", baseline.owner, baseline.owner)
         os.rename(baseline.path + ".new", baseline.path)
-        done.belongs = baseline.owner, baseline.owner
+        belongs = baseline.owner, baseline.owner
 """
 EXCHANGE = """        if exchange(self.folder, self.part, self.name):
             self._check(self.part, self.former)
@@ -47,10 +47,10 @@ PLANTED = (
     )
     + seen_by(
         "accept.try_digests",
-        (ACCEPT, "done.is_replaced = done.former != done.sha256", "done.is_replaced = True"),
+        (ACCEPT, "    if former != sha256:\n        belonged", "    if True:\n        belonged"),
         (BASELINE, "if is_done and self._identity(name) not", "if False and name not"),
     )
-    + seen_by("accept.try_told", (ACCEPT, "state.old_sha256 != done.former", "False"))
+    + seen_by("accept.try_told", (ACCEPT, "done.sha256, state.old_sha256):", "done.sha256, done.former):"))
     + seen_by(
         "accept_kills.try_order",
         (BASELINE, "            os.fsync(new)\n", ""),

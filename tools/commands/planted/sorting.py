@@ -11,7 +11,7 @@ PLANTED = (
         (LIB + "base/paths.py", 're.compile(rb"[\\x00-\\x0a]")', 're.compile(rb"[\\x00-\\x01]")'),
         (
             LIB + "commands/sort.py",
-            "    yield from database.lines_after()\n",
+            '    yield from iter(lambda: database.file.read(BLOCK), b"")\n',
             '    yield b"@@end_db\\n"\n',
         ),
         (LIB + "commands/sort.py", "where = bisect_left(self.ends, place)", "where = len(self.ends)"),

@@ -5,6 +5,7 @@ import base64
 import gzip
 import os
 import re
+from collections import namedtuple
 from contextlib import suppress
 
 from aide_compare.base.ending import Fault, Status, say, tell, write_all
@@ -24,10 +25,7 @@ from aide_compare.show.explained import Sources, explain
 from aide_compare.show.told import told_of
 
 NAME = "aide-compare accept"
-DESCRIPTION = (
-    "Makes NEW the baseline, if the SHA-256 of its unpacked bytes is DIGEST. The former baseline is kept "
-    "as BASELINE.previous."
-)
+DESCRIPTION = "Makes NEW the baseline if its unpacked bytes have the SHA-256 DIGEST; the former one becomes BASELINE.previous."
 EPILOG = """\
 If another user can write in the directory of BASELINE, or in one above it, all changes there are made with the privileges of
 that user, and the new baseline belongs to him. A BASELINE that is a link is refused.
@@ -70,14 +68,10 @@ class Offered:
         return target
 
 
-class Accepted:
-    """What was done: `former` is the SHA-256 of the former baseline, "" if it cannot be read, None if there was none.
-    `belongs` are the user and the group of a baseline that was written, and `belonged` those of the former one. `sha256` is
-    that of the baseline now, and `open` counts what stays open in it."""
-
-    def __init__(self, new, former):
-        self.new, self.former, self.sha256, self.open = new, former, new.sha256, None
-        self.belongs, self.belonged, self.is_replaced, self.records = None, None, False, ""
+# What was done. `new`: the Offered; `former`: the SHA-256 of the former baseline, "" if it cannot be read, None if there was
+# none; `sha256`: that of the baseline now; `open`: the counts of what stays open in it; `owners`: the user and the group of the
+# former baseline and of one that was written; `records`: a line about the packages' records.
+Accepted = namedtuple("Accepted", "new former sha256 open owners records")
 
 
 def digest_of_former(baseline, most):
@@ -87,13 +81,6 @@ def digest_of_former(baseline, most):
     with closed_after(descriptor), suppress(Fault):
         return database_digest(Opened("old", baseline.path, descriptor), most)
     return ""
-
-
-def _own_copy(copy):
-    """The same bytes in a file of this user's: the program could not open that of another user."""
-    target = nameless()
-    copy_file(copy.fd, target)
-    return Copy(target, copy.name, copy.written)
 
 
 def _write_unexplained(given, path, copies, target):
@@ -110,9 +97,8 @@ def _write_unexplained(given, path, copies, target):
         raise Fault(Status.DEVICE, "refused, all would stay open: %s" % comparison.doubts[-1])
     for change in explained.changes:
         if not (change.reason and change.reason.verified):
-            write_all(target, key_of_path(change.path).hex().encode() + b"\n")
-    reasons = comparison.reasons
-    return ("%saide-compare: %s\n" % (told_of(comparison), reasons.said())).encode("utf-8", "replace")
+            write_all(target, key_of_path(change.path) + b"\n")
+    return ("%saide-compare: %s\n" % (told_of(comparison), comparison.reasons.said())).encode("utf-8", "replace")
 
 
 def _unexplained_keys(given, baseline, copies):
@@ -121,7 +107,10 @@ def _unexplained_keys(given, baseline, copies):
 
     def find():
         become(baseline.owner)
-        return _write_unexplained(given, baseline.path, [_own_copy(copy) for copy in copies], target)
+        own = [Copy(nameless(), copy.name, copy.written) for copy in copies]
+        for copy, other in zip(copies, own):  # The program could not open a file of another user.
+            copy_file(copy.fd, other.fd)
+        return _write_unexplained(given, baseline.path, own, target)
 
     if baseline.owner is None:
         told = _write_unexplained(given, baseline.path, copies, target)
@@ -130,7 +119,7 @@ def _unexplained_keys(given, baseline, copies):
     write_all(2, told)
     with open(target, "rb") as file:
         file.seek(0)
-        yield from (bytes.fromhex(line.decode()) for line in file)
+        yield from (line[:-1] for line in file)
 
 
 def _with_open_part(given, offered, baseline):
@@ -155,29 +144,23 @@ def accept(given, new, path):
     """Makes the database `new` the baseline as the options say. A database that they do not mean is a Fault of status 24."""
     offered = Offered(new, given.max_size)
     if not offered.sha256.startswith(given.sha256):
-        raise Fault(
-            Status.DATABASE,
-            "refused: %s is not the database that was reported" % shown(new),
-            "the SHA-256 that was given: %s" % given.sha256,
-            "the SHA-256 of the database: %s" % offered.sha256,
-        )
+        digests = "the SHA-256 that was given: %s" % given.sha256, "the SHA-256 of the database: %s" % offered.sha256
+        raise Fault(Status.DATABASE, "refused: %s is not the database that was reported" % shown(new), *digests)
     baseline = Baseline(path, "" if given.no_packages else SUFFIX)
     baseline.settle()
-    done, source = Accepted(offered, digest_of_former(baseline, given.max_size)), offered.fd
+    former, sha256, source, counts = digest_of_former(baseline, given.max_size), offered.sha256, offered.fd, None
     if given.keep_open or given.explained_only:
-        merged, done.open = _with_open_part(given, offered, baseline)
-        done.sha256, source = merged.sha256, offered.packed(merged)
+        merged, counts = _with_open_part(given, offered, baseline)
+        sha256, source = merged.sha256, offered.packed(merged)
     else:
         refuse_unsound(offered.copy)
-    records = None if given.no_packages else Records(baseline, done.sha256, done.new.sha256, new + SUFFIX)
-    done.is_replaced = done.former != done.sha256
-    if done.is_replaced:
-        found = baseline.former
-        done.belongs = baseline.replace(source)
-        done.belonged = found and (found.st_uid, found.st_gid)
-    if records and (done.is_replaced or not records.are_there()):
-        done.records = records.keep()
-    return done
+    records = None if given.no_packages else Records(baseline, sha256, offered.sha256, new + SUFFIX)
+    belonged = belongs = None
+    if former != sha256:
+        belonged = baseline.former and (baseline.former.st_uid, baseline.former.st_gid)
+        belongs = baseline.replace(source)
+    is_kept = not records or former == sha256 and records.are_there()
+    return Accepted(offered, former, sha256, counts, (belonged, belongs), "" if is_kept else records.keep())
 
 
 def keep_records_only(path, most):
@@ -198,7 +181,7 @@ def _counts(state, done):
         return "no counts are known: the last run compared another database"
     text = "compared %s: " % date_of(state.time)
     text += "added %d, removed %d, changed %d" % state.counts if state.counts else "no counts are known"
-    if done.is_replaced and done.former and state.old_sha256 != done.former:
+    if done.former not in (None, "", done.sha256, state.old_sha256):
         text += ", beside another baseline than this one"
     return text
 
@@ -214,8 +197,9 @@ def _names(user, group):
 
 def _told(done, path, new, counts):
     """The lines that say what was done."""
-    but = "" if done.open is None else ", but for what stays open"
-    yield "%s is the baseline %s%s: %s" % (shown(new), "now" if done.is_replaced else "already", but, shown(path))
+    but, (belonged, belongs) = "" if done.open is None else ", but for what stays open", done.owners
+    is_replaced = done.former != done.sha256
+    yield "%s is the baseline %s%s: %s" % (shown(new), "now" if is_replaced else "already", but, shown(path))
     written = done.new.copy.written
     yield "new: SHA-256 %s, written %s" % (done.new.sha256, "at an unknown time" if written is None else date_of(written))
     if done.open is not None:
@@ -224,37 +208,30 @@ def _told(done, path, new, counts):
     yield counts
     if done.records:
         yield done.records
-    if not done.is_replaced:
-        return
     if done.former is None:
         yield "former: none, this is the first baseline"
-    else:
+    elif is_replaced:
         yield "former: SHA-256 %s, kept as %s.previous" % (done.former or "unknown, it cannot be read", shown(path))
-    if done.belonged and done.belongs != done.belonged:
-        yield "it belongs to %s; the former one belongs to %s" % (_names(*done.belongs), _names(*done.belonged))
+    if belonged and belongs != belonged:
+        yield "it belongs to %s; the former one belongs to %s" % (_names(*belongs), _names(*belonged))
 
 
-def _parser():
+def _given(arguments):
+    """The options; a Fault if they do not go together."""
     made = Parser(NAME, DESCRIPTION, "do not tell what was done", epilog=EPILOG)
     digest = "the SHA-256 in the report or mail that was read: 16 to 64 hexadecimal digits, or all of it in base64"
     made.value("sha256", "DIGEST", digits_of, digest)
     made.take("state", help="tell the time and the counts of the comparison from this file (%s); it decides nothing" % DAILY)
     made.take("max-size", default=MOST_BYTES, help="refuse a database that has more bytes unpacked (1024G)")
     made.take("keep-open")
-    made.flag(
-        "explained-only", "only the changes with a verified reason, as aide-compare --reasons finds them; all others stay open"
-    )
+    only = "only the changes with a verified reason, as aide-compare --reasons finds them; all others stay open"
+    made.flag("explained-only", only)
     made.take(*EVIDENCE)
     made.flag("no-packages", "keep no records of dpkg: the database is that of another machine, or of another time")
     made.flag("only-packages", "accept nothing: keep dpkg's records beside BASELINE as it is, as after a first aideinit")
     files = "the new database, plain or compressed by gzip, and the file that it replaces; only BASELINE with --only-packages"
     made.add_argument("files", metavar="NEW BASELINE", nargs="*", type=some_text, help=files)
-    return made
-
-
-def _given(arguments):
-    """The options; a Fault if they do not go together."""
-    given = _parser().parse(arguments)
+    given = made.parse(arguments)
     partly = given.keep_open or given.explained_only
     if len(given.files) != (1 if given.only_packages else 2):
         why = "name BASELINE alone" if given.only_packages else "name NEW and BASELINE"

@@ -29,10 +29,6 @@ ADVICE = (
 )
 
 
-def no_database(number, text):
-    return Fault(Status.DATABASE, ("line %d: %s" % (number, text)) if number else text)
-
-
 class MovedLines:
     """Counts how few entries have to move: all but those that keep their order among each other.
 
@@ -61,59 +57,39 @@ class MovedLines:
 
 
 class Unsorted:
-    """A database that is read once: its entries are given to a sorter, and the lines before them are kept apart."""
+    """A database that is read once: its entries are given to a sorter, and the lines before them are kept in `head`. `end` is
+    where the end line begins in `file`."""
 
     def __init__(self, copy, give):
         self.file, self.give = open(copy.fd, "rb", buffering=BLOCK), give
         self.file.seek(0)
-        self.head, self.count, self.name_field = Spool(), 0, None
-        self.end = self._read()
-
-    def _read(self):
-        """Reads all lines up to the end line, and returns where that begins."""
-        number, place = 0, 0
+        self.head, self.count, self.end, self.name_field = Spool(), 0, 0, None
         for number, line in enumerate(iter(lambda: self.file.readline(MOST_LINE + 2), b""), 1):
             if len(line.rstrip(b"\n")) > MOST_LINE:
-                raise no_database(number, "more than %d bytes" % MOST_LINE)
-            words = line.lstrip(b" \t")
-            if words.startswith(b"@@"):
-                if self._take_directive(words):
-                    return place
-                self.head.write(line)
-            elif words[:1] in (b"", b"\n", b"#"):
+                raise Fault(Status.DATABASE, "line %d: more than %d bytes" % (number, MOST_LINE))
+            start = line.lstrip(b" \t")[:2]
+            words = re.findall(rb"[^ \t\n]+", line) if start == b"@@" else []
+            if words[:1] == [b"@@end_db"]:
+                return
+            if words or start[:1] in (b"", b"\n", b"#"):
                 self.head.write(line)
             else:
                 self._take_entry(number, line)
-            place += len(line)
-        raise no_database(0, "no @@end_db")
-
-    def _take_directive(self, line):
-        """Takes the place of the paths out of the names of the columns; says whether this is the end line."""
-        words = re.findall(rb"[^ \t\n]+", line)
-        if words[0] == b"@@db_spec" and b"name" in words:
-            self.name_field = re.compile(rb"[ \t]*(?:[^ \t\n]+[ \t]+){%d}([^ \t\n]+)" % (words.index(b"name") - 1))
-        return words[0] == b"@@end_db"
+            if words[:1] == [b"@@db_spec"] and b"name" in words:  # The place of the paths.
+                self.name_field = re.compile(rb"[ \t]*(?:[^ \t\n]+[ \t]+){%d}([^ \t\n]+)" % (words.index(b"name") - 1))
+            self.end += len(line)
+        raise Fault(Status.DATABASE, "no @@end_db")
 
     def _take_entry(self, number, line):
         if self.name_field is None:
-            raise no_database(number, "an entry before @@db_spec, or no column name")
+            raise Fault(Status.DATABASE, "line %d: an entry before @@db_spec, or no column name" % number)
         found = self.name_field.match(line)
         if not found:
-            raise no_database(number, "no path")
+            raise Fault(Status.DATABASE, "line %d: no path" % number)
         if line[-1:] != b"\n":
-            raise no_database(0, "no @@end_db")
+            raise Fault(Status.DATABASE, "no @@end_db")
         self.give(b"%s\t%d\t%s" % (key_of(found.group(1)), self.count, line))
         self.count += 1
-
-    def lines_before(self):
-        """Yields the lines that come before the entries, in blocks."""
-        self.head.seek(0)
-        yield from iter(lambda: self.head.read(BLOCK), b"")
-
-    def lines_after(self):
-        """Yields the end line and all that comes after it, in blocks."""
-        self.file.seek(self.end)
-        yield from iter(lambda: self.file.read(BLOCK), b"")
 
 
 class Twice:
@@ -139,16 +115,24 @@ class Twice:
 
 def sorted_blocks(database, sorter, moves, twice):
     """Yields the whole database in path order."""
-    yield from database.lines_before()
+    database.head.seek(0)
+    yield from iter(lambda: database.head.read(BLOCK), b"")
     for record in sorter.lines():
         key, place, line = record.split(b"\t", 2)
         twice.add(key)
         moves.add(int(place))
         yield line
-    yield from database.lines_after()
+    database.file.seek(database.end)
+    yield from iter(lambda: database.file.read(BLOCK), b"")
 
 
-def sort_database(given):
+def main(arguments):
+    epilog = "Status: 0 sorted; 24 a path stands twice, or this is no database; 15, 18, 22: see aide-compare-sort(1)."
+    parser = Parser("aide-compare sort", DESCRIPTION, "do not say how many lines moved", epilog=epilog)
+    files = "the database, plain or compressed with gzip; standard input if it is left out, and for -"
+    parser.add_argument("file", nargs="?", default="-", type=some_text, help=files)
+    parser.take("max-size", default=MOST_BYTES, help="refuse a database that has more bytes unpacked (64G)")
+    given = parser.parse(arguments)
     name = "/dev/stdin" if given.file == "-" else given.file
     copy, moves, twice, sorter = copy_database("given", name, given.max_size), MovedLines(), Twice(), LineSorter()
     write_blocks(1, sorted_blocks(Unsorted(copy, sorter.put), sorter, moves, twice))
@@ -159,22 +143,3 @@ def sort_database(given):
             say(ADVICE)
     twice.tell()
     return Status.DATABASE if twice.count else Status.OK
-
-
-def main(arguments):
-    parser = Parser(
-        "aide-compare sort",
-        DESCRIPTION,
-        "do not say how many lines moved",
-        epilog="Status: 0 sorted; 24 a path stands twice, or this is no database; 15, 18, 22: see aide-compare-sort(1).",
-    )
-    parser.add_argument(
-        "file",
-        nargs="?",
-        default="-",
-        type=some_text,
-        help="the database, plain or compressed with gzip; standard input if it is left out, and for -",
-    )
-    parser.take("max-size", default=MOST_BYTES, help="refuse a database that has more bytes unpacked (64G)")
-    given = parser.parse(arguments)
-    return sort_database(given)
